@@ -1,0 +1,11 @@
+//! Runs a script by its recursive meaning: one thread, no process, descriptor or pipe.
+#![tactic(auto)]
+
+mod fault;
+mod outcome;
+mod programs;
+mod run;
+
+pub use fault::PlainFault;
+pub use outcome::Plain;
+pub use run::plain;

@@ -1,0 +1,3 @@
+pub mod Cuts
+pub mod Reading
+pub mod ShortLines

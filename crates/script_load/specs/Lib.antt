@@ -1,0 +1,6 @@
+pub mod Line
+pub mod Lines
+pub mod Meaning
+pub mod Programs
+pub mod Script
+pub mod Short

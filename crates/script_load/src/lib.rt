@@ -1,0 +1,14 @@
+//! Reads a script into its lines, and defines what commands and scripts mean.
+#![tactic(auto)]
+
+mod cutting;
+mod fault;
+pub mod laws;
+mod line;
+mod loading;
+mod script;
+
+pub use fault::LoadFault;
+pub use line::{Line, Lines};
+pub use loading::load;
+pub use script::Script;

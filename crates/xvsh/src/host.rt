@@ -1,0 +1,30 @@
+ghost use Rattle.std.specs.Prelude.{◌≡◌, ◌<◌, ◌≤◌, Err, Option, List, ℕ, IfOk, IfSome, length, vec_len};
+
+use std::alloc::Global;
+use thiserror::Error;
+
+/// Why the host gives no bytes. The faults are numbered from 1 in this order.
+#[derive(Clone, Copy, Debug, PartialEq, Eq, Error)]
+pub enum HostFault {
+    /// A read failed.
+    #[error("unreadable")]
+    Unreadable,
+    /// There are more bytes than the limit.
+    #[error("too long")]
+    TooLong,
+    /// An allocation was refused.
+    #[error("no memory")]
+    Memory,
+}
+
+/// Where the program's input comes from: the system, or a test's memory.
+pub trait Host {
+    /// The bytes of standard input, where the host tells them.
+    ghost input: { Self → Option (List ℕ) };
+
+    /// All bytes of standard input, of which there may be as many as the limit.
+    fn read_input(&mut self, alloc: Global, limit: usize) -> Result<Vec<u8>, HostFault>
+        ensures whole { IfOk result (λ bytes. IfSome (input self.old) (λ told. bytes.items ≡ told)) }
+        ensures within { IfOk result (λ bytes. vec_len bytes ≤ limit) }
+        ensures too_long { result ≡ Err HostFault.TooLong → IfSome (input self.old) (λ told. limit < length told) };
+}

@@ -1,0 +1,25 @@
+ghost use Rattle.std.specs.Prelude.{None};
+
+use crate::host::{Host, HostFault};
+use crate::reading::read_all;
+use std::alloc::Global;
+
+/// The system, whose standard input is unknown before it is read.
+#[derive(Drop)]
+pub struct System<R> {
+    rt: R,
+}
+
+impl<R> System<R> {
+    pub fn new(rt: R) -> Self {
+        System { rt }
+    }
+}
+
+impl<R: Input> Host for System<R> {
+    ghost input = { λ _. None };
+
+    fn read_input(&mut self, alloc: Global, limit: usize) -> Result<Vec<u8>, HostFault> {
+        read_all(alloc, self.rt.reader(), limit)
+    }
+}
