@@ -1,0 +1,2 @@
+pub mod PipeState
+pub mod PipeCall

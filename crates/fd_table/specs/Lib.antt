@@ -1,0 +1,3 @@
+pub mod Entries
+pub mod Descriptors
+pub mod Holders

@@ -1,0 +1,204 @@
+//! The open-file entries.
+
+ghost use Rattle.std.specs.Prelude.{◌≡◌, ◌≤◌, ◌<◌, ◌+◌, ◌^◌, IfSome, ok_or};
+ghost use Rattle.fd_table.specs.declared.entries.TheConstants.{ENTRIES};
+ghost use Rattle.fd_table.specs.Entries.{last_object, less_held};
+
+use crate::{FdFault, Object};
+use std::marker::Model;
+
+/// How many open-file entries there are (xv6's `NFILE`).
+pub const ENTRIES: usize = 100;
+
+/// The number of an open-file entry, 0 to 99.
+#[derive(Clone, Copy, Debug, PartialEq, Eq)]
+pub struct Entry {
+    index: usize,
+}
+
+impl Model for Entry {
+    ghost use Rattle.std.specs.Prelude.{ℕ, ◌<◌};
+    ghost use Rattle.fd_table.specs.declared.entries.TheConstants.{ENTRIES};
+
+    ghost Value = { ℕ };
+
+    ghost view = { λ e. e.index };
+
+    ghost invariant = { λ e. e.index < ENTRIES };
+
+    ghost inverse = { λ n. record { index = n } };
+}
+
+impl Entry {
+    /// The number, from 0.
+    pub fn index(self) -> usize
+        ensures value { result ≡ self }
+        ensures within { result < ENTRIES }
+    {
+        self.index
+    }
+}
+
+// An entry that is in use (xv6's `struct file`).
+#[derive(Debug, Drop)]
+pub struct Opened {
+    object: Object,
+    count: u32,
+    offset: u64,
+}
+
+impl Model for Opened {
+    ghost use Rattle.fd_table.specs.Entries.{OpenFile};
+
+    ghost Value = { OpenFile };
+
+    ghost view = { λ f. record { object = f.object; count = f.count; offset = f.offset } };
+}
+
+/// The open-file entries that all processes share (xv6's `ftable`).
+///
+/// Contracts see the list of the 100 entries, in which a free one is `None`.
+#[derive(Drop)]
+pub struct OpenFiles {
+    slots: [Option<Opened>; ENTRIES],
+}
+
+impl Model for OpenFiles {
+    ghost use Rattle.std.specs.Prelude.{◌≡◌, length};
+    ghost use Rattle.fd_table.specs.declared.entries.TheConstants.{ENTRIES};
+    ghost use Rattle.fd_table.specs.Entries.{Entries};
+
+    ghost Value = { Entries };
+
+    ghost view = { λ t. t.slots };
+
+    ghost invariant = { λ t. length t.slots ≡ ENTRIES };
+}
+
+impl OpenFiles {
+    ghost use Rattle.std.specs.Prelude.{◌≡◌, ◌≤◌, ◌<◌, ◌+◌, ◌^◌, IfSome, Some, None, ok_or, length, replicate};
+    ghost use Rattle.fd_table.specs.declared.entries.TheConstants.{ENTRIES};
+    ghost use Rattle.fd_table.specs.declared.faults.FdFault.TheVariants.{FullOpen};
+    ghost use Rattle.fd_table.specs.Entries.{entry_at, IsInUse, count_of, offset_of, lowest_free_entry, added, held, last_object, released, advanced, free_count};
+
+    /// All entries are free.
+    pub fn new() -> Self
+        ensures { result ≡ replicate ENTRIES None }
+    {
+        OpenFiles {
+            slots: Default::default(),
+        }
+    }
+
+    /// Opens `object` at the lowest free entry, held by one descriptor and with offset 0 (`filealloc`).
+    ///
+    /// `FullOpen` where no entry is free; `object` is dropped then.
+    pub fn add(&mut self, object: Object) -> Result<Entry, FdFault>
+        ensures entry { result ≡ ok_or (lowest_free_entry self.old) FullOpen }
+        ensures after { self.new ≡ added self.old object }
+    {
+        let Some(index) = self.lowest_free() else {
+            return Err(FdFault::FullOpen);
+        };
+        self.slots[index] = Some(Opened {
+            object,
+            count: 1,
+            offset: 0,
+        });
+        Ok(Entry { index })
+    }
+
+    // The lowest free entry.
+    fn lowest_free(&self) -> Option<usize>
+        ensures { result ≡ lowest_free_entry self.now }
+    {
+        self.slots.iter().position(|slot| slot.is_none())
+    }
+
+    /// One descriptor more holds the entry (`filedup`).
+    pub fn hold(&mut self, entry: Entry)
+        requires in_use { IsInUse self.old entry }
+        requires fits { count_of (entry_at self.old entry) + 1 < 2 ^ 32 }
+        ensures { self.new ≡ held self.old entry }
+    {
+        if let Some(opened) = &mut self.slots[entry.index] {
+            opened.count += 1;
+        }
+    }
+
+    /// One descriptor less holds the entry. With the last one the entry becomes free, and what it had open is given
+    /// back (`fileclose`).
+    pub fn release(&mut self, entry: Entry) -> Option<Object>
+        requires { IsInUse self.old entry }
+        ensures object { result ≡ last_object (entry_at self.old entry) }
+        ensures after { self.new ≡ released self.old entry }
+    {
+        release_slot(&mut self.slots[entry.index])
+    }
+
+    /// What the entry has open (`type`, `ip` and `pipe` of xv6's `struct file`).
+    pub fn object(&self, entry: Entry) -> &Object
+        requires { IsInUse self.now entry }
+        ensures { IfSome (entry_at self.now entry) (λ file. result.now ≡ file.object) }
+    {
+        match &self.slots[entry.index] {
+            Some(opened) => &opened.object,
+            None => unreachable!(),
+        }
+    }
+
+    /// The byte, counted from 0, at which the entry goes on (`off`).
+    pub fn offset(&self, entry: Entry) -> u64
+        requires { IsInUse self.now entry }
+        ensures { result ≡ offset_of (entry_at self.now entry) }
+    {
+        match &self.slots[entry.index] {
+            Some(opened) => opened.offset,
+            None => unreachable!(),
+        }
+    }
+
+    /// The entry goes on `count` bytes further (`fileread` and `filewrite`).
+    pub fn advance(&mut self, entry: Entry, count: u64)
+        requires in_use { IsInUse self.old entry }
+        requires fits { offset_of (entry_at self.old entry) + count < 2 ^ 64 }
+        ensures { self.new ≡ advanced self.old entry count }
+    {
+        if let Some(opened) = &mut self.slots[entry.index] {
+            opened.offset += count;
+        }
+    }
+
+    /// How many descriptors hold the entry, 0 where it is free (`ref`).
+    pub fn count(&self, entry: Entry) -> u32
+        ensures { result ≡ count_of (entry_at self.now entry) }
+    {
+        match &self.slots[entry.index] {
+            Some(opened) => opened.count,
+            None => 0,
+        }
+    }
+
+    /// How many entries are free (own).
+    pub fn free_count(&self) -> usize
+        ensures count { result ≡ free_count self.now }
+        ensures within { result ≤ ENTRIES }
+    {
+        self.slots.iter().filter(|slot| slot.is_none()).count()
+    }
+}
+
+// One descriptor less holds what the slot has open.
+fn release_slot(slot: &mut Option<Opened>) -> Option<Object>
+    ensures object { result ≡ last_object slot.old }
+    ensures after { slot.new ≡ less_held slot.old }
+{
+    match slot {
+        None => None,
+        Some(opened) if opened.count > 1 => {
+            opened.count -= 1;
+            None
+        }
+        Some(_) => slot.take().map(|opened| opened.object),
+    }
+}

@@ -1,0 +1,79 @@
+//! What an entry can be open on.
+
+ghost use Rattle.std.specs.Prelude.{◌≡◌, ◌≤◌, ◌↔◌, length, IsSome, IfSome};
+ghost use Rattle.fd_table.specs.declared.names.TheConstants.{NAME_SIZE};
+
+use arrayvec::ArrayVec;
+use std::marker::Model;
+
+/// How many bytes a file name has at most (xv6's `DIRSIZ`).
+pub const NAME_SIZE: usize = 14;
+
+/// A file name: at most 14 bytes, which is all that contracts see of it.
+#[derive(Debug, Drop)]
+pub struct Name {
+    bytes: ArrayVec<u8, NAME_SIZE>,
+}
+
+impl Model for Name {
+    ghost use Rattle.std.specs.Prelude.{List, ℕ, ◌≤◌, length};
+    ghost use Rattle.fd_table.specs.declared.names.TheConstants.{NAME_SIZE};
+
+    ghost Value = { List ℕ };
+
+    ghost view = { λ n. n.bytes.items };
+
+    ghost invariant = { λ n. length n.bytes.items ≤ NAME_SIZE };
+}
+
+impl Name {
+    /// The name of these bytes, or `None` where there are more than 14 (own: xv6 cuts a longer name off).
+    ///
+    /// Any bytes are taken: which names a file can have is for the file system to say.
+    pub fn new(bytes: &[u8]) -> Option<Self>
+        ensures fits { IsSome result ↔ (length bytes.now ≤ NAME_SIZE) }
+        ensures value { IfSome result (λ name. name ≡ bytes.now) }
+    {
+        let bytes = ArrayVec::try_from(bytes).ok()?;
+        Some(Name { bytes })
+    }
+
+    /// The bytes of the name.
+    pub fn as_slice(&self) -> &[u8]
+        ensures bytes { result.now ≡ self.now }
+        ensures fits { length self.now ≤ NAME_SIZE }
+    {
+        self.bytes.as_slice()
+    }
+}
+
+/// How a file was opened (xv6's `O_RDONLY`, `O_WRONLY | O_CREATE | O_TRUNC` and `O_WRONLY | O_CREATE`).
+#[derive(Clone, Copy, Debug, PartialEq, Eq)]
+pub enum Mode {
+    /// For reading.
+    Input,
+    /// For writing, from an empty file on.
+    Fresh,
+    /// For writing, over the bytes that are there.
+    Over,
+}
+
+/// What an entry is open on (the `type` of xv6's `struct file`; the three standard streams in place of a console are
+/// own).
+///
+/// A pipe is named by a number that its maker gives it, the same for both of its ends.
+#[derive(Debug, Drop)]
+pub enum Object {
+    /// The standard input.
+    Input,
+    /// The standard output.
+    Out,
+    /// The diagnostics.
+    Diag,
+    /// A file.
+    File(Name, Mode),
+    /// The read end of a pipe.
+    PipeRead(u64),
+    /// The write end of a pipe.
+    PipeWrite(u64),
+}

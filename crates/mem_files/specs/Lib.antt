@@ -1,0 +1,5 @@
+pub mod Name
+pub mod Files
+pub mod Overlay
+pub mod Listing
+pub mod Place

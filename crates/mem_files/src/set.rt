@@ -1,0 +1,237 @@
+ghost use Rattle.std.specs.Prelude.{◌≡◌, ℕ, ◌+◌, ◌-◌, ◌<◌, ◌≤◌, ◌↔◌, ◌≢◌, true, false, [], length, take, drop, min, option_copied, option_map, slice_get, None, IsOkUnless, Err, ◌⊎◌, IsErrOf, IfOk, IfErr, IfSome, IsSomeAnd, OnOk, OnErr};
+ghost use Rattle.mem_files.specs.Name.{Name, is_openable};
+ghost use Rattle.mem_files.specs.Files.{files, with_file, bytes_of};
+ghost use Rattle.mem_files.specs.Overlay.{overlay, written};
+ghost use Rattle.mem_files.specs.Listing.{AreFiles, Holds, IsFullFor, max_files, max_size};
+
+use crate::entry::Entry;
+use crate::fault::FilesFault;
+use crate::name::is_openable;
+use crate::search::{find, place};
+use std::alloc::Allocator;
+use std::marker::Model;
+
+/// The most files that a set can have (own).
+pub const MAX_FILES: usize = 200;
+
+/// The most bytes that a file can have: 268 blocks of 1,024, `kernel/fs.h`'s `MAXFILE` and `BSIZE`.
+pub const MAX_SIZE: usize = 268 * 1024;
+
+/// A set of files in memory (own): at most 200 names of 1 to 14 bytes, none of them `/` or 0, each
+/// with at most 274,432 bytes.
+///
+/// A contract sees it as the list of names and bytes in byte order of the names. The files lie in one
+/// vector in that order, so a name is found by a binary search. A file keeps room for at most about
+/// twice its bytes.
+#[derive(Drop)]
+pub struct Files<A: Allocator> {
+    entries: Vec<Entry<A>, A>,
+}
+
+impl<A: Allocator> Model for Files<A> {
+    ghost use Rattle.std.specs.Prelude.{List, ℕ};
+    ghost use Rattle.mem_files.specs.Listing.{AreFiles};
+
+    ghost Value = { List (List ℕ × List ℕ) };
+
+    ghost view = { λ f. f.entries.items };
+
+    ghost invariant = { λ f. AreFiles f.entries.items };
+}
+
+impl<A: Allocator> Files<A> {
+    /// A set with no files, whose later calls take their memory from `alloc`. Takes none itself.
+    pub fn new(alloc: A) -> Self
+        ensures { result ≡ [] }
+    {
+        Files {
+            entries: Vec::new(alloc),
+        }
+    }
+
+    /// How many files there are. Takes no memory.
+    pub fn count(&self) -> usize
+        ensures value { result ≡ length self.now }
+        ensures files { AreFiles self.now }
+    {
+        self.entries.len()
+    }
+
+    /// The name that stands at `i`, from 0, where all names stand in byte order; None from `count` on.
+    /// Takes no memory.
+    pub fn name_at(&self, i: usize) -> Option<&[u8]>
+        ensures { option_copied result ≡ option_map (λ entry. entry.0) (slice_get self.now i) }
+    {
+        if i < self.entries.len() {
+            Some(self.entries[i].name())
+        } else {
+            None
+        }
+    }
+
+    /// The bytes of the file `name`; None where there is no file of that name. Takes no memory.
+    pub fn get(&self, name: &[u8]) -> Option<&[u8]>
+        ensures { option_copied result ≡ files self.now name.now }
+    {
+        match find(self.entries.as_slice(), name) {
+            Some(at) => Some(self.entries[at].bytes()),
+            None => None,
+        }
+    }
+
+    /// Copies the bytes of the file `name` from `at` on, counted from 0, to the front of the buffer, as
+    /// many as there are and as fit, and tells how many: 0 where `at` is the end of the file or past it,
+    /// as in `kernel/fs.c`'s `readi`. The rest of the buffer stays. Takes no memory.
+    ///
+    /// `Missing` where there is no file of that name; the buffer then stays as it was.
+    pub fn read_at(&self, name: &[u8], at: usize, buf: &mut [u8]) -> Result<usize, FilesFault>
+        ensures count { IfOk result (λ count. IfSome (files self.now name.now)
+            (λ bytes. count ≡ min (length buf.old) (length bytes - at))) }
+        ensures bytes { OnOk result (IfSome (files self.now name.now)
+            (λ bytes. buf.new ≡ overlay (take (length buf.old) (drop at bytes)) buf.old)) }
+        ensures missing { IsErrOf result FilesFault.Missing ↔ (files self.now name.now ≡ None) }
+        ensures only { IsOkUnless result FilesFault.Missing }
+        ensures same { OnErr result (buf.new ≡ buf.old) }
+    {
+        let Some(found) = find(self.entries.as_slice(), name) else {
+            return Err(FilesFault::Missing);
+        };
+        Ok(self.entries[found].read(at, buf))
+    }
+
+    /// Writes the bytes over those of the file `name` from `at` on, counted from 0; the file grows where
+    /// they go past its end. Its room grows by doubling, so that many writes at the end are linear work.
+    ///
+    /// In this order, each with nothing changed: `Missing` where there is no file of that name; `Gap`
+    /// where `at` is past the end of the file; `FullSize` where `at` and the number of bytes come to
+    /// more than 274,432; `Memory`. `kernel/fs.c`'s `writei` refuses the second and third too. That all
+    /// the bytes are refused, and not those alone that don't fit, is own.
+    pub fn write_at(&mut self, name: &[u8], at: usize, bytes: &[u8]) -> Result<(), FilesFault>
+        ensures holds { OnOk result (Holds self.old self.new name.now
+            (written (bytes_of (files self.old name.now)) at bytes.now)) }
+        ensures missing { IsErrOf result FilesFault.Missing ↔ (files self.old name.now ≡ None) }
+        ensures gap { IsErrOf result FilesFault.Gap
+            ↔ IsSomeAnd (files self.old name.now) (λ old. length old < at) }
+        ensures full_size { IsErrOf result FilesFault.FullSize
+            ↔ IsSomeAnd (files self.old name.now) (λ old. (at ≤ length old) × (max_size < at + length bytes.now)) }
+        ensures never { (result ≢ Err FilesFault.BadName) × (result ≢ Err FilesFault.FullFiles) }
+        ensures same { OnErr result (self.new ≡ self.old) }
+    {
+        let Some(found) = find(self.entries.as_slice(), name) else {
+            return Err(FilesFault::Missing);
+        };
+        let entry = &mut self.entries[found];
+        if at > entry.bytes().len() {
+            return Err(FilesFault::Gap);
+        }
+        if bytes.len() > MAX_SIZE - at {
+            return Err(FilesFault::FullSize);
+        }
+        entry.write(at, bytes)?;
+        Ok(())
+    }
+
+    /// An equal set of files, with memory from `alloc` (own). No file of it has room to spare.
+    ///
+    /// `Memory` where there is none; what was taken is given back.
+    pub fn copy<B: Allocator + Copy>(&self, alloc: B) -> Result<Files<B>, FilesFault>
+        ensures equal { IfOk result (λ copy. copy ≡ self.now) }
+        ensures only { IsOkUnless result FilesFault.Memory }
+    {
+        let mut entries = Vec::with_capacity(alloc, self.entries.len())?;
+        for entry in &self.entries {
+            entries.push(entry.copy_in(alloc)?)?;
+        }
+        Ok(Files { entries })
+    }
+}
+
+impl<A: Allocator + Copy> Files<A> {
+    /// The file `name` then holds these bytes and no others, also where it was there before (own).
+    ///
+    /// In this order, each with nothing changed: `BadName` where the name can't be opened; `FullSize`
+    /// where there are more than 274,432 bytes; `FullFiles` where the name is new and there are 200
+    /// files; `Memory`.
+    pub fn put(&mut self, name: &[u8], bytes: &[u8]) -> Result<(), FilesFault>
+        ensures holds { OnOk result (Holds self.old self.new name.now bytes.now) }
+        ensures bad_name { IsErrOf result FilesFault.BadName ↔ (is_openable name.now ≡ false) }
+        ensures full_size { IsErrOf result FilesFault.FullSize ↔ (is_openable name.now ≡ true) × (max_size < length bytes.now) }
+        ensures full_files { IsErrOf result FilesFault.FullFiles
+            ↔ (is_openable name.now ≡ true) × (length bytes.now ≤ max_size) × IsFullFor self.old name.now }
+        ensures never { (result ≢ Err FilesFault.Missing) × (result ≢ Err FilesFault.Gap) }
+        ensures same { OnErr result (self.new ≡ self.old) }
+    {
+        if !is_openable(name) {
+            return Err(FilesFault::BadName);
+        }
+        if bytes.len() > MAX_SIZE {
+            return Err(FilesFault::FullSize);
+        }
+        match find(self.entries.as_slice(), name) {
+            Some(at) => {
+                let copy = Vec::from_slice(*self.entries.allocator(), bytes)?;
+                self.entries[at].replace(copy);
+                Ok(())
+            }
+            None => self.add(name, bytes),
+        }
+    }
+
+    /// The file `name` is then there: empty where it was missing, and as it was otherwise, as after
+    /// `kernel/sysfile.c`'s `create`.
+    ///
+    /// In this order, each with nothing changed: `BadName` where the name can't be opened; `FullFiles`
+    /// where the name is new and there are 200 files; `Memory`.
+    pub fn create(&mut self, name: &[u8]) -> Result<(), FilesFault>
+        ensures holds { OnOk result (Holds self.old self.new name.now (bytes_of (files self.old name.now))) }
+        ensures bad_name { IsErrOf result FilesFault.BadName ↔ (is_openable name.now ≡ false) }
+        ensures full_files { IsErrOf result FilesFault.FullFiles ↔ (is_openable name.now ≡ true) × IsFullFor self.old name.now }
+        ensures never { (result ≢ Err FilesFault.Missing) × (result ≢ Err FilesFault.FullSize) × (result ≢ Err FilesFault.Gap) }
+        ensures same { OnErr result (self.new ≡ self.old) }
+    {
+        if !is_openable(name) {
+            return Err(FilesFault::BadName);
+        }
+        match find(self.entries.as_slice(), name) {
+            Some(_) => Ok(()),
+            None => self.add(name, &[]),
+        }
+    }
+
+    /// The file `name` is then empty, as after `kernel/fs.c`'s `itrunc`. Takes no memory, and gives up
+    /// that of the old bytes.
+    ///
+    /// `Missing` where there is no file of that name, and then nothing changes.
+    pub fn truncate(&mut self, name: &[u8]) -> Result<(), FilesFault>
+        ensures holds { OnOk result (Holds self.old self.new name.now []) }
+        ensures missing { IsErrOf result FilesFault.Missing ↔ (files self.old name.now ≡ None) }
+        ensures only { IsOkUnless result FilesFault.Missing }
+        ensures same { OnErr result (self.new ≡ self.old) }
+    {
+        let Some(at) = find(self.entries.as_slice(), name) else {
+            return Err(FilesFault::Missing);
+        };
+        let empty = Vec::new(*self.entries.allocator());
+        self.entries[at].replace(empty);
+        Ok(())
+    }
+
+    // Adds a file of a new name.
+    fn add(&mut self, name: &[u8], bytes: &[u8]) -> Result<(), FilesFault>
+        requires good { is_openable name.now ≡ true }
+        requires small { length bytes.now ≤ max_size }
+        requires new { files self.old name.now ≡ None }
+        ensures holds { OnOk result (Holds self.old self.new name.now bytes.now) }
+        ensures full { IsErrOf result FilesFault.FullFiles ↔ (max_files ≤ length self.old) }
+        ensures only { IfErr result (λ fault. (fault ≡ FilesFault.FullFiles) ⊎ (fault ≡ FilesFault.Memory)) }
+        ensures same { OnErr result (self.new ≡ self.old) }
+    {
+        if self.entries.len() >= MAX_FILES {
+            return Err(FilesFault::FullFiles);
+        }
+        let at = place(self.entries.as_slice(), name);
+        let entry = Entry::make(*self.entries.allocator(), name, bytes)?;
+        self.entries.insert(at, entry)?;
+        Ok(())
+    }
+}
