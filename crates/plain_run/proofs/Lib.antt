@@ -1,1 +1,4 @@
+pub mod Full
+pub mod Kept
 pub mod Lines
+pub mod Steps

@@ -1,7 +1,46 @@
--- Values with what was written before them.
-use Rattle.std.proofs.Common.{ℕ, List, ◌++◌}
-use Rattle.script_load.specs.Meaning.{Value}
+-- Lines one after the other: what was done so far, and what the lines that are left make of it, is the whole.
+use Rattle.std.proofs.Common.{◌≡◌, ℕ, ◌+◌, ◌<◌, ◌≤◌, suc, List, [], ◌∷◌, ◌++◌, length, drop, get_or, drop-cons, add-one, refl, sym, ◌∙◌, ap, subst, append_assoc, inl, inr}
+use Rattle.std.specs.Prelude.{map}
+use Rattle.std.proofs.lemmas.List.{append-nil, drop_all}
+use Rattle.sh_tree.specs.Tree.{list}
+use Rattle.mem_files.specs.Name.{Bytes}
+use Rattle.mem_files.specs.Files.{FileMap}
+use Rattle.script_load.specs.declared.line.Line.{Line}
+use Rattle.script_load.specs.Limits.{Outgrows}
+use Rattle.script_load.specs.Line.{ScriptLine, line_of}
+use Rattle.script_load.specs.Meaning.{meaning, line_tree, script_tree}
+use Rattle.plain_run.specs.declared.fault.PlainFault.{PlainFault}
+use Rattle.plain_run.specs.Gives.{Gives, IsDue}
+use Rattle.plain_run.proofs.Steps.{due_more, list_gives, due_later}
 
--- the value, with this output before its own
-abbrev pub after : List ℕ → Value → Value
-after out value = record { out = out ++ value.out; rest = value.rest }
+-- whatever the lines that are left give, the whole script gives; and where they pass a limit, it does
+pub record IsRunTo (whole : List ScriptLine) (input : Bytes) (F : FileMap) (old : Bytes) (lines : List ScriptLine) (rest : Bytes) (G : FileMap) (now : Bytes) : Type 0 where
+  pub completes : (new left : Bytes) (H : FileMap) → Gives (meaning (script_tree lines) rest G) now new left H → Gives (meaning (script_tree whole) input F) old new left H
+  pub due : (fault : PlainFault) → IsDue (Outgrows (script_tree lines) rest G) fault → IsDue (Outgrows (script_tree whole) input F) fault
+
+pub run_none : (lines : List ScriptLine) (input old : Bytes) (F : FileMap) → IsRunTo lines input F old lines input F old
+run_none lines input old F = record { completes = λ new left H gives. gives; due = λ fault due. due }
+
+-- one more line
+pub run_one : (whole : List ScriptLine) (input : Bytes) (F : FileMap) (old : Bytes) (line : ScriptLine) (lines : List ScriptLine) (rest now new left : Bytes) (G H : FileMap) → IsRunTo whole input F old (line ∷ lines) rest G now → Gives (meaning (line_tree line) rest G) now new left H → IsRunTo whole input F old lines left H new
+run_one whole input F old line lines rest now new left G H so_far gives = record {
+  completes = λ new' left' H' then. so_far.completes new' left' H' (list_gives (line_tree line) (script_tree lines) rest now new new' left left' G H H' gives then);
+  due = λ fault later. so_far.due fault (due_later (line_tree line) (script_tree lines) rest now new left G H fault gives later);
+}
+
+-- a line that passes a limit
+pub line_due : (whole : List ScriptLine) (input : Bytes) (F : FileMap) (old : Bytes) (line : ScriptLine) (lines : List ScriptLine) (rest now : Bytes) (G : FileMap) (fault : PlainFault) → IsRunTo whole input F old (line ∷ lines) rest G now → IsDue (Outgrows (line_tree line) rest G) fault → IsDue (Outgrows (script_tree whole) input F) fault
+line_due whole input F old line lines rest now G fault so_far due =
+    so_far.due fault (due_more (Outgrows (line_tree line) rest G) (Outgrows (list (line_tree line) (script_tree lines)) rest G) fault inl due)
+
+-- no line is left
+pub run_all : (whole : List ScriptLine) (input : Bytes) (F : FileMap) (old : Bytes) (lines : List ScriptLine) (rest now : Bytes) (G : FileMap) → lines ≡ [] → IsRunTo whole input F old lines rest G now → Gives (meaning (script_tree whole) input F) old now rest G
+run_all whole input F old lines rest now G none so_far =
+    so_far.completes now rest G (subst (λ ls. Gives (meaning (script_tree ls) rest G) now now rest G) (sym none) (record { out = sym (append-nil now); rest = refl; files = refl }))
+
+-- the line at a place, and those after it
+pub next_line : {A : _} (lines : List (Line A)) (i : ℕ) (d : Line A) → i < length lines → map line_of (drop i lines) ≡ line_of (get_or lines i d) ∷ map line_of (drop (i + 1) lines)
+next_line lines i d inside = ap (map line_of) (drop-cons lines i d inside) ∙ ap (λ j. line_of (get_or lines i d) ∷ map line_of (drop j lines)) (sym (add-one i))
+
+pub no_line : {A : _} (lines : List (Line A)) (i : ℕ) → length lines ≤ i → map line_of (drop i lines) ≡ []
+no_line lines i over = ap (map line_of) (drop_all i lines over)

@@ -4,7 +4,7 @@ use thiserror::Error;
 /// Why a script has no outcome. The faults are numbered from 1 in this order.
 #[derive(Clone, Copy, Debug, PartialEq, Eq, Error)]
 pub enum PlainFault {
-    /// A file would pass its limit. It never comes so far, since no script names a file.
+    /// On the way of the meaning a file would have more than 274,432 bytes, or a 201st would be made.
     #[error("too large")]
     TooLarge,
     /// An allocation was refused.

@@ -5,6 +5,7 @@ mod fault;
 mod outcome;
 mod programs;
 mod run;
+mod store;
 
 pub use fault::PlainFault;
 pub use outcome::Plain;

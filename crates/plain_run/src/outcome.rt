@@ -1,3 +1,4 @@
+use mem_files::Files;
 use sh_lexer::Bytes;
 use sh_tree::Words;
 use std::alloc::Allocator;
@@ -7,6 +8,8 @@ use std::alloc::Allocator;
 pub struct Plain<A: Allocator> {
     /// Standard output.
     pub out: Bytes<A>,
+    /// The files at the end.
+    pub files: Files<A>,
     /// What is left unread of standard input.
     pub rest: Bytes<A>,
     /// Whether the script is known to give the same on every schedule; no script is, so far.

@@ -1,87 +1,134 @@
-ghost use Rattle.std.specs.Prelude.{◌≡◌, [], map, IfOk, IfErr, false};
+ghost use Rattle.std.specs.Prelude.{◌≡◌, [], map, ℕ, List, IfOk, IfErr, false};
 ghost use Rattle.sh_tree.specs.Tree.{tree_of};
+ghost use Rattle.mem_files.specs.Files.{files};
+ghost use Rattle.script_load.specs.Limits.{Outgrows};
 ghost use Rattle.script_load.specs.Line.{line_of, lines_of};
-ghost use Rattle.script_load.specs.Meaning.{meaning, line_meaning, script_meaning};
-ghost use Rattle.plain_run.specs.Gives.{Gives};
+ghost use Rattle.script_load.specs.Meaning.{meaning, line_tree, script_tree, script_meaning};
+ghost use Rattle.plain_run.specs.Gives.{Gives, IsDue};
 
 use crate::fault::PlainFault;
 use crate::outcome::Plain;
 use crate::programs::run_program;
+use crate::store::{close_output, find, held_bytes, open_output};
+use mem_files::Files;
 use script_load::{Line, Script};
 use sh_lexer::Bytes;
-use sh_tree::{Cmd, Words};
-use std::alloc::{AllocError, Allocator};
+use sh_tree::{Cmd, Mode, Words};
+use std::alloc::Allocator;
 
-// Adds a command's output, and returns what it leaves of the input.
-fn run_tree<'i, A: Allocator, B: Allocator>(
+// Adds a command's output, changes the files as it does, and returns what it leaves of the input.
+fn run_tree<'i, A: Allocator + Copy, B: Allocator>(
+    alloc: A,
     tree: &Cmd<B>,
     input: &'i [u8],
+    store: &mut Files<A>,
     out: &mut Vec<u8, A>,
-) -> Result<&'i [u8], AllocError>
-    ensures { IfOk result (λ rest. Gives (meaning (tree_of tree.now) input.now) out.old.items out.new.items rest.now) }
+) -> Result<&'i [u8], PlainFault>
+    ensures gives { IfOk result (λ rest. Gives (meaning (tree_of tree.now) input.now (files store.old)) out.old.items out.new.items rest.now (files store.new)) }
+    ensures large { IfErr result (IsDue (Outgrows (tree_of tree.now) input.now (files store.old))) }
 {
     match tree {
-        Cmd::Exec(words) => {
-            run_program(words.as_slice(), out)?;
+        Cmd::Exec(words) => Ok(run_program(words.as_slice(), input, store, out)?),
+        Cmd::Redir {
+            mode: Mode::Input,
+            name,
+            body,
+        } => {
+            if let Some(bytes) = find(store, name.as_slice()) {
+                let bytes = bytes.to_vec(alloc)?;
+                run_tree(alloc, body, bytes.as_slice(), store, out)?;
+            }
             Ok(input)
         }
-        Cmd::List(left, right) => {
-            let rest = run_tree(left, input, out)?;
-            run_tree(right, rest, out)
+        Cmd::Redir { mode, name, body } => {
+            let name = name.as_slice();
+            let held = held_bytes(alloc, *mode, store, name)?;
+            if !open_output(*mode, store, name)? {
+                return Ok(input);
+            }
+            let mut written = Vec::new(alloc);
+            let rest = run_tree(alloc, body, input, store, &mut written)?;
+            close_output(store, name, written, held.as_slice())?;
+            Ok(rest)
         }
-        Cmd::Redir { .. } | Cmd::Pipe(..) | Cmd::Back(_) => Ok(input),
+        Cmd::Pipe(left, right) => {
+            let mut middle = Vec::new(alloc);
+            let rest = run_tree(alloc, left, input, store, &mut middle)?;
+            run_tree(alloc, right, middle.as_slice(), store, out)?;
+            Ok(rest)
+        }
+        Cmd::List(left, right) => {
+            let rest = run_tree(alloc, left, input, store, out)?;
+            run_tree(alloc, right, rest, store, out)
+        }
+        Cmd::Back(body) => run_tree(alloc, body, input, store, out),
     }
 }
 
 // The same of a line.
-fn run_line<'i, A: Allocator, B: Allocator>(
+fn run_line<'i, A: Allocator + Copy, B: Allocator>(
+    alloc: A,
     line: &Line<B>,
     input: &'i [u8],
+    store: &mut Files<A>,
     out: &mut Vec<u8, A>,
-) -> Result<&'i [u8], AllocError>
-    ensures { IfOk result (λ rest. Gives (line_meaning (line_of line.now) input.now) out.old.items out.new.items rest.now) }
+) -> Result<&'i [u8], PlainFault>
+    ensures gives { IfOk result (λ rest. Gives (meaning (line_tree (line_of line.now)) input.now (files store.old)) out.old.items out.new.items rest.now (files store.new)) }
+    ensures large { IfErr result (IsDue (Outgrows (line_tree (line_of line.now)) input.now (files store.old))) }
 {
     match line {
-        Line::Tree(tree) => run_tree(tree, input, out),
+        Line::Tree(tree) => run_tree(alloc, tree, input, store, out),
         Line::Bad(..) | Line::Cd(_) => Ok(input),
     }
 }
 
 // The same of lines that follow each other.
-fn run_lines<'i, A: Allocator, B: Allocator>(
+fn run_lines<'i, A: Allocator + Copy, B: Allocator>(
+    alloc: A,
     lines: &[Line<B>],
     input: &'i [u8],
+    store: &mut Files<A>,
     out: &mut Vec<u8, A>,
-) -> Result<&'i [u8], AllocError>
-    ensures { IfOk result (λ rest. Gives (script_meaning (map line_of lines.now) input.now) out.old.items out.new.items rest.now) }
+) -> Result<&'i [u8], PlainFault>
+    ensures gives { IfOk result (λ rest. Gives (script_meaning (map line_of lines.now) input.now (files store.old)) out.old.items out.new.items rest.now (files store.new)) }
+    ensures large { IfErr result (IsDue (Outgrows (script_tree (map line_of lines.now)) input.now (files store.old))) }
 {
     let mut rest = input;
     for line in lines {
-        rest = run_line(line, rest, out)?;
+        rest = run_line(alloc, line, rest, store, out)?;
     }
     Ok(rest)
 }
 
-/// Runs a script on this standard input by its recursive meaning (own): each command on whole byte
-/// strings, a list's left side before its right side, line after line.
+/// Runs a script on this standard input and these files by its recursive meaning (own): each command
+/// on whole byte strings, a pipe's left side to its end before its right side, line after line. A
+/// command under `&` is run to its end in its place.
 ///
-/// So far `echo` is the one program; every other name does nothing. The only fault is want of
-/// memory.
-pub fn plain<A: Allocator + Copy, B: Allocator>(
+/// The programs so far are `cat` and `echo`; every other name does nothing. `TooLarge` comes as soon
+/// as a file of the meaning would have more than 274,432 bytes, or a 201st would be made; `Memory`
+/// where an allocation was refused.
+pub fn plain<A: Allocator + Copy, B: Allocator, C: Allocator>(
     alloc: A,
     script: &Script<B>,
     stdin: &[u8],
+    given: &Files<C>,
 ) -> Result<Plain<A>, PlainFault>
-    ensures out { IfOk result (λ p. p.out ≡ (script_meaning (lines_of script.now.lines) stdin.now).out) }
-    ensures rest { IfOk result (λ p. p.rest ≡ (script_meaning (lines_of script.now.lines) stdin.now).rest) }
+    ensures out { IfOk result (λ p. p.out ≡ (script_meaning (lines_of script.now.lines) stdin.now (files given.now)).out) }
+    ensures rest { IfOk result (λ p. p.rest ≡ (script_meaning (lines_of script.now.lines) stdin.now (files given.now)).rest) }
+    ensures files { IfOk result (λ p. (name : List ℕ) → files p.files name ≡ (script_meaning (lines_of script.now.lines) stdin.now (files given.now)).files name) }
     ensures settled { IfOk result (λ p. p.settled ≡ false) }
     ensures soft { IfOk result (λ p. p.soft ≡ []) }
-    ensures fault { IfErr result (λ fault. fault ≡ PlainFault.Memory) }
+    ensures large { IfErr result (IsDue (Outgrows (script_tree (lines_of script.now.lines)) stdin.now (files given.now))) }
 {
+    let mut store = match given.copy(alloc) {
+        Ok(store) => store,
+        Err(_) => return Err(PlainFault::Memory),
+    };
     let mut out = Vec::new(alloc);
-    let rest = run_lines(script.lines.as_slice(), stdin, &mut out)?;
+    let rest = run_lines(alloc, script.lines.as_slice(), stdin, &mut store, &mut out)?;
     Ok(Plain {
         out: Bytes::from_vec(out),
+        files: store,
         rest: Bytes::copy_of(alloc, rest)?,
         settled: false,
         soft: Words::from_vec(Vec::new(alloc)),
@@ -89,53 +136,4 @@ pub fn plain<A: Allocator + Copy, B: Allocator>(
 }
 
 #[cfg(test)]
-mod tests {
-    use super::*;
-    use linked_list_allocator::LocalHeap;
-    use script_load::load;
-    use std::test::Fail;
-
-    #[test]
-    fn echoes(rt: HostRuntime) -> Result<(), Fail> {
-        let rows = [
-            ("", ""),
-            ("echo hello\n", "hello\n"),
-            ("echo\n;;\n", ""),
-            (
-                "echo a  b;foo\ncd x\necho 1 2 3 4 5 6 7 8 9\necho c",
-                "a b\nc\n",
-            ),
-        ];
-        for (bytes, want) in rows {
-            let script = load(rt.alloc(), bytes.as_bytes())?;
-            let outcome = plain(rt.alloc(), &script, b"in".as_slice())?;
-            assert_eq!(rt; outcome.out.as_slice(), want.as_bytes(), "at {bytes}");
-            assert_eq!(rt; outcome.rest.as_slice(), b"in".as_slice());
-            assert!(rt; !outcome.settled);
-            assert!(rt; outcome.soft.as_slice().is_empty());
-        }
-        Ok(())
-    }
-
-    // With a heap that grows step by step, each allocation is refused in turn, until none is.
-    #[test]
-    fn refused_memory_is_told(rt: HostRuntime) -> Result<(), Fail> {
-        let script = load(rt.alloc(), b"echo one two three; echo four".as_slice())?;
-        let mut refused = 0;
-        for blocks in 1..100 {
-            let heap = LocalHeap::new(rt.alloc(), blocks * 16)?;
-            match plain(&heap, &script, b"in".as_slice()) {
-                Ok(outcome) => {
-                    assert_eq!(rt; outcome.out.as_slice(), b"one two three\nfour\n".as_slice())
-                }
-                Err(fault) => {
-                    assert_eq!(rt; fault, PlainFault::Memory);
-                    refused = blocks;
-                }
-            }
-        }
-        assert!(rt; 1 < refused);
-        assert!(rt; refused < 99);
-        Ok(())
-    }
-}
+mod tests;

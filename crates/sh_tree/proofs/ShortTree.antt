@@ -98,4 +98,4 @@ short_lexemes line (t ∷ ts) fits =
     and_both (is_short_lexeme (lexeme_of line t)) (all_short (lexemes line ts)) (short_by t.kind _ (short_range line t.first t.past fits)) (short_lexemes line ts fits)
 
 pub short_tree : (line : List ℕ) (t : Tree) → length line ≤ 511 → HasTree line t → is_short_tree t ≡ true
-short_tree line t fits has = (short_line has.3 (short_lexemes line has.0 fits)).0
+short_tree line t fits has = (short_line has.2 (short_lexemes line has.0 fits)).0

@@ -1,26 +1,31 @@
 use std::alloc::{AllocError, AllocFailed};
 use thiserror::Error;
 
-/// Why a line is no command, and at which of its bytes, counted from 0; the line's length stands for
-/// its end. The faults are numbered from 1 in this order (the texts are own).
+/// Why a line is no command, and where: a byte of the line, counted from 0, or its length where
+/// something is missing at its end.
+///
+/// A line is refused at the first token, or at its end, that no line of the grammar has after the
+/// tokens before it, and the kind is the first of `MissingFile`, `TooManyWords`, `Unexpected`,
+/// `MissingParen` and `Leftover` that fits there. The kinds are the reasons for which xv6's
+/// `user/sh.c` panics; their places are own.
 #[derive(Clone, Copy, Debug, PartialEq, Eq, Error)]
 pub enum ParseFault {
-    /// No file follows `<`, `>` or `>>`.
+    /// The token before is `<`, `>` or `>>`, and no word follows it (`parseredirs`).
     #[error("missing file for redirection")]
     MissingFile(usize),
-    /// A `(` is not closed.
+    /// Some `(` is still open (`parseblock`).
     #[error("syntax - missing )")]
     MissingParen(usize),
-    /// The tenth word of a simple command.
+    /// The tenth word of a simple command (`parseexec`).
     #[error("too many args")]
     TooManyWords(usize),
-    /// A sign that may not stand here.
+    /// A `(` after a word or a redirection of a simple command (`parseexec`).
     #[error("syntax")]
     Unexpected(usize),
-    /// What follows a whole line.
+    /// Anything else that no line goes on with (`parsecmd`).
     #[error("leftovers")]
     Leftover(usize),
-    /// An allocation was refused.
+    /// The allocator refused.
     #[error("no memory")]
     Memory,
 }

@@ -1,9 +1,12 @@
-//! Parses a line of a script into a tree of commands.
+//! Trees of commands: the grammar of a shell line (xv6's `user/sh.c`), as a parser over any
+//! allocator.
 #![tactic(auto)]
 
+mod automaton;
 mod fault;
 pub mod laws;
 mod parser;
+mod parts;
 mod tree;
 mod words;
 
@@ -11,3 +14,6 @@ pub use fault::ParseFault;
 pub use parser::parse;
 pub use tree::{Cmd, Mode, copy_in, same};
 pub use words::Words;
+
+#[cfg(test)]
+mod tests;

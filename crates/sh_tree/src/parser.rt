@@ -1,167 +1,151 @@
-ghost use Rattle.std.specs.Prelude.{◌≡◌, IfOk, IfErr, OnOk, slice_range};
-ghost use Rattle.sh_lexer.specs.Tokens.{IsToken};
-ghost use Rattle.sh_tree.specs.Fault.{is_plain, ArePlain, IsOtherFault, HasFault, HasTree};
-ghost use Rattle.sh_tree.specs.Grammar.{Derives};
-ghost use Rattle.sh_tree.specs.Lexeme.{lexemes};
-ghost use Rattle.sh_tree.specs.Reading.{AreReadable, ReadsSimple, StopsReading};
+//! The recursive descent over the tokens of a line that the automaton has accepted. So the only
+//! error of its functions is want of memory.
+ghost use Rattle.std.specs.Prelude.{◌≡◌, ℕ, List, IfOk, IfErr, MatchOption};
+ghost use Rattle.sh_tree.specs.Fault.{HasFault, HasTree};
+ghost use Rattle.sh_tree.specs.Grammar.{IsLine, IsPipe, IsExec};
+ghost use Rattle.sh_tree.specs.Reading.{may_follow_command, may_follow_pipe, may_follow_backs, may_follow_line, FirstIs, FirstIsNot, MayBegin, MayBeginInside, MayBeginSimple, IsAfterPipe, Reads, IsBlockRest, Backs};
 ghost use Rattle.sh_tree.specs.Tree.{tree_of};
 
+use crate::automaton::check;
 use crate::fault::ParseFault;
+use crate::parts::{parse_redirections, parse_words};
 use crate::tree::Cmd;
-use crate::words::Words;
-use sh_lexer::{Bytes, Kind, Token, tokens};
+use sh_lexer::{Kind, Token, tokens};
 use std::alloc::{AllocError, Allocator};
 
-/// The words of a simple command.
-const MAX_WORDS: usize = 9;
-
-fn is_plain(kind: Kind) -> bool
-    ensures { result ≡ is_plain kind }
+// The tokens after the first, if that is of the kind.
+fn after_kind(tokens: &[Token], kind: Kind) -> Option<&[Token]>
+    ensures { MatchOption result (FirstIsNot kind tokens.now) (λ rest. FirstIs kind tokens.now rest.now) }
 {
-    matches!(kind, Kind::Word | Kind::Semi)
+    let (first, rest) = tokens.split_first()?;
+    if first.kind == kind { Some(rest) } else { None }
 }
 
-fn text_of<A: Allocator>(alloc: A, line: &[u8], token: &Token) -> Result<Bytes<A>, AllocError>
-    requires { IsToken line.now token.now }
-    ensures { IfOk result (λ text. text ≡ slice_range line.now token.now.first token.now.past) }
+// A pipe in the `&` after it, and the tokens after those.
+fn parse_backs<'t, A: Allocator + Copy>(
+    alloc: A,
+    pipe: Cmd<A>,
+    tokens: &'t [Token],
+) -> Result<(Cmd<A>, &'t [Token]), AllocError>
+    ensures { IfOk result (λ r. (line : List ℕ) → IsAfterPipe line tokens.now → Reads (Backs (tree_of pipe)) may_follow_backs line tokens.now r.1.now (tree_of r.0)) }
 {
-    Bytes::copy_of(alloc, &line[token.first..token.past])
+    let mut command = pipe;
+    let mut rest = tokens;
+    while let Some(after) = after_kind(rest, Kind::Amp) {
+        command = Cmd::Back(Box::new(alloc, command)?);
+        rest = after;
+    }
+    Ok((command, rest))
 }
 
-// A simple command (sh.c's `parseexec`), and the tokens after it.
-fn simple<'t, A: Allocator + Copy>(
+// `user/sh.c`'s `parseline`.
+#[cycle(parser)]
+fn parse_line<'t, A: Allocator + Copy>(
     alloc: A,
     line: &[u8],
     tokens: &'t [Token],
-) -> Result<(Cmd<A>, &'t [Token]), ParseFault>
-    requires { AreReadable line.now tokens.now }
-    ensures left { IfOk result (λ r. AreReadable line.now r.1.now) }
-    ensures command { IfOk result (λ r. ReadsSimple line.now tokens.now r.1.now (tree_of r.0)) }
-    ensures fault { IfErr result (StopsReading line.now tokens.now) }
+) -> Result<(Cmd<A>, &'t [Token]), AllocError>
+    requires { MayBegin line.now tokens.now }
+    ensures { IfOk result (λ r. Reads IsLine may_follow_line line.now tokens.now r.1.now (tree_of r.0)) }
 {
-    let mut words = Vec::new(alloc);
-    for (i, token) in tokens.iter().enumerate() {
-        if token.kind != Kind::Word {
-            return Ok((Cmd::Exec(Words::from_vec(words)), &tokens[i..]));
-        }
-        if i == MAX_WORDS {
-            return Err(ParseFault::TooManyWords(token.first));
-        }
-        words.push(text_of(alloc, line, token)?)?;
-    }
-    Ok((Cmd::Exec(Words::from_vec(words)), &[]))
+    let (pipe, past_pipe) = parse_pipe(alloc, line, tokens)?;
+    let (left, rest) = parse_backs(alloc, pipe, past_pipe)?;
+    let Some(after) = after_kind(rest, Kind::Semi) else {
+        return Ok((left, rest));
+    };
+    let (right, past_line) = parse_line(alloc, line, after)?;
+    Ok((
+        Cmd::List(Box::new(alloc, left)?, Box::new(alloc, right)?),
+        past_line,
+    ))
 }
 
-// The tokens as a whole line (sh.c's `parseline`).
-fn line_of<A: Allocator + Copy>(
+// `user/sh.c`'s `parsepipe`.
+#[cycle(parser)]
+fn parse_pipe<'t, A: Allocator + Copy>(
     alloc: A,
     line: &[u8],
-    tokens: &[Token],
-) -> Result<Cmd<A>, ParseFault>
-    requires { AreReadable line.now tokens.now }
-    ensures tree { IfOk result (λ tree. Derives (lexemes line.now tokens.now) (tree_of tree)) }
-    ensures fault { IfErr result (StopsReading line.now tokens.now) }
+    tokens: &'t [Token],
+) -> Result<(Cmd<A>, &'t [Token]), AllocError>
+    requires { MayBegin line.now tokens.now }
+    ensures { IfOk result (λ r. Reads IsPipe may_follow_pipe line.now tokens.now r.1.now (tree_of r.0)) }
 {
-    let (first, rest) = simple(alloc, line, tokens)?;
-    let Some((_, after)) = rest.split_first() else {
-        return Ok(first);
+    let (left, rest) = parse_exec(alloc, line, tokens)?;
+    let Some(after) = after_kind(rest, Kind::Bar) else {
+        return Ok((left, rest));
     };
-    let second = line_of(alloc, line, after)?;
-    Ok(Cmd::List(Box::new(alloc, first)?, Box::new(alloc, second)?))
+    let (right, past_pipe) = parse_pipe(alloc, line, after)?;
+    Ok((
+        Cmd::Pipe(Box::new(alloc, left)?, Box::new(alloc, right)?),
+        past_pipe,
+    ))
 }
 
-// Only words and semicolons are read so far.
-fn check_plain(tokens: &[Token]) -> Result<(), ParseFault>
-    ensures plain { OnOk result (ArePlain tokens.now) }
-    ensures other { IfErr result (λ fault. IsOtherFault tokens.now fault) }
+// `user/sh.c`'s `parseexec`.
+#[cycle(parser)]
+fn parse_exec<'t, A: Allocator + Copy>(
+    alloc: A,
+    line: &[u8],
+    tokens: &'t [Token],
+) -> Result<(Cmd<A>, &'t [Token]), AllocError>
+    requires { MayBegin line.now tokens.now }
+    ensures { IfOk result (λ r. Reads IsExec may_follow_command line.now tokens.now r.1.now (tree_of r.0)) }
 {
-    for token in tokens {
-        if !is_plain(token.kind) {
-            return Err(ParseFault::Unexpected(token.first));
-        }
+    match after_kind(tokens, Kind::LeftParen) {
+        Some(inside) => parse_block(alloc, line, inside),
+        None => parse_simple(alloc, line, tokens),
     }
-    Ok(())
 }
 
-/// The tree of a line (`user/sh.c`'s `parsecmd`).
+// A block after its left parenthesis (`user/sh.c`'s `parseblock`).
+#[cycle(parser)]
+fn parse_block<'t, A: Allocator + Copy>(
+    alloc: A,
+    line: &[u8],
+    inside: &'t [Token],
+) -> Result<(Cmd<A>, &'t [Token]), AllocError>
+    requires { MayBeginInside line.now inside.now }
+    ensures { IfOk result (λ r. Reads IsBlockRest may_follow_command line.now inside.now r.1.now (tree_of r.0)) }
+{
+    let (body, rest) = parse_line(alloc, line, inside)?;
+    let Some(after) = after_kind(rest, Kind::RightParen) else {
+        unreachable!()
+    };
+    parse_redirections(alloc, line, body, after)
+}
+
+// A simple command: its words, and then the redirections among them.
+fn parse_simple<'t, A: Allocator + Copy>(
+    alloc: A,
+    line: &[u8],
+    tokens: &'t [Token],
+) -> Result<(Cmd<A>, &'t [Token]), AllocError>
+    requires { MayBeginSimple line.now tokens.now }
+    ensures { IfOk result (λ r. Reads IsExec may_follow_command line.now tokens.now r.1.now (tree_of r.0)) }
+{
+    let words = parse_words(alloc, line, tokens)?;
+    parse_redirections(alloc, line, Cmd::Exec(words), tokens)
+}
+
+/// The tree of a line (`user/sh.c`'s `parsecmd`), or why it has none.
 ///
-/// So far words and `;` alone make a tree: a line with another sign is `Unexpected` at the first
-/// such sign, whatever else stands in it. Else a simple command may have nine words, and the tenth
-/// is `TooManyWords`. Places are bytes of the line, counted from 0.
+/// Every line has exactly one tree or exactly one fault other than `Memory`, whatever its bytes:
+/// `ParseFault` says which fault it is and where. `Memory` comes only where the allocator
+/// refused, and may then stand in place of either.
+///
+/// A fault is found with no recursion, so a faulty line may be of any length and depth. To make a
+/// tree, `parse` recurses as deep as parentheses nest and as many `;` and `|` follow one another,
+/// and `copy_in`, `same` and the drop of a tree recurse as deep as the tree is high. A line of at
+/// most 511 bytes nests at most 255 deep and makes a tree at most 511 high. Of longer lines 5,000
+/// nested parentheses and rows of 10,000 `;` or `&` were tried on a stack of 8 MiB as LLVM builds
+/// it, and 1,000 of each without optimisation; 10,000 nested parentheses overflowed it.
 pub fn parse<A: Allocator + Copy>(alloc: A, line: &[u8]) -> Result<Cmd<A>, ParseFault>
     ensures tree { IfOk result (λ tree. HasTree line.now (tree_of tree)) }
     ensures fault { IfErr result (HasFault line.now) }
 {
     let all = tokens(alloc, line)?;
-    check_plain(all.as_slice())?;
-    line_of(alloc, line, all.as_slice())
-}
-
-#[cfg(test)]
-mod tests {
-    use super::*;
-    use crate::tree::{copy_in, same};
-    use bumpalo::Bump;
-    use linked_list_allocator::LocalHeap;
-    use std::test::Fail;
-
-    #[test]
-    fn counts_words(rt: HostRuntime) -> Result<(), Fail> {
-        let eight = parse(rt.alloc(), b"echo 1 2 3 4 5 6 7 8".as_slice());
-        assert!(rt; matches!(eight, Ok(Cmd::Exec(_))));
-        let nine = parse(rt.alloc(), b"echo 1 2 3 4 5 6 7 8 9".as_slice());
-        assert!(rt; matches!(nine, Err(ParseFault::TooManyWords(21))));
-        let other = parse(rt.alloc(), b"a ; b | c & d".as_slice());
-        assert!(rt; matches!(other, Err(ParseFault::Unexpected(6))));
-        Ok(())
-    }
-
-    #[test]
-    fn trees_in_an_arena(rt: HostRuntime) -> Result<(), Fail> {
-        let arena = Bump::new(rt.alloc());
-        let line = b"echo a ;; echo b".as_slice();
-        let near = parse(&arena, line)?;
-        let far = parse(rt.alloc(), line)?;
-        assert!(rt; same(&near, &far));
-        let copy = copy_in(&near, rt.alloc())?;
-        assert!(rt; same(&copy, &far));
-        let other = parse(rt.alloc(), b"echo a ; echo b".as_slice())?;
-        assert!(rt; !same(&near, &other));
-        Ok(())
-    }
-
-    #[test]
-    fn lists_may_be_empty(rt: HostRuntime) -> Result<(), Fail> {
-        let lists = parse(rt.alloc(), b";;".as_slice())?;
-        let Cmd::List(first, rest) = &lists else {
-            return Err(Fail::from("no list"));
-        };
-        assert!(rt; matches!(&**first, Cmd::Exec(words) if words.as_slice().is_empty()));
-        assert!(rt; matches!(&**rest, Cmd::List(_, _)));
-        Ok(())
-    }
-
-    // With a heap that grows step by step, each allocation is refused in turn, until none is.
-    #[test]
-    fn refused_memory_is_told(rt: HostRuntime) -> Result<(), Fail> {
-        let line = b"echo a b; echo c".as_slice();
-        let whole = parse(rt.alloc(), line)?;
-        let mut refused = 0;
-        for blocks in 1..200 {
-            let heap = LocalHeap::new(rt.alloc(), blocks * 16)?;
-            match parse(&heap, line) {
-                Ok(tree) => assert!(rt; same(&tree, &whole)),
-                Err(fault) => {
-                    assert_eq!(rt; fault, ParseFault::Memory);
-                    refused = blocks;
-                }
-            }
-            if let Ok(copy) = copy_in(&whole, &heap) {
-                assert!(rt; same(&copy, &whole));
-            }
-        }
-        assert!(rt; 1 < refused);
-        assert!(rt; refused < 199);
-        Ok(())
-    }
+    let list = all.as_slice();
+    check(line, list)?;
+    let (tree, _) = parse_line(alloc, line, list)?;
+    Ok(tree)
 }

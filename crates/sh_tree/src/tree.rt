@@ -5,37 +5,40 @@ use crate::words::Words;
 use sh_lexer::Bytes;
 use std::alloc::{AllocError, Allocator};
 
-/// How a redirection opens its file (`user/sh.c`'s `parseredirs`).
+/// How a redirection opens its file.
 #[derive(Clone, Copy, Debug, PartialEq, Eq)]
 pub enum Mode {
-    /// `<`: for reading.
+    /// `<`: the file is read.
     Input,
-    /// `>`: for writing, made or emptied.
+    /// `>`: the file is written, and emptied first.
     Fresh,
-    /// `>>`: for writing over what it holds, made if it is missing.
+    /// `>>`: the file is written from its beginning, and keeps the bytes that are not reached.
     Over,
 }
 
-/// A command (`user/sh.c`'s `struct cmd` and its kinds).
+/// A command, as `user/sh.c`'s `struct cmd`, over any allocator.
 #[derive(Drop)]
 pub enum Cmd<A: Allocator> {
-    /// A program's name and its arguments; no words at all is a command that does nothing.
+    /// A program's name and its arguments. `parse` gives nine words at most, and may give none.
     Exec(Words<A>),
-    /// A command with a file in the place of its standard input or output.
+    /// The body with a descriptor opened on the file `name`. Of several redirections of one
+    /// command the last in the text is outermost.
     Redir {
         mode: Mode,
         name: Bytes<A>,
         body: Box<Cmd<A>, A>,
     },
-    /// `|`: the left side's output is the right side's input.
+    /// `left | right`
     Pipe(Box<Cmd<A>, A>, Box<Cmd<A>, A>),
-    /// `;`: the left side, and then the right side.
+    /// `left ; right`
     List(Box<Cmd<A>, A>, Box<Cmd<A>, A>),
-    /// `&`: a command that nobody waits for.
+    /// `body &`
     Back(Box<Cmd<A>, A>),
 }
 
-/// Whether two commands are the same tree, whatever allocators they lie in. It takes no memory.
+/// Whether two commands are equal, whatever allocators they lie in. Own.
+///
+/// Takes no memory. It recurses as deep as the lesser tree is high.
 pub fn same<A: Allocator, B: Allocator>(left: &Cmd<A>, right: &Cmd<B>) -> bool
     ensures { IsTrue result ↔ (tree_of left.now ≡ tree_of right.now) }
 {
@@ -64,7 +67,10 @@ pub fn same<A: Allocator, B: Allocator>(left: &Cmd<A>, right: &Cmd<B>) -> bool
     }
 }
 
-/// The same tree over another allocator. The only error is want of memory.
+/// An equal command over another allocator, as out of an arena. Own.
+///
+/// The only error is want of memory, and what had been copied is then dropped. It recurses as
+/// deep as the tree is high.
 pub fn copy_in<A: Allocator + Copy, B: Allocator>(
     tree: &Cmd<B>,
     alloc: A,

@@ -4,7 +4,7 @@ use sh_lexer::Bytes;
 use std::alloc::{AllocError, Allocator};
 use std::marker::Model;
 
-/// The words of a simple command, which contracts see as a list of byte strings.
+/// A list of words over any allocator, which contracts see as the list of their bytes.
 #[derive(Drop)]
 pub struct Words<A: Allocator> {
     items: Vec<Bytes<A>, A>,
@@ -19,22 +19,21 @@ impl<A: Allocator> Model for Words<A> {
 }
 
 impl<A: Allocator> Words<A> {
-    /// The words of a `Vec`, which is moved and not copied.
+    /// The words of a `Vec`, which is moved and not copied. Own.
     pub fn from_vec(items: Vec<Bytes<A>, A>) -> Self
         ensures { result ≡ items.items }
     {
         Words { items }
     }
 
-    /// The words, lent.
+    /// The words, lent. Own.
     pub fn as_slice(&self) -> &[Bytes<A>]
         ensures { result.now ≡ self.now }
     {
         self.items.as_slice()
     }
 
-    /// Whether two lists hold the same words, whatever allocators they lie in. It takes no memory.
-    pub fn is_same<B: Allocator>(&self, other: &Words<B>) -> bool
+    pub(crate) fn is_same<B: Allocator>(&self, other: &Words<B>) -> bool
         ensures { IsTrue result ↔ (self.now ≡ other.now) }
     {
         let left = self.as_slice();
@@ -50,12 +49,12 @@ impl<A: Allocator> Words<A> {
         true
     }
 
-    /// The same words over another allocator. The only error is want of memory.
-    pub fn copy_in<B: Allocator + Copy>(&self, alloc: B) -> Result<Words<B>, AllocError>
+    pub(crate) fn copy_in<B: Allocator + Copy>(&self, alloc: B) -> Result<Words<B>, AllocError>
         ensures { IfOk result (λ copy. copy ≡ self.now) }
     {
-        let mut items = Vec::new(alloc);
-        for word in self.as_slice() {
+        let words = self.as_slice();
+        let mut items = Vec::with_capacity(alloc, words.len())?;
+        for word in words {
             items.push(Bytes::copy_of(alloc, word.as_slice())?)?;
         }
         Ok(Words::from_vec(items))

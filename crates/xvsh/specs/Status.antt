@@ -1,5 +1,8 @@
 -- Faults, and the statuses with which the program ends.
-use Rattle.std.specs.Prelude.{ℕ}
+use Rattle.std.specs.Prelude.{ℕ, List}
+use Rattle.std.specs.Borrow.{Bor}
+use Rattle.mem_files.specs.declared.fault.FilesFault.{FilesFault}
+use Rattle.mem_files.specs.declared.fault.FilesFault.TheVariants.{BadName as files_name, Missing as files_missing, FullFiles as files_full, FullSize as files_size, Memory as files_memory, Gap as files_gap}
 use Rattle.script_load.specs.declared.fault.LoadFault.{LoadFault}
 use Rattle.script_load.specs.declared.fault.LoadFault.TheVariants.{LineTooLong as load_long, ByteZero as load_zero, Memory as load_memory}
 use Rattle.plain_run.specs.declared.fault.PlainFault.{PlainFault}
@@ -7,23 +10,33 @@ use Rattle.plain_run.specs.declared.fault.PlainFault.TheVariants.{TooLarge as pl
 use Rattle.xvsh.specs.declared.host.HostFault.{HostFault}
 use Rattle.xvsh.specs.declared.host.HostFault.TheVariants.{Unreadable as host_unreadable, TooLong as host_long, Memory as host_memory}
 use Rattle.xvsh.specs.declared.fault.Fault.{Fault}
-use Rattle.xvsh.specs.declared.fault.Fault.TheVariants.{Usage, Unreadable, TooLong, LineTooLong, ByteZero, TooLarge, Memory, Unwritten}
+use Rattle.xvsh.specs.declared.fault.Fault.TheVariants.{Unreadable, TooLong, LineTooLong, ByteZero, BadName, TooManyFiles, TooLarge, Memory, Unwritten}
 
--- 1: an input that can't be read or is refused, or an output that takes no more; 2: usage; 4: no room
+-- 1: an input that can't be read or is refused, or an output that takes no more; 4: no room
 abbrev pub status_of : Fault → ℕ
-status_of Usage = 2
-status_of Unreadable = 1
-status_of TooLong = 1
+status_of (Unreadable path) = 1
+status_of (TooLong path) = 1
 status_of (LineTooLong n) = 1
 status_of (ByteZero n) = 1
+status_of (BadName path) = 1
+status_of TooManyFiles = 1
 status_of TooLarge = 4
 status_of Memory = 4
 status_of Unwritten = 1
 
-abbrev pub of_host : HostFault → Fault
-of_host host_unreadable = Unreadable
-of_host host_long = TooLong
-of_host host_memory = Memory
+abbrev pub of_host : Bor (List ℕ) → HostFault → Fault
+of_host path host_unreadable = Unreadable path
+of_host path host_long = TooLong path
+of_host path host_memory = Memory
+
+-- of the two that adding a file never meets nothing is told
+abbrev pub of_files : Bor (List ℕ) → FilesFault → Fault
+of_files path files_name = BadName path
+of_files path files_missing = Memory
+of_files path files_full = TooManyFiles
+of_files path files_size = TooLong path
+of_files path files_memory = Memory
+of_files path files_gap = Memory
 
 abbrev pub of_load : LoadFault → Fault
 of_load (load_long n) = LineTooLong n

@@ -1,29 +1,34 @@
-ghost use Rattle.std.specs.Prelude.{◌≡◌};
-ghost use Rattle.xvsh.specs.Status.{status_of};
+ghost use Rattle.std.specs.Prelude.{◌≡◌, ◌↔◌, IsTrue};
+ghost use Rattle.xvsh.specs.Status.{status_of, of_host, of_files};
 
 use crate::host::HostFault;
+use mem_files::FilesFault;
 use plain_run::PlainFault;
 use script_load::LoadFault;
+use std::alloc::AllocError;
 use thiserror::Error;
 
 /// Why the program fails. Each is told as one line on standard error after `xvsh: `, but for
-/// `Unwritten`, after which nothing more is written.
-#[derive(Clone, Copy, Debug, PartialEq, Eq, Error)]
-pub enum Fault {
-    /// The program was given words.
-    #[error("usage")]
-    Usage,
-    #[error("cannot read -")]
-    Unreadable,
-    /// The script has more bytes than a script may have.
-    #[error("- is too long")]
-    TooLong,
+/// `Unwritten`, after which nothing more is written. A path is told as it was given, and `-` stands
+/// for standard input.
+#[derive(Clone, Copy, Debug, Error)]
+pub enum Fault<'a> {
+    #[error("cannot read {0}")]
+    Unreadable(&'a str),
+    /// A script or a standard input of more than 1,048,576 bytes, or a file of more than 274,432.
+    #[error("{0} is too long")]
+    TooLong(&'a str),
     /// This line of the script, counted from 1.
     #[error("line {0} is too long")]
     LineTooLong(usize),
     /// This line of the script, counted from 1.
     #[error("line {0} holds a zero byte")]
     ByteZero(usize),
+    #[error("bad file name {0}")]
+    BadName(&'a str),
+    #[error("too many files")]
+    TooManyFiles,
+    /// The script would make a file too large, or one too many.
     #[error("too large")]
     TooLarge,
     #[error("no memory")]
@@ -33,45 +38,61 @@ pub enum Fault {
     Unwritten,
 }
 
-impl Fault {
+impl<'a> Fault<'a> {
     /// The status with which the program ends.
     pub fn status(self) -> u8
-        ensures { result ≡ status_of self }
+        ensures { result ≡ status_of self.entry }
     {
         match self {
-            Fault::Usage => 2,
             Fault::TooLarge | Fault::Memory => 4,
-            Fault::Unreadable
-            | Fault::TooLong
+            Fault::Unreadable(_)
+            | Fault::TooLong(_)
             | Fault::LineTooLong(_)
             | Fault::ByteZero(_)
+            | Fault::BadName(_)
+            | Fault::TooManyFiles
             | Fault::Unwritten => 1,
         }
     }
-}
 
-impl From<HostFault> for Fault {
-    ghost use Rattle.std.specs.Prelude.{◌≡◌};
-    ghost use Rattle.xvsh.specs.Status.{of_host};
+    /// Whether it is the output that failed.
+    pub fn is_unwritten(&self) -> bool
+        ensures { IsTrue result ↔ (self.now ≡ Fault.Unwritten) }
+    {
+        matches!(self, Fault::Unwritten)
+    }
 
-    ghost from_gives = { λ fault given. given ≡ of_host fault };
-
-    fn from(fault: HostFault) -> Fault {
+    /// Why the bytes at this path can't be had.
+    pub fn at_path(path: &'a str, fault: HostFault) -> Self
+        ensures { result ≡ of_host path.entry fault }
+    {
         match fault {
-            HostFault::Unreadable => Fault::Unreadable,
-            HostFault::TooLong => Fault::TooLong,
+            HostFault::Unreadable => Fault::Unreadable(path),
+            HostFault::TooLong => Fault::TooLong(path),
             HostFault::Memory => Fault::Memory,
+        }
+    }
+
+    /// Why the file at this path can't be among the script's files.
+    pub fn of_file(path: &'a str, fault: FilesFault) -> Self
+        ensures { result ≡ of_files path.entry fault }
+    {
+        match fault {
+            FilesFault::BadName => Fault::BadName(path),
+            FilesFault::FullFiles => Fault::TooManyFiles,
+            FilesFault::FullSize => Fault::TooLong(path),
+            FilesFault::Missing | FilesFault::Memory | FilesFault::Gap => Fault::Memory,
         }
     }
 }
 
-impl From<LoadFault> for Fault {
+impl<'a> From<LoadFault> for Fault<'a> {
     ghost use Rattle.std.specs.Prelude.{◌≡◌};
     ghost use Rattle.xvsh.specs.Status.{of_load};
 
     ghost from_gives = { λ fault given. given ≡ of_load fault };
 
-    fn from(fault: LoadFault) -> Fault {
+    fn from(fault: LoadFault) -> Fault<'a> {
         match fault {
             LoadFault::LineTooLong(n) => Fault::LineTooLong(n),
             LoadFault::ByteZero(n) => Fault::ByteZero(n),
@@ -80,16 +101,27 @@ impl From<LoadFault> for Fault {
     }
 }
 
-impl From<PlainFault> for Fault {
+impl<'a> From<PlainFault> for Fault<'a> {
     ghost use Rattle.std.specs.Prelude.{◌≡◌};
     ghost use Rattle.xvsh.specs.Status.{of_plain};
 
     ghost from_gives = { λ fault given. given ≡ of_plain fault };
 
-    fn from(fault: PlainFault) -> Fault {
+    fn from(fault: PlainFault) -> Fault<'a> {
         match fault {
             PlainFault::TooLarge => Fault::TooLarge,
             PlainFault::Memory => Fault::Memory,
         }
+    }
+}
+
+impl<'a> From<AllocError> for Fault<'a> {
+    ghost use Rattle.std.specs.Prelude.{◌≡◌};
+    ghost use Rattle.xvsh.specs.declared.fault.Fault.TheVariants.{Memory};
+
+    ghost from_gives = { λ _ given. given ≡ Memory };
+
+    fn from(_error: AllocError) -> Fault<'a> {
+        Fault::Memory
     }
 }

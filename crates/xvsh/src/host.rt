@@ -6,7 +6,7 @@ use thiserror::Error;
 /// Why the host gives no bytes. The faults are numbered from 1 in this order.
 #[derive(Clone, Copy, Debug, PartialEq, Eq, Error)]
 pub enum HostFault {
-    /// A read failed.
+    /// A file can't be opened, or a read failed.
     #[error("unreadable")]
     Unreadable,
     /// There are more bytes than the limit.
@@ -27,4 +27,8 @@ pub trait Host {
         ensures whole { IfOk result (λ bytes. IfSome (input self.old) (λ told. bytes.items ≡ told)) }
         ensures within { IfOk result (λ bytes. vec_len bytes ≤ limit) }
         ensures too_long { result ≡ Err HostFault.TooLong → IfSome (input self.old) (λ told. limit < length told) };
+
+    /// All bytes of the file at a path, of which there may be as many as the limit.
+    fn read_path(&mut self, alloc: Global, path: &str, limit: usize) -> Result<Vec<u8>, HostFault>
+        ensures { IfOk result (λ bytes. vec_len bytes ≤ limit) };
 }

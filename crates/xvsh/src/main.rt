@@ -4,8 +4,10 @@
 mod driver;
 mod fault;
 mod host;
+mod listing;
 mod reading;
 mod system;
+mod words;
 
 use driver::drive;
 use std::process::ExitCode;
@@ -13,7 +15,11 @@ use std::{env, io};
 use system::System;
 
 fn main(rt: HostRuntime) -> anyhow::Result<ExitCode> {
-    let words = env::args(&rt)?.skip(1).collect(rt.alloc())?;
+    let Ok(words) = env::args(&rt) else {
+        rt.eprintln("xvsh: a word of the command line is not text in UTF-8")?;
+        return Ok(ExitCode::from(2));
+    };
+    let words = words.skip(1).collect(rt.alloc())?;
     let mut host = System::new(rt.clone()?);
     let mut out = io::writer(&rt);
     let mut err = rt.stderr();

@@ -3,6 +3,8 @@ ghost use Rattle.std.specs.Prelude.{None};
 use crate::host::{Host, HostFault};
 use crate::reading::read_all;
 use std::alloc::Global;
+use std::fs::File;
+use std::rt::Files;
 
 /// The system, whose standard input is unknown before it is read.
 #[derive(Drop)]
@@ -16,10 +18,17 @@ impl<R> System<R> {
     }
 }
 
-impl<R: Input> Host for System<R> {
+impl<R: Input + Files> Host for System<R> {
     ghost input = { λ _. None };
 
     fn read_input(&mut self, alloc: Global, limit: usize) -> Result<Vec<u8>, HostFault> {
         read_all(alloc, self.rt.reader(), limit)
+    }
+
+    fn read_path(&mut self, alloc: Global, path: &str, limit: usize) -> Result<Vec<u8>, HostFault> {
+        match File::open(&self.rt, path) {
+            Ok(file) => read_all(alloc, file, limit),
+            Err(_) => Err(HostFault::Unreadable),
+        }
     }
 }

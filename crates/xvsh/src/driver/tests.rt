@@ -1,28 +1,46 @@
-ghost use Rattle.std.specs.Prelude.{Some, []};
+ghost use Rattle.std.specs.Prelude.{◌≡◌, ◌<◌, ◌≤◌, Some, [], Err, IfOk, length, vec_len};
 
 use super::*;
 use crate::host::HostFault;
 use std::io;
+use std::process::Abort;
 use std::test::Fail;
 
-// A host in memory.
+// A host in memory: standard input, and files at paths.
 #[derive(Drop)]
-struct Memory {
-    input: Vec<u8>,
+struct Memory<'a> {
+    input: &'a [u8],
+    files: &'a [(&'a str, &'a [u8])],
 }
 
-impl Host for Memory {
-    ghost input = { λ m. Some m.input.items };
+impl Host for Memory<'_> {
+    ghost input = { λ m. Some m.input.now };
 
     fn read_input(&mut self, alloc: Global, limit: usize) -> Result<Vec<u8>, HostFault> {
-        if self.input.len() > limit {
-            return Err(HostFault::TooLong);
+        bounded(alloc, self.input, limit)
+    }
+
+    fn read_path(&mut self, alloc: Global, path: &str, limit: usize) -> Result<Vec<u8>, HostFault> {
+        for (name, bytes) in self.files {
+            if *name == path {
+                return bounded(alloc, bytes, limit);
+            }
         }
-        let mut bytes = Vec::new(alloc);
-        match bytes.extend_from_slice(self.input.as_slice()) {
-            Ok(()) => Ok(bytes),
-            Err(_) => Err(HostFault::Memory),
-        }
+        Err(HostFault::Unreadable)
+    }
+}
+
+fn bounded(alloc: Global, bytes: &[u8], limit: usize) -> Result<Vec<u8>, HostFault>
+    ensures whole { IfOk result (λ all. all.items ≡ bytes.now) }
+    ensures within { IfOk result (λ all. vec_len all ≤ limit) }
+    ensures too_long { result ≡ Err HostFault.TooLong → limit < length bytes.now }
+{
+    if bytes.len() > limit {
+        return Err(HostFault::TooLong);
+    }
+    match Vec::from_slice(alloc, bytes) {
+        Ok(all) => Ok(all),
+        Err(_) => Err(HostFault::Memory),
     }
 }
 
@@ -35,6 +53,36 @@ impl Host for Broken {
 
     fn read_input(&mut self, _alloc: Global, _limit: usize) -> Result<Vec<u8>, HostFault> {
         Err(HostFault::Unreadable)
+    }
+
+    fn read_path(
+        &mut self,
+        alloc: Global,
+        _path: &str,
+        _limit: usize,
+    ) -> Result<Vec<u8>, HostFault> {
+        Ok(Vec::new(alloc))
+    }
+}
+
+// A host in which every path has an empty file.
+#[derive(Drop)]
+struct Anything;
+
+impl Host for Anything {
+    ghost input = { λ _. Some [] };
+
+    fn read_input(&mut self, alloc: Global, _limit: usize) -> Result<Vec<u8>, HostFault> {
+        Ok(Vec::new(alloc))
+    }
+
+    fn read_path(
+        &mut self,
+        alloc: Global,
+        _path: &str,
+        _limit: usize,
+    ) -> Result<Vec<u8>, HostFault> {
+        Ok(Vec::new(alloc))
     }
 }
 
@@ -58,112 +106,197 @@ impl Write for Failing {
     }
 }
 
+fn words_of(alloc: Global, line: &str) -> Result<Vec<String>, Fail> {
+    let mut words = Vec::new(alloc);
+    for word in line.split_whitespace() {
+        words.push(String::from_str(alloc, word)?)?;
+    }
+    Ok(words)
+}
+
+// Runs the program and compares its status, its output and its faults.
+fn expect<H: Host>(
+    rt: &(impl Abort + AllocGlobal),
+    words: &str,
+    host: &mut H,
+    want: (u8, &str, &str),
+) -> Result<(), Fail> {
+    let mut out = Vec::new(rt.alloc());
+    let mut err = Vec::new(rt.alloc());
+    let words = words_of(rt.alloc(), words)?;
+    let status = drive(rt.alloc(), words, host, &mut out, &mut err);
+    assert_eq!(rt; out.as_slice(), want.1.as_bytes());
+    assert_eq!(rt; err.as_slice(), want.2.as_bytes());
+    assert_eq!(rt; status, want.0);
+    Ok(())
+}
+
 #[test]
 fn runs_scripts(rt: HostRuntime) -> Result<(), Fail> {
     let long = "x".repeat(rt.alloc(), 511)?;
     let longer = "x".repeat(rt.alloc(), 512)?;
     let rows = [
-        ("echo hello\n", "hello\n", "", 0),
-        ("", "", "", 0),
-        (";;", "", "", 0),
-        ("echo a b;foo\ncd x\necho c", "a b\nc\n", "", 0),
+        ("echo hello\n", (0, "hello\n", "")),
+        ("", (0, "", "")),
+        (";;", (0, "", "")),
+        ("echo a b;foo\ncd x\necho c", (0, "a b\nc\n", "")),
         (
             "echo 1 2 3 4 5 6 7 8\necho 1 2 3 4 5 6 7 8 9\n",
-            "1 2 3 4 5 6 7 8\n",
-            "",
-            0,
+            (0, "1 2 3 4 5 6 7 8\n", ""),
         ),
-        (long.as_str(), "", "", 0),
-        (longer.as_str(), "", "xvsh: line 1 is too long\n", 1),
-        ("echo a\na\0b", "", "xvsh: line 2 holds a zero byte\n", 1),
+        ("a & b\necho ok\n", (0, "ok\n", "")),
+        ("echo hello > f; echo J >> f; cat f", (0, "J\nllo\n", "")),
+        (long.as_str(), (0, "", "")),
+        (longer.as_str(), (1, "", "xvsh: line 1 is too long\n")),
+        ("echo a\na\0b", (1, "", "xvsh: line 2 holds a zero byte\n")),
     ];
-    for (script, want_out, want_err, want_status) in rows {
+    for (script, want) in rows {
         let mut host = Memory {
-            input: script.as_bytes().to_vec(rt.alloc())?,
+            input: script.as_bytes(),
+            files: &[],
         };
-        let mut out = Vec::new(rt.alloc());
-        let mut err = Vec::new(rt.alloc());
-        let words = Vec::new(rt.alloc());
-        let status = drive(rt.alloc(), words, &mut host, &mut out, &mut err);
-        assert_eq!(rt; status, want_status, "at {script}");
-        assert_eq!(rt; out.as_slice(), want_out.as_bytes(), "at {script}");
-        assert_eq!(rt; err.as_slice(), want_err.as_bytes(), "at {script}");
+        expect(&rt, "", &mut host, want)?;
+        expect(&rt, "plain -", &mut host, want)?;
     }
     Ok(())
 }
 
 #[test]
-fn refuses_words(rt: HostRuntime) -> Result<(), Fail> {
-    let mut host = Broken;
-    let mut out = Vec::new(rt.alloc());
-    let mut err = Vec::new(rt.alloc());
-    let words = vec![in rt.alloc(); String::from_str(rt.alloc(), "plain")?]?;
-    let status = drive(rt.alloc(), words, &mut host, &mut out, &mut err);
-    assert_eq!(rt; status, 2);
-    assert!(rt; out.is_empty());
-    assert_eq!(rt; err.as_slice(), b"xvsh: usage\n".as_slice());
+fn takes_and_lists_files(rt: HostRuntime) -> Result<(), Fail> {
+    let files = [
+        ("s", b"cat p".as_slice()),
+        ("dir/p", b"b\naab\naabc\ncb\n".as_slice()),
+        ("copy", b"cat > o".as_slice()),
+    ];
+    let mut host = Memory {
+        input: b"echo a > x > y".as_slice(),
+        files: &files,
+    };
+    let want = "b\naab\naabc\ncb\n-- p 14\nb\naab\naabc\ncb\n\n";
+    expect(&rt, "plain --files s dir/p", &mut host, (0, want, ""))?;
+    let want = "-- x 2\na\n\n-- y 0\n\n";
+    expect(&rt, "plain --files -", &mut host, (0, want, ""))?;
+    let want = "-- o 14\necho a > x > y\n";
+    expect(&rt, "plain --files copy", &mut host, (0, want, ""))?;
     Ok(())
 }
 
 #[test]
-fn tells_an_unreadable_or_long_input(rt: HostRuntime) -> Result<(), Fail> {
+fn tells_what_it_cannot_take(rt: HostRuntime) -> Result<(), Fail> {
+    let large = vec![in rt.alloc(); b'x'; MAX_SIZE + 1]?;
+    let files = [
+        ("s", b"echo a".as_slice()),
+        ("dir/p", b"b\n".as_slice()),
+        ("large", large.as_slice()),
+        ("dir/aaaaaaaaaaaaaaa", b"".as_slice()),
+        ("zero", b"\0".as_slice()),
+        ("grow", b"cat in in > out".as_slice()),
+        ("in", &large.as_slice()[1..]),
+    ];
+    let mut host = Memory {
+        input: b"".as_slice(),
+        files: &files,
+    };
+    let rows = [
+        ("plain none", (1, "xvsh: cannot read none\n")),
+        ("plain s dir/p none dir/p", (1, "xvsh: cannot read none\n")),
+        ("plain s large", (1, "xvsh: large is too long\n")),
+        (
+            "plain s dir/aaaaaaaaaaaaaaa",
+            (1, "xvsh: bad file name dir/aaaaaaaaaaaaaaa\n"),
+        ),
+        ("plain zero", (1, "xvsh: line 1 holds a zero byte\n")),
+        ("plain grow in", (4, "xvsh: too large\n")),
+    ];
+    for (words, (status, fault)) in rows {
+        expect(&rt, words, &mut host, (status, "", fault))?;
+    }
+    expect(&rt, "", &mut Broken, (1, "", "xvsh: cannot read -\n"))?;
+    expect(
+        &rt,
+        "plain s",
+        &mut Broken,
+        (1, "", "xvsh: cannot read -\n"),
+    )?;
+    Ok(())
+}
+
+#[test]
+fn limits_standard_input(rt: HostRuntime) -> Result<(), Fail> {
+    let long = vec![in rt.alloc(); b'\n'; MAX_INPUT + 1]?;
+    let files = [("s", b"echo a".as_slice())];
+    let mut host = Memory {
+        input: long.as_slice(),
+        files: &files,
+    };
+    expect(&rt, "", &mut host, (1, "", "xvsh: - is too long\n"))?;
+    expect(&rt, "plain s", &mut host, (1, "", "xvsh: - is too long\n"))?;
+    let mut host = Memory {
+        input: &long.as_slice()[1..],
+        files: &[],
+    };
+    expect(&rt, "", &mut host, (0, "", ""))?;
+    Ok(())
+}
+
+#[test]
+fn takes_two_hundred_files(rt: HostRuntime) -> Result<(), Fail> {
+    let mut words = String::from_str(rt.alloc(), "plain s")?;
+    for i in 0..200 {
+        let word = format!(in rt.alloc(); " f{i}")?;
+        words.push_str(word.as_str())?;
+    }
+    expect(&rt, words.as_str(), &mut Anything, (0, "", ""))?;
+    words.push_str(" f200")?;
+    let want = (1, "", "xvsh: too many files\n");
+    expect(&rt, words.as_str(), &mut Anything, want)?;
+    Ok(())
+}
+
+#[test]
+fn refuses_other_words(rt: HostRuntime) -> Result<(), Fail> {
+    for line in [
+        "run s",
+        "check s",
+        "plain",
+        "plain --no s",
+        "--no",
+        "nothing",
+    ] {
+        let mut out = Vec::new(rt.alloc());
+        let mut err = Vec::new(rt.alloc());
+        let words = words_of(rt.alloc(), line)?;
+        let status = drive(rt.alloc(), words, &mut Broken, &mut out, &mut err);
+        assert_eq!(rt; status, 2, "at {line}");
+        assert!(rt; out.is_empty());
+        assert!(rt; !err.is_empty());
+    }
     let mut out = Vec::new(rt.alloc());
     let mut err = Vec::new(rt.alloc());
-    let status = drive(
-        rt.alloc(),
-        Vec::new(rt.alloc()),
-        &mut Broken,
-        &mut out,
-        &mut err,
-    );
-    assert_eq!(rt; status, 1);
-    assert_eq!(rt; err.as_slice(), b"xvsh: cannot read -\n".as_slice());
-    err.clear();
-    let mut host = Memory {
-        input: vec![in rt.alloc(); b'\n'; MAX_SCRIPT + 1]?,
-    };
-    let status = drive(
-        rt.alloc(),
-        Vec::new(rt.alloc()),
-        &mut host,
-        &mut out,
-        &mut err,
-    );
-    assert_eq!(rt; status, 1);
-    assert_eq!(rt; err.as_slice(), b"xvsh: - is too long\n".as_slice());
-    err.clear();
-    host.input.truncate(MAX_SCRIPT);
-    let status = drive(
-        rt.alloc(),
-        Vec::new(rt.alloc()),
-        &mut host,
-        &mut out,
-        &mut err,
-    );
+    let words = words_of(rt.alloc(), "--help")?;
+    let status = drive(rt.alloc(), words, &mut Broken, &mut out, &mut err);
     assert_eq!(rt; status, 0);
+    assert!(rt; !out.is_empty());
     assert!(rt; err.is_empty());
-    assert!(rt; out.is_empty());
     Ok(())
 }
 
 // Neither the first write nor a later one may fail unseen, and nothing is said of it.
 #[test]
 fn ends_where_its_output_fails(rt: HostRuntime) -> Result<(), Fail> {
-    for calls in 0..4 {
-        let mut host = Memory {
-            input: b"echo abc".as_slice().to_vec(rt.alloc())?,
-        };
-        let mut out = Failing { calls };
-        let mut err = Vec::new(rt.alloc());
-        let status = drive(
-            rt.alloc(),
-            Vec::new(rt.alloc()),
-            &mut host,
-            &mut out,
-            &mut err,
-        );
-        assert_eq!(rt; status, 1);
-        assert!(rt; err.is_empty());
+    for line in ["", "plain --files -", "--help"] {
+        for calls in 0..4 {
+            let mut host = Memory {
+                input: b"echo abc".as_slice(),
+                files: &[],
+            };
+            let mut out = Failing { calls };
+            let mut err = Vec::new(rt.alloc());
+            let words = words_of(rt.alloc(), line)?;
+            let status = drive(rt.alloc(), words, &mut host, &mut out, &mut err);
+            assert_eq!(rt; status, 1);
+            assert!(rt; err.is_empty());
+        }
     }
     Ok(())
 }

@@ -1,0 +1,63 @@
+//! The words that the program takes.
+
+use clap::{Arg, ArgAction, Command};
+use std::alloc::{AllocError, Global};
+
+const ABOUT: &str = "Runs scripts of xv6's shell";
+
+const AFTER_HELP: &str = "\
+Without any words xvsh reads a script from standard input, as `xvsh plain -` does.
+
+A script is lines of at most 511 bytes. A line is commands joined by `|` (the left side's output is
+the right side's input) and `;` (one after the other); `( )` groups, `&` after a command doesn't wait
+for it, `< FILE`, `> FILE` and `>> FILE` take and put input and output. `>` empties the file, and
+`>>` writes over it from its begin, as xv6 does. A command has at most nine words. There are no
+quotes, variables, patterns or comments. A line that is no command does nothing.
+
+Programs: `echo WORD..` writes its words; `cat` copies its input, `cat FILE..` the files. Any other
+name does nothing.
+
+Files live in memory, and none of them on the disk: at most 200, with names of 1 to 14 bytes and at
+most 274,432 bytes each. A script and a standard input have at most 1,048,576 bytes.
+
+Examples:
+  echo 'echo hello | cat > f; cat f' | xvsh
+  xvsh plain --files script.sh notes/todo    # `todo` is a file of the script
+
+Status: 0 done; 1 something can't be read, is refused, or can't be written; 2 usage; 4 too large, or
+no memory.";
+
+const PLAIN_ABOUT: &str = "Runs a script, each pipe's left side to its end before its right side";
+
+fn plain_command<'a>(alloc: Global) -> Result<Command<'a>, AllocError> {
+    let lists_files = Arg::new(alloc, "files")
+        .long("files")
+        .help("Write all files after the output: `-- NAME LENGTH`, the bytes, and a line's end")
+        .action(ArgAction::SetTrue);
+    let script = Arg::new(alloc, "script")
+        .value_name("SCRIPT")
+        .help("The script's path; `-` is standard input, and the script's own input is then empty")
+        .required(true)
+        .action(ArgAction::Set);
+    let paths = Arg::new(alloc, "paths")
+        .value_name("FILE")
+        .help("Files for the script, each under the part of its path after the last `/`")
+        .num_args(0..)
+        .action(ArgAction::Append);
+    Command::new(alloc, "plain")
+        .about(PLAIN_ABOUT)
+        .arg(lists_files)?
+        .arg(script)?
+        .arg(paths)
+}
+
+/// The command line of the program.
+pub fn command_line<'a>(alloc: Global) -> Result<Command<'a>, AllocError> {
+    Command::new(alloc, "xvsh")
+        .no_binary_name(true)
+        .about(ABOUT)
+        .after_help(AFTER_HELP)
+        .disable_help_subcommand(true)
+        .subcommand_required(true)
+        .subcommand(plain_command(alloc)?)
+}
