@@ -55,6 +55,7 @@ fn plain_command<'a>(alloc: Global) -> Result<Command<'a>, AllocError> {
 pub fn command_line<'a>(alloc: Global) -> Result<Command<'a>, AllocError> {
     Command::new(alloc, "xvsh")
         .no_binary_name(true)
+        .bin_name("xvsh")?
         .about(ABOUT)
         .after_help(AFTER_HELP)
         .disable_help_subcommand(true)
