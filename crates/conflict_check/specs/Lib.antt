@@ -1,2 +1,5 @@
 pub mod Program
 pub mod Names
+pub mod Occurrences
+pub mod Clear
+pub mod Clash

@@ -13,4 +13,5 @@ mod set;
 mod tests;
 
 pub use fault::FilesFault;
+pub use name::is_openable;
 pub use set::{Files, MAX_FILES, MAX_SIZE};

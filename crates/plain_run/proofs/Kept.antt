@@ -9,10 +9,15 @@ use Rattle.mem_files.specs.Files.{FileMap, with_file}
 use Rattle.mem_files.proofs.Kept.{at_name}
 use Rattle.conflict_check.specs.declared.program.Program.{Program}
 use Rattle.conflict_check.specs.declared.program.Program.TheVariants.{Cat, Echo, Grep, Head, Tee, Wc}
-use Rattle.conflict_check.specs.Program.{program_of}
+use Rattle.conflict_check.specs.Program.{program_of, head_files, has_wrong_option}
 use Rattle.script_load.specs.Meaning.{meaning, opened, input_value, output_value}
-use Rattle.script_load.specs.Programs.{found, program_value, words_value}
-use Rattle.script_load.specs.Value.{Value}
+use Rattle.script_load.specs.Grep.{grep_out, grep_left}
+use Rattle.script_load.specs.Head.{first_lines, after_lines, line_count}
+use Rattle.script_load.specs.Inputs.{found, filter_value}
+use Rattle.script_load.specs.Programs.{program_value, words_value}
+use Rattle.script_load.specs.Tee.{are_openable, filled}
+use Rattle.script_load.specs.Value.{Value, fixed, nothing}
+use Rattle.script_load.specs.Wc.{wc_line}
 
 -- a name with a file keeps one
 abbrev pub Keeps : FileMap → FileMap → Type 0
@@ -25,15 +30,34 @@ with_file_keeps : (F : FileMap) (name : Name) (bytes : Bytes) → Keeps F (with_
 with_file_keeps F name bytes other has =
     elim (bytes_eq other name) as (λ b. cond b (Some bytes) (F other) ≢ None) [ true ↦ some_none bytes | false ↦ has ]
 
+filter_keeps : (write : Name → Bytes → Bytes) (left : Bytes → Bytes) (names : List Name) (input : Bytes) (F : FileMap) → Keeps F (filter_value write left names input F).files
+filter_keeps write left [] input F name has = has
+filter_keeps write left (n ∷ ns) input F name has = has
+
+filled_keeps : (names : List Name) (bytes : Bytes) (F : FileMap) → Keeps F (filled names bytes F)
+filled_keeps [] bytes F name has = has
+filled_keeps (n ∷ ns) bytes F name has =
+    elim (is_openable n) as (λ b. cond b (filled ns bytes (with_file F n bytes)) F name ≢ None)
+    [ true ↦ filled_keeps ns bytes (with_file F n bytes) name (with_file_keeps F n bytes name has) | false ↦ has ]
+
+tee_keeps : (b : Bool) (names : List Name) (input : Bytes) (F : FileMap) → Keeps F (cond b (fixed input [] (filled names input F)) (fixed [] input (filled names [] F))).files
+tee_keeps true names input F name has = filled_keeps names input F name has
+tee_keeps false names input F name has = filled_keeps names [] F name has
+
+head_keeps : (b : Bool) (write : Name → Bytes → Bytes) (left : Bytes → Bytes) (names : List Name) (input : Bytes) (F : FileMap) → Keeps F (cond b (nothing input F) (filter_value write left names input F)).files
+head_keeps true write left names input F name has = has
+head_keeps false write left names input F name has = filter_keeps write left names input F name has
+
 program_keeps : (p : Option Program) (arguments : List Bytes) (input : Bytes) (F : FileMap) → Keeps F (program_value p arguments input F).files
 program_keeps None arguments input F name has = has
-program_keeps (Some Cat) [] input F name has = has
-program_keeps (Some Cat) (a ∷ as') input F name has = has
+program_keeps (Some Cat) arguments input F name has = filter_keeps (λ n bytes. bytes) (λ bytes. []) arguments input F name has
 program_keeps (Some Echo) arguments input F name has = has
-program_keeps (Some Grep) arguments input F name has = has
-program_keeps (Some Head) arguments input F name has = has
-program_keeps (Some Tee) arguments input F name has = has
-program_keeps (Some Wc) arguments input F name has = has
+program_keeps (Some Grep) [] input F name has = has
+program_keeps (Some Grep) (pattern ∷ names) input F name has = filter_keeps (λ n. grep_out pattern) grep_left names input F name has
+program_keeps (Some Head) arguments input F name has =
+    head_keeps (has_wrong_option arguments) (λ n. first_lines (line_count arguments)) (after_lines (line_count arguments)) (head_files arguments) input F name has
+program_keeps (Some Tee) arguments input F name has = tee_keeps (are_openable arguments) arguments input F name has
+program_keeps (Some Wc) arguments input F name has = filter_keeps wc_line (λ bytes. []) arguments input F name has
 
 words_keeps : (words : List Bytes) (input : Bytes) (F : FileMap) → Keeps F (words_value words input F).files
 words_keeps [] input F name has = has

@@ -2,10 +2,15 @@
 #![tactic(auto)]
 
 mod fault;
+mod filter;
+mod grep;
+mod head;
 mod outcome;
 mod programs;
 mod run;
 mod store;
+mod tee;
+mod wc;
 
 pub use fault::PlainFault;
 pub use outcome::Plain;

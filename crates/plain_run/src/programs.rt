@@ -1,9 +1,15 @@
-ghost use Rattle.std.specs.Prelude.{◌≡◌, ◌++◌, OnOk, IfOk};
+ghost use Rattle.std.specs.Prelude.{◌≡◌, ◌++◌, OnOk, IfOk, IfErr};
 ghost use Rattle.mem_files.specs.Files.{files};
-ghost use Rattle.script_load.specs.Programs.{echo_out, inputs, joined, words_value};
-ghost use Rattle.plain_run.specs.Gives.{Gives};
+ghost use Rattle.script_load.specs.Limits.{WordsOutgrow};
+ghost use Rattle.script_load.specs.Programs.{echo_out, grep_value, head_value, words_value};
+ghost use Rattle.plain_run.specs.Gives.{Gives, IsDue};
 
-use crate::store::find;
+use crate::fault::PlainFault;
+use crate::filter::{Cat, run_filter};
+use crate::grep::Grep;
+use crate::head;
+use crate::tee::tee;
+use crate::wc::Wc;
 use conflict_check::Program;
 use mem_files::Files;
 use sh_lexer::Bytes;
@@ -23,48 +29,66 @@ fn echo<A: Allocator, B: Allocator>(
     Ok(())
 }
 
-// The files, up to and without the first that is not found (`user/cat.c`).
-fn cat_files<A: Allocator, B: Allocator>(
-    names: &[Bytes<B>],
-    store: &Files<A>,
-    out: &mut Vec<u8, A>,
-) -> Result<(), AllocError>
-    ensures { OnOk result (out.new.items ≡ out.old.items ++ joined (inputs names.now (files store.now))) }
-{
-    for name in names {
-        match find(store, name.as_slice()) {
-            Some(bytes) => out.extend_from_slice(bytes)?,
-            None => return Ok(()),
-        }
-    }
-    Ok(())
-}
-
-// Adds what a simple command of these words writes, and returns what it leaves of the input.
-pub fn run_program<'i, A: Allocator, B: Allocator>(
-    words: &[Bytes<B>],
+// Without a pattern it does nothing (`user/grep.c`).
+fn grep<'i, A: Allocator + Copy, B: Allocator>(
+    alloc: A,
+    arguments: &[Bytes<B>],
     input: &'i [u8],
     store: &Files<A>,
     out: &mut Vec<u8, A>,
 ) -> Result<&'i [u8], AllocError>
-    ensures { IfOk result (λ rest. Gives (words_value words.now input.now (files store.now)) out.old.items out.new.items rest.now (files store.now)) }
+    ensures { IfOk result (λ rest. Gives (grep_value arguments.now input.now (files store.now)) out.old.items out.new.items rest.now (files store.now)) }
+{
+    let Some((pattern, names)) = arguments.split_first() else {
+        return Ok(input);
+    };
+    let program = Grep {
+        pattern: pattern.as_slice(),
+    };
+    run_filter(alloc, &program, names, input, store, out)
+}
+
+// With a wrong count it does nothing.
+fn head<'i, A: Allocator + Copy, B: Allocator>(
+    alloc: A,
+    arguments: &[Bytes<B>],
+    input: &'i [u8],
+    store: &Files<A>,
+    out: &mut Vec<u8, A>,
+) -> Result<&'i [u8], AllocError>
+    ensures { IfOk result (λ rest. Gives (head_value arguments.now input.now (files store.now)) out.old.items out.new.items rest.now (files store.now)) }
+{
+    match head::request(arguments) {
+        Some((program, names)) => run_filter(alloc, &program, names, input, store, out),
+        None => Ok(input),
+    }
+}
+
+// Adds what a simple command of these words writes, changes the files as it does, and returns what
+// it leaves of the input.
+pub fn run_program<'i, A: Allocator + Copy, B: Allocator>(
+    alloc: A,
+    words: &[Bytes<B>],
+    input: &'i [u8],
+    store: &mut Files<A>,
+    out: &mut Vec<u8, A>,
+) -> Result<&'i [u8], PlainFault>
+    ensures gives { IfOk result (λ rest. Gives (words_value words.now input.now (files store.old)) out.old.items out.new.items rest.now (files store.new)) }
+    ensures large { IfErr result (IsDue (WordsOutgrow words.now input.now (files store.old))) }
 {
     let Some((name, arguments)) = words.split_first() else {
         return Ok(input);
     };
     match Program::named(name.as_slice()) {
-        Some(Program::Cat) if arguments.is_empty() => {
-            out.extend_from_slice(input)?;
-            Ok(&[])
-        }
-        Some(Program::Cat) => {
-            cat_files(arguments, store, out)?;
-            Ok(input)
-        }
+        Some(Program::Cat) => Ok(run_filter(alloc, &Cat, arguments, input, store, out)?),
         Some(Program::Echo) => {
             echo(arguments, out)?;
             Ok(input)
         }
-        _ => Ok(input),
+        Some(Program::Grep) => Ok(grep(alloc, arguments, input, store, out)?),
+        Some(Program::Head) => Ok(head(alloc, arguments, input, store, out)?),
+        Some(Program::Tee) => tee(arguments, input, store, out),
+        Some(Program::Wc) => Ok(run_filter(alloc, &Wc, arguments, input, store, out)?),
+        None => Ok(input),
     }
 }

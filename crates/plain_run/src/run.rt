@@ -28,7 +28,7 @@ fn run_tree<'i, A: Allocator + Copy, B: Allocator>(
     ensures large { IfErr result (IsDue (Outgrows (tree_of tree.now) input.now (files store.old))) }
 {
     match tree {
-        Cmd::Exec(words) => Ok(run_program(words.as_slice(), input, store, out)?),
+        Cmd::Exec(words) => run_program(alloc, words.as_slice(), input, store, out),
         Cmd::Redir {
             mode: Mode::Input,
             name,
@@ -104,8 +104,8 @@ fn run_lines<'i, A: Allocator + Copy, B: Allocator>(
 /// on whole byte strings, a pipe's left side to its end before its right side, line after line. A
 /// command under `&` is run to its end in its place.
 ///
-/// The programs so far are `cat` and `echo`; every other name does nothing. `TooLarge` comes as soon
-/// as a file of the meaning would have more than 274,432 bytes, or a 201st would be made; `Memory`
+/// The programs are the six, `cat echo grep head tee wc`; every other name does nothing. `TooLarge`
+/// comes as soon as a file of the meaning would have more than 274,432 bytes, or a 201st would be made; `Memory`
 /// where an allocation was refused.
 pub fn plain<A: Allocator + Copy, B: Allocator, C: Allocator>(
     alloc: A,

@@ -1,5 +1,5 @@
 //! The files of a run, as the recursive meaning sees them.
-ghost use Rattle.std.specs.Prelude.{◌≡◌, ◌≢◌, ◌<◌, true, false, Ok, None, [], option_copied, length, IfOk, IfErr, OnOk};
+ghost use Rattle.std.specs.Prelude.{◌≡◌, ◌≢◌, ◌<◌, true, false, Ok, None, [], option_copied, length, IfOk, IfErr, OnOk, ◌⊎◌};
 ghost use Rattle.sh_tree.specs.declared.tree.Mode.TheVariants.{Input};
 ghost use Rattle.mem_files.specs.Name.{is_openable};
 ghost use Rattle.mem_files.specs.Files.{files, with_file};
@@ -7,7 +7,7 @@ ghost use Rattle.mem_files.specs.Listing.{max_size};
 ghost use Rattle.mem_files.specs.Overlay.{overlay};
 ghost use Rattle.script_load.specs.Limits.{HasNoRoom};
 ghost use Rattle.script_load.specs.Meaning.{opened};
-ghost use Rattle.script_load.specs.Programs.{found};
+ghost use Rattle.script_load.specs.Inputs.{found};
 ghost use Rattle.plain_run.specs.Gives.{IsDue};
 ghost use Rattle.plain_run.specs.Held.{held};
 
@@ -84,11 +84,27 @@ fn open_emptied<A: Allocator + Copy>(store: &mut Files<A>, name: &[u8]) -> Resul
     ensures openable { IfErr result (IsDue (is_openable name.now ≡ true)) }
     ensures full { IfErr result (IsDue (HasNoRoom (files store.old) name.now)) }
 {
+    give(store, name, &[])
+}
+
+// Makes a file hold these bytes; false where its name can't be opened, and then nothing changes.
+pub fn give<A: Allocator + Copy>(
+    store: &mut Files<A>,
+    name: &[u8],
+    bytes: &[u8],
+) -> Result<bool, PlainFault>
+    ensures answer { IfOk result (λ is_given. is_given ≡ is_openable name.now) }
+    ensures given { result ≡ Ok true → files store.new ≡ with_file (files store.old) name.now bytes.now }
+    ensures refused { result ≡ Ok false → store.new ≡ store.old }
+    ensures openable { IfErr result (IsDue (is_openable name.now ≡ true)) }
+    ensures large { IfErr result (IsDue (HasNoRoom (files store.old) name.now ⊎ (max_size < length bytes.now))) }
+{
     let _ = store.count();
-    match store.put(name, &[]) {
+    match store.put(name, bytes) {
         Ok(()) => Ok(true),
         Err(FilesFault::BadName) => Ok(false),
         Err(FilesFault::FullFiles) => Err(PlainFault::TooLarge),
+        Err(FilesFault::FullSize) => Err(PlainFault::TooLarge),
         Err(_) => Err(PlainFault::Memory),
     }
 }

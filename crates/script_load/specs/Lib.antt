@@ -1,3 +1,6 @@
+pub mod Grep
+pub mod Head
+pub mod Inputs
 pub mod Limits
 pub mod Line
 pub mod Lines
@@ -5,4 +8,6 @@ pub mod Meaning
 pub mod Programs
 pub mod Script
 pub mod Short
+pub mod Tee
 pub mod Value
+pub mod Wc

@@ -1,12 +1,16 @@
 -- Where a command's meaning goes past the limits on files.
-use Rattle.std.specs.Prelude.{◌≡◌, ◌≢◌, ℕ, ◌<◌, ◌≤◌, Bool, true, false, List, length, All, AllPairs, Option, Some, None, ◌⊎◌}
+use Rattle.std.specs.Prelude.{◌≡◌, ◌≢◌, ℕ, ◌<◌, ◌≤◌, Bool, true, false, List, [], ◌∷◌, length, All, AllPairs, Option, Some, None, ◌⊎◌}
 use Rattle.sh_tree.specs.declared.tree.Mode.{Mode}
 use Rattle.sh_tree.specs.declared.tree.Mode.TheVariants.{Input, Fresh, Over}
 use Rattle.sh_tree.specs.Tree.{Tree, exec, redir, pipe, list, back}
 use Rattle.mem_files.specs.Name.{Name, Bytes, is_openable}
-use Rattle.mem_files.specs.Files.{FileMap, bytes_of}
+use Rattle.mem_files.specs.Files.{FileMap, with_file, bytes_of}
 use Rattle.mem_files.specs.Listing.{max_files, max_size}
-use Rattle.script_load.specs.Programs.{found}
+use Rattle.conflict_check.specs.declared.program.Program.{Program}
+use Rattle.conflict_check.specs.declared.program.Program.TheVariants.{Cat, Echo, Grep, Head, Tee, Wc}
+use Rattle.conflict_check.specs.Program.{program_of}
+use Rattle.script_load.specs.Inputs.{found}
+use Rattle.script_load.specs.Tee.{tee_bytes}
 use Rattle.script_load.specs.Meaning.{opened, at_end, meaning}
 use Rattle.script_load.specs.Value.{Value}
 
@@ -31,6 +35,26 @@ abbrev pub OnOpened : Bool → Type 0 → Type 0 → Type 0 → Type 0
 OnOpened false full body large = ⊥
 OnOpened true full body large = full ⊎ (body ⊎ large)
 
+-- in giving each file these bytes, up to the first that can't be opened, one would be too many or too large
+abbrev pub FillOutgrows : List Name → Bytes → FileMap → Type 0
+FillOutgrows [] bytes F = ⊥
+FillOutgrows (name ∷ names) bytes F =
+    OnOpened (is_openable name) (HasNoRoom F name) (FillOutgrows names bytes (with_file F name bytes)) (max_size < length bytes)
+
+-- of the programs, tee alone makes files
+abbrev pub ProgramOutgrows : Option Program → List Bytes → Bytes → FileMap → Type 0
+ProgramOutgrows None arguments input F = ⊥
+ProgramOutgrows (Some Cat) arguments input F = ⊥
+ProgramOutgrows (Some Echo) arguments input F = ⊥
+ProgramOutgrows (Some Grep) arguments input F = ⊥
+ProgramOutgrows (Some Head) arguments input F = ⊥
+ProgramOutgrows (Some Tee) arguments input F = FillOutgrows arguments (tee_bytes arguments input) F
+ProgramOutgrows (Some Wc) arguments input F = ⊥
+
+abbrev pub WordsOutgrow : List Bytes → Bytes → FileMap → Type 0
+WordsOutgrow [] input F = ⊥
+WordsOutgrow (word ∷ arguments) input F = ProgramOutgrows (program_of word) arguments input F
+
 abbrev pub RedirOutgrows : Mode → Name → FileMap → Value → (Bytes → Type 0) → Type 0 → Type 0
 RedirOutgrows Input name F value read wrote = OnFound (found F name) read
 RedirOutgrows Fresh name F value read wrote = OnOpened (is_openable name) (HasNoRoom F name) wrote (max_size < length (at_end Fresh (bytes_of (F name)) value.out))
@@ -38,7 +62,7 @@ RedirOutgrows Over name F value read wrote = OnOpened (is_openable name) (HasNoR
 
 -- on the way of its meaning, the command would make one file too many, or one that is too large
 abbrev pub Outgrows : Tree → Bytes → FileMap → Type 0
-Outgrows (exec words) input F = ⊥
+Outgrows (exec words) input F = WordsOutgrow words input F
 Outgrows (redir mode name body) input F =
     RedirOutgrows mode name F (meaning body input (opened mode name F)) (λ bytes. Outgrows body bytes F) (Outgrows body input (opened mode name F))
 Outgrows (pipe left right) input F =

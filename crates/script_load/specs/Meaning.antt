@@ -8,7 +8,8 @@ use Rattle.mem_files.specs.Files.{FileMap, with_file, bytes_of}
 use Rattle.mem_files.specs.Overlay.{overlay}
 use Rattle.conflict_check.specs.Names.{names, writes, uses_input}
 use Rattle.script_load.specs.Line.{ScriptLine, command, bad, cd}
-use Rattle.script_load.specs.Programs.{found, words_value}
+use Rattle.script_load.specs.Inputs.{found}
+use Rattle.script_load.specs.Programs.{words_value}
 use Rattle.script_load.specs.Value.{Value, nothing, seq_value, pipe_value, from_value, into_value}
 
 -- a command under <, where this was found of its file: without a file nothing is done

@@ -159,7 +159,7 @@ fn keeps_to_the_limits(rt: HostRuntime) -> Result<(), Fail> {
 fn refused_memory_is_told(rt: HostRuntime) -> Result<(), Fail> {
     let script = load(
         rt.alloc(),
-        b"echo one two three; (echo four | cat; cat < p) > f; echo five >> f; cat f".as_slice(),
+        b"echo one two three; (echo four | cat; cat < p) > f; echo five >> f; cat f | tee g; wc g; head -1 g | grep f".as_slice(),
     )?;
     let given = files_of(rt.alloc(), &[("p", b"p\n".as_slice())])?;
     let mut refused = 0;
@@ -169,7 +169,7 @@ fn refused_memory_is_told(rt: HostRuntime) -> Result<(), Fail> {
             Ok(outcome) => {
                 assert_eq!(rt;
                     outcome.out.as_slice(),
-                    b"one two three\nfive\np\n".as_slice()
+                    b"one two three\nfive\np\n2 2 7 g\nfive\n".as_slice()
                 )
             }
             Err(fault) => {
@@ -180,5 +180,135 @@ fn refused_memory_is_told(rt: HostRuntime) -> Result<(), Fail> {
     }
     assert!(rt; 1 < refused);
     assert!(rt; refused < 199);
+    Ok(())
+}
+
+// Runs a script on this input and compares its output, and what is left of the input.
+fn expect_on(
+    rt: &(impl Abort + AllocGlobal),
+    stdin: &str,
+    script: &str,
+    given: &[Row<'_>],
+    out: &str,
+    rest: &str,
+) -> Result<(), Fail> {
+    let script = load(rt.alloc(), script.as_bytes())?;
+    let given = files_of(rt.alloc(), given)?;
+    let outcome = plain(rt.alloc(), &script, stdin.as_bytes(), &given)?;
+    assert_eq!(rt; outcome.out.as_slice(), out.as_bytes());
+    assert_eq!(rt; outcome.rest.as_slice(), rest.as_bytes());
+    Ok(())
+}
+
+const P: &str = "b\naab\naabc\ncb\n";
+
+#[test]
+fn counts(rt: HostRuntime) -> Result<(), Fail> {
+    let big = "0123456789ab\n".repeat(rt.alloc(), 100)?;
+    let given = [("big", big.as_bytes()), ("p", P.as_bytes())];
+    expect(&rt, "echo | wc", &given, "0 0 0 \n", &[])?;
+    expect(&rt, "cat big | wc", &given, "100 100 1300 \n", &[])?;
+    let two = "4 4 14 p\n100 100 1300 big\n";
+    expect(&rt, "wc p big", &given, two, &[])?;
+    expect(&rt, "wc p none big", &given, "4 4 14 p\n", &[])?;
+    expect_on(&rt, "a\x0bb c\x0cd\n\t e", "wc", &[], "1 4 11 \n", "")?;
+    expect_on(&rt, "in", "wc p", &given, "4 4 14 p\n", "in")?;
+    Ok(())
+}
+
+#[test]
+fn matches_lines(rt: HostRuntime) -> Result<(), Fail> {
+    let given = [
+        ("p", P.as_bytes()),
+        ("l", b"x\nx".as_slice()),
+        ("z", b"a\nx\0\na\n".as_slice()),
+    ];
+    expect(&rt, "grep ^a*b$ p", &given, "b\naab\n", &[])?;
+    expect(&rt, "grep x l", &given, "x\n", &[])?;
+    expect(&rt, "grep a z", &given, "a\n", &[])?;
+    expect(&rt, "cat p | grep b | wc", &given, "4 4 14 \n", &[])?;
+    expect(&rt, "grep a l p z", &given, "aab\naabc\na\n", &[])?;
+    expect_on(&rt, "a\nb", "grep; grep b", &[], "", "")?;
+    Ok(())
+}
+
+// The buffer holds 1,023 bytes of a line with its LF; of what it can't test, grep reads one buffer.
+#[test]
+fn tests_lines_that_fit(rt: HostRuntime) -> Result<(), Fail> {
+    let mut fits = "x".repeat(rt.alloc(), 1022)?;
+    fits.push('\n')?;
+    let mut long = "x".repeat(rt.alloc(), 1023)?;
+    long.push('\n')?;
+    let mut after = String::from_str(rt.alloc(), "x\n")?;
+    after.push_str(long.as_str())?;
+    let given = [
+        ("w1", fits.as_bytes()),
+        ("w2", long.as_bytes()),
+        ("w3", after.as_bytes()),
+    ];
+    expect(&rt, "grep x w1", &given, fits.as_str(), &[])?;
+    expect(&rt, "grep x w2", &given, "", &[])?;
+    expect(&rt, "grep x w3", &given, "x\n", &[])?;
+    expect_on(&rt, after.as_str(), "grep x", &[], "x\n", "\n")?;
+    Ok(())
+}
+
+#[test]
+fn takes_first_lines(rt: HostRuntime) -> Result<(), Fail> {
+    let big = "0123456789ab\n".repeat(rt.alloc(), 100)?;
+    let given = [("big", big.as_bytes()), ("p", P.as_bytes())];
+    let two = "0123456789ab\n0123456789ab\n98 98 1274 \n";
+    expect(&rt, "cat big | (head -2; wc)", &given, two, &[])?;
+    expect(&rt, "head -1 p big", &given, "b\n0123456789ab\n", &[])?;
+    let whole = "100 100 1300 \n";
+    expect(&rt, "cat big | head -100 | wc", &given, whole, &[])?;
+    expect(&rt, "head big | wc", &given, "10 10 130 \n", &[])?;
+    expect_on(&rt, "in", "head -0 p; head -x p", &given, "", "in")?;
+    expect_on(&rt, "in", "head -1234567890; head -", &[], "", "in")?;
+    expect_on(&rt, "in", "head -999999999", &[], "in", "")?;
+    expect_on(&rt, "a\nb\nc\n", "head -1\nwc", &[], "a\n2 2 4 \n", "")?;
+    expect_on(&rt, "a\nb\nc\n", "head -1", &[], "a\n", "b\nc\n")?;
+    Ok(())
+}
+
+#[test]
+fn copies_to_files(rt: HostRuntime) -> Result<(), Fail> {
+    let want = [("x", b"a\n".as_slice()), ("y", b"a\n".as_slice())];
+    expect(&rt, "echo a | tee x y", &[], "a\n", &want)?;
+    let given = [("x", b"old".as_slice()), ("y", b"old".as_slice())];
+    let want = [("x", b"".as_slice()), ("y", b"old".as_slice())];
+    expect(&rt, "echo a | tee x b/c y", &given, "", &want)?;
+    expect_on(&rt, "in", "tee x b/c", &[], "", "in")?;
+    expect_on(&rt, "in", "tee", &[], "in", "")?;
+    let over = "x".repeat(rt.alloc(), MAX_SIZE)?;
+    let given = [("a", over.as_bytes()), ("n", b"n".as_slice())];
+    expect(
+        &rt,
+        "cat a | tee b",
+        &given,
+        over.as_str(),
+        &[("b", over.as_bytes())],
+    )?;
+    assert!(rt; is_too_large(&rt, "cat a n | tee b", &given)?);
+    assert!(rt; !is_too_large(&rt, "cat a n | tee", &given)?);
+    Ok(())
+}
+
+#[test]
+fn makes_no_201st_file(rt: HostRuntime) -> Result<(), Fail> {
+    let mut full = Files::new(rt.alloc());
+    for i in 0..MAX_FILES {
+        let name = format!(in rt.alloc(); "f{i}")?;
+        full.put(name.as_bytes(), &[])?;
+    }
+    let fits = load(rt.alloc(), b"echo a | tee f0 f199".as_slice())?;
+    assert!(rt; plain(rt.alloc(), &fits, &[], &full).is_ok());
+    let over = load(rt.alloc(), b"echo a | tee f0 zz".as_slice())?;
+    assert!(rt;
+        matches!(
+            plain(rt.alloc(), &over, &[], &full),
+            Err(PlainFault::TooLarge)
+        )
+    );
     Ok(())
 }

@@ -1,0 +1,3 @@
+pub mod FirstClash
+pub mod Listed
+pub mod Sharing

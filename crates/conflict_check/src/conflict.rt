@@ -1,0 +1,17 @@
+/// How commands of a tree may come upon each other at a file.
+#[derive(Clone, Copy, Debug, PartialEq, Eq)]
+pub enum ClashKind {
+    /// One side of a pipe writes the file, and the other reads or writes it.
+    PipeSides,
+    /// A redirection writes the file and its body reads or writes it, or a redirection reads the file
+    /// and its body writes it.
+    Enclosing,
+}
+
+/// A file at which commands of a tree may come upon each other.
+#[derive(Clone, Copy, Debug, PartialEq, Eq)]
+pub struct Clash<'t> {
+    /// The file's name.
+    pub name: &'t [u8],
+    pub kind: ClashKind,
+}

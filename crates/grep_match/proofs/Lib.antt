@@ -1,0 +1,6 @@
+pub mod Fitting
+pub mod Leading
+pub mod Passing
+pub mod Pieces
+pub mod Searching
+mod Worked

@@ -1,0 +1,10 @@
+//! Tells whether a text matches a pattern, as `user/grep.c`'s `match` does.
+#![tactic(auto)]
+
+mod item;
+pub mod laws;
+mod marks;
+mod matching;
+mod search;
+
+pub use matching::is_match;
