@@ -20,6 +20,7 @@ not_clear (left_of_list first) clear = not_clear first clear.0
 not_clear (right_of_list before first) clear = not_clear first clear.1
 not_clear (behind first) clear = not_clear first clear
 
+-- a search finds the first name that passes
 find_at : (test : List ℕ → Bool) (before after : List (List ℕ)) (name : List ℕ) → All (λ other. test other ≡ false) before → test name ≡ true → find test (before ++ name ∷ after) ≡ Some name
 find_at test [] after name earlier passes = ap (λ b. cond b (Some name) (find test after)) passes
 find_at test (word ∷ before) after name earlier passes =
@@ -58,6 +59,7 @@ one_first (behind f) (behind g) = one_first f g
 abbrev pub HasClash : Tree → Type 0
 HasClash tree = (kind : ClashKind) × (name : List ℕ) × IsFirstClash tree kind name
 
+-- what a node is, by what its parts are
 at_redirection : (mode : _) (file : List ℕ) (body : Tree) → IsClear body ⊎ HasClash body → (touched : Bool) → is_touched mode file body ≡ touched → IsClear (redir mode file body) ⊎ HasClash (redir mode file body)
 at_redirection mode file body inside true e = inr (Enclosing, file, own_file e)
 at_redirection mode file body (inl clear) false e = inl (e, clear)

@@ -1,7 +1,7 @@
 -- What a tree names and writes is what its lists of occurrences hold.
 use Rattle.std.proofs.Common.{◌≡◌, ℕ, Bool, true, false, ◌||◌, List, [], ◌∷◌, ◌++◌, Option, Some, None, refl, sym, ap, ap₂, ◌∙◌}
 use Rattle.std.specs.Str.{bytes_eq}
-use Rattle.std.proofs.Math.Bool.{or-false, or-true}
+use Rattle.std.proofs.Math.Bool.{or-false}
 use Rattle.std.proofs.lemmas.List.Folds.{list_any-append}
 use Rattle.sh_tree.specs.declared.tree.Mode.TheVariants.{Input, Fresh, Over}
 use Rattle.sh_tree.specs.Tree.{Tree, exec, redir, pipe, list, back}
@@ -40,6 +40,7 @@ words_named : (words : List (List ℕ)) (name : List ℕ) → (words_read words 
 words_named [] name = refl
 words_named (word ∷ arguments) name = program_named (program_of word) arguments name
 
+-- the names that a tree writes are those of the places where it writes
 pub writes_listed : (tree : Tree) (name : List ℕ) → writes tree name ≡ among (written tree) name
 writes_listed (exec words) name = words_listed words name
 writes_listed (redir Input file body) name = writes_listed body name
@@ -49,6 +50,7 @@ writes_listed (pipe left right) name = ap₂ ◌||◌ (writes_listed left name) 
 writes_listed (list left right) name = ap₂ ◌||◌ (writes_listed left name) (writes_listed right name) ∙ sym (among_two name (written left) (written right))
 writes_listed (back body) name = writes_listed body name
 
+-- the names of a tree are those of its occurrences
 pub names_listed : (tree : Tree) (name : List ℕ) → names tree name ≡ among (occurrences tree) name
 names_listed (exec words) name = words_named words name
 names_listed (redir mode file body) name = ap (λ b. bytes_eq name file || b) (names_listed body name)
@@ -72,6 +74,7 @@ nested : (a b c : Bool) → (a || (b || c)) ≡ ((a || b) || c)
 nested true b c = refl
 nested false b c = refl
 
+-- they are those that it reads and those that it writes
 pub names_parts : (tree : Tree) (name : List ℕ) → names tree name ≡ (reads tree name || writes tree name)
 names_parts (exec words) name = refl
 names_parts (redir Input file body) name = ap (λ b. bytes_eq name file || b) (names_parts body name) ∙ nested (bytes_eq name file) (reads body name) (writes body name)

@@ -1,5 +1,5 @@
--- What the sides of a pipe share, and the first clash of a tree.
-use Rattle.std.proofs.Common.{◌≡◌, ℕ, Bool, true, false, ◌||◌, ◌&&◌, cond, List, [], ◌∷◌, ◌++◌, Option, Some, None, All, refl, sym, ap, ap₂, subst, ◌∙◌}
+-- Two trees are apart where neither writes, at one of its places, a name of the other; else the first name of the left that clashes is found.
+use Rattle.std.proofs.Common.{◌≡◌, ℕ, Bool, true, false, ◌||◌, ◌&&◌, cond, List, [], ◌∷◌, ◌++◌, Option, Some, None, All, refl, sym, ap, ap₂, ◌∙◌}
 use Rattle.std.specs.List.{find, list_any}
 use Rattle.std.specs.Borrow.{Bor}
 use Rattle.std.specs.Str.{bytes_eq}
@@ -7,9 +7,9 @@ use Rattle.std.proofs.lemmas.List.Elements.{All-cons, All-nil}
 use Rattle.std.proofs.lemmas.List.Folds.{find-append}
 use Rattle.std.specs.Option.{IfNone, IfSome, option_copied, option_or}
 use Rattle.std.proofs.lemmas.Slice.Eq.{bytes_eq-Decides}
-use Rattle.sh_tree.specs.Tree.{Tree, exec, redir, pipe, list, back}
+use Rattle.sh_tree.specs.Tree.{Tree}
 use Rattle.conflict_check.specs.Clash.{shared, IsFirstShared}
-use Rattle.conflict_check.specs.Clear.{AreApart, is_touched, IsClear}
+use Rattle.conflict_check.specs.Clear.{AreApart}
 use Rattle.conflict_check.specs.Names.{among, names, reads, writes}
 use Rattle.conflict_check.specs.Occurrences.{occurrences, share_a_name, written}
 use Rattle.conflict_check.proofs.Listed.{names_listed, names_parts, writes_listed}
@@ -58,6 +58,7 @@ some_passes test (word ∷ words) some = go (test word) refl (λ h. some_passes 
     go true e rest = record { name = word; is = or_first (bytes_eq word word) (among words word) ((bytes_eq-Decides word word).1 refl); passes = e }
     go false e rest = let p = rest (ap (λ b. b || list_any test words) (sym e) ∙ some) in record { name = p.name; is = or_second (bytes_eq p.name word) (among words p.name) p.is; passes = p.passes }
 
+-- a name that one side writes and the other names clashes
 pub shared_by_left : (left right : Tree) (name : List ℕ) → writes left name ≡ true → names right name ≡ true → shared left right name ≡ true
 shared_by_left left right name w n = or_first (writes left name && names right name) (reads left name && writes right name) (ap₂ ◌&&◌ w n)
 
@@ -139,10 +140,12 @@ pair_found left right some missed =
     let w = writes_listed right p.name ∙ p.is in
     not_missed (shared left right) (occurrences left) p.name (sym (names_listed left p.name) ∙ p.passes) (shared_by_right left right p.name w p.passes) missed)
 
+-- the name that a search finds is the first that clashes
 pub first_shared : (left right : Tree) (name : List ℕ) → find (shared left right) (occurrences left) ≡ Some name → IsFirstShared left right name
 first_shared left right name e = let first = first_found (shared left right) (occurrences left) name e in
     record { before = first.before; after = first.after; split = first.split; clashes = first.passes; earlier = first.earlier }
 
+-- sides that are apart share no name
 apart_bits : (w n r v : Bool) → (w ≡ true → n ≡ false) → (v ≡ true → (r || w) ≡ false) → ((w && n) || (r && v)) ≡ true → ⊥
 apart_bits true true r v p q h = never (p refl)
 apart_bits true false true true p q h = never (q refl)
@@ -163,6 +166,7 @@ found_early test xs ys name e = ap (λ o. option_or o (find test ys)) e ∙ sym 
 pub found_late : (test : List ℕ → Bool) (xs ys : List (List ℕ)) (answer : Option (List ℕ)) → None ≡ find test xs → answer ≡ find test ys → answer ≡ find test (xs ++ ys)
 found_late test xs ys answer none e = e ∙ ap (λ o. option_or o (find test ys)) none ∙ sym (find-append test xs ys)
 
+-- what a search for the first shared name tells
 pub told_none : (left right : Tree) (answer : Option (Bor (List ℕ))) → option_copied answer ≡ find (shared left right) (occurrences left) → share_a_name left right ≡ true → IfNone answer (AreApart left right)
 told_none left right None e some = absurd (pair_found left right some (sym e))
 told_none left right (Some name) e some = tt

@@ -1,7 +1,7 @@
 -- The first clash of a tree: a node's own before those of its body or left side, and these before those of its right side.
-use Rattle.std.specs.Prelude.{◌≡◌, ℕ, Bool, true, false, ◌||◌, ◌&&◌, List, ◌∷◌, ◌++◌, All}
+use Rattle.std.specs.Prelude.{◌≡◌, ℕ, true, false, ◌||◌, ◌&&◌, List, ◌∷◌, ◌++◌, All}
 use Rattle.sh_tree.specs.declared.tree.Mode.{Mode}
-use Rattle.sh_tree.specs.Tree.{Tree, exec, redir, pipe, list, back}
+use Rattle.sh_tree.specs.Tree.{Tree, redir, pipe, list, back}
 use Rattle.conflict_check.specs.declared.conflict.ClashKind.{ClashKind}
 use Rattle.conflict_check.specs.declared.conflict.ClashKind.TheVariants.{PipeSides, Enclosing}
 use Rattle.conflict_check.specs.Clear.{AreApart, is_touched, IsClear}

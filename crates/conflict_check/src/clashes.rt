@@ -134,8 +134,8 @@ fn pipe_clash<'t, A: Allocator>(left: &'t Cmd<A>, right: &Cmd<A>) -> Option<&'t 
 /// name comes before its body's, and the words of a simple command stand in the text's order.
 ///
 /// Takes no memory, and time at most quadratic in the size of the tree: two places that name a file
-/// are compared a few times at the one node that they clash at, and where a pipe has a clash, the
-/// search for its first name ends the whole search. It recurses as deep as the tree is high.
+/// are compared a few times, and only at the lowest node above both. The search for the first name
+/// at a pipe that has a clash ends the whole search. It recurses as deep as the tree is high.
 pub fn clash<A: Allocator>(tree: &Cmd<A>) -> Option<Clash<'_>>
     ensures none { IsNone result ↔ IsClear (tree_of tree.now) }
     ensures some { IfSome result (λ found. IsFirstClash (tree_of tree.now) found.kind found.name.now) }
@@ -171,8 +171,10 @@ pub fn clash<A: Allocator>(tree: &Cmd<A>) -> Option<Clash<'_>>
 #[cfg(test)]
 mod tests {
     use super::*;
+    use crate::questions::{has_back, uses_input};
     use ClashKind::{Enclosing, PipeSides};
     use sh_tree::parse;
+    use std::alloc::{AllocError, Global};
     use std::process::Abort;
     use std::test::Fail;
 
@@ -222,6 +224,28 @@ mod tests {
         for line in lines {
             let tree = parse(rt.alloc(), line.as_bytes())?;
             assert!(rt; clash(&tree).is_none(), "{line}");
+        }
+        Ok(())
+    }
+
+    // As many of this byte as a line of a script may have.
+    fn row_of(alloc: Global, byte: u8) -> Result<Vec<u8>, AllocError> {
+        let mut line = Vec::new(alloc);
+        for _ in 0..511 {
+            line.push(byte)?;
+        }
+        Ok(line)
+    }
+
+    #[test]
+    fn takes_the_highest_trees_of_a_script(rt: HostRuntime) -> Result<(), Fail> {
+        for byte in [b';', b'|', b'&'] {
+            let line = row_of(rt.alloc(), byte)?;
+            let tree = parse(rt.alloc(), line.as_slice())?;
+            assert!(rt; clash(&tree).is_none());
+            assert_eq!(rt; has_back(&tree), byte == b'&');
+            assert!(rt; !uses_input(&tree));
+            assert!(rt; !names_it(&tree, b"x".as_slice()));
         }
         Ok(())
     }

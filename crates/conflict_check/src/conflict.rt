@@ -11,7 +11,8 @@ pub enum ClashKind {
 /// A file at which commands of a tree may come upon each other.
 #[derive(Clone, Copy, Debug, PartialEq, Eq)]
 pub struct Clash<'t> {
-    /// The file's name.
+    /// The file's name, as the tree has it.
     pub name: &'t [u8],
+    /// How they may.
     pub kind: ClashKind,
 }

@@ -1,5 +1,5 @@
 -- How marks go on over an item, and what they say where no item is left.
-use Rattle.std.proofs.Common.{◌≡◌, ℕ, zero, suc, ◌+◌, ◌<◌, Bool, true, false, ◌&&◌, ◌||◌, List, [], ◌∷◌, length, get_or, take, refl, ap, sym, ◌∙◌, arith, replicate, cond, not, set}
+use Rattle.std.proofs.Common.{◌≡◌, ℕ, suc, ◌+◌, ◌<◌, Bool, true, false, ◌&&◌, ◌||◌, List, [], ◌∷◌, length, get_or, take, refl, ap, sym, ◌∙◌, arith, replicate, cond, not, set}
 use Rattle.std.proofs.Math.Bool.{or-false, and-false, or_assoc, and_assoc}
 use Rattle.std.specs.List.{list_any}
 use Rattle.grep_match.specs.declared.item.Item.{Item}
@@ -7,7 +7,7 @@ use Rattle.grep_match.specs.declared.item.Item.TheVariants.{One, Star, End}
 use Rattle.grep_match.specs.Pattern.{stands_for, items_of, is_anchored, pattern_items}
 use Rattle.grep_match.specs.Match.{cuts, can_fit, can_fit_somewhere, matches}
 use Rattle.grep_match.specs.Places.{leads, before_byte, behind_bytes}
-use Rattle.grep_match.proofs.Fitting.{list_any-map, with_byte, one_goes_on, star_at_end, star_goes_on, end_at_end, end_goes_on}
+use Rattle.grep_match.proofs.Fitting.{list_any-map, with_byte, one_goes_on, star_at_end, star_goes_on, end_goes_on}
 
 pub one_leads : (c : ℕ) (items : List Item) (marks : List Bool) (b : ℕ) (text : List ℕ) → length text + 1 < length marks → leads (before_byte c marks (b ∷ text)) items text ≡ leads marks (One c ∷ items) (b ∷ text)
 one_leads c items [] b text long = absurd (omega (arith, long))

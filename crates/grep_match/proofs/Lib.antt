@@ -3,4 +3,5 @@ pub mod Leading
 pub mod Passing
 pub mod Pieces
 pub mod Searching
+pub mod Stepping
 mod Worked

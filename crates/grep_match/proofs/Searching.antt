@@ -1,5 +1,5 @@
 -- One step of the search that tries cut after cut; `whole` is the answer for all of the items and text.
-use Rattle.std.proofs.Common.{◌≡◌, ℕ, Bool, true, false, ◌&&◌, ◌||◌, ◌==◌, List, [], ◌∷◌, length, refl, ap, sym, ◌∙◌}
+use Rattle.std.proofs.Common.{◌≡◌, ℕ, Bool, true, false, ◌&&◌, ◌||◌, ◌==◌, List, [], ◌∷◌, length, ap, sym, ◌∙◌}
 use Rattle.std.proofs.Math.Bool.{or-false}
 use Rattle.grep_match.specs.declared.item.Item.{Item}
 use Rattle.grep_match.specs.declared.item.Item.TheVariants.{One, Star, End}
@@ -54,7 +54,7 @@ star_now c items (b ∷ text) now = star_goes_on c items b text ∙ ap (λ z. z 
 pub star_fits : (c : ℕ) (items : List Item) (unread : List ℕ) (whole : Bool) → can_fit items unread ≡ true → can_fit (Star c ∷ items) unread ≡ whole → true ≡ whole
 star_fits c items unread whole now before = sym (star_now c items unread now) ∙ before
 
-somewhere_more : (items : List Item) (b : ℕ) (text : List ℕ) → can_fit_somewhere items (b ∷ text) ≡ (can_fit items (b ∷ text) || can_fit_somewhere items text)
+pub somewhere_more : (items : List Item) (b : ℕ) (text : List ℕ) → can_fit_somewhere items (b ∷ text) ≡ (can_fit items (b ∷ text) || can_fit_somewhere items text)
 somewhere_more items b text = ap (λ z. can_fit items (b ∷ text) || z) (list_any-map (λ cut. can_fit items cut.1) (with_byte b) (cuts text))
 
 pub somewhere_goes : (items : List Item) (unread later : List ℕ) (other : ℕ) (whole : Bool) → unread ≡ other ∷ later → can_fit items unread ≡ false → can_fit_somewhere items unread ≡ whole → can_fit_somewhere items later ≡ whole

@@ -1,7 +1,7 @@
 -- The definitions on small cases, each by computing: the split into items, and texts that match and that don't.
-use Rattle.std.specs.Prelude.{◌≡◌, ℕ, List, true, false, [], ◌∷◌, codes, refl}
+use Rattle.std.specs.Prelude.{◌≡◌, true, false, [], ◌∷◌, codes, refl}
 use Rattle.grep_match.specs.declared.item.Item.TheVariants.{One, Star, End}
-use Rattle.grep_match.specs.Pattern.{items_of, pattern_items}
+use Rattle.grep_match.specs.Pattern.{pattern_items}
 use Rattle.grep_match.specs.Match.{IsMatch, matches}
 
 split_whole_line : pattern_items (codes "^a*b$") ≡ Star 97 ∷ One 98 ∷ End ∷ []

@@ -1,3 +1,4 @@
 pub mod Pattern
 pub mod Match
 pub mod Places
+pub mod States

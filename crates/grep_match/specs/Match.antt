@@ -3,7 +3,7 @@ use Rattle.std.specs.Prelude.{◌≡◌, ℕ, Bool, true, ◌&&◌, List, [], �
 use Rattle.std.specs.List.{AllZip, Contains, concat, list_any}
 use Rattle.grep_match.specs.declared.item.Item.{Item}
 use Rattle.grep_match.specs.declared.item.Item.TheVariants.{One, Star, End}
-use Rattle.grep_match.specs.Pattern.{items_of, is_anchored, pattern_items, fits}
+use Rattle.grep_match.specs.Pattern.{is_anchored, pattern_items, fits}
 
 -- a part of the text is a row of pieces, one for each item; nothing stands before it where the pattern is anchored,
 -- and nothing behind it where the pattern has an end

@@ -1,4 +1,4 @@
-ghost use Rattle.std.specs.Prelude.{◌≡◌, ◌<◌, [], ◌∷◌, length, IfSome, IfNone};
+ghost use Rattle.std.specs.Prelude.{◌≡◌, ◌<◌, ◌≤◌, [], ◌∷◌, length, IfSome, IfNone};
 ghost use Rattle.grep_match.specs.Pattern.{items_of, is_anchored, pattern_items, stands_for};
 
 /// What a pattern is made of.
@@ -16,6 +16,7 @@ pub enum Item {
 pub fn split_anchor(pattern: &[u8]) -> (bool, &[u8])
     ensures anchored { result.0 ≡ is_anchored pattern.now }
     ensures items { items_of result.1.now ≡ pattern_items pattern.now }
+    ensures fewer { length result.1.now ≤ length pattern.now }
 {
     match pattern.split_first() {
         Some((b'^', rest)) => (true, rest),

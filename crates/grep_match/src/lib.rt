@@ -6,5 +6,6 @@ pub mod laws;
 mod marks;
 mod matching;
 mod search;
+mod states;
 
 pub use matching::is_match;

@@ -1,11 +1,13 @@
-ghost use Rattle.std.specs.Prelude.{◌≡◌, ◌<◌, length, false};
-ghost use Rattle.grep_match.specs.Places.{before_byte, behind_bytes};
+ghost use Rattle.std.specs.Prelude.{◌≡◌, ◌+◌, ◌<◌, length, false};
+ghost use Rattle.grep_match.specs.Pattern.{items_of};
+ghost use Rattle.grep_match.specs.Match.{matches};
+ghost use Rattle.grep_match.specs.Places.{leads, before_byte, behind_bytes};
 
-use crate::item::stands_for;
+use crate::item::{Item, next_item, split_anchor, stands_for};
 
 // Keeps the marks before bytes that `byte` stands for. No mark moves: it is the text that loses its first byte then,
 // so that each kept mark is behind its byte.
-pub fn pass_one(marks: &mut [bool], byte: u8, text: &[u8])
+fn pass_one(marks: &mut [bool], byte: u8, text: &[u8])
     requires { length text.now < length marks.old }
     ensures { marks.new ≡ before_byte byte marks.old text.now }
 {
@@ -15,7 +17,7 @@ pub fn pass_one(marks: &mut [bool], byte: u8, text: &[u8])
 }
 
 // Adds marks behind any number of bytes that `byte` stands for.
-pub fn pass_star(marks: &mut [bool], byte: u8, text: &[u8])
+fn pass_star(marks: &mut [bool], byte: u8, text: &[u8])
     requires { length text.now < length marks.old }
     ensures { marks.new ≡ behind_bytes byte false marks.old text.now }
 {
@@ -28,4 +30,39 @@ pub fn pass_star(marks: &mut [bool], byte: u8, text: &[u8])
     if carried {
         marks[text.len()] = true;
     }
+}
+
+// Whether the items can fit from some marked place on.
+fn walk(marks: &mut [bool], items: &[u8], text: &[u8]) -> bool
+    requires { length text.now < length marks.old }
+    ensures { result ≡ leads marks.old (items_of items.now) text.now }
+{
+    let mut left = items;
+    let mut unread = text;
+    while let Some((item, rest)) = next_item(left) {
+        match item {
+            Item::One(byte) => {
+                let Some((_, later)) = unread.split_first() else {
+                    return false;
+                };
+                pass_one(marks, byte, unread);
+                unread = later;
+            }
+            Item::Star(byte) => pass_star(marks, byte, unread),
+            Item::End => return marks[unread.len()],
+        }
+        left = rest;
+    }
+    marks[..=unread.len()].contains(&true)
+}
+
+// Whether the text matches, found by marks on its places.
+pub fn is_match_by_marks(marks: &mut [bool], pattern: &[u8], text: &[u8]) -> bool
+    requires { length marks.old ≡ length text.now + 1 }
+    ensures { result ≡ matches pattern.now text.now }
+{
+    let (anchored, items) = split_anchor(pattern);
+    marks.fill(!anchored);
+    marks[0] = true;
+    walk(marks, items, text)
 }

@@ -1,52 +1,12 @@
-ghost use Rattle.std.specs.Prelude.{◌≡◌, ◌+◌, ◌<◌, length, IsTrue, ◌↔◌};
-ghost use Rattle.grep_match.specs.Pattern.{items_of};
+ghost use Rattle.std.specs.Prelude.{◌≡◌, ◌↔◌, IsTrue};
 ghost use Rattle.grep_match.specs.Match.{IsMatch, matches};
-ghost use Rattle.grep_match.specs.Places.{leads};
 
-use crate::item::{Item, next_item, split_anchor};
-use crate::marks::{pass_one, pass_star};
+use crate::marks::is_match_by_marks;
 use crate::search::is_match_by_cuts;
+use crate::states::is_match_by_states;
 
-// Room for the places of a line, of which grep tests none of 1,023 bytes or more.
-const LINE_PLACES: usize = 1024;
-
-// The most room that is taken on the stack.
-const MOST_PLACES: usize = 65536;
-
-// Whether the items can fit from some marked place on.
-fn walk(marks: &mut [bool], items: &[u8], text: &[u8]) -> bool
-    requires { length text.now < length marks.old }
-    ensures { result ≡ leads marks.old (items_of items.now) text.now }
-{
-    let mut left = items;
-    let mut unread = text;
-    while let Some((item, rest)) = next_item(left) {
-        match item {
-            Item::One(byte) => {
-                let Some((_, later)) = unread.split_first() else {
-                    return false;
-                };
-                pass_one(marks, byte, unread);
-                unread = later;
-            }
-            Item::Star(byte) => pass_star(marks, byte, unread),
-            Item::End => return marks[unread.len()],
-        }
-        left = rest;
-    }
-    marks[..=unread.len()].contains(&true)
-}
-
-// Whether the text matches, found by marks on its places.
-fn is_match_by_marks(marks: &mut [bool], pattern: &[u8], text: &[u8]) -> bool
-    requires { length marks.old ≡ length text.now + 1 }
-    ensures { result ≡ matches pattern.now text.now }
-{
-    let (anchored, items) = split_anchor(pattern);
-    marks.fill(!anchored);
-    marks[0] = true;
-    walk(marks, items, text)
-}
+// The bytes of the stack that marks or states take. A text that grep tests, and a pattern of a script, are shorter.
+const ROOM: usize = 1024;
 
 /// Whether a text matches a pattern (`user/grep.c`'s `match`).
 ///
@@ -59,19 +19,19 @@ fn is_match_by_marks(marks: &mut [bool], pattern: &[u8], text: &[u8]) -> bool
 /// A text matches if some part of it is a row of pieces, one for each item in order; the part of an anchored
 /// pattern begins where the text does. Patterns and texts may have any bytes and any length, and no memory is taken.
 ///
-/// On a text of fewer than 65,536 bytes this takes time by the pattern's length times the text's at most, where
-/// the recursion of `user/grep.c` takes exponential time on many stars. On longer texts it goes as that does, so
-/// that many stars may take very long there.
+/// Where the pattern or the text has fewer than 1,024 bytes this takes time by the one's length times the other's at
+/// most, where `user/grep.c`'s recursion takes exponential time on many stars. Where both are longer this goes as
+/// that does: it may take as long, and it takes stack by the number of stars.
 pub fn is_match(pattern: &[u8], text: &[u8]) -> bool
     ensures pieces { IsTrue result ↔ IsMatch pattern.now text.now }
     ensures test { result ≡ matches pattern.now text.now }
 {
-    if text.len() < LINE_PLACES {
-        let mut marks = [false; LINE_PLACES];
+    if text.len() < ROOM {
+        let mut marks = [false; ROOM];
         is_match_by_marks(&mut marks[..=text.len()], pattern, text)
-    } else if text.len() < MOST_PLACES {
-        let mut marks = [false; MOST_PLACES];
-        is_match_by_marks(&mut marks[..=text.len()], pattern, text)
+    } else if pattern.len() < ROOM {
+        let mut states = [false; ROOM];
+        is_match_by_states(&mut states, pattern, text)
     } else {
         is_match_by_cuts(pattern, text)
     }
@@ -112,7 +72,7 @@ mod tests {
         Ok(())
     }
 
-    // 200 stars on a line of 512 bytes: the answer comes at once.
+    // 200 stars on a line of 512 bytes, and on a text of 5,000: the answer comes at once.
     #[test]
     fn many_stars_take_no_time(rt: HostRuntime) -> Result<(), Fail> {
         let mut pattern = [b'a'; 402];
@@ -126,22 +86,31 @@ mod tests {
         assert!(rt; !is_match(pattern.as_slice(), line.as_slice()));
         line[511] = b'b';
         assert!(rt; is_match(pattern.as_slice(), line.as_slice()));
+        let mut text = [b'a'; 5000];
+        text[4999] = b'c';
+        assert!(rt; !is_match(pattern.as_slice(), text.as_slice()));
+        text[4999] = b'b';
+        assert!(rt; is_match(pattern.as_slice(), text.as_slice()));
         Ok(())
     }
 
-    // The texts are longer than the room for a line, and longer than all room; each pattern has 2,000 bytes.
+    // The text, the pattern or both are longer than the room.
     #[test]
     fn matches_long_texts(rt: HostRuntime) -> Result<(), Fail> {
+        let text = [b'a'; 5000];
         let mut pattern = [b'a'; 2000];
-        let text = [b'a'; 70000];
-        assert!(rt; is_match(pattern.as_slice(), &text[..2000]));
-        assert!(rt; !is_match(pattern.as_slice(), &text[..1999]));
         assert!(rt; is_match(pattern.as_slice(), text.as_slice()));
-        pattern[1999] = b'b';
-        assert!(rt; !is_match(pattern.as_slice(), &text[..2000]));
+        assert!(rt; is_match(&pattern[..1000], text.as_slice()));
+        assert!(rt; !is_match(pattern.as_slice(), &text[..1999]));
+        assert!(rt; !is_match(pattern.as_slice(), &text[..1000]));
+        assert!(rt; is_match(b"^a*$".as_slice(), text.as_slice()));
+        assert!(rt; !is_match(b"^a*b".as_slice(), text.as_slice()));
+        assert!(rt; !is_match(b".b".as_slice(), text.as_slice()));
+        assert!(rt; !is_match(b"^$".as_slice(), text.as_slice()));
         pattern[1998] = b'*';
         pattern[1999] = b'$';
         assert!(rt; is_match(pattern.as_slice(), text.as_slice()));
+        assert!(rt; !is_match(pattern.as_slice(), &text[..1996]));
         pattern[0] = b'^';
         assert!(rt; is_match(pattern.as_slice(), text.as_slice()));
         pattern[1] = b'b';

@@ -1,5 +1,5 @@
 -- Each arm's clash is that of the tree which the arm takes apart.
-use Rattle.std.proofs.Common.{◌≡◌, true, false, ap, ap₂, refl, subst, sym, ◌∙◌}
+use Rattle.std.proofs.Common.{◌≡◌, false, ap, ap₂, refl, subst, sym, ◌∙◌}
 use Rattle.std.proofs.lemmas.Option.{IfSome_then}
 use Rattle.std.specs.Option.{IfSome}
 use Rattle.sh_tree.specs.Tree.{tree_of, redir, pipe, list, back}

@@ -1,6 +1,6 @@
 use Rattle.std.proofs.Common.{◌∙◌, refl, arith}
 use Rattle.grep_match.proofs.Passing.{walk_one, walk_none, walk_star, walk_end, walk_done}
-use Rattle.grep_match.proofs.matching.walk.Goals as goal
+use Rattle.grep_match.proofs.marks.walk.Goals as goal
 
 pub loop-item-preserved-in-Some-split_first : goal.loop-item-preserved-in-Some-split_first
 loop-item-preserved-in-Some-split_first c = record {

@@ -1,6 +1,6 @@
 use Rattle.std.proofs.Common.{◌∙◌}
 use Rattle.grep_match.proofs.Leading.{begun}
-use Rattle.grep_match.proofs.matching.is_match_by_marks.Goals as goal
+use Rattle.grep_match.proofs.marks.is_match_by_marks.Goals as goal
 
 pub returns : goal.returns
 returns c =

@@ -1,7 +1,7 @@
 use Rattle.std.proofs.Common.{◌≡◌, ◌≤◌, length}
 use Rattle.grep_match.specs.Pattern.{items_of}
 use Rattle.grep_match.specs.Places.{leads}
-use Rattle.grep_match.proofs.matching.walk.Given as goal
+use Rattle.grep_match.proofs.marks.walk.Given as goal
 
 -- the items that are left lead on from the marked places just where all of them led on from the first ones
 abbrev pub invariant-loop-item : goal.invariant-loop-item
