@@ -1,5 +1,5 @@
 -- What grep tests and writes (user/grep.c, whose buffer of 1,024 bytes holds at most 1,023).
-use Rattle.std.specs.Prelude.{ℕ, ◌+◌, nat_le, Bool, not, ◌&&◌, ◌==◌, List, [], ◌∷◌, ◌++◌, length, drop, filter, take_while, sum_by, if◌then◌else◌}
+use Rattle.std.specs.Prelude.{ℕ, nat_le, Bool, not, ◌&&◌, ◌==◌, List, [], ◌∷◌, ◌++◌, length, drop, filter, take_while, if◌then◌else◌}
 use Rattle.std.specs.List.{list_any}
 use Rattle.grep_match.specs.Match.{matches}
 use Rattle.mem_files.specs.Name.{Bytes}

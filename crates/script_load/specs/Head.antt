@@ -1,5 +1,5 @@
 -- The first lines of some bytes, and how many are asked for (own).
-use Rattle.std.specs.Prelude.{ℕ, zero, suc, Bool, ◌==◌, List, [], ◌∷◌, length, drop, if◌then◌else◌}
+use Rattle.std.specs.Prelude.{ℕ, zero, suc, ◌==◌, List, [], ◌∷◌, length, drop, if◌then◌else◌}
 use Rattle.std.specs.Str.Parse.{digits_value}
 use Rattle.conflict_check.specs.Program.{is_count}
 use Rattle.mem_files.specs.Name.{Bytes}

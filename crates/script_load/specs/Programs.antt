@@ -1,6 +1,6 @@
 -- The program functions: what a program does with its arguments, its input and the files, on whole byte strings.
 use Rattle.std.specs.Prelude.{List, [], ◌∷◌, ◌++◌, Option, Some, None, if◌then◌else◌}
-use Rattle.mem_files.specs.Name.{Name, Bytes}
+use Rattle.mem_files.specs.Name.{Bytes}
 use Rattle.mem_files.specs.Files.{FileMap}
 use Rattle.conflict_check.specs.declared.program.Program.{Program}
 use Rattle.conflict_check.specs.declared.program.Program.TheVariants.{Cat, Echo, Grep, Head, Tee, Wc}

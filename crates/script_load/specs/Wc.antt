@@ -1,5 +1,5 @@
 -- What wc counts (user/wc.c).
-use Rattle.std.specs.Prelude.{ℕ, ◌+◌, ◌^◌, ◌-◌, min, Bool, true, false, not, ◌&&◌, ◌==◌, List, [], ◌∷◌, ◌++◌, length, count_by, if◌then◌else◌}
+use Rattle.std.specs.Prelude.{ℕ, ◌+◌, ◌^◌, ◌-◌, min, Bool, false, not, ◌&&◌, ◌==◌, [], ◌∷◌, ◌++◌, length, count_by, if◌then◌else◌}
 use Rattle.std.specs.Fmt.{decimal}
 use Rattle.sh_lexer.specs.Tokens.{is_white}
 use Rattle.mem_files.specs.Name.{Name, Bytes}

@@ -1,2 +1,4 @@
 pub mod Drive
+pub mod Listing
+pub mod Path
 pub mod Status

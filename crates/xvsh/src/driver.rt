@@ -3,7 +3,8 @@ ghost use Rattle.std.specs.Io.KnownBytes.{Appends};
 ghost use Rattle.mem_files.specs.Files.{files};
 ghost use Rattle.script_load.specs.Line.{lines_of};
 ghost use Rattle.script_load.specs.Meaning.{script_meaning};
-ghost use Rattle.xvsh.specs.Drive.{WritesMeaning, IsRefusal, IsRunFault};
+ghost use Rattle.xvsh.specs.Drive.{WritesMeaning, WritesRun, IsRefusal, IsRunFault};
+ghost use Rattle.xvsh.specs.Path.{IsNameOf};
 ghost use Rattle.xvsh.specs.Status.{status_of};
 
 use crate::fault::Fault;
@@ -12,6 +13,7 @@ use crate::listing::listing;
 use crate::words::command_line;
 use clap::error::ErrorKind;
 use mem_files::{Files, MAX_SIZE};
+use memchr::memrchr;
 use plain_run::plain;
 use script_load::{Script, load};
 use std::alloc::Global;
@@ -42,16 +44,16 @@ fn run_script<'a, W: Write>(
     lists_files: bool,
     out: &mut W,
 ) -> Result<(), Fault<'a>>
-    ensures meaning { OnOk result (lists_files ≡ false → Appends (W.contents out.old) (W.contents out.new)
-        (script_meaning (lines_of script.now.lines) stdin.now (files given.now)).out) }
-    ensures refusal { IfErr result (λ fault. lists_files ≡ false → fault ≢ Fault.Unwritten → out.new ≡ out.old) }
-    ensures run { IfErr result IsRunFault }
+    ensures meaning { OnOk result (WritesRun lists_files (script_meaning (lines_of script.now.lines) stdin.now (files given.now)) (W.contents out.old) (W.contents out.new)) }
+    ensures refusal { IfErr result (λ fault. fault ≢ Fault.Unwritten → out.new ≡ out.old) }
+    ensures run { IfErr result (IsRunFault (lines_of script.now.lines) stdin.now (files given.now)) }
 {
     let outcome = plain(alloc, script, stdin, given)?;
     if !lists_files {
         return write(out, outcome.out.as_slice());
     }
     let list = listing(alloc, &outcome.files)?;
+    let _ = outcome.files.count();
     write(out, outcome.out.as_slice())?;
     write(out, list.as_slice())
 }
@@ -85,9 +87,11 @@ fn read<'a, H: Host>(alloc: Global, host: &mut H, path: &'a str) -> Result<Vec<u
 }
 
 // The part of a path after its last `/`.
-fn name_of(path: &str) -> &[u8] {
+fn name_of(path: &str) -> &[u8]
+    ensures { IsNameOf path.now result.now }
+{
     let bytes = path.as_bytes();
-    match bytes.iter().rposition(|byte| *byte == b'/') {
+    match memrchr(b'/', bytes) {
         Some(slash) => &bytes[slash + 1..],
         None => bytes,
     }
@@ -118,7 +122,9 @@ fn run_plain<'a, H: Host, W: Write>(
     paths: &[&'a str],
     lists_files: bool,
     out: &mut W,
-) -> Result<(), Fault<'a>> {
+) -> Result<(), Fault<'a>>
+    ensures { IfErr result (λ fault. fault ≢ Fault.Unwritten → out.new ≡ out.old) }
+{
     let bytes = read(alloc, host, script)?;
     let loaded = load(alloc, bytes.as_slice())?;
     let mut given = Files::new(alloc);

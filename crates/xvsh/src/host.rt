@@ -1,4 +1,4 @@
-ghost use Rattle.std.specs.Prelude.{◌≡◌, ◌<◌, ◌≤◌, Err, Option, List, ℕ, IfOk, IfSome, length, vec_len};
+ghost use Rattle.std.specs.Prelude.{◌≡◌, ◌<◌, ◌≤◌, Err, None, Option, List, ℕ, IfOk, IfSome, length, vec_len};
 
 use std::alloc::Global;
 use thiserror::Error;
@@ -19,14 +19,15 @@ pub enum HostFault {
 
 /// Where the program's input comes from: the system, or a test's memory.
 pub trait Host {
-    /// The bytes of standard input, where the host tells them.
+    /// The bytes of standard input, where the host tells them; then they can be read.
     ghost input: { Self → Option (List ℕ) };
 
     /// All bytes of standard input, of which there may be as many as the limit.
     fn read_input(&mut self, alloc: Global, limit: usize) -> Result<Vec<u8>, HostFault>
         ensures whole { IfOk result (λ bytes. IfSome (input self.old) (λ told. bytes.items ≡ told)) }
         ensures within { IfOk result (λ bytes. vec_len bytes ≤ limit) }
-        ensures too_long { result ≡ Err HostFault.TooLong → IfSome (input self.old) (λ told. limit < length told) };
+        ensures too_long { result ≡ Err HostFault.TooLong → IfSome (input self.old) (λ told. limit < length told) }
+        ensures readable { result ≡ Err HostFault.Unreadable → input self.old ≡ None };
 
     /// All bytes of the file at a path, of which there may be as many as the limit.
     fn read_path(&mut self, alloc: Global, path: &str, limit: usize) -> Result<Vec<u8>, HostFault>

@@ -1,20 +1,47 @@
+ghost use Rattle.std.specs.Prelude.{◌≡◌, ◌++◌, ◌<◌, OnOk, IfOk, slice_get, Some, length};
+ghost use Rattle.xvsh.specs.Listing.{file_text, list_text};
+
 use mem_files::Files;
 use std::alloc::{AllocError, Global};
 
+// Adds `-- NAME LENGTH` and LF, the bytes, and LF.
+fn add_text(alloc: Global, name: &[u8], bytes: &[u8], text: &mut Vec<u8>) -> Result<(), AllocError>
+    ensures { OnOk result (text.new.items ≡ text.old.items ++ file_text name.now bytes.now) }
+{
+    let length = format!(in alloc; "{}", bytes.len())?;
+    text.extend_from_slice(b"-- ".as_slice())?;
+    text.extend_from_slice(name)?;
+    text.push(b' ')?;
+    text.extend_from_slice(length.as_bytes())?;
+    text.push(b'\n')?;
+    text.extend_from_slice(bytes)?;
+    text.push(b'\n')?;
+    Ok(())
+}
+
+// The name and the bytes of a file by its place in byte order.
+fn file_at(files: &Files<Global>, place: usize) -> (&[u8], &[u8])
+    requires { place < length files.now }
+    ensures { slice_get files.now place ≡ Some (result.0.now, result.1.now) }
+{
+    let _ = files.count();
+    let Some(name) = files.name_at(place) else {
+        return (&[], &[]);
+    };
+    let Some(bytes) = files.get(name) else {
+        return (name, &[]);
+    };
+    (name, bytes)
+}
+
 /// All files in byte order of their names, each as `-- NAME LENGTH` and LF, its bytes, and LF.
-pub fn listing(alloc: Global, files: &Files<Global>) -> Result<Vec<u8>, AllocError> {
+pub fn listing(alloc: Global, files: &Files<Global>) -> Result<Vec<u8>, AllocError>
+    ensures { IfOk result (λ text. text.items ≡ list_text files.now) }
+{
     let mut text = Vec::new(alloc);
     for i in 0..files.count() {
-        let Some(name) = files.name_at(i) else {
-            break;
-        };
-        let bytes = files.get(name).unwrap_or(&[]);
-        let length = format!(in alloc; " {}\n", bytes.len())?;
-        text.extend_from_slice(b"-- ".as_slice())?;
-        text.extend_from_slice(name)?;
-        text.extend_from_slice(length.as_bytes())?;
-        text.extend_from_slice(bytes)?;
-        text.push(b'\n')?;
+        let (name, bytes) = file_at(files, i);
+        add_text(alloc, name, bytes, &mut text)?;
     }
     Ok(text)
 }

@@ -14,8 +14,15 @@ for it, `< FILE`, `> FILE` and `>> FILE` take and put input and output. `>` empt
 `>>` writes over it from its begin, as xv6 does. A command has at most nine words. There are no
 quotes, variables, patterns or comments. A line that is no command does nothing.
 
-Programs: `echo WORD..` writes its words; `cat` copies its input, `cat FILE..` the files. Any other
-name does nothing.
+Programs, which work on their input where no FILE is given:
+  cat [FILE]..            copies it
+  echo [WORD]..           writes its words
+  grep PATTERN [FILE]..   the lines that match; `^` is a line's begin, `$` its end, `.` any byte, and
+                          `*` after a byte any number of it
+  head [-N] [FILE]..      the first 10 lines, or N
+  tee [FILE]..            copies its input to its output and to each FILE
+  wc [FILE]..             counts lines, words and bytes
+Any other name does nothing.
 
 Files live in memory, and none of them on the disk: at most 200, with names of 1 to 14 bytes and at
 most 274,432 bytes each. A script and a standard input have at most 1,048,576 bytes.

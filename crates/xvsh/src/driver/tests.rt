@@ -1,4 +1,4 @@
-ghost use Rattle.std.specs.Prelude.{◌≡◌, ◌<◌, ◌≤◌, Some, [], Err, IfOk, length, vec_len};
+ghost use Rattle.std.specs.Prelude.{◌≡◌, ◌≢◌, None, ◌<◌, ◌≤◌, Some, [], Err, IfOk, length, vec_len};
 
 use super::*;
 use crate::host::HostFault;
@@ -34,6 +34,7 @@ fn bounded(alloc: Global, bytes: &[u8], limit: usize) -> Result<Vec<u8>, HostFau
     ensures whole { IfOk result (λ all. all.items ≡ bytes.now) }
     ensures within { IfOk result (λ all. vec_len all ≤ limit) }
     ensures too_long { result ≡ Err HostFault.TooLong → limit < length bytes.now }
+    ensures readable { result ≢ Err HostFault.Unreadable }
 {
     if bytes.len() > limit {
         return Err(HostFault::TooLong);
@@ -49,7 +50,7 @@ fn bounded(alloc: Global, bytes: &[u8], limit: usize) -> Result<Vec<u8>, HostFau
 struct Broken;
 
 impl Host for Broken {
-    ghost input = { λ _. Some [] };
+    ghost input = { λ _. None };
 
     fn read_input(&mut self, _alloc: Global, _limit: usize) -> Result<Vec<u8>, HostFault> {
         Err(HostFault::Unreadable)
@@ -315,5 +316,45 @@ fn needs_no_standard_error(rt: HostRuntime) -> Result<(), Fail> {
     );
     assert_eq!(rt; status, 1);
     assert!(rt; out.is_empty());
+    Ok(())
+}
+
+#[test]
+fn runs_all_programs(rt: HostRuntime) -> Result<(), Fail> {
+    let big = "0123456789ab\n".repeat(rt.alloc(), 100)?;
+    let files = [
+        ("wc", b"wc p big; cat p | grep b | wc; echo | wc".as_slice()),
+        ("grep", b"grep ^a*b$ p".as_slice()),
+        (
+            "head",
+            b"cat big | (head -2; wc)\nhead -1 p big; head -x p".as_slice(),
+        ),
+        ("tee", b"echo a | tee x y".as_slice()),
+        ("input", b"head -1\nwc".as_slice()),
+        ("none", b"foo\ncd x\n(echo a > f) &".as_slice()),
+        ("in/big", big.as_bytes()),
+        ("in/p", b"b\naab\naabc\ncb\n".as_slice()),
+    ];
+    let mut host = Memory {
+        input: b"a\nb\nc\n".as_slice(),
+        files: &files,
+    };
+    let rows = [
+        (
+            "plain wc in/p in/big",
+            "4 4 14 p\n100 100 1300 big\n4 4 14 \n0 0 0 \n",
+        ),
+        ("plain grep in/p", "b\naab\n"),
+        (
+            "plain head in/p in/big",
+            "0123456789ab\n0123456789ab\n98 98 1274 \nb\n0123456789ab\n",
+        ),
+        ("plain --files tee", "a\n-- x 2\na\n\n-- y 2\na\n\n"),
+        ("plain input", "a\n2 2 4 \n"),
+        ("plain --files none", "-- f 2\na\n\n"),
+    ];
+    for (words, out) in rows {
+        expect(&rt, words, &mut host, (0, out, ""))?;
+    }
     Ok(())
 }

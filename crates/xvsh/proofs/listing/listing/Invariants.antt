@@ -1,0 +1,7 @@
+use Rattle.std.proofs.Common.{◌≡◌, ◌++◌, drop}
+use Rattle.xvsh.specs.Listing.{list_text}
+use Rattle.xvsh.proofs.listing.listing.Given as goal
+
+-- the files that are left complete the text
+abbrev pub invariant-loop-i : goal.invariant-loop-i
+invariant-loop-i l = l.text.items ++ list_text (drop l.i l.files) ≡ list_text l.files
