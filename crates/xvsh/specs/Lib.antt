@@ -1,3 +1,4 @@
+pub mod Check
 pub mod Drive
 pub mod Listing
 pub mod Path

@@ -1,16 +1,19 @@
-ghost use Rattle.std.specs.Prelude.{◌≡◌, ◌≢◌, [], OnOk, IfErr, false};
+ghost use Rattle.std.specs.Prelude.{◌≡◌, ◌≢◌, ◌↔◌, ℕ, List, [], OnOk, IfOk, IfErr, IsTrue};
 ghost use Rattle.std.specs.Io.KnownBytes.{Appends};
 ghost use Rattle.mem_files.specs.Files.{files};
 ghost use Rattle.script_load.specs.Line.{lines_of};
 ghost use Rattle.script_load.specs.Meaning.{script_meaning};
+ghost use Rattle.xvsh.specs.Check.{AreTold, AreHarmless};
 ghost use Rattle.xvsh.specs.Drive.{WritesMeaning, WritesRun, IsRefusal, IsRunFault};
 ghost use Rattle.xvsh.specs.Path.{IsNameOf};
 ghost use Rattle.xvsh.specs.Status.{status_of};
 
+use crate::checking::check;
 use crate::fault::Fault;
 use crate::host::Host;
 use crate::listing::listing;
 use crate::words::command_line;
+use clap::ArgMatches;
 use clap::error::ErrorKind;
 use mem_files::{Files, MAX_SIZE};
 use memchr::memrchr;
@@ -139,6 +142,33 @@ fn run_plain<'a, H: Host, W: Write>(
     run_script(alloc, &loaded, stdin.as_slice(), &given, lists_files, out)
 }
 
+// Writes what is told of a script's lines, and returns whether they are harmless.
+fn check_script<'a, W: Write>(
+    alloc: Global,
+    script: &Script<Global>,
+    out: &mut W,
+) -> Result<bool, Fault<'a>>
+    ensures told { OnOk result ((text : List ℕ) × AreTold 1 (lines_of script.now.lines) text
+        × Appends (W.contents out.old) (W.contents out.new) text) }
+    ensures harmless { IfOk result (λ is. IsTrue is ↔ AreHarmless (lines_of script.now.lines)) }
+{
+    let checked = check(alloc, script)?;
+    write(out, checked.text.as_slice())?;
+    Ok(checked.is_harmless)
+}
+
+// `check`: the script, and then what is told of it.
+fn run_check<'a, H: Host, W: Write>(
+    alloc: Global,
+    host: &mut H,
+    script: &'a str,
+    out: &mut W,
+) -> Result<bool, Fault<'a>> {
+    let bytes = read(alloc, host, script)?;
+    let loaded = load(alloc, bytes.as_slice())?;
+    check_script(alloc, &loaded, out)
+}
+
 // Tells a fault in one line, and gives its status.
 fn tell<E: Write>(fault: Fault<'_>, err: &mut E) -> u8
     ensures { result ≡ status_of fault.entry }
@@ -147,6 +177,27 @@ fn tell<E: Write>(fault: Fault<'_>, err: &mut E) -> u8
         let _ = writeln!(err, "xvsh: {fault}");
     }
     fault.status()
+}
+
+// Runs the command that the words name, and gives its status.
+fn run_command<'a, H: Host, W: Write>(
+    alloc: Global,
+    matches: &'a ArgMatches,
+    host: &mut H,
+    out: &mut W,
+) -> Result<u8, Fault<'a>> {
+    if let Some(plain) = matches.subcommand_matches("plain") {
+        let script = plain.get_str("script").unwrap_or(STDIN);
+        let paths = plain.get_strs("paths").unwrap_or(&[]);
+        run_plain(alloc, host, script, paths, plain.get_flag("files"), out)?;
+        return Ok(0);
+    }
+    if let Some(check) = matches.subcommand_matches("check") {
+        let script = check.get_str("script").unwrap_or(STDIN);
+        let is_harmless = run_check(alloc, host, script, out)?;
+        return Ok(if is_harmless { 0 } else { 3 });
+    }
+    Ok(2)
 }
 
 // Does what the words ask for.
@@ -169,13 +220,8 @@ fn run_words<H: Host, W: Write, E: Write>(
         }
         Err(error) => return if write!(out, "{error}").is_ok() { 0 } else { 1 },
     };
-    let Some(plain) = matches.subcommand_matches("plain") else {
-        return 2;
-    };
-    let script = plain.get_str("script").unwrap_or(STDIN);
-    let paths = plain.get_strs("paths").unwrap_or(&[]);
-    match run_plain(alloc, host, script, paths, plain.get_flag("files"), out) {
-        Ok(()) => 0,
+    match run_command(alloc, &matches, host, out) {
+        Ok(status) => status,
         Err(fault) => tell(fault, err),
     }
 }
@@ -189,8 +235,12 @@ fn run_words<H: Host, W: Write, E: Write>(
 /// Without words it is `plain -`. A script and a standard input have at most 1,048,576 bytes, and a
 /// file at most 274,432.
 ///
+/// `check SCRIPT` reads and loads the script, runs nothing, and writes the faults, the `&` and the
+/// first clash of each line.
+///
 /// A fault goes to `err` as one line, and then nothing of the script was written: 1 for what can't be
-/// read or is refused, 2 for words that are no command line, 4 for a run that is too large or wants
+/// read or is refused, 2 for words that are no command line, 3 where
+/// `check` told of a clash or a `&`, 4 for a run that is too large or wants
 /// memory. `--help` goes to `out`. Where `out` fails, the status is 1 and nothing more is written.
 pub fn drive<H: Host, W: Write, E: Write>(
     alloc: Global,

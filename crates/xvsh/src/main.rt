@@ -1,6 +1,7 @@
 //! Runs scripts of xv6's shell.
 #![tactic(auto)]
 
+mod checking;
 mod driver;
 mod fault;
 mod host;

@@ -31,8 +31,12 @@ Examples:
   echo 'echo hello | cat > f; cat f' | xvsh
   xvsh plain --files script.sh notes/todo    # `todo` is a file of the script
 
-Status: 0 done; 1 something can't be read, is refused, or can't be written; 2 usage; 4 too large, or
-no memory.";
+`xvsh check SCRIPT` writes, for the script's line N: `N fault K NAME at P` where it is no command,
+`N background` where it has a `&`, and `N clash KIND NAME` where two of its commands may come upon
+each other at a file: at the two sides of a pipe (PipeSides), or inside a redirection (Enclosing).
+
+Status: 0 done; 1 something can't be read, is refused, or can't be written; 2 usage; 3 `check` told
+of a clash or a `&`; 4 too large, or no memory.";
 
 const PLAIN_ABOUT: &str = "Runs a script, each pipe's left side to its end before its right side";
 
@@ -58,6 +62,17 @@ fn plain_command<'a>(alloc: Global) -> Result<Command<'a>, AllocError> {
         .arg(paths)
 }
 
+const CHECK_ABOUT: &str = "Tells where commands of a script may clash, and runs nothing";
+
+fn check_command<'a>(alloc: Global) -> Result<Command<'a>, AllocError> {
+    let script = Arg::new(alloc, "script")
+        .value_name("SCRIPT")
+        .help("The script's path; `-` is standard input")
+        .required(true)
+        .action(ArgAction::Set);
+    Command::new(alloc, "check").about(CHECK_ABOUT).arg(script)
+}
+
 /// The command line of the program.
 pub fn command_line<'a>(alloc: Global) -> Result<Command<'a>, AllocError> {
     Command::new(alloc, "xvsh")
@@ -67,5 +82,6 @@ pub fn command_line<'a>(alloc: Global) -> Result<Command<'a>, AllocError> {
         .after_help(AFTER_HELP)
         .disable_help_subcommand(true)
         .subcommand_required(true)
-        .subcommand(plain_command(alloc)?)
+        .subcommand(plain_command(alloc)?)?
+        .subcommand(check_command(alloc)?)
 }

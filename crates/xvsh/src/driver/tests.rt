@@ -258,7 +258,8 @@ fn takes_two_hundred_files(rt: HostRuntime) -> Result<(), Fail> {
 fn refuses_other_words(rt: HostRuntime) -> Result<(), Fail> {
     for line in [
         "run s",
-        "check s",
+        "check",
+        "check s t",
         "plain",
         "plain --no s",
         "--no",
@@ -356,5 +357,55 @@ fn runs_all_programs(rt: HostRuntime) -> Result<(), Fail> {
     for (words, out) in rows {
         expect(&rt, words, &mut host, (0, out, ""))?;
     }
+    Ok(())
+}
+
+#[test]
+fn checks_scripts(rt: HostRuntime) -> Result<(), Fail> {
+    let rows = [
+        (
+            "a & b\ncat f | tee f\necho a &",
+            (
+                3,
+                "1 fault 5 Leftover at 4\n2 clash PipeSides f\n3 background\n",
+            ),
+        ),
+        ("(echo a; cat f) > f", (3, "1 clash Enclosing f\n")),
+        (
+            "cd x\n(cat n m; echo a > n) | (cat n > m) &",
+            (3, "2 background\n2 clash PipeSides n\n"),
+        ),
+        ("cat f > g | tee f g", (3, "1 clash PipeSides g\n")),
+        (
+            "cat >\n(\necho 1 2 3 4 5 6 7 8 9\necho (a)",
+            (
+                0,
+                "1 fault 1 MissingFile at 5\n2 fault 2 MissingParen at 1\n3 fault 3 TooManyWords at 21\n4 fault 4 Unexpected at 5\n",
+            ),
+        ),
+        ("echo a > x > y\ncat x | wc", (0, "")),
+        ("", (0, "")),
+    ];
+    for (script, (status, out)) in rows {
+        let files = [("s", script.as_bytes())];
+        let mut host = Memory {
+            input: script.as_bytes(),
+            files: &files,
+        };
+        expect(&rt, "check s", &mut host, (status, out, ""))?;
+        expect(&rt, "check -", &mut host, (status, out, ""))?;
+    }
+    let zero = (1, "", "xvsh: line 1 holds a zero byte\n");
+    let mut host = Memory {
+        input: b"\0".as_slice(),
+        files: &[],
+    };
+    expect(&rt, "check -", &mut host, zero)?;
+    expect(
+        &rt,
+        "check none",
+        &mut host,
+        (1, "", "xvsh: cannot read none\n"),
+    )?;
     Ok(())
 }

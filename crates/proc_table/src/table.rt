@@ -1,0 +1,340 @@
+//! The table.
+
+use crate::process::{
+    give_all, is_child_of, is_runnable, is_running, is_running_on, is_zombie_child_of, wake_all,
+};
+use crate::{Channel, PROCS, Pid, Process, State, Status};
+use fd_table::Fds;
+use std::alloc::{AllocError, Allocator};
+use std::marker::Model;
+use thiserror::Error;
+use user_calls::{Machine, Reply};
+
+/// How many harts there are at most (xv6's `NCPU`).
+pub const HARTS: u8 = 8;
+
+/// No slot is free.
+#[derive(Clone, Copy, Debug, PartialEq, Eq, Error)]
+#[error("no free slot")]
+pub struct FullProcs;
+
+/// What a wait comes to.
+#[derive(Clone, Copy, Debug, PartialEq, Eq)]
+pub enum Waited {
+    /// The slot of this child, which was a zombie, is free now.
+    Reaped(Pid),
+    /// The process has no children.
+    NoChildren,
+    /// No child has exited yet.
+    MustSleep,
+}
+
+/// The table of all processes, each run by a machine `M` (xv6's `proc`).
+///
+/// Contracts see the list of the 64 slots, in which a free one is `None`.
+#[derive(Drop)]
+pub struct Procs<M: Machine, A: Allocator> {
+    slots: Vec<Option<Process<M>>, A>,
+}
+
+impl<M: Machine, A: Allocator> Model for Procs<M, A> {
+    ghost use Rattle.std.specs.Prelude.{◌≡◌, length};
+    ghost use Rattle.proc_table.specs.declared.pid.TheConstants.{PROCS};
+    ghost use Rattle.proc_table.specs.Slots.{Table};
+
+    ghost Value = { Table M.State };
+
+    ghost view = { λ p. p.slots.items };
+
+    ghost invariant = { λ p. length p.slots.items ≡ PROCS };
+}
+
+impl<M: Machine, A: Allocator> Procs<M, A> {
+    ghost use Rattle.std.specs.Prelude.{◌≡◌, ◌≢◌, ◌≤◌, ◌<◌, All, IfOk, IfSome, IsSome, IsTrue, ◌↔◌, OnErr, None, Some, true, false, count_by, position};
+    ghost use Rattle.proc_table.specs.declared.pid.TheConstants.{PROCS};
+    ghost use Rattle.proc_table.specs.declared.table.TheConstants.{HARTS};
+    ghost use Rattle.proc_table.specs.Slots.{at, is_asleep_on, is_child_of, is_runnable, is_running, is_running_on, parent_of, put_of, state_of};
+    ghost use Rattle.proc_table.specs.Calls.{all_woken, boot_table, dispatched, exited, forked, lowest_free, readied, reaped, slept, some_child, status_set, wait_answer, zombie_child};
+
+    /// The table with init in slot 0 and the top shell, its child, in slot 1, and room for 62 processes more
+    /// (`procinit` and `userinit`; that there are two processes from the start is own).
+    ///
+    /// `AllocError` where the allocator refuses that room; no other call takes memory.
+    pub fn new(alloc: A, init: M, shell: M) -> Result<Self, AllocError>
+        ensures { IfOk result (λ procs. procs ≡ boot_table (M.view init) (M.view shell)) }
+    {
+        let mut slots = Vec::with_capacity(alloc, PROCS)?;
+        slots.push(Some(Process::boot(None, init)))?;
+        slots.push(Some(Process::boot(Some(Pid::init()), shell)))?;
+        for _free in 0..PROCS - 2 {
+            slots.push(None)?;
+        }
+        Ok(Procs { slots })
+    }
+
+    /// The lowest free slot, if there is one (`allocproc`).
+    pub fn lowest_free(&self) -> Option<Pid>
+        ensures { result ≡ lowest_free self.now }
+    {
+        Pid::named(self.free_index())
+    }
+
+    /// Puts a child of `parent` into the lowest free slot, Runnable with reply `Child`, with this machine and these
+    /// descriptors, and tells the slot (`fork`).
+    ///
+    /// `FullProcs` where no slot is free; nothing changes then, and what was handed in is dropped.
+    pub fn fork(&mut self, parent: Pid, child_machine: M, fds: Fds) -> Result<Pid, FullProcs>
+        requires { IsSome (at self.old parent) }
+        ensures slot { IfOk result (λ child. lowest_free self.old ≡ Some child) }
+        ensures after { IfOk result (λ child. self.new ≡ forked self.old child parent (M.view child_machine) fds) }
+        ensures full { OnErr result (lowest_free self.old ≡ None) }
+        ensures same { OnErr result (self.new ≡ self.old) }
+    {
+        let Some(index) = self.free_index() else {
+            return Err(FullProcs);
+        };
+        self.slots[index] = Some(Process::child(parent, child_machine, fds));
+        Ok(Pid::at(index))
+    }
+
+    /// The running process `pid` exits: its children go to init, it becomes a zombie, and its parent is woken where it
+    /// sleeps for its children; init, too, where it got a zombie (`kexit`; that init isn't woken for each child that
+    /// it gets is own). Its descriptors stay as they are: its kernel has closed them.
+    pub fn exit(&mut self, pid: Pid)
+        requires runs { is_running (at self.old pid) ≡ true }
+        requires not_init { pid ≢ 0 }
+        ensures { self.new ≡ exited self.old pid }
+    {
+        let orphan = self.zombie_child(pid).is_some();
+        let parent = self.parent(pid);
+        give_all(&mut self.slots, pid);
+        self.set_status(pid, Status::Zombie);
+        self.wakeup(Channel::Children(parent));
+        if orphan {
+            self.wakeup(Channel::Children(Pid::init()));
+        }
+    }
+
+    /// The running process `pid` waits for a child that has exited: the slot of the lowest such child becomes free
+    /// (`kwait`).
+    pub fn wait(&mut self, pid: Pid) -> Waited
+        requires { is_running (at self.old pid) ≡ true }
+        ensures answer { result ≡ wait_answer self.old pid }
+        ensures after { self.new ≡ reaped self.old pid }
+    {
+        match self.zombie_child(pid) {
+            Some(child) => {
+                self.slots[child] = None;
+                Waited::Reaped(Pid::at(child))
+            }
+            None => {
+                if self.some_child(pid).is_some() {
+                    Waited::MustSleep
+                } else {
+                    Waited::NoChildren
+                }
+            }
+        }
+    }
+
+    /// The state of a slot.
+    pub fn state(&self, pid: Pid) -> State
+        ensures { result ≡ state_of (at self.now pid) }
+    {
+        match &self.slots[pid.index()] {
+            Some(process) => process.status.state(),
+            None => State::Free,
+        }
+    }
+
+    /// Whether there is a process in the slot: what `fork`, `parent`, `machine`, `reply`, `fds`, `fds_mut` and `put` ask.
+    pub fn is_used(&self, pid: Pid) -> bool
+        ensures { IsTrue result ↔ IsSome (at self.now pid) }
+    {
+        self.slots[pid.index()].is_some()
+    }
+
+    /// Whether the process in the slot is running, on whatever hart: what `exit`, `wait`, `ready` and `sleep` ask.
+    pub fn is_running(&self, pid: Pid) -> bool
+        ensures { result ≡ is_running (at self.now pid) }
+    {
+        is_running(&self.slots[pid.index()])
+    }
+
+    /// Whether the process in the slot runs on this hart.
+    pub fn runs_on(&self, hart: u8, pid: Pid) -> bool
+        ensures { result ≡ is_running_on hart (at self.now pid) }
+    {
+        is_running_on(&self.slots[pid.index()], hart)
+    }
+
+    /// Whether the hart runs nothing: what `dispatch` asks.
+    pub fn is_idle(&self, hart: u8) -> bool
+        ensures { IsTrue result ↔ All (λ slot. is_running_on hart slot ≡ false) self.now }
+    {
+        !self.slots.iter().any(|slot| is_running_on(slot, hart))
+    }
+
+    /// The parent of a process. Init is its own, but not its own child.
+    pub fn parent(&self, pid: Pid) -> Pid
+        requires { IsSome (at self.now pid) }
+        ensures { result ≡ parent_of (at self.now pid) }
+    {
+        match &self.slots[pid.index()] {
+            Some(process) => process.parent.unwrap_or(Pid::init()),
+            None => unreachable!(),
+        }
+    }
+
+    /// The machine of a process: before the call that it makes, where it sleeps.
+    pub fn machine(&self, pid: Pid) -> &M
+        requires { IsSome (at self.now pid) }
+        ensures { IfSome (at self.now pid) (λ process. M.view result.now ≡ process.machine) }
+    {
+        match &self.slots[pid.index()] {
+            Some(process) => &process.machine,
+            None => unreachable!(),
+        }
+    }
+
+    /// The reply that waits for a process.
+    pub fn reply(&self, pid: Pid) -> &Reply
+        requires { IsSome (at self.now pid) }
+        ensures { IfSome (at self.now pid) (λ process. result.now ≡ process.reply) }
+    {
+        match &self.slots[pid.index()] {
+            Some(process) => &process.reply,
+            None => unreachable!(),
+        }
+    }
+
+    /// The descriptors of a process.
+    pub fn fds(&self, pid: Pid) -> &Fds
+        requires { IsSome (at self.now pid) }
+        ensures { IfSome (at self.now pid) (λ process. result.now ≡ process.fds) }
+    {
+        match &self.slots[pid.index()] {
+            Some(process) => &process.fds,
+            None => unreachable!(),
+        }
+    }
+
+    /// How many bytes the write that a process makes has put so far, while it sleeps or until it is tried again; 0
+    /// for any other process.
+    pub fn put(&self, pid: Pid) -> usize
+        requires { IsSome (at self.now pid) }
+        ensures { result ≡ put_of (at self.now pid) }
+    {
+        match &self.slots[pid.index()] {
+            Some(process) => process.put,
+            None => unreachable!(),
+        }
+    }
+
+    /// The running process `pid` becomes Runnable with this machine and this reply, and has put no bytes (`yield`,
+    /// after a call that doesn't sleep).
+    pub fn ready(&mut self, pid: Pid, machine: M, reply: Reply)
+        requires { is_running (at self.old pid) ≡ true }
+        ensures { self.new ≡ readied self.old pid (M.view machine) reply }
+    {
+        if let Some(process) = &mut self.slots[pid.index()] {
+            process.status = Status::Runnable;
+            process.machine = machine;
+            process.reply = reply;
+            process.put = 0;
+        }
+    }
+
+    /// The running process `pid` sleeps on the channel, and has put so many bytes so far (`sleep`).
+    pub fn sleep(&mut self, pid: Pid, channel: Channel, put: usize)
+        requires { is_running (at self.old pid) ≡ true }
+        ensures { self.new ≡ slept self.old pid channel put }
+    {
+        if let Some(process) = &mut self.slots[pid.index()] {
+            process.status = Status::Asleep(channel);
+            process.put = put;
+        }
+    }
+
+    /// All that sleep on the channel become Runnable; their number (`wakeup`; that it is told is own).
+    pub fn wakeup(&mut self, channel: Channel) -> usize
+        ensures woken { self.new ≡ all_woken channel self.old }
+        ensures count { result ≡ count_by (is_asleep_on channel) self.old }
+    {
+        wake_all(&mut self.slots, &channel)
+    }
+
+    /// Some Runnable process becomes Running on the hart, which runs nothing; `None` where none is Runnable
+    /// (`scheduler`). Which one it is is left open.
+    pub fn dispatch(&mut self, hart: u8) -> Option<Pid>
+        requires within { hart < HARTS }
+        requires idle { All (λ slot. is_running_on hart slot ≡ false) self.old }
+        ensures none { result ≡ None → All (λ slot. is_runnable slot ≡ false) self.old }
+        ensures same { result ≡ None → self.new ≡ self.old }
+        ensures was { IfSome result (λ pid. is_runnable (at self.old pid) ≡ true) }
+        ensures after { IfSome result (λ pid. self.new ≡ dispatched self.old pid hart) }
+    {
+        let Some(index) = self.slots.iter().position(|slot| is_runnable(slot)) else {
+            return None;
+        };
+        let pid = Pid::at(index);
+        self.set_status(pid, Status::Running(hart));
+        Some(pid)
+    }
+
+    /// The process that runs on the hart, if any: the lowest one (`myproc`).
+    pub fn running_on(&self, hart: u8) -> Option<Pid>
+        ensures { result ≡ position (is_running_on hart) self.now }
+    {
+        Pid::named(self.running_index(hart))
+    }
+
+    /// How many processes are running (own).
+    pub fn running(&self) -> usize
+        ensures count { result ≡ count_by is_running self.now }
+        ensures within { result ≤ PROCS }
+    {
+        self.slots.iter().filter(|slot| is_running(slot)).count()
+    }
+
+    // The number of the lowest free slot.
+    fn free_index(&self) -> Option<usize>
+        ensures value { result ≡ lowest_free self.now }
+        ensures within { IfSome result (λ index. index < PROCS) }
+    {
+        self.slots.iter().position(|slot| slot.is_none())
+    }
+
+    // The number of the slot that runs on the hart.
+    fn running_index(&self, hart: u8) -> Option<usize>
+        ensures value { result ≡ position (is_running_on hart) self.now }
+        ensures within { IfSome result (λ index. index < PROCS) }
+    {
+        self.slots.iter().position(|slot| is_running_on(slot, hart))
+    }
+
+    // The number of the lowest child that is a zombie.
+    fn zombie_child(&self, pid: Pid) -> Option<usize>
+        ensures value { result ≡ zombie_child self.now pid }
+        ensures within { IfSome result (λ index. index < PROCS) }
+    {
+        self.slots
+            .iter()
+            .position(|slot| is_zombie_child_of(slot, pid))
+    }
+
+    // The number of the lowest child.
+    fn some_child(&self, pid: Pid) -> Option<usize>
+        ensures { result ≡ some_child self.now pid }
+    {
+        self.slots.iter().position(|slot| is_child_of(slot, pid))
+    }
+
+    fn set_status(&mut self, pid: Pid, status: Status)
+        ensures { self.new ≡ status_set self.old pid status }
+    {
+        if let Some(process) = &mut self.slots[pid.index()] {
+            process.set_status(status);
+        }
+    }
+}

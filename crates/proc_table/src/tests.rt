@@ -1,0 +1,369 @@
+ghost use Rattle.std.specs.Prelude.{◌≡◌};
+
+use super::*;
+use fd_table::{Fds, Object, OpenFiles};
+use linked_list_allocator::LocalHeap;
+use std::alloc::Allocator;
+use std::test::Fail;
+use user_calls::{Call, Machine, Reply};
+
+/// Waits for ever; its state is a number.
+#[derive(Drop)]
+struct Waiter {
+    number: u8,
+}
+
+impl Machine for Waiter {
+    ghost use Rattle.std.specs.Coded.{coded_ℕ};
+    ghost use Rattle.user_calls.specs.declared.calls.Call.TheVariants.{Wait};
+
+    type State = u8;
+
+    ghost view = { λ m. m.number };
+
+    ghost code = { coded_ℕ };
+
+    ghost call_of = { λ number reply. Wait };
+
+    ghost next_of = { λ number reply. number };
+
+    fn run(&mut self, _reply: &Reply) -> Call {
+        Call::Wait
+    }
+
+    fn twin(&self) -> Self {
+        machine(self.number)
+    }
+
+    fn same(&self, other: &Self) -> bool {
+        self.number == other.number
+    }
+}
+
+fn machine(number: u8) -> Waiter
+    ensures { result.number ≡ number }
+{
+    Waiter { number }
+}
+
+fn pid(index: usize) -> Result<Pid, Fail> {
+    let pid = Pid::new(index).ok_or("no such slot")?;
+    Ok(pid)
+}
+
+// A child of the process, in the slot that is told.
+fn fork<A: Allocator>(procs: &mut Procs<Waiter, A>, parent: usize) -> Result<usize, Fail> {
+    let parent = pid(parent)?;
+    if !procs.is_used(parent) {
+        return Err(Fail::from("no such parent"));
+    }
+    Ok(procs.fork(parent, machine(7), Fds::new())?.index())
+}
+
+// Dispatches on every idle hart, and tells how many processes run then.
+fn run_all<A: Allocator>(procs: &mut Procs<Waiter, A>) -> usize {
+    for hart in 0..HARTS {
+        if procs.is_idle(hart) {
+            let _ = procs.dispatch(hart);
+        }
+    }
+    procs.running()
+}
+
+fn exit<A: Allocator>(procs: &mut Procs<Waiter, A>, index: usize) -> Result<(), Fail> {
+    let pid = pid(index)?;
+    if pid.index() == 0 || !procs.is_running(pid) {
+        return Err(Fail::from("it may not exit"));
+    }
+    procs.exit(pid);
+    Ok(())
+}
+
+fn wait<A: Allocator>(procs: &mut Procs<Waiter, A>, index: usize) -> Result<Waited, Fail> {
+    let pid = pid(index)?;
+    if !procs.is_running(pid) {
+        return Err(Fail::from("it may not wait"));
+    }
+    Ok(procs.wait(pid))
+}
+
+fn sleep<A: Allocator>(
+    procs: &mut Procs<Waiter, A>,
+    index: usize,
+    channel: Channel,
+    put: usize,
+) -> Result<(), Fail> {
+    let pid = pid(index)?;
+    if !procs.is_running(pid) {
+        return Err(Fail::from("it may not sleep"));
+    }
+    procs.sleep(pid, channel, put);
+    Ok(())
+}
+
+fn state<A: Allocator>(procs: &Procs<Waiter, A>, index: usize) -> Result<State, Fail> {
+    Ok(procs.state(pid(index)?))
+}
+
+// The slot of the process's parent, and how many bytes it has put.
+fn parent_and_put<A: Allocator>(
+    procs: &Procs<Waiter, A>,
+    index: usize,
+) -> Result<(usize, usize), Fail> {
+    let pid = pid(index)?;
+    if !procs.is_used(pid) {
+        return Err(Fail::from("no such process"));
+    }
+    Ok((procs.parent(pid).index(), procs.put(pid)))
+}
+
+// The number of the process's machine, and whether these are its reply and the count of its open descriptors.
+fn has<A: Allocator>(
+    procs: &Procs<Waiter, A>,
+    index: usize,
+    number: u8,
+    reply: &Reply,
+    opened: bool,
+) -> Result<bool, Fail> {
+    let pid = pid(index)?;
+    if !procs.is_used(pid) {
+        return Err(Fail::from("no such process"));
+    }
+    Ok(
+        procs.machine(pid).number == number
+            && procs.reply(pid).same(reply)
+            && procs.fds(pid).get(0).is_ok() == opened,
+    )
+}
+
+#[test]
+fn sixty_two_forks_fill_the_table(rt: HostRuntime) -> Result<(), Fail> {
+    let mut procs = Procs::new(rt.alloc(), machine(100), machine(101))?;
+    assert_eq!(rt;
+        (state(&procs, 0)?, state(&procs, 1)?),
+        (State::Runnable, State::Runnable)
+    );
+    assert_eq!(rt;
+        (parent_and_put(&procs, 0)?, parent_and_put(&procs, 1)?),
+        ((0, 0), (0, 0))
+    );
+    assert!(rt; has(&procs, 0, 100, &Reply::Start, false)?);
+    assert!(rt; has(&procs, 1, 101, &Reply::Start, false)?);
+    for index in 2..PROCS {
+        assert_eq!(rt; state(&procs, index)?, State::Free);
+        assert_eq!(rt; fork(&mut procs, 1)?, index);
+    }
+    assert_eq!(rt; procs.lowest_free(), None);
+    let shell = Pid::shell();
+    if !procs.is_used(shell) {
+        return Err(Fail::from("no shell"));
+    }
+    assert_eq!(rt; procs.fork(shell, machine(8), Fds::new()), Err(FullProcs));
+    for index in 2..PROCS {
+        assert_eq!(rt;
+            (state(&procs, index)?, parent_and_put(&procs, index)?),
+            (State::Runnable, (1, 0))
+        );
+        assert!(rt; has(&procs, index, 7, &Reply::Child, false)?);
+    }
+    assert!(rt;
+        has(&procs, 0, 100, &Reply::Start, false)? && has(&procs, 1, 101, &Reply::Start, false)?
+    );
+    assert!(rt; Pid::new(PROCS).is_none());
+    Ok(())
+}
+
+#[test]
+fn every_runnable_process_is_dispatched(rt: HostRuntime) -> Result<(), Fail> {
+    let mut procs = Procs::new(rt.alloc(), machine(0), machine(0))?;
+    assert_eq!(rt; (procs.is_idle(3), procs.running_on(3)), (true, None));
+    assert_eq!(rt; run_all(&mut procs), 2);
+    let mut seen = 0;
+    for hart in 0..HARTS {
+        if let Some(found) = procs.running_on(hart) {
+            assert!(rt; procs.runs_on(hart, found) && !procs.is_idle(hart));
+            assert_eq!(rt; procs.state(found), State::Running(hart));
+            seen += 1 + found.index();
+        }
+    }
+    assert_eq!(rt; seen, 3);
+    Ok(())
+}
+
+#[test]
+fn dispatch_tells_that_none_is_runnable(rt: HostRuntime) -> Result<(), Fail> {
+    let mut procs = Procs::new(rt.alloc(), machine(0), machine(0))?;
+    assert_eq!(rt; run_all(&mut procs), 2);
+    sleep(&mut procs, 0, Channel::Children(Pid::init()), 0)?;
+    if !procs.is_idle(7) {
+        return Err(Fail::from("hart 7 runs one of two"));
+    }
+    assert_eq!(rt; procs.dispatch(7), None);
+    assert_eq!(rt; procs.running(), 1);
+    assert_eq!(rt; procs.wakeup(Channel::Children(Pid::init())), 1);
+    if !procs.is_idle(7) {
+        return Err(Fail::from("hart 7 runs one of two"));
+    }
+    assert_eq!(rt; procs.dispatch(7), Some(Pid::init()));
+    Ok(())
+}
+
+#[test]
+fn exit_gives_the_children_to_init(rt: HostRuntime) -> Result<(), Fail> {
+    let mut procs = Procs::new(rt.alloc(), machine(0), machine(0))?;
+    for (parent, child) in [(1, 2), (1, 3), (2, 4), (2, 5), (4, 6)] {
+        assert_eq!(rt; fork(&mut procs, parent)?, child);
+    }
+    assert_eq!(rt; run_all(&mut procs), 7);
+    let init = Channel::Children(Pid::init());
+    let shell = Channel::Children(Pid::shell());
+    sleep(&mut procs, 0, init, 0)?;
+    sleep(&mut procs, 1, shell, 0)?;
+    sleep(&mut procs, 3, Channel::PipeBytes(1), 0)?;
+
+    // No child of it is a zombie, and its parent is no sleeper.
+    exit(&mut procs, 4)?;
+    assert_eq!(rt; state(&procs, 4)?, State::Zombie);
+    assert_eq!(rt;
+        (parent_and_put(&procs, 4)?.0, parent_and_put(&procs, 6)?.0),
+        (2, 0)
+    );
+    assert_eq!(rt;
+        (state(&procs, 0)?, state(&procs, 1)?),
+        (State::Asleep(init), State::Asleep(shell))
+    );
+
+    // One child of it is a zombie, and its parent sleeps.
+    exit(&mut procs, 2)?;
+    assert_eq!(rt; state(&procs, 2)?, State::Zombie);
+    assert_eq!(rt;
+        (parent_and_put(&procs, 2)?.0, parent_and_put(&procs, 3)?.0),
+        (1, 1)
+    );
+    assert_eq!(rt;
+        (parent_and_put(&procs, 4)?.0, parent_and_put(&procs, 5)?.0),
+        (0, 0)
+    );
+    assert_eq!(rt;
+        (state(&procs, 0)?, state(&procs, 1)?),
+        (State::Runnable, State::Runnable)
+    );
+    assert_eq!(rt; state(&procs, 3)?, State::Asleep(Channel::PipeBytes(1)));
+    assert_eq!(rt; state(&procs, 4)?, State::Zombie);
+    Ok(())
+}
+
+#[test]
+fn wait_reaps_the_lowest_zombie(rt: HostRuntime) -> Result<(), Fail> {
+    let mut procs = Procs::new(rt.alloc(), machine(0), machine(0))?;
+    for child in 2..5usize {
+        assert_eq!(rt; fork(&mut procs, 1)?, child);
+    }
+    assert_eq!(rt; run_all(&mut procs), 5);
+    assert_eq!(rt; wait(&mut procs, 2)?, Waited::NoChildren);
+    assert_eq!(rt; wait(&mut procs, 0)?, Waited::MustSleep);
+    assert_eq!(rt; wait(&mut procs, 1)?, Waited::MustSleep);
+    exit(&mut procs, 4)?;
+    exit(&mut procs, 3)?;
+    assert_eq!(rt; wait(&mut procs, 0)?, Waited::MustSleep);
+    assert_eq!(rt; wait(&mut procs, 1)?, Waited::Reaped(pid(3)?));
+    assert_eq!(rt;
+        (state(&procs, 3)?, state(&procs, 4)?),
+        (State::Free, State::Zombie)
+    );
+    assert_eq!(rt; fork(&mut procs, 2)?, 3);
+    assert_eq!(rt; wait(&mut procs, 1)?, Waited::Reaped(pid(4)?));
+    assert_eq!(rt; wait(&mut procs, 1)?, Waited::MustSleep);
+    assert_eq!(rt; procs.lowest_free(), Some(pid(4)?));
+    Ok(())
+}
+
+#[test]
+fn wakeup_wakes_all_of_one_channel(rt: HostRuntime) -> Result<(), Fail> {
+    let mut procs = Procs::new(rt.alloc(), machine(0), machine(0))?;
+    for child in 2..7usize {
+        assert_eq!(rt; fork(&mut procs, 1)?, child);
+    }
+    assert_eq!(rt; run_all(&mut procs), 7);
+    let room = Channel::PipeRoom(9);
+    for (index, channel, put) in [
+        (2, room, 100),
+        (3, Channel::PipeBytes(9), 0),
+        (4, room, 0),
+        (5, Channel::PipeRoom(8), 5),
+        (6, room, 512),
+        (1, Channel::Children(Pid::shell()), 0),
+    ] {
+        sleep(&mut procs, index, channel, put)?;
+        assert_eq!(rt;
+            (state(&procs, index)?, parent_and_put(&procs, index)?.1),
+            (State::Asleep(channel), put)
+        );
+    }
+    assert_eq!(rt; procs.wakeup(room), 3);
+    for (index, want) in [
+        (0, None),
+        (1, Some(State::Asleep(Channel::Children(Pid::shell())))),
+        (2, Some(State::Runnable)),
+        (3, Some(State::Asleep(Channel::PipeBytes(9)))),
+        (4, Some(State::Runnable)),
+        (5, Some(State::Asleep(Channel::PipeRoom(8)))),
+        (6, Some(State::Runnable)),
+    ] {
+        if let Some(want) = want {
+            assert_eq!(rt; state(&procs, index)?, want);
+        }
+    }
+    assert_eq!(rt; parent_and_put(&procs, 6)?.1, 512);
+    assert_eq!(rt; procs.wakeup(room), 0);
+
+    // It runs again, and is done with its write.
+    assert_eq!(rt; run_all(&mut procs), 4);
+    let writer = pid(6)?;
+    if !procs.is_running(writer) {
+        return Err(Fail::from("the writer doesn't run"));
+    }
+    procs.ready(writer, machine(8), Reply::Done);
+    assert_eq!(rt;
+        (state(&procs, 6)?, parent_and_put(&procs, 6)?.1),
+        (State::Runnable, 0)
+    );
+    assert!(rt; has(&procs, 6, 8, &Reply::Done, false)?);
+    Ok(())
+}
+
+#[test]
+fn a_child_gets_its_descriptors(rt: HostRuntime) -> Result<(), Fail> {
+    let mut procs = Procs::new(rt.alloc(), machine(0), machine(0))?;
+    let mut files = OpenFiles::new();
+    let mut fds = Fds::new();
+    fds.install(files.add(Object::Out)?)?;
+    let parent = Pid::shell();
+    if !procs.is_used(parent) {
+        return Err(Fail::from("no shell"));
+    }
+    let child = procs.fork(parent, machine(3), fds)?;
+    assert!(rt; has(&procs, child.index(), 3, &Reply::Child, true)?);
+    assert!(rt; has(&procs, 1, 0, &Reply::Start, false)?);
+    Ok(())
+}
+
+#[test]
+fn wants_memory_only_when_made(rt: HostRuntime) -> Result<(), Fail> {
+    let small = LocalHeap::new(rt.alloc(), 4096)?;
+    assert!(rt; Procs::new(&small, machine(0), machine(0)).is_err());
+    assert_eq!(rt; small.used(), 0);
+
+    let heap = LocalHeap::new(rt.alloc(), 262_144)?;
+    let mut procs = Procs::new(&heap, machine(0), machine(0))?;
+    let used = heap.used();
+    for index in 2..PROCS {
+        assert_eq!(rt; fork(&mut procs, 0)?, index);
+    }
+    assert_eq!(rt; run_all(&mut procs), 8);
+    assert_eq!(rt; procs.wakeup(Channel::PipeRoom(1)), 0);
+    assert_eq!(rt; heap.used(), used);
+    drop(procs);
+    assert_eq!(rt; heap.used(), 0);
+    Ok(())
+}

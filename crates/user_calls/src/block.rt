@@ -1,0 +1,77 @@
+//! The bytes that one call moves.
+
+ghost use Rattle.std.specs.Prelude.{◌≡◌, ◌≤◌, ◌↔◌, IsTrue, [], ◌++◌, length, take};
+ghost use Rattle.user_calls.specs.declared.block.TheConstants.{BLOCK_SIZE};
+
+use arrayvec::ArrayVec;
+use std::marker::Model;
+
+/// How many bytes a call moves at most (own; a block of xv6's file system).
+pub const BLOCK_SIZE: usize = 1024;
+
+/// The bytes that one call moves: at most 1,024, which is all that contracts see of them.
+#[derive(Debug, Drop)]
+pub struct Block {
+    bytes: ArrayVec<u8, BLOCK_SIZE>,
+}
+
+impl Model for Block {
+    ghost use Rattle.std.specs.Prelude.{List, ℕ, ◌≤◌, length};
+    ghost use Rattle.user_calls.specs.declared.block.TheConstants.{BLOCK_SIZE};
+
+    ghost Value = { List ℕ };
+
+    ghost view = { λ b. b.bytes.items };
+
+    ghost invariant = { λ b. length b.bytes.items ≤ BLOCK_SIZE };
+}
+
+impl Block {
+    /// No bytes.
+    pub fn new() -> Self
+        ensures { result ≡ [] }
+    {
+        Block {
+            bytes: ArrayVec::new(),
+        }
+    }
+
+    /// The first 1,024 of these bytes, or all of them where there are fewer.
+    pub fn from_slice(bytes: &[u8]) -> Self
+        ensures { result ≡ take BLOCK_SIZE bytes.now }
+    {
+        let mut block = Block::new();
+        block.append(bytes);
+        block
+    }
+
+    /// Puts these bytes behind those that are there; what goes past 1,024 bytes is left out.
+    pub fn append(&mut self, bytes: &[u8])
+        ensures { self.new ≡ take BLOCK_SIZE (self.old ++ bytes.now) }
+    {
+        let fitting = bytes.len().min(self.bytes.remaining_capacity());
+        let _ = self.bytes.try_extend_from_slice(&bytes[..fitting]);
+    }
+
+    /// The bytes.
+    pub fn as_slice(&self) -> &[u8]
+        ensures bytes { result.now ≡ self.now }
+        ensures fits { length self.now ≤ BLOCK_SIZE }
+    {
+        self.bytes.as_slice()
+    }
+
+    /// A copy.
+    pub fn twin(&self) -> Self
+        ensures { result ≡ self.now }
+    {
+        Block::from_slice(self.as_slice())
+    }
+
+    /// Whether the two have the same bytes.
+    pub fn same(&self, other: &Self) -> bool
+        ensures { IsTrue result ↔ (self.now ≡ other.now) }
+    {
+        self.as_slice() == other.as_slice()
+    }
+}

@@ -1,0 +1,17 @@
+//! The system calls of a program, what they are answered, and programs as machines that make them. Nothing here takes
+//! memory.
+//!
+//! The calls are those of xv6's `user/user.h` that its shell and six programs make.
+#![tactic(auto)]
+
+mod block;
+mod calls;
+mod machine;
+mod ran;
+#[cfg(test)]
+mod tests;
+
+pub use block::{BLOCK_SIZE, Block};
+pub use calls::{Call, Mode, Reply};
+pub use machine::Machine;
+pub use ran::Ran;

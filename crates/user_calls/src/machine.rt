@@ -1,0 +1,44 @@
+//! Programs as machines.
+
+ghost use Rattle.std.specs.Prelude.{◌≡◌, IsTrue, ◌↔◌};
+ghost use Rattle.user_calls.specs.declared.calls.Call.{Call};
+ghost use Rattle.user_calls.specs.declared.calls.Reply.{Reply};
+
+use crate::{Call, Reply};
+
+/// A program with the state that it is in. It is run from one system call to the next: given the reply to the last
+/// call, it makes the next one.
+///
+/// Contracts see its state as plain data, of which both the call and the next state are functions. A state that holds
+/// a reference counts as what that points to.
+pub trait Machine: Drop {
+    /// The states.
+    type State;
+
+    /// The state that it is in.
+    ghost view: { Self → Self.State };
+
+    ghost use Rattle.std.specs.Coded.{Coded};
+
+    /// Tells states apart.
+    ghost code: { Coded Self.State };
+
+    /// The call that a state makes of a reply.
+    ghost call_of: { Self.State → Reply → Call };
+
+    /// The state after it.
+    ghost next_of: { Self.State → Reply → Self.State };
+
+    /// Takes the reply to the last call, and makes the next one.
+    fn run(&mut self, reply: &Reply) -> Call
+        ensures call { result ≡ call_of (view self.old) reply.now }
+        ensures next { view self.new ≡ next_of (view self.old) reply.now };
+
+    /// A machine in the same state.
+    fn twin(&self) -> Self
+        ensures { view result ≡ view self.now };
+
+    /// Whether the two are in the same state.
+    fn same(&self, other: &Self) -> bool
+        ensures { IsTrue result ↔ (view self.now ≡ view other.now) };
+}

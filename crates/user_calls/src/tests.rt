@@ -1,0 +1,93 @@
+use super::*;
+use std::test::Fail;
+
+/// Counts down on descriptor 1, one byte a call, and exits at 0 or once a call was refused.
+#[derive(Drop)]
+struct Countdown {
+    left: u8,
+}
+
+impl Machine for Countdown {
+    ghost use Rattle.std.specs.Prelude.{[], ◌∷◌, ◌-◌, ◌==◌, if◌then◌else◌};
+    ghost use Rattle.std.specs.Coded.{coded_ℕ};
+    ghost use Rattle.user_calls.specs.declared.calls.Call.TheVariants.{Exit, Write};
+
+    type State = u8;
+
+    ghost view = { λ m. m.left };
+
+    ghost code = { coded_ℕ };
+
+    ghost call_of = { λ left reply. if left == 0 then Exit else Write 1 (left ∷ []) };
+
+    ghost next_of = { λ left reply. left - 1 };
+
+    fn run(&mut self, _reply: &Reply) -> Call {
+        if self.left == 0 {
+            return Call::Exit;
+        }
+        let digit = [self.left];
+        self.left -= 1;
+        Call::Write(1, Block::from_slice(&digit))
+    }
+
+    fn twin(&self) -> Self {
+        Countdown { left: self.left }
+    }
+
+    fn same(&self, other: &Self) -> bool {
+        self.left == other.left
+    }
+}
+
+#[test]
+fn a_run_keeps_what_belongs_together(rt: HostRuntime) {
+    let machine = Countdown { left: 2 };
+    let ran = Ran::make(machine.twin(), Reply::Start);
+    assert!(rt; ran.before().same(&machine));
+    assert!(rt; matches!(ran.reply(), Reply::Start));
+    assert!(rt;
+        matches!(ran.call(), Call::Write(1, block) if block.as_slice() == [2u8].as_slice())
+    );
+    let after = ran.into_after();
+    assert_eq!(rt; after.left, 1);
+
+    let last = Ran::make(Countdown { left: 0 }, Reply::Done);
+    assert!(rt; matches!(last.call(), Call::Exit));
+}
+
+#[test]
+fn blocks_hold_1024_bytes(rt: HostRuntime) {
+    let long = [7u8; 1025];
+    assert_eq!(rt; Block::from_slice(&long).as_slice().len(), 1024);
+    let mut block = Block::from_slice(b"ab".as_slice());
+    block.append(b"".as_slice());
+    block.append(b"cd".as_slice());
+    assert_eq!(rt; block.as_slice(), b"abcd".as_slice());
+    assert!(rt; block.same(&block.twin()) && !block.same(&Block::new()));
+    block.append(&long);
+    assert_eq!(rt; block.as_slice().len(), 1024);
+    assert_eq!(rt; block.as_slice()[4], 7);
+}
+
+#[test]
+fn replies_are_same_as_their_twins_alone(rt: HostRuntime) {
+    let replies = [
+        Reply::Start,
+        Reply::Child,
+        Reply::Done,
+        Reply::Bytes(Block::new()),
+        Reply::Bytes(Block::from_slice(b"a".as_slice())),
+        Reply::Fd(3),
+        Reply::Fd(4),
+        Reply::Ends(3, 4),
+        Reply::Ends(4, 3),
+        Reply::Refused,
+    ];
+    for i in 0..replies.len() {
+        let twin = replies[i].twin();
+        for j in 0..replies.len() {
+            assert_eq!(rt; twin.same(&replies[j]), i == j, "at {i} and {j}");
+        }
+    }
+}

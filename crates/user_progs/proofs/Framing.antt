@@ -1,0 +1,104 @@
+-- What a program that runs alone still does depends on no other files than those that it may open or reads, and changes none.
+use Rattle.std.proofs.Common.{◌≡◌, ℕ, zero, suc, Bool, true, false, List, [], ◌∷◌, ◌++◌, drop, Option, Some, None, refl, sym, ap}
+use Rattle.std.specs.Prelude.{◌||◌, if◌then◌else◌}
+use Rattle.std.specs.Str.{bytes_eq}
+use Rattle.std.proofs.lemmas.Slice.Eq.{bytes_eq-Decides}
+use Rattle.mem_files.specs.Name.{Name, Bytes, is_openable}
+use Rattle.mem_files.specs.Files.{FileMap, bytes_of}
+use Rattle.conflict_check.specs.declared.program.Program.{Program}
+use Rattle.conflict_check.specs.declared.program.Program.TheVariants.{Cat, Echo, Grep, Head, Tee as Tee', Wc}
+use Rattle.conflict_check.specs.Program.{head_files, has_wrong_option}
+use Rattle.conflict_check.specs.Names.{Names, among}
+use Rattle.user_calls.specs.declared.calls.Call.{Call}
+use Rattle.script_load.specs.Value.{fixed, nothing}
+use Rattle.script_load.specs.Inputs.{of_found, of_files, filter_value}
+use Rattle.script_load.specs.Grep.{grep_out, grep_left}
+use Rattle.script_load.specs.Head.{first_lines, after_lines, line_count}
+use Rattle.script_load.specs.Wc.{wc_line}
+use Rattle.script_load.specs.Programs.{program_value}
+use Rattle.user_progs.specs.State.{Source, standard, file, Work, State, begins, echo_word, echo_space, opens, works, closes, tees, told, ended}
+use Rattle.user_progs.specs.Turn.{filter_of}
+use Rattle.user_progs.specs.Alone.{OwnFile, World, held, left_of_file, left_at}
+use Rattle.user_progs.specs.Still.{of_input, work_out, work_still, still}
+use Rattle.user_progs.specs.Waits.{BeginsShort, Waits}
+use Rattle.user_progs.specs.Frame.{is_held, depends_on}
+
+abbrev Agree : Names → FileMap → FileMap → Type 0
+Agree names F G = (name : Name) → names name ≡ true → F name ≡ G name
+
+or_left : (a b : Bool) → a ≡ true → (a || b) ≡ true
+or_left true b e = refl
+or_left false b e = cc
+
+or_right : (a b : Bool) → b ≡ true → (a || b) ≡ true
+or_right true b e = refl
+or_right false b e = e
+
+itself : (name : Name) → bytes_eq name name ≡ true
+itself name = (bytes_eq-Decides name name).1 refl
+
+of_files_same : (write : Name → Bytes → Bytes) (names : List Name) (F G : FileMap) → Agree (among names) F G → of_files write names F ≡ of_files write names G
+of_files_same write [] F G agree = refl
+of_files_same write (name ∷ names) F G agree =
+    let here : F name ≡ G name = agree name (or_left (bytes_eq name name) (among names name) (itself name)) in
+    let later = of_files_same write names F G (λ n e. agree n (or_right (bytes_eq n name) (among names n) e)) in
+    λ i. of_found (if is_openable name then here i else None) (write name) (later i)
+
+filter_same : (write : Name → Bytes → Bytes) (left : Bytes → Bytes) (names : List Name) (input : Bytes) (F G : FileMap) → Agree (among names) F G →
+    filter_value write left names input G ≡ record (filter_value write left names input F) { files = G }
+filter_same write left [] input F G agree = refl
+filter_same write left (name ∷ names) input F G agree = ap (λ (o : Bytes). fixed o input G) (sym (of_files_same write (name ∷ names) F G agree))
+
+-- the names of a program that reads
+reads_alone : (a b c : Bool) → a ≡ true → ((a || b) || c) ≡ true
+reads_alone a b c e = or_left (a || b) c (or_left a b e)
+
+head_same : (arguments : List Bytes) (input : Bytes) (F G : FileMap) → Agree (among (head_files arguments)) F G →
+    program_value (Some Head) arguments input G ≡ record (program_value (Some Head) arguments input F) { files = G }
+head_same arguments input F G agree = go (has_wrong_option arguments)
+  where
+    go : (wrong : Bool) →
+        (if wrong then nothing input G else filter_value (λ name. first_lines (line_count arguments)) (after_lines (line_count arguments)) (head_files arguments) input G)
+        ≡ record (if wrong then nothing input F else filter_value (λ name. first_lines (line_count arguments)) (after_lines (line_count arguments)) (head_files arguments) input F) { files = G }
+    go true = refl
+    go false = filter_same (λ name. first_lines (line_count arguments)) (after_lines (line_count arguments)) (head_files arguments) input F G agree
+
+begins_same : (program : Program) (arguments : List Bytes) (world : World) (G : FileMap) → BeginsShort program arguments → Agree (depends_on (begins program arguments) world) world.files G →
+    program_value (Some program) arguments world.input G ≡ record (program_value (Some program) arguments world.input world.files) { files = G }
+begins_same Cat arguments world G short agree = filter_same (λ name bytes. bytes) (λ bytes. []) arguments world.input world.files G (λ n e. agree n (reads_alone _ _ _ e))
+begins_same Echo arguments world G short agree = refl
+begins_same Grep [] world G short agree = refl
+begins_same Grep (pattern ∷ names) world G short agree = filter_same (λ name. grep_out pattern) grep_left names world.input world.files G (λ n e. agree n (reads_alone _ _ _ e))
+begins_same Head arguments world G short agree = head_same arguments world.input world.files G (λ n e. agree n (reads_alone _ _ _ e))
+begins_same Tee' arguments world G short agree = absurd short
+begins_same Wc arguments world G short agree = filter_same wc_line (λ bytes. []) arguments world.input world.files G (λ n e. agree n (reads_alone _ _ _ e))
+
+held_same : (o : Option OwnFile) (F G : FileMap) → Agree (is_held o) F G → left_of_file o F ≡ left_of_file o G
+held_same None F G agree = refl
+held_same (Some own) F G agree = ap (λ (b : Option Bytes). drop own.at (bytes_of b)) (agree own.name (itself own.name))
+
+left_same : (fd : ℕ) (world : World) (G : FileMap) → Agree (is_held (held world.own fd)) world.files G → left_at fd world ≡ left_at fd (record world { files = G })
+left_same zero world G agree = refl
+left_same (suc fd) world G agree = held_same (held world.own (suc fd)) world.files G agree
+
+work_same : (work : Work) (source : Source) (world : World) (G : FileMap) → Agree (depends_on (works work source) world) world.files G →
+    work_still work source (record world { files = G }) ≡ record (work_still work source world) { files = G }
+work_same work standard world G agree = refl
+work_same work (file fd name later) world G agree =
+    let here = left_same fd world G (λ n e. agree n (or_right (among later n) _ e)) in
+    let after = of_files_same (of_input (filter_of work)) later world.files G (λ n e. agree n (or_left (among later n) _ e)) in
+    sym (λ i. fixed (work_out work name (here i) ++ after i) world.input G)
+
+pub frame : (state : State) (call : Call) (world : World) (G : FileMap) → Waits state call → Agree (depends_on state world) world.files G →
+    still state (record world { files = G }) ≡ record (still state world) { files = G }
+frame (begins program arguments) call world G waits agree = begins_same program arguments world G waits.1 agree
+frame (echo_word later) call world G waits agree = refl
+frame (echo_space later) call world G waits agree = refl
+frame (opens filter name later) call world G waits agree =
+    ap (λ (o : Bytes). fixed o world.input G) (sym (of_files_same (of_input filter) (name ∷ later) world.files G (λ n e. agree n (or_left _ false e))))
+frame (works work source) call world G waits agree = work_same work source world G agree
+frame (closes filter later) call world G waits agree =
+    ap (λ (o : Bytes). fixed o world.input G) (sym (of_files_same (of_input filter) later world.files G (λ n e. agree n (or_left _ false e))))
+frame (tees tee) call world G waits agree = absurd waits
+frame told call world G waits agree = refl
+frame ended call world G waits agree = refl

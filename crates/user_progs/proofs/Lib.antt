@@ -1,0 +1,14 @@
+mod Blocks
+mod Buffer
+mod Counts
+pub mod Ended
+mod Zeros
+pub mod Work
+pub mod Counting
+pub mod Search
+pub mod Keeps
+pub mod Waiting
+pub mod Chunks
+pub mod Taming
+pub mod Shrinking
+pub mod Framing

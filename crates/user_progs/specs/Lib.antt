@@ -1,0 +1,10 @@
+pub mod Ahead
+pub mod Alone
+pub mod Frame
+pub mod Runs
+pub mod State
+pub mod Still
+pub mod Tame
+pub mod Turn
+pub mod View
+pub mod Waits

@@ -1,0 +1,58 @@
+-- For the reply to which call a state waits, when its program runs alone.
+use Rattle.std.specs.Prelude.{◌≡◌, ℕ, ◌-◌, ◌<◌, ◌≤◌, true, List, [], ◌∷◌, length}
+use Rattle.mem_files.specs.Name.{Bytes}
+use Rattle.conflict_check.specs.declared.program.Program.{Program}
+use Rattle.conflict_check.specs.declared.program.Program.TheVariants.{Cat, Echo, Grep, Head, Tee as Tee', Wc}
+use Rattle.user_calls.specs.declared.block.TheConstants.{BLOCK_SIZE}
+use Rattle.user_calls.specs.declared.calls.Mode.TheVariants.{Input}
+use Rattle.user_calls.specs.declared.calls.Call.{Call}
+use Rattle.user_calls.specs.declared.calls.Call.TheVariants.{Exec, Exit, Read, Write, OpenFile, Close}
+use Rattle.script_load.specs.Grep.{tested}
+use Rattle.script_load.specs.Wc.{capped}
+use Rattle.user_progs.specs.State.{Source, standard, file, Work, cat_reads, cat_writes, head_reads, head_writes, wc_reads, wc_writes, grep_reads, grep_writes, State, begins, echo_word, echo_space, opens, works, closes, tees, told, ended}
+use Rattle.user_progs.specs.Turn.{fd_of, block}
+
+-- words that one call can write whole
+abbrev pub AreShort : List Bytes → Type 0
+AreShort [] = Unit {0}
+AreShort (word ∷ words) = (length word ≤ BLOCK_SIZE) × AreShort words
+
+-- the call writes to this descriptor
+abbrev pub IsWrite : ℕ → Call → Type 0
+IsWrite fd call = (bytes : Bytes) × (call ≡ Write fd bytes)
+
+-- a file of the program's own has a descriptor above 2, and a name that can be opened is short
+abbrev pub IsApart : Source → Type 0
+IsApart standard = Unit {0}
+IsApart (file fd name later) = (2 < fd) × (length name ≤ 14)
+
+abbrev pub WorkWaits : Work → ℕ → Call → Type 0
+WorkWaits cat_reads fd call = call ≡ Read fd 512
+WorkWaits cat_writes fd call = IsWrite 1 call
+WorkWaits (head_reads lines wanted) fd call = (0 < wanted) × (call ≡ Read fd 1)
+WorkWaits (head_writes lines wanted) fd call = IsWrite 1 call
+WorkWaits (wc_reads lines words count inside) fd call =
+    (capped lines ≡ lines) × (capped words ≡ words) × (capped count ≡ count) × (call ≡ Read fd 512)
+WorkWaits wc_writes fd call = IsWrite 1 call
+WorkWaits (grep_reads pattern kept) fd call = (tested kept ≡ []) × (length kept < 1023) × (call ≡ Read fd (1023 - length kept))
+WorkWaits (grep_writes pattern rest) fd call = (length rest ≤ 1023) × IsWrite 1 call
+
+-- only echo writes its words; of tee nothing is said so far
+abbrev pub BeginsShort : Program → List Bytes → Type 0
+BeginsShort Cat arguments = Unit {0}
+BeginsShort Echo arguments = AreShort arguments
+BeginsShort Grep arguments = Unit {0}
+BeginsShort Head arguments = Unit {0}
+BeginsShort Tee' arguments = ⊥
+BeginsShort Wc arguments = Unit {0}
+
+abbrev pub Waits : State → Call → Type 0
+Waits (begins program arguments) call = (call ≡ Exec true) × BeginsShort program arguments
+Waits (echo_word later) call = IsWrite 1 call × AreShort later
+Waits (echo_space later) call = IsWrite 1 call × AreShort later
+Waits (opens filter name later) call = call ≡ OpenFile (block name) Input
+Waits (works work source) call = WorkWaits work (fd_of source) call × IsApart source
+Waits (closes filter later) call = (fd : ℕ) × (call ≡ Close fd)
+Waits (tees tee) call = ⊥
+Waits told call = (fd : ℕ) × (0 < fd) × (fd < 3) × IsWrite fd call
+Waits ended call = call ≡ Exit
