@@ -1,1 +1,4 @@
 mod InPlace
+mod Found
+mod Changes
+mod Counts

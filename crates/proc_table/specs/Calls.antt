@@ -63,6 +63,15 @@ put_to_sleep channel put (Some p) = Some (record { status = Asleep channel; pare
 abbrev pub slept : {S : Type 0} → Table S → ℕ → Channel → ℕ → Table S
 slept t pid channel put = slice_set t pid (put_to_sleep channel put (at t pid))
 
+-- the same process with these descriptors
+abbrev pub with_fds : {S : Type 0} → Descriptors → Slot S → Slot S
+with_fds fds None = None
+with_fds fds (Some p) = Some (record { status = p.status; parent = p.parent; machine = p.machine; reply = p.reply; fds = fds; put = p.put })
+
+-- the table after pid got these descriptors
+abbrev pub fds_set : {S : Type 0} → Table S → ℕ → Descriptors → Table S
+fds_set t pid fds = slice_set t pid (with_fds fds (at t pid))
+
 -- a status after a wake-up on the channel
 abbrev pub woken_status : Channel → Status → Status
 woken_status channel s = if is_asleep_on_status channel s then Runnable else s
@@ -102,6 +111,12 @@ abbrev pub exited : {S : Type 0} → Table S → ℕ → Table S
 exited t pid =
     let gone = all_woken (Children (parent_of (at t pid))) (buried t pid) in
     if is_some (zombie_child t pid) then all_woken (Children 0) gone else gone
+
+-- a slot after the wake-ups of an exit of pid
+abbrev pub woken_by_exit : {S : Type 0} → Table S → ℕ → Slot S → Slot S
+woken_by_exit t pid x =
+    let once = woken (Children (parent_of (at t pid))) x in
+    if is_some (zombie_child t pid) then woken (Children 0) once else once
 
 -- what a wait is answered, by the lowest child that is a zombie and the lowest child
 abbrev pub wait_by : Option ℕ → Option ℕ → Waited

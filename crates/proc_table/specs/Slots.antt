@@ -158,3 +158,8 @@ parent_of (Some p) = parent_or_init p.parent
 abbrev pub put_of : {S : Type 0} → Slot S → ℕ
 put_of None = 0
 put_of (Some p) = p.put
+
+-- one if the test holds, else none
+abbrev pub tally : Bool → ℕ
+tally true = 1
+tally false = 0

@@ -4,6 +4,7 @@
 //! There are no locks and no contexts here: a call is one step of the whole table. Only making the table takes memory.
 #![tactic(auto)]
 
+pub mod laws;
 mod pid;
 mod process;
 mod states;

@@ -7,6 +7,7 @@ use crate::{Channel, PROCS, Pid, Process, State, Status};
 use fd_table::Fds;
 use std::alloc::{AllocError, Allocator};
 use std::marker::Model;
+use std::mem;
 use thiserror::Error;
 use user_calls::{Machine, Reply};
 
@@ -54,7 +55,7 @@ impl<M: Machine, A: Allocator> Procs<M, A> {
     ghost use Rattle.proc_table.specs.declared.pid.TheConstants.{PROCS};
     ghost use Rattle.proc_table.specs.declared.table.TheConstants.{HARTS};
     ghost use Rattle.proc_table.specs.Slots.{at, is_asleep_on, is_child_of, is_runnable, is_running, is_running_on, parent_of, put_of, state_of};
-    ghost use Rattle.proc_table.specs.Calls.{all_woken, boot_table, dispatched, exited, forked, lowest_free, readied, reaped, slept, some_child, status_set, wait_answer, zombie_child};
+    ghost use Rattle.proc_table.specs.Calls.{all_woken, boot_table, dispatched, exited, fds_set, forked, lowest_free, readied, reaped, slept, some_child, status_set, wait_answer, zombie_child};
 
     /// The table with init in slot 0 and the top shell, its child, in slot 1, and room for 62 processes more
     /// (`procinit` and `userinit`; that there are two processes from the start is own).
@@ -147,7 +148,8 @@ impl<M: Machine, A: Allocator> Procs<M, A> {
         }
     }
 
-    /// Whether there is a process in the slot: what `fork`, `parent`, `machine`, `reply`, `fds`, `fds_mut` and `put` ask.
+    /// Whether there is a process in the slot: what `fork`, `parent`, `machine`, `reply`, `fds`,
+    /// `replace_fds` and `put` ask.
     pub fn is_used(&self, pid: Pid) -> bool
         ensures { IsTrue result ↔ IsSome (at self.now pid) }
     {
@@ -215,6 +217,18 @@ impl<M: Machine, A: Allocator> Procs<M, A> {
     {
         match &self.slots[pid.index()] {
             Some(process) => &process.fds,
+            None => unreachable!(),
+        }
+    }
+
+    /// Gives a process these descriptors, and gives back those that it had.
+    pub fn replace_fds(&mut self, pid: Pid, fds: Fds) -> Fds
+        requires { IsSome (at self.old pid) }
+        ensures before { IfSome (at self.old pid) (λ process. result ≡ process.fds) }
+        ensures after { self.new ≡ fds_set self.old pid fds }
+    {
+        match &mut self.slots[pid.index()] {
+            Some(process) => mem::replace(&mut process.fds, fds),
             None => unreachable!(),
         }
     }

@@ -1,0 +1,212 @@
+-- How many slots pass a test after each call on the table of processes.
+use Rattle.std.proofs.Common.{◌≡◌, ◌≢◌, ℕ, zero, suc, ◌+◌, ◌<◌, List, [], ◌∷◌, Bool, true, false, Option, Some, None, length, get_or, refl, sym, ap, ◌∙◌, arith}
+use Rattle.std.proofs.Math.ListN.{set}
+use Rattle.std.proofs.lemmas.Bool.{and_parts}
+use Rattle.std.proofs.lemmas.List.Sums.{sum_by-set, sum_by-cons}
+use Rattle.std.specs.Prelude.{cond, map, count_by, is_some, if◌then◌else◌}
+use Rattle.user_calls.specs.declared.calls.Reply.{Reply}
+use Rattle.fd_table.specs.Descriptors.{Descriptors}
+use Rattle.proc_table.specs.declared.states.Channel.{Channel}
+use Rattle.proc_table.specs.declared.states.Channel.TheVariants.{Children}
+use Rattle.proc_table.specs.declared.states.Status.{Status}
+use Rattle.proc_table.specs.declared.states.Status.TheVariants.{Runnable, Running, Asleep, Zombie}
+use Rattle.proc_table.specs.Slots.{Slot, Table, Process, at, is_free, has_status, tally, same_channel, is_asleep_status, is_asleep_on_status, is_zombie_status, is_running_status, is_runnable_status, is_asleep, is_asleep_on, is_runnable, is_running, is_zombie, is_child_of, is_zombie_child_of, parent_of}
+use Rattle.proc_table.specs.Calls.{with_status, made_ready, put_to_sleep, woken, woken_status, all_woken, given, buried, exited, zombie_child, lowest_free, forked, newborn, freed, reaped}
+use Rattle.proc_table.proofs.Changes.{was_free, child_within, was_zombie_child, mapped}
+
+tally_is : (b c : Bool) → b ≡ c → cond {A = ℕ} b 1 0 ≡ tally c
+tally_is true c is = ap tally is
+tally_is false c is = ap tally is
+
+-- one slot is written
+pub set_counts : {S : Type 0} (test : Slot S → Bool) (t : Table S) (pid : ℕ) (y : Slot S) (before after : Bool) → pid < length t → test (at t pid) ≡ before → test y ≡ after → count_by test (set t pid y) + tally before ≡ count_by test t + tally after
+set_counts test t pid y before after within was now =
+    omega (arith, sum_by-set (λ x. cond {A = ℕ} (test x) 1 0) t pid y None within, tally_is (test (at t pid)) before was, tally_is (test y) after now)
+
+-- a slot with a process stands in the table
+pub used_within : {S : Type 0} (t : Table S) (pid : ℕ) (p : Process S) → at t pid ≡ Some p → pid < length t
+used_within [] pid p is = absurd (let no : ⊥ = cc in no)
+used_within (x ∷ t) zero p is = omega arith
+used_within (x ∷ t) (suc pid) p is = omega (arith, used_within t pid p is)
+
+-- the process of one slot gets another status
+pub status_counts : {S : Type 0} (test : Status → Bool) (t : Table S) (pid : ℕ) (p : Process S) (y : Slot S) (s : Status) → at t pid ≡ Some p → has_status test y ≡ test s → count_by (has_status test) (set t pid y) + tally (test p.status) ≡ count_by (has_status test) t + tally (test s)
+status_counts test t pid p y s is now = set_counts (has_status test) t pid y (test p.status) (test s) (used_within t pid p is) (ap (has_status test) is) now
+
+-- every slot is written so that the test says the same
+pub map_counts : {S : Type 0} (test : Slot S → Bool) (f : Slot S → Slot S) → ((x : Slot S) → test (f x) ≡ test x) → (t : Table S) → count_by test (map f t) ≡ count_by test t
+map_counts test f same [] = refl
+map_counts test f same (x ∷ t) =
+    omega (arith, sum_by-cons (λ y. cond {A = ℕ} (test y) 1 0) (f x) (map f t), sum_by-cons (λ y. cond {A = ℕ} (test y) 1 0) x t, map_counts test f same t, ap (λ (b : Bool). cond {A = ℕ} b 1 0) (same x))
+
+-- ---- fork
+
+pub fork_free : {S : Type 0} (t : Table S) (child parent : ℕ) (m : S) (fds : Descriptors) → lowest_free t ≡ Some child → count_by is_free (forked t child parent m fds) + 1 ≡ count_by is_free t
+fork_free t child parent m fds found =
+    omega (arith, set_counts is_free t child (Some (newborn parent m fds)) true false (child_within t child found) (ap is_free (was_free t child found)) refl)
+
+pub fork_states : {S : Type 0} (test : Status → Bool) (t : Table S) (child parent : ℕ) (m : S) (fds : Descriptors) → lowest_free t ≡ Some child → count_by (has_status test) (forked t child parent m fds) ≡ count_by (has_status test) t + tally (test Runnable)
+fork_states test t child parent m fds found =
+    omega (arith, set_counts (has_status test) t child (Some (newborn parent m fds)) false (test Runnable) (child_within t child found) (ap (has_status test) (was_free t child found)) refl)
+
+-- ---- one process
+
+-- writing a slot from what it held frees none and takes none
+pub free_stays : {S : Type 0} (f : Slot S → Slot S) (keeps : (x : Slot S) → is_free (f x) ≡ is_free x) (t : Table S) (pid : ℕ) → count_by is_free (set t pid (f (at t pid))) ≡ count_by is_free t
+free_stays f keeps [] pid = refl
+free_stays f keeps (x ∷ t) zero =
+    omega (arith, sum_by-cons (λ y. cond {A = ℕ} (is_free y) 1 0) (f x) t, sum_by-cons (λ y. cond {A = ℕ} (is_free y) 1 0) x t, ap (λ (b : Bool). cond {A = ℕ} b 1 0) (keeps x))
+free_stays f keeps (x ∷ t) (suc pid) =
+    omega (arith, sum_by-cons (λ y. cond {A = ℕ} (is_free y) 1 0) x (set t pid (f (at t pid))), sum_by-cons (λ y. cond {A = ℕ} (is_free y) 1 0) x t, free_stays f keeps t pid)
+
+pub made_ready_free : {S : Type 0} (m : S) (reply : Reply) (x : Slot S) → is_free (made_ready m reply x) ≡ is_free x
+made_ready_free m reply None = refl
+made_ready_free m reply (Some p) = refl
+
+pub put_to_sleep_free : {S : Type 0} (channel : Channel) (put : ℕ) (x : Slot S) → is_free (put_to_sleep channel put x) ≡ is_free x
+put_to_sleep_free channel put None = refl
+put_to_sleep_free channel put (Some p) = refl
+
+-- ---- wake-ups
+
+by_channel : (test : Status → Bool) (b : Bool) (s : Status) → (b ≡ true → test Runnable ≡ test s) → test (if b then Runnable else s) ≡ test s
+by_channel test true s same = same refl
+by_channel test false s same = refl
+
+-- a test that tells Runnable from Asleep nowhere
+pub woken_status_same : (test : Status → Bool) → ((c : Channel) → test Runnable ≡ test (Asleep c)) → (channel : Channel) (s : Status) → test (woken_status channel s) ≡ test s
+woken_status_same test same channel Runnable = refl
+woken_status_same test same channel (Running h) = refl
+woken_status_same test same channel (Asleep c) = by_channel test (same_channel channel c) (Asleep c) (λ _. same c)
+woken_status_same test same channel Zombie = refl
+
+woken_same : {S : Type 0} (test : Status → Bool) → ((c : Channel) → test Runnable ≡ test (Asleep c)) → (channel : Channel) (x : Slot S) → has_status test (woken channel x) ≡ has_status test x
+woken_same test same channel None = refl
+woken_same test same channel (Some p) = woken_status_same test same channel p.status
+
+pub all_woken_same : {S : Type 0} (test : Status → Bool) → ((c : Channel) → test Runnable ≡ test (Asleep c)) → (channel : Channel) (t : Table S) → count_by (has_status test) (all_woken channel t) ≡ count_by (has_status test) t
+all_woken_same test same channel t = map_counts (has_status test) (woken channel) (woken_same test same channel) t
+
+woken_free : {S : Type 0} (channel : Channel) (x : Slot S) → is_free (woken channel x) ≡ is_free x
+woken_free channel None = refl
+woken_free channel (Some p) = refl
+
+pub all_woken_free : {S : Type 0} (channel : Channel) (t : Table S) → count_by is_free (all_woken channel t) ≡ count_by is_free t
+all_woken_free channel t = map_counts is_free (woken channel) (woken_free channel) t
+
+asleep_by : (b : Bool) (c : Channel) → tally (is_asleep_status (if b then Runnable else Asleep c)) + tally b ≡ 1
+asleep_by true c = refl
+asleep_by false c = refl
+
+asleep_status : (channel : Channel) (s : Status) → tally (is_asleep_status (woken_status channel s)) + tally (is_asleep_on_status channel s) ≡ tally (is_asleep_status s)
+asleep_status channel Runnable = refl
+asleep_status channel (Running h) = refl
+asleep_status channel (Asleep c) = asleep_by (same_channel channel c) c
+asleep_status channel Zombie = refl
+
+asleep_slot : {S : Type 0} (channel : Channel) (x : Slot S) → tally (is_asleep (woken channel x)) + tally (is_asleep_on channel x) ≡ tally (is_asleep x)
+asleep_slot channel None = refl
+asleep_slot channel (Some p) = asleep_status channel p.status
+
+runnable_by : (b : Bool) (c : Channel) → tally (is_runnable_status (if b then Runnable else Asleep c)) ≡ tally (is_runnable_status (Asleep c)) + tally b
+runnable_by true c = refl
+runnable_by false c = refl
+
+runnable_status : (channel : Channel) (s : Status) → tally (is_runnable_status (woken_status channel s)) ≡ tally (is_runnable_status s) + tally (is_asleep_on_status channel s)
+runnable_status channel Runnable = refl
+runnable_status channel (Running h) = refl
+runnable_status channel (Asleep c) = runnable_by (same_channel channel c) c
+runnable_status channel Zombie = refl
+
+runnable_slot : {S : Type 0} (channel : Channel) (x : Slot S) → tally (is_runnable (woken channel x)) ≡ tally (is_runnable x) + tally (is_asleep_on channel x)
+runnable_slot channel None = refl
+runnable_slot channel (Some p) = runnable_status channel p.status
+
+-- one slot more
+more_counts : {S : Type 0} (test : Slot S → Bool) (x : Slot S) (t : Table S) → count_by test (x ∷ t) ≡ tally (test x) + count_by test t
+more_counts test x t = omega (arith, sum_by-cons (λ y. cond {A = ℕ} (test y) 1 0) x t, tally_is (test x) (test x) refl)
+
+pub wake_asleep : {S : Type 0} (channel : Channel) (t : Table S) → count_by is_asleep (all_woken channel t) + count_by (is_asleep_on channel) t ≡ count_by is_asleep t
+wake_asleep channel [] = refl
+wake_asleep channel (x ∷ t) =
+    omega (arith, more_counts is_asleep (woken channel x) (all_woken channel t), more_counts (is_asleep_on channel) x t, more_counts is_asleep x t, asleep_slot channel x, wake_asleep channel t)
+
+pub wake_runnable : {S : Type 0} (channel : Channel) (t : Table S) → count_by is_runnable (all_woken channel t) ≡ count_by is_runnable t + count_by (is_asleep_on channel) t
+wake_runnable channel [] = refl
+wake_runnable channel (x ∷ t) =
+    omega (arith, more_counts is_runnable (woken channel x) (all_woken channel t), more_counts (is_asleep_on channel) x t, more_counts is_runnable x t, runnable_slot channel x, wake_runnable channel t)
+
+-- ---- exit
+
+if_counts : {S : Type 0} (test : Slot S → Bool) (channel : Channel) → ((t : Table S) → count_by test (all_woken channel t) ≡ count_by test t) → (b : Bool) (t : Table S) → count_by test (if b then all_woken channel t else t) ≡ count_by test t
+if_counts test channel same true t = same t
+if_counts test channel same false t = refl
+
+-- what no wake-up changes is after an exit what it is after the burial
+pub exit_as_buried : {S : Type 0} (test : Slot S → Bool) → ((channel : Channel) (t : Table S) → count_by test (all_woken channel t) ≡ count_by test t) → (t : Table S) (pid : ℕ) → count_by test (exited t pid) ≡ count_by test (buried t pid)
+exit_as_buried test same t pid =
+    let parent = parent_of (at t pid) in
+    if_counts test (Children 0) (same (Children 0)) (is_some (zombie_child t pid)) (all_woken (Children parent) (buried t pid)) ∙ same (Children parent) (buried t pid)
+
+given_status : {S : Type 0} (test : Status → Bool) (pid : ℕ) (x : Slot S) → has_status test (given pid x) ≡ has_status test x
+given_status test pid None = refl
+given_status test pid (Some p) = refl
+
+given_free : {S : Type 0} (pid : ℕ) (x : Slot S) → is_free (given pid x) ≡ is_free x
+given_free pid None = refl
+given_free pid (Some p) = refl
+
+pub with_status_free : {S : Type 0} (s : Status) (x : Slot S) → is_free (with_status s x) ≡ is_free x
+with_status_free s None = refl
+with_status_free s (Some p) = refl
+
+pub exit_free : {S : Type 0} (t : Table S) (pid : ℕ) → count_by is_free (exited t pid) ≡ count_by is_free t
+exit_free t pid =
+    exit_as_buried is_free all_woken_free t pid ∙ free_stays (with_status Zombie) (with_status_free Zombie) (map (given pid) t) pid ∙ map_counts is_free (given pid) (given_free pid) t
+
+mapped_within : {S : Type 0} (f : Slot S → Slot S) (t : Table S) (pid : ℕ) (p : Process S) → at t pid ≡ Some p → pid < length (map f t)
+mapped_within f [] pid p is = absurd (let no : ⊥ = cc in no)
+mapped_within f (x ∷ t) zero p is = omega arith
+mapped_within f (x ∷ t) (suc pid) p is = omega (arith, mapped_within f t pid p is)
+
+-- the process that exits counts as a zombie, and no longer as what it was
+pub buried_counts : {S : Type 0} (test : Status → Bool) (t : Table S) (pid : ℕ) (p : Process S) → at t pid ≡ Some p → count_by (has_status test) (buried t pid) + tally (test p.status) ≡ count_by (has_status test) t + tally (test Zombie)
+buried_counts test t pid p is =
+    let there : at (map (given pid) t) pid ≡ given pid (Some p) = mapped (given pid) refl t pid ∙ ap (given pid) is in
+    omega (
+      arith,
+      set_counts (has_status test) (map (given pid) t) pid (with_status Zombie (at (map (given pid) t) pid)) (test p.status) (test Zombie) (mapped_within (given pid) t pid p is) (ap (has_status test) there) (ap (λ (x : Slot _). has_status test (with_status Zombie x)) there),
+      map_counts (has_status test) (given pid) (given_status test pid) t,
+    )
+
+pub exit_counts_by : {S : Type 0} (test : Status → Bool) → ((c : Channel) → test Runnable ≡ test (Asleep c)) → (t : Table S) (pid : ℕ) (p : Process S) → at t pid ≡ Some p → count_by (has_status test) (exited t pid) + tally (test p.status) ≡ count_by (has_status test) t + tally (test Zombie)
+exit_counts_by test same t pid p is =
+    omega (arith, exit_as_buried (has_status test) (all_woken_same test same) t pid, buried_counts test t pid p is)
+
+-- ---- wait
+
+zombie_used : {S : Type 0} (x : Slot S) → is_zombie x ≡ true → is_free x ≡ false
+zombie_used None is = cc
+zombie_used (Some p) is = refl
+
+pub wait_free : {S : Type 0} (t : Table S) (pid child : ℕ) → zombie_child t pid ≡ Some child → count_by is_free (reaped t pid) ≡ count_by is_free t + 1
+wait_free t pid child found =
+    let was = was_zombie_child t pid child found in
+    let used : is_free (at t child) ≡ false = zombie_used (at t child) (and_parts (is_child_of pid (at t child)) (is_zombie (at t child)) was.1).1 in
+    ap (λ (o : Option ℕ). count_by is_free (freed t o)) found ∙ omega (arith, set_counts is_free t child None false true was.0 used refl)
+
+zombie_by : (test : Status → Bool) (s : Status) → is_zombie_status s ≡ true → test s ≡ test Zombie
+zombie_by test Runnable is = cc
+zombie_by test (Running h) is = cc
+zombie_by test (Asleep c) is = cc
+zombie_by test Zombie is = refl
+
+zombie_has : {S : Type 0} (test : Status → Bool) (x : Slot S) → is_zombie x ≡ true → has_status test x ≡ test Zombie
+zombie_has test None is = cc
+zombie_has test (Some p) is = zombie_by test p.status is
+
+pub wait_states : {S : Type 0} (test : Status → Bool) (t : Table S) (pid child : ℕ) → zombie_child t pid ≡ Some child → count_by (has_status test) (reaped t pid) + tally (test Zombie) ≡ count_by (has_status test) t
+wait_states test t pid child found =
+    let was = was_zombie_child t pid child found in
+    let zombie : has_status test (at t child) ≡ test Zombie = zombie_has test (at t child) (and_parts (is_child_of pid (at t child)) (is_zombie (at t child)) was.1).1 in
+    omega (arith, ap (λ (o : Option ℕ). count_by (has_status test) (freed t o)) found, set_counts (has_status test) t child None (test Zombie) false was.0 zombie refl)
