@@ -1,10 +1,11 @@
 -- The files that are left complete the list of all files.
-use Rattle.std.proofs.Common.{◌≡◌, ℕ, suc, ◌+◌, ◌<◌, ◌≤◌, List, [], ◌∷◌, ◌++◌, length, drop, get_or, Option, Some, None, sym, ◌∙◌, ap, arith, append_assoc}
+use Rattle.std.proofs.Common.{◌≡◌, ℕ, Bool, suc, ◌+◌, ◌<◌, ◌≤◌, List, [], ◌∷◌, ◌++◌, length, drop, get_or, Option, Some, None, sym, ◌∙◌, ap, arith, append_assoc}
 use Rattle.std.specs.Prelude.{slice_get}
 use Rattle.std.proofs.Math.Seq.{drop-cons}
 use Rattle.std.proofs.lemmas.List.{append-nil, drop_all}
 use Rattle.std.proofs.lemmas.Option.{slice_get-get_or}
 use Rattle.std.specs.Option.{option_map}
+use Rattle.conflict_check.specs.Names.{Names}
 use Rattle.mem_files.specs.Name.{Name, Bytes}
 use Rattle.mem_files.specs.Files.{files}
 use Rattle.mem_files.specs.Listing.{AreFiles}
@@ -29,15 +30,15 @@ no_place list i d inside none =
     let some : None ≡ Some (get_or list i d).0 = none ∙ ap (option_map (λ e. e.0)) (slice_get-get_or list i d inside) in cc
 
 -- one file more
-pub one_file : (list : List (Name × Bytes)) (i : ℕ) (name bytes text new whole : Bytes) → i < length list → slice_get list i ≡ Some (name, bytes) → new ≡ text ++ file_text name bytes → text ++ list_text (drop i list) ≡ whole → new ++ list_text (drop (i + 1) list) ≡ whole
-one_file list i name bytes text new whole inside is added so_far =
+pub one_file : (soft : Names) (list : List (Name × Bytes)) (i : ℕ) (name bytes text new whole : Bytes) (marked : Bool) → marked ≡ soft name → i < length list → slice_get list i ≡ Some (name, bytes) → new ≡ text ++ file_text marked name bytes → text ++ list_text soft (drop i list) ≡ whole → new ++ list_text soft (drop (i + 1) list) ≡ whole
+one_file soft list i name bytes text new whole marked marks inside is added so_far =
     let next : suc i ≡ i + 1 = omega arith in
     let here : get_or list i (name, bytes) ≡ (name, bytes) = some_same _ _ (sym (slice_get-get_or list i (name, bytes) inside) ∙ is) in
     let cut : drop i list ≡ (name, bytes) ∷ drop (i + 1) list = drop-cons list i (name, bytes) inside ∙ ap (λ f. f ∷ drop (suc i) list) here ∙ ap (λ k. (name, bytes) ∷ drop k list) next in
-    ap (λ t. t ++ list_text (drop (i + 1) list)) added
-    ∙ append_assoc text (file_text name bytes) (list_text (drop (i + 1) list))
-    ∙ ap (λ l. text ++ list_text l) (sym cut)
+    ap (λ t. t ++ list_text soft (drop (i + 1) list)) (added ∙ ap (λ b. text ++ file_text b name bytes) marks)
+    ∙ append_assoc text (file_text (soft name) name bytes) (list_text soft (drop (i + 1) list))
+    ∙ ap (λ l. text ++ list_text soft l) (sym cut)
     ∙ so_far
 
-pub all_files : (list : List (Name × Bytes)) (i : ℕ) (text whole : Bytes) → length list ≤ i → text ++ list_text (drop i list) ≡ whole → text ≡ whole
-all_files list i text whole past so_far = sym (ap (λ l. text ++ list_text l) (drop_all i list past) ∙ append-nil text) ∙ so_far
+pub all_files : (soft : Names) (list : List (Name × Bytes)) (i : ℕ) (text whole : Bytes) → length list ≤ i → text ++ list_text soft (drop i list) ≡ whole → text ≡ whole
+all_files soft list i text whole past so_far = sym (ap (λ l. text ++ list_text soft l) (drop_all i list past) ∙ append-nil text) ∙ so_far

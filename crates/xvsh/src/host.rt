@@ -22,14 +22,22 @@ pub trait Host {
     /// The bytes of standard input, where the host tells them; then they can be read.
     ghost input: { Self → Option (List ℕ) };
 
+    /// The bytes of the file at a path, where the host tells them; then they can be read.
+    ghost file: { Self → List ℕ → Option (List ℕ) };
+
     /// All bytes of standard input, of which there may be as many as the limit.
     fn read_input(&mut self, alloc: Global, limit: usize) -> Result<Vec<u8>, HostFault>
         ensures whole { IfOk result (λ bytes. IfSome (input self.old) (λ told. bytes.items ≡ told)) }
         ensures within { IfOk result (λ bytes. vec_len bytes ≤ limit) }
         ensures too_long { result ≡ Err HostFault.TooLong → IfSome (input self.old) (λ told. limit < length told) }
-        ensures readable { result ≡ Err HostFault.Unreadable → input self.old ≡ None };
+        ensures readable { result ≡ Err HostFault.Unreadable → input self.old ≡ None }
+        ensures files_stay { file self.new ≡ file self.old };
 
     /// All bytes of the file at a path, of which there may be as many as the limit.
     fn read_path(&mut self, alloc: Global, path: &str, limit: usize) -> Result<Vec<u8>, HostFault>
-        ensures { IfOk result (λ bytes. vec_len bytes ≤ limit) };
+        ensures whole { IfOk result (λ bytes. IfSome (file self.old path.now) (λ told. bytes.items ≡ told)) }
+        ensures within { IfOk result (λ bytes. vec_len bytes ≤ limit) }
+        ensures too_long { result ≡ Err HostFault.TooLong → IfSome (file self.old path.now) (λ told. limit < length told) }
+        ensures readable { result ≡ Err HostFault.Unreadable → file self.old path.now ≡ None }
+        ensures stays { (input self.new ≡ input self.old) × (file self.new ≡ file self.old) };
 }

@@ -1,22 +1,44 @@
 ghost use Rattle.std.specs.Prelude.{◌≡◌, ◌++◌, ◌<◌, OnOk, IfOk, slice_get, Some, length};
-ghost use Rattle.xvsh.specs.Listing.{file_text, list_text};
+ghost use Rattle.conflict_check.specs.Names.{among};
+ghost use Rattle.xvsh.specs.Listing.{soft_mark, file_text, list_text};
 
 use mem_files::Files;
+use sh_lexer::Bytes;
 use std::alloc::{AllocError, Global};
 
-// Adds `-- NAME LENGTH` and LF, the bytes, and LF.
-fn add_text(alloc: Global, name: &[u8], bytes: &[u8], text: &mut Vec<u8>) -> Result<(), AllocError>
-    ensures { OnOk result (text.new.items ≡ text.old.items ++ file_text name.now bytes.now) }
+// Adds `-- NAME LENGTH`, the mark if the file is soft, and LF, its bytes, and LF.
+fn add_text(
+    alloc: Global,
+    is_soft: bool,
+    name: &[u8],
+    bytes: &[u8],
+    text: &mut Vec<u8>,
+) -> Result<(), AllocError>
+    ensures { OnOk result (text.new.items ≡ text.old.items ++ file_text is_soft name.now bytes.now) }
 {
     let length = format!(in alloc; "{}", bytes.len())?;
     text.extend_from_slice(b"-- ".as_slice())?;
     text.extend_from_slice(name)?;
     text.push(b' ')?;
     text.extend_from_slice(length.as_bytes())?;
+    text.extend_from_slice(mark(is_soft))?;
     text.push(b'\n')?;
     text.extend_from_slice(bytes)?;
     text.push(b'\n')?;
     Ok(())
+}
+
+fn mark(is_soft: bool) -> &'static [u8]
+    ensures { result.now ≡ soft_mark is_soft }
+{
+    if is_soft { b" soft".as_slice() } else { &[] }
+}
+
+// Whether a name is one of these words.
+fn is_among(name: &[u8], words: &[Bytes<Global>]) -> bool
+    ensures { result ≡ among words.now name.now }
+{
+    words.iter().any(|word| word.as_slice() == name)
 }
 
 // The name and the bytes of a file by its place in byte order.
@@ -34,14 +56,19 @@ fn file_at(files: &Files<Global>, place: usize) -> (&[u8], &[u8])
     (name, bytes)
 }
 
-/// All files in byte order of their names, each as `-- NAME LENGTH` and LF, its bytes, and LF.
-pub fn listing(alloc: Global, files: &Files<Global>) -> Result<Vec<u8>, AllocError>
-    ensures { IfOk result (λ text. text.items ≡ list_text files.now) }
+/// All files in byte order of their names, each as `-- NAME LENGTH`, ` soft` if its name is a soft
+/// one, and LF, its bytes, and LF.
+pub fn listing(
+    alloc: Global,
+    files: &Files<Global>,
+    soft: &[Bytes<Global>],
+) -> Result<Vec<u8>, AllocError>
+    ensures { IfOk result (λ text. text.items ≡ list_text (among soft.now) files.now) }
 {
     let mut text = Vec::new(alloc);
     for i in 0..files.count() {
         let (name, bytes) = file_at(files, i);
-        add_text(alloc, name, bytes, &mut text)?;
+        add_text(alloc, is_among(name, soft), name, bytes, &mut text)?;
     }
     Ok(text)
 }

@@ -7,6 +7,7 @@ mod fault;
 mod host;
 mod listing;
 mod reading;
+mod running;
 mod system;
 mod words;
 

@@ -6,7 +6,7 @@ use std::alloc::Global;
 use std::fs::File;
 use std::rt::Files;
 
-/// The system, whose standard input is unknown before it is read.
+/// The system, whose standard input and files are unknown before they are read.
 #[derive(Drop)]
 pub struct System<R> {
     rt: R,
@@ -20,6 +20,8 @@ impl<R> System<R> {
 
 impl<R: Input + Files> Host for System<R> {
     ghost input = { λ _. None };
+
+    ghost file = { λ _ _. None };
 
     fn read_input(&mut self, alloc: Global, limit: usize) -> Result<Vec<u8>, HostFault> {
         read_all(alloc, self.rt.reader(), limit)

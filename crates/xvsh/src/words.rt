@@ -31,6 +31,10 @@ Examples:
   echo 'echo hello | cat > f; cat f' | xvsh
   xvsh plain --files script.sh notes/todo    # `todo` is a file of the script
 
+After a run one line goes to standard error: `settled` where no order of processes is meant to change
+what the script prints, and else `not settled`. `--files` marks as `soft` a file whose bytes may depend
+on that order.
+
 `xvsh check SCRIPT` writes, for the script's line N: `N fault K NAME at P` where it is no command,
 `N background` where it has a `&`, and `N clash KIND NAME` where two of its commands may come upon
 each other at a file: at the two sides of a pipe (PipeSides), or inside a redirection (Enclosing).
@@ -43,7 +47,9 @@ const PLAIN_ABOUT: &str = "Runs a script, each pipe's left side to its end befor
 fn plain_command<'a>(alloc: Global) -> Result<Command<'a>, AllocError> {
     let lists_files = Arg::new(alloc, "files")
         .long("files")
-        .help("Write all files after the output: `-- NAME LENGTH`, the bytes, and a line's end")
+        .help(
+            "Write all files after the output: `-- NAME LENGTH`, `soft` if it is soft, the bytes, a line's end",
+        )
         .action(ArgAction::SetTrue);
     let script = Arg::new(alloc, "script")
         .value_name("SCRIPT")

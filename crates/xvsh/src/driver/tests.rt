@@ -2,6 +2,8 @@ ghost use Rattle.std.specs.Prelude.{◌≡◌, ◌≢◌, None, ◌<◌, ◌≤�
 
 use super::*;
 use crate::host::HostFault;
+use crate::running::MAX_INPUT;
+use mem_files::MAX_SIZE;
 use std::io;
 use std::process::Abort;
 use std::test::Fail;
@@ -15,6 +17,8 @@ struct Memory<'a> {
 
 impl Host for Memory<'_> {
     ghost input = { λ m. Some m.input.now };
+
+    ghost file = { λ _ _. None };
 
     fn read_input(&mut self, alloc: Global, limit: usize) -> Result<Vec<u8>, HostFault> {
         bounded(alloc, self.input, limit)
@@ -52,6 +56,8 @@ struct Broken;
 impl Host for Broken {
     ghost input = { λ _. None };
 
+    ghost file = { λ _ _. Some [] };
+
     fn read_input(&mut self, _alloc: Global, _limit: usize) -> Result<Vec<u8>, HostFault> {
         Err(HostFault::Unreadable)
     }
@@ -72,6 +78,8 @@ struct Anything;
 
 impl Host for Anything {
     ghost input = { λ _. Some [] };
+
+    ghost file = { λ _ _. Some [] };
 
     fn read_input(&mut self, alloc: Global, _limit: usize) -> Result<Vec<u8>, HostFault> {
         Ok(Vec::new(alloc))
@@ -137,17 +145,20 @@ fn runs_scripts(rt: HostRuntime) -> Result<(), Fail> {
     let long = "x".repeat(rt.alloc(), 511)?;
     let longer = "x".repeat(rt.alloc(), 512)?;
     let rows = [
-        ("echo hello\n", (0, "hello\n", "")),
-        ("", (0, "", "")),
-        (";;", (0, "", "")),
-        ("echo a b;foo\ncd x\necho c", (0, "a b\nc\n", "")),
+        ("echo hello\n", (0, "hello\n", "settled\n")),
+        ("", (0, "", "settled\n")),
+        (";;", (0, "", "settled\n")),
+        ("echo a b;foo\ncd x\necho c", (0, "a b\nc\n", "settled\n")),
         (
             "echo 1 2 3 4 5 6 7 8\necho 1 2 3 4 5 6 7 8 9\n",
-            (0, "1 2 3 4 5 6 7 8\n", ""),
+            (0, "1 2 3 4 5 6 7 8\n", "settled\n"),
         ),
-        ("a & b\necho ok\n", (0, "ok\n", "")),
-        ("echo hello > f; echo J >> f; cat f", (0, "J\nllo\n", "")),
-        (long.as_str(), (0, "", "")),
+        ("a & b\necho ok\n", (0, "ok\n", "settled\n")),
+        (
+            "echo hello > f; echo J >> f; cat f",
+            (0, "J\nllo\n", "settled\n"),
+        ),
+        (long.as_str(), (0, "", "settled\n")),
         (longer.as_str(), (1, "", "xvsh: line 1 is too long\n")),
         ("echo a\na\0b", (1, "", "xvsh: line 2 holds a zero byte\n")),
     ];
@@ -174,11 +185,16 @@ fn takes_and_lists_files(rt: HostRuntime) -> Result<(), Fail> {
         files: &files,
     };
     let want = "b\naab\naabc\ncb\n-- p 14\nb\naab\naabc\ncb\n\n";
-    expect(&rt, "plain --files s dir/p", &mut host, (0, want, ""))?;
+    expect(
+        &rt,
+        "plain --files s dir/p",
+        &mut host,
+        (0, want, "settled\n"),
+    )?;
     let want = "-- x 2\na\n\n-- y 0\n\n";
-    expect(&rt, "plain --files -", &mut host, (0, want, ""))?;
+    expect(&rt, "plain --files -", &mut host, (0, want, "settled\n"))?;
     let want = "-- o 14\necho a > x > y\n";
-    expect(&rt, "plain --files copy", &mut host, (0, want, ""))?;
+    expect(&rt, "plain --files copy", &mut host, (0, want, "settled\n"))?;
     Ok(())
 }
 
@@ -236,7 +252,7 @@ fn limits_standard_input(rt: HostRuntime) -> Result<(), Fail> {
         input: &long.as_slice()[1..],
         files: &[],
     };
-    expect(&rt, "", &mut host, (0, "", ""))?;
+    expect(&rt, "", &mut host, (0, "", "settled\n"))?;
     Ok(())
 }
 
@@ -247,7 +263,8 @@ fn takes_two_hundred_files(rt: HostRuntime) -> Result<(), Fail> {
         let word = format!(in rt.alloc(); " f{i}")?;
         words.push_str(word.as_str())?;
     }
-    expect(&rt, words.as_str(), &mut Anything, (0, "", ""))?;
+    let want = (0, "", "settled\n");
+    expect(&rt, words.as_str(), &mut Anything, want)?;
     words.push_str(" f200")?;
     let want = (1, "", "xvsh: too many files\n");
     expect(&rt, words.as_str(), &mut Anything, want)?;
@@ -330,6 +347,10 @@ fn runs_all_programs(rt: HostRuntime) -> Result<(), Fail> {
             "head",
             b"cat big | (head -2; wc)\nhead -1 p big; head -x p".as_slice(),
         ),
+        (
+            "all",
+            b"cat big | head -100 | wc; cat big | wc; head -0 p".as_slice(),
+        ),
         ("tee", b"echo a | tee x y".as_slice()),
         ("input", b"head -1\nwc".as_slice()),
         ("none", b"foo\ncd x\n(echo a > f) &".as_slice()),
@@ -350,13 +371,15 @@ fn runs_all_programs(rt: HostRuntime) -> Result<(), Fail> {
             "plain head in/p in/big",
             "0123456789ab\n0123456789ab\n98 98 1274 \nb\n0123456789ab\n",
         ),
+        ("plain all in/big in/p", "100 100 1300 \n100 100 1300 \n"),
         ("plain --files tee", "a\n-- x 2\na\n\n-- y 2\na\n\n"),
         ("plain input", "a\n2 2 4 \n"),
-        ("plain --files none", "-- f 2\na\n\n"),
     ];
     for (words, out) in rows {
-        expect(&rt, words, &mut host, (0, out, ""))?;
+        expect(&rt, words, &mut host, (0, out, "settled\n"))?;
     }
+    let want = (0, "-- f 2\na\n\n", "not settled\n");
+    expect(&rt, "plain --files none", &mut host, want)?;
     Ok(())
 }
 
@@ -407,5 +430,115 @@ fn checks_scripts(rt: HostRuntime) -> Result<(), Fail> {
         &mut host,
         (1, "", "xvsh: cannot read none\n"),
     )?;
+    Ok(())
+}
+
+// Runs a script on one file.
+fn expect_on_file<'a>(
+    rt: &(impl Abort + AllocGlobal),
+    script: &'a str,
+    text: &'a str,
+    out: &str,
+) -> Result<(), Fail> {
+    let files = [("s", script.as_bytes()), ("in/w", text.as_bytes())];
+    let mut host = Memory {
+        input: b"".as_slice(),
+        files: &files,
+    };
+    expect(rt, "plain s in/w", &mut host, (0, out, "settled\n"))
+}
+
+#[test]
+fn tests_lines_that_fit(rt: HostRuntime) -> Result<(), Fail> {
+    let mut fits = "x".repeat(rt.alloc(), 1022)?;
+    fits.push('\n')?;
+    let mut long = "x".repeat(rt.alloc(), 1023)?;
+    long.push('\n')?;
+    let mut after = String::from_str(rt.alloc(), "x\n")?;
+    after.push_str(long.as_str())?;
+    expect_on_file(&rt, "grep x w", fits.as_str(), fits.as_str())?;
+    expect_on_file(&rt, "grep x w", long.as_str(), "")?;
+    expect_on_file(&rt, "grep x w", after.as_str(), "x\n")?;
+    expect_on_file(&rt, "grep x w", "x\nx", "x\n")?;
+    expect_on_file(&rt, "grep a w", "a\nx\0\na\n", "a\n")?;
+    Ok(())
+}
+
+// Runs a script on a few files, with `big` on standard input, and compares what is told of it.
+fn expect_told<'a>(
+    rt: &(impl Abort + AllocGlobal),
+    big: &'a str,
+    script: &'a str,
+    want: (u8, &str, &str),
+) -> Result<(), Fail> {
+    let files = [
+        ("s", script.as_bytes()),
+        ("in/big", big.as_bytes()),
+        ("in/p", b"b\naab\naabc\ncb\n".as_slice()),
+    ];
+    let mut host = Memory {
+        input: big.as_bytes(),
+        files: &files,
+    };
+    expect(rt, "plain s in/big in/p", &mut host, want)
+}
+
+#[test]
+fn tells_whether_a_script_is_settled(rt: HostRuntime) -> Result<(), Fail> {
+    let line = "0123456789ab\n";
+    let big = line.repeat(rt.alloc(), 100)?;
+    let settled = [
+        ("cat big | wc", "100 100 1300 \n"),
+        (
+            "cat big | (head -2; wc)",
+            "0123456789ab\n0123456789ab\n98 98 1274 \n",
+        ),
+        ("cat big | head -1", line),
+        ("cat < big | head -1; wc p", "0123456789ab\n4 4 14 p\n"),
+        ("cat | head -1\nwc p", "0123456789ab\n4 4 14 p\n"),
+        ("tee c < big | head -1; echo c", "0123456789ab\nc\n"),
+        ("tee c < big | cat | head -1", line),
+        ("(tee c < big; cat c) | head -1", line),
+    ];
+    for (script, out) in settled {
+        expect_told(&rt, big.as_str(), script, (0, out, "settled\n"))?;
+    }
+    let loose = [
+        ("echo a &", "a\n"),
+        ("echo a | tee f | cat f", "a\n"),
+        ("(echo a; cat f) > f", ""),
+        (
+            "tee c < big | head -1; wc c",
+            "0123456789ab\n100 100 1300 c\n",
+        ),
+        ("cat | head -1\nwc", "0123456789ab\n0 0 0 \n"),
+        ("cat big | (cat | head -1; cat)", line),
+    ];
+    for (script, out) in loose {
+        expect_told(&rt, big.as_str(), script, (0, out, "not settled\n"))?;
+    }
+    Ok(())
+}
+
+// A file that a cut pipe's left side writes is marked, also where the script isn't settled.
+#[test]
+fn marks_soft_files(rt: HostRuntime) -> Result<(), Fail> {
+    let line = "0123456789ab\n";
+    let big = line.repeat(rt.alloc(), 100)?;
+    let files = [
+        ("s", b"cat big | tee c | head -1".as_slice()),
+        ("t", b"tee c < big | head -1; cat c > d".as_slice()),
+        ("in/big", big.as_bytes()),
+    ];
+    let mut host = Memory {
+        input: b"".as_slice(),
+        files: &files,
+    };
+    let list = format!(in rt.alloc(); "{line}-- big 1300\n{big}\n-- c 1300 soft\n{big}\n")?;
+    let want = (0, list.as_str(), "settled\n");
+    expect(&rt, "plain --files s in/big", &mut host, want)?;
+    let list = format!(in rt.alloc(); "{list}-- d 1300\n{big}\n")?;
+    let want = (0, list.as_str(), "not settled\n");
+    expect(&rt, "plain --files t in/big", &mut host, want)?;
     Ok(())
 }

@@ -1,7 +1,7 @@
 use Rattle.std.proofs.Common.{subst, length, take, drop, ◌+◌, ◌-◌}
 use Rattle.xvsh.specs.Path.{IsNameOf}
 use Rattle.xvsh.proofs.Names.{sliced_name}
-use Rattle.xvsh.proofs.driver.name_of.Goals as goal
+use Rattle.xvsh.proofs.running.name_of.Goals as goal
 
 pub returns-in-Some : goal.returns-in-Some
 returns-in-Some c =
