@@ -341,6 +341,23 @@ fn expect_verdict(
     Ok(())
 }
 
+// The left side of a pipe runs to its end, also where the right side leaves early.
+#[test]
+fn early_readers_change_no_output(rt: HostRuntime) -> Result<(), Fail> {
+    let big = "0123456789ab\n".repeat(rt.alloc(), 100)?;
+    let given = [("big", big.as_bytes()), ("p", P.as_bytes())];
+    let whole = [("c", big.as_bytes())];
+    let line = "0123456789ab\n";
+    expect(&rt, "cat big | tee c | head -1", &given, line, &whole)?;
+    expect(&rt, "tee c < big | cat | head -1", &given, line, &whole)?;
+    let script = "tee c < big | head -1; echo c";
+    expect(&rt, script, &given, "0123456789ab\nc\n", &whole)?;
+    let counted = "0123456789ab\n4 4 14 p\n";
+    expect(&rt, "cat < big | head -1; wc p", &given, counted, &[])?;
+    expect_on(&rt, big.as_str(), "cat | head -1\nwc p", &given, counted, "")?;
+    Ok(())
+}
+
 #[test]
 fn tells_verdicts(rt: HostRuntime) -> Result<(), Fail> {
     let rows = [
@@ -357,6 +374,8 @@ fn tells_verdicts(rt: HostRuntime) -> Result<(), Fail> {
         ("tee c < big | head -1; echo c", true, "c "),
         ("tee c < big | cat | head -1", true, "c "),
         ("(tee c < big; cat c) | head -1", true, "c "),
+        ("(tee c < big | cat) | head -1", true, "c "),
+        ("foo\ncd x\n(echo a > f) &", false, ""),
         ("cat c\ntee c < big | head -1", false, "c "),
         (
             "(tee b a < big; cat p > ab) | head -1; tee a B < big | head -1",
