@@ -4,5 +4,9 @@ pub mod Full
 pub mod HeadCount
 pub mod Kept
 pub mod Lines
+pub mod Places
+pub mod SettledLines
+pub mod Settling
 pub mod Steps
+pub mod Verdicts
 pub mod Zeros

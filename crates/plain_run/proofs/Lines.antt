@@ -1,9 +1,10 @@
 -- Lines one after the other: what was done so far, and what the lines that are left make of it, is the whole.
-use Rattle.std.proofs.Common.{◌≡◌, ℕ, ◌+◌, ◌<◌, ◌≤◌, suc, List, [], ◌∷◌, ◌++◌, length, drop, get_or, drop-cons, add-one, refl, sym, ◌∙◌, ap, subst, append_assoc, inl, inr}
+use Rattle.std.proofs.Common.{◌≡◌, Bool, true, false, ◌||◌, ap₂, ℕ, ◌+◌, ◌<◌, ◌≤◌, suc, List, [], ◌∷◌, ◌++◌, length, drop, get_or, drop-cons, add-one, refl, sym, ◌∙◌, ap, subst, append_assoc, inl, inr}
 use Rattle.std.specs.Prelude.{map}
 use Rattle.std.proofs.lemmas.List.{append-nil, drop_all}
 use Rattle.sh_tree.specs.Tree.{list}
-use Rattle.mem_files.specs.Name.{Bytes}
+use Rattle.mem_files.specs.Name.{Name, Bytes}
+use Rattle.conflict_check.specs.Names.{among}
 use Rattle.mem_files.specs.Files.{FileMap}
 use Rattle.script_load.specs.declared.line.Line.{Line}
 use Rattle.script_load.specs.Limits.{Outgrows}
@@ -11,7 +12,9 @@ use Rattle.script_load.specs.Line.{ScriptLine, line_of}
 use Rattle.script_load.specs.Meaning.{meaning, line_tree, script_tree}
 use Rattle.plain_run.specs.declared.fault.PlainFault.{PlainFault}
 use Rattle.plain_run.specs.Gives.{Gives, IsDue}
+use Rattle.plain_run.specs.Tells.{Tells}
 use Rattle.plain_run.proofs.Steps.{due_more, list_gives, due_later}
+use Rattle.plain_run.proofs.Verdicts.{among_two}
 
 -- whatever the lines that are left give, the whole script gives; and where they pass a limit, it does
 pub record IsRunTo (whole : List ScriptLine) (input : Bytes) (F : FileMap) (old : Bytes) (lines : List ScriptLine) (rest : Bytes) (G : FileMap) (now : Bytes) : Type 0 where
@@ -44,3 +47,46 @@ next_line lines i d inside = ap (map line_of) (drop-cons lines i d inside) ∙ a
 
 pub no_line : {A : _} (lines : List (Line A)) (i : ℕ) → length lines ≤ i → map line_of (drop i lines) ≡ []
 no_line lines i over = ap (map line_of) (drop_all i lines over)
+
+-- what was told of the lines so far, and what the lines that are left are, is what the whole script is
+pub record IsToldTo (whole : List ScriptLine) (input : Bytes) (F : FileMap) (lines : List ScriptLine) (rest : Bytes) (G : FileMap) (is_loose : Bool) (names : List Name) : Type 0 where
+  pub loose : (meaning (script_tree whole) input F).loose ≡ (is_loose || (meaning (script_tree lines) rest G).loose)
+  pub soft : (name : Name) → (meaning (script_tree whole) input F).soft name ≡ (among names name || (meaning (script_tree lines) rest G).soft name)
+
+pub told_none : (lines : List ScriptLine) (input : Bytes) (F : FileMap) (is_loose : Bool) (names : List Name) → is_loose ≡ false → names ≡ [] → IsToldTo lines input F lines input F is_loose names
+told_none lines input F is_loose names l s = record {
+  loose = ap (λ b. b || (meaning (script_tree lines) input F).loose) (sym l);
+  soft = λ name. ap (λ ns. among ns name || (meaning (script_tree lines) input F).soft name) (sym s);
+}
+
+or_or : (a b c : Bool) → (a || (b || c)) ≡ ((a || b) || c)
+or_or true b c = refl
+or_or false b c = refl
+
+-- one more line
+pub told_one : (whole : List ScriptLine) (input : Bytes) (F : FileMap) (line : ScriptLine) (lines : List ScriptLine) (rest now new left : Bytes) (G H : FileMap) (before own after : Bool) (earlier names later : List Name) → IsToldTo whole input F (line ∷ lines) rest G before earlier → Gives (meaning (line_tree line) rest G) now new left H → Tells (meaning (line_tree line) rest G) own names → after ≡ (before || own) → later ≡ earlier ++ names → IsToldTo whole input F lines left H after later
+told_one whole input F line lines rest now new left G H before own after earlier names later so_far gives told l s =
+    let V = meaning (line_tree line) rest G in
+    let same : meaning (script_tree lines) V.rest V.files ≡ meaning (script_tree lines) left H =
+    ap (λ i. meaning (script_tree lines) i V.files) (sym gives.rest) ∙ ap (λ K. meaning (script_tree lines) left K) (sym gives.files)
+    in
+    record {
+      loose = so_far.loose ∙ ap₂ (λ a b. before || (a || b)) (sym told.loose) (ap (λ v. v.loose) same) ∙ or_or before own (meaning (script_tree lines) left H).loose
+          ∙ ap (λ b. b || (meaning (script_tree lines) left H).loose) (sym l);
+      soft = λ name. so_far.soft name ∙ ap₂ (λ a b. among earlier name || (a || b)) (sym (told.soft name)) (ap (λ v. v.soft name) same)
+          ∙ or_or (among earlier name) (among names name) ((meaning (script_tree lines) left H).soft name)
+          ∙ ap (λ b. b || (meaning (script_tree lines) left H).soft name) (sym (ap (λ ns. among ns name) s ∙ among_two earlier names name));
+    }
+
+no_more : (a : Bool) → (a || false) ≡ a
+no_more true = refl
+no_more false = refl
+
+-- no line is left
+pub told_all : (whole : List ScriptLine) (input : Bytes) (F : FileMap) (lines : List ScriptLine) (rest : Bytes) (G : FileMap) (is_loose : Bool) (names : List Name) → lines ≡ [] → IsToldTo whole input F lines rest G is_loose names → Tells (meaning (script_tree whole) input F) is_loose names
+told_all whole input F lines rest G is_loose names none so_far =
+    let end = subst (λ ls. IsToldTo whole input F ls rest G is_loose names) none so_far in
+    record {
+      loose = sym (end.loose ∙ no_more is_loose);
+      soft = λ name. sym (end.soft name ∙ no_more (among names name));
+    }

@@ -22,7 +22,7 @@ pub due_more : (P Q : Type 0) (fault : PlainFault) → (P → Q) → IsDue P fau
 due_more P Q TooLarge more due = more due
 due_more P Q Memory more due = tt
 
-output_is : (b : Bool) (input : Bytes) (F : FileMap) (done : Value) → b ≡ true → output_value b input F done ≡ done
+pub output_is : (b : Bool) (input : Bytes) (F : FileMap) (done : Value) → b ≡ true → output_value b input F done ≡ done
 output_is true input F done is = refl
 output_is false input F done is = let e : false ≡ true = is in cc
 
@@ -43,6 +43,14 @@ pub due_later : (L R : Tree) (input old mid rest : Bytes) (F F1 : FileMap) (faul
 due_later L R input old mid rest F F1 fault gives due =
     due_more (Outgrows R rest F1) (Outgrows (list L R) input F) fault
     (λ h. inr (subst (λ o. Outgrows R o (meaning L input F).files) gives.rest (subst (λ G. Outgrows R rest G) gives.files h))) due
+
+pub pipe_gives : (L R : Tree) (input middle old new rest left : Bytes) (F F1 F2 : FileMap) → Gives (meaning L input F) [] middle rest F1 → Gives (meaning R middle F1) old new left F2 → Gives (meaning (pipe L R) input F) old new rest F2
+pipe_gives L R input middle old new rest left F F1 F2 first second =
+    let same : meaning R middle F1 ≡ meaning R (meaning L input F).out (meaning L input F).files =
+    ap (λ i. meaning R i F1) first.out ∙ ap (λ G. meaning R (meaning L input F).out G) first.files
+    in
+    let then = subst (λ v. Gives v old new left F2) same second in
+    record { out = then.out; rest = first.rest; files = then.files }
 
 pub list_gives : (L R : Tree) (input old mid new rest left : Bytes) (F F1 F2 : FileMap) → Gives (meaning L input F) old mid rest F1 → Gives (meaning R rest F1) mid new left F2 → Gives (meaning (list L R) input F) old new left F2
 list_gives L R input old mid new rest left F F1 F2 first second =

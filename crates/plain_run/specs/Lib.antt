@@ -1,2 +1,4 @@
 pub mod Gives
 pub mod Held
+pub mod Place
+pub mod Tells

@@ -5,11 +5,14 @@ mod fault;
 mod filter;
 mod grep;
 mod head;
+mod line_verdicts;
+mod ordered;
 mod outcome;
 mod programs;
 mod run;
 mod store;
 mod tee;
+mod verdict;
 mod wc;
 
 pub use fault::PlainFault;

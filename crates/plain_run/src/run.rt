@@ -1,65 +1,127 @@
-ghost use Rattle.std.specs.Prelude.{◌≡◌, [], map, ℕ, List, IfOk, IfErr, false};
+ghost use Rattle.std.specs.Prelude.{IsTrue, ◌≡◌, ◌↔◌, ◌||◌, not, map, ℕ, List, IfOk, IfErr, true, Contains};
+ghost use Rattle.std.specs.List.Sorted.{IsStrictlySortedBy};
 ghost use Rattle.sh_tree.specs.Tree.{tree_of};
 ghost use Rattle.mem_files.specs.Files.{files};
+ghost use Rattle.mem_files.specs.Name.{name_cmp};
+ghost use Rattle.conflict_check.specs.Names.{no_names};
+ghost use Rattle.conflict_check.specs.Program.{is_empty};
+ghost use Rattle.script_load.specs.Settled.{IsSettled, IsSettledScript};
 ghost use Rattle.script_load.specs.Limits.{Outgrows};
 ghost use Rattle.script_load.specs.Line.{line_of, lines_of};
 ghost use Rattle.script_load.specs.Meaning.{meaning, line_tree, script_tree, script_meaning};
 ghost use Rattle.plain_run.specs.Gives.{Gives, IsDue};
+ghost use Rattle.plain_run.specs.Tells.{Tells};
 
 use crate::fault::PlainFault;
+use crate::line_verdicts::{are_clear, lines_after, lines_before, with_line};
+use crate::ordered::in_order;
 use crate::outcome::Plain;
 use crate::programs::run_program;
 use crate::store::{close_output, find, held_bytes, open_output};
+use crate::verdict::Verdict;
 use mem_files::Files;
 use script_load::{Line, Script};
 use sh_lexer::Bytes;
 use sh_tree::{Cmd, Mode, Words};
 use std::alloc::Allocator;
 
-// Adds a command's output, changes the files as it does, and returns what it leaves of the input.
+// What a run leaves of its input, and what of it may depend on the order in which processes run.
+#[derive(Drop)]
+struct Ran<'i, A: Allocator> {
+    rest: &'i [u8],
+    verdict: Verdict<A>,
+}
+
+impl<'i, A: Allocator> Ran<'i, A> {
+    // Whether some of its input is left, or may be.
+    fn is_cut(&self) -> bool
+        ensures { result ≡ (not (is_empty self.now.rest.now) || self.now.verdict.is_loose) }
+    {
+        !self.rest.is_empty() || self.verdict.is_loose
+    }
+}
+
+// Adds a command's output, changes the files as it does, and returns what it leaves of the input, and
+// what of this may depend on the order in which processes run.
 fn run_tree<'i, A: Allocator + Copy, B: Allocator>(
     alloc: A,
     tree: &Cmd<B>,
     input: &'i [u8],
     store: &mut Files<A>,
     out: &mut Vec<u8, A>,
-) -> Result<&'i [u8], PlainFault>
-    ensures gives { IfOk result (λ rest. Gives (meaning (tree_of tree.now) input.now (files store.old)) out.old.items out.new.items rest.now (files store.new)) }
+) -> Result<Ran<'i, A>, PlainFault>
+    ensures gives { IfOk result (λ ran. Gives (meaning (tree_of tree.now) input.now (files store.old)) out.old.items out.new.items ran.rest.now (files store.new)) }
+    ensures tells { IfOk result (λ ran. Tells (meaning (tree_of tree.now) input.now (files store.old)) ran.verdict.is_loose ran.verdict.soft.items) }
+    ensures settled { IfOk result (λ ran. IsTrue ran.verdict.is_settled ↔ IsSettled (tree_of tree.now) no_names input.now (files store.old)) }
     ensures large { IfErr result (IsDue (Outgrows (tree_of tree.now) input.now (files store.old))) }
 {
     match tree {
-        Cmd::Exec(words) => run_program(alloc, words.as_slice(), input, store, out),
+        Cmd::Exec(words) => Ok(Ran {
+            rest: run_program(alloc, words.as_slice(), input, store, out)?,
+            verdict: Verdict::firm(alloc),
+        }),
         Cmd::Redir {
             mode: Mode::Input,
             name,
             body,
         } => {
-            if let Some(bytes) = find(store, name.as_slice()) {
-                let bytes = bytes.to_vec(alloc)?;
-                run_tree(alloc, body, bytes.as_slice(), store, out)?;
-            }
-            Ok(input)
+            let name = name.as_slice();
+            let Some(bytes) = find(store, name) else {
+                return Ok(Ran {
+                    rest: input,
+                    verdict: Verdict::firm(alloc),
+                });
+            };
+            let bytes = Bytes::copy_of(alloc, bytes)?;
+            let ran = run_tree(alloc, body, bytes.as_slice(), store, out)?;
+            Ok(Ran {
+                rest: input,
+                verdict: ran.verdict.from_file(name),
+            })
         }
         Cmd::Redir { mode, name, body } => {
             let name = name.as_slice();
             let held = held_bytes(alloc, *mode, store, name)?;
             if !open_output(*mode, store, name)? {
-                return Ok(input);
+                return Ok(Ran {
+                    rest: input,
+                    verdict: Verdict::firm(alloc),
+                });
             }
             let mut written = Vec::new(alloc);
-            let rest = run_tree(alloc, body, input, store, &mut written)?;
+            let ran = run_tree(alloc, body, input, store, &mut written)?;
             close_output(store, name, written, held.as_slice())?;
-            Ok(rest)
+            Ok(Ran {
+                rest: ran.rest,
+                verdict: ran.verdict.into_file(name),
+            })
         }
         Cmd::Pipe(left, right) => {
             let mut middle = Vec::new(alloc);
-            let rest = run_tree(alloc, left, input, store, &mut middle)?;
-            run_tree(alloc, right, middle.as_slice(), store, out)?;
-            Ok(rest)
+            let first = run_tree(alloc, left, input, store, &mut middle)?;
+            let second = run_tree(alloc, right, middle.as_slice(), store, out)?;
+            let is_cut = second.is_cut();
+            let verdict = Verdict::of_pipe(
+                alloc,
+                is_cut,
+                left,
+                first.verdict,
+                right,
+                second.verdict,
+            )?;
+            Ok(Ran {
+                rest: first.rest,
+                verdict,
+            })
         }
         Cmd::List(left, right) => {
-            let rest = run_tree(alloc, left, input, store, out)?;
-            run_tree(alloc, right, rest, store, out)
+            let first = run_tree(alloc, left, input, store, out)?;
+            let second = run_tree(alloc, right, first.rest, store, out)?;
+            let verdict = Verdict::of_list(left, first.verdict, right, second.verdict)?;
+            Ok(Ran {
+                rest: second.rest,
+                verdict,
+            })
         }
         Cmd::Back(body) => run_tree(alloc, body, input, store, out),
     }
@@ -72,13 +134,18 @@ fn run_line<'i, A: Allocator + Copy, B: Allocator>(
     input: &'i [u8],
     store: &mut Files<A>,
     out: &mut Vec<u8, A>,
-) -> Result<&'i [u8], PlainFault>
-    ensures gives { IfOk result (λ rest. Gives (meaning (line_tree (line_of line.now)) input.now (files store.old)) out.old.items out.new.items rest.now (files store.new)) }
+) -> Result<Ran<'i, A>, PlainFault>
+    ensures gives { IfOk result (λ ran. Gives (meaning (line_tree (line_of line.now)) input.now (files store.old)) out.old.items out.new.items ran.rest.now (files store.new)) }
+    ensures tells { IfOk result (λ ran. Tells (meaning (line_tree (line_of line.now)) input.now (files store.old)) ran.verdict.is_loose ran.verdict.soft.items) }
+    ensures settled { IfOk result (λ ran. IsTrue ran.verdict.is_settled ↔ IsSettled (line_tree (line_of line.now)) no_names input.now (files store.old)) }
     ensures large { IfErr result (IsDue (Outgrows (line_tree (line_of line.now)) input.now (files store.old))) }
 {
     match line {
         Line::Tree(tree) => run_tree(alloc, tree, input, store, out),
-        Line::Bad(..) | Line::Cd(_) => Ok(input),
+        Line::Bad(..) | Line::Cd(_) => Ok(Ran {
+            rest: input,
+            verdict: Verdict::firm(alloc),
+        }),
     }
 }
 
@@ -89,15 +156,22 @@ fn run_lines<'i, A: Allocator + Copy, B: Allocator>(
     input: &'i [u8],
     store: &mut Files<A>,
     out: &mut Vec<u8, A>,
-) -> Result<&'i [u8], PlainFault>
-    ensures gives { IfOk result (λ rest. Gives (script_meaning (map line_of lines.now) input.now (files store.old)) out.old.items out.new.items rest.now (files store.new)) }
+) -> Result<Ran<'i, A>, PlainFault>
+    ensures gives { IfOk result (λ ran. Gives (script_meaning (map line_of lines.now) input.now (files store.old)) out.old.items out.new.items ran.rest.now (files store.new)) }
+    ensures tells { IfOk result (λ ran. Tells (script_meaning (map line_of lines.now) input.now (files store.old)) ran.verdict.is_loose ran.verdict.soft.items) }
+    ensures settled { IfOk result (λ ran. IsTrue ran.verdict.is_settled ↔ IsSettled (script_tree (map line_of lines.now)) no_names input.now (files store.old)) }
     ensures large { IfErr result (IsDue (Outgrows (script_tree (map line_of lines.now)) input.now (files store.old))) }
 {
     let mut rest = input;
-    for line in lines {
-        rest = run_line(alloc, line, rest, store, out)?;
+    let mut verdict = Verdict::firm(alloc);
+    for (i, line) in lines.iter().enumerate() {
+        let ran = run_line(alloc, line, rest, store, out)?;
+        rest = ran.rest;
+        let before = lines_before(lines, i);
+        let after = lines_after(lines, i);
+        verdict = with_line(verdict, before, line, after, ran.verdict)?;
     }
-    Ok(rest)
+    Ok(Ran { rest, verdict })
 }
 
 /// Runs a script on this standard input and these files by its recursive meaning (own): each command
@@ -107,6 +181,12 @@ fn run_lines<'i, A: Allocator + Copy, B: Allocator>(
 /// The programs are the six, `cat echo grep head tee wc`; every other name does nothing. `TooLarge`
 /// comes as soon as a file of the meaning would have more than 274,432 bytes, or a 201st would be made; `Memory`
 /// where an allocation was refused.
+///
+/// The soft names are those that left sides of cut pipes write, also of a script that isn't settled.
+/// They cost nothing where no pipe is cut: only then the names that its left side writes are copied.
+///
+/// The verdict evaluates no command twice. Each line is asked once for `&` and clashes; only for a
+/// line that has soft names, and while the script may still be settled, the other lines are searched.
 pub fn plain<A: Allocator + Copy, B: Allocator, C: Allocator>(
     alloc: A,
     script: &Script<B>,
@@ -116,8 +196,9 @@ pub fn plain<A: Allocator + Copy, B: Allocator, C: Allocator>(
     ensures out { IfOk result (λ p. p.out ≡ (script_meaning (lines_of script.now.lines) stdin.now (files given.now)).out) }
     ensures rest { IfOk result (λ p. p.rest ≡ (script_meaning (lines_of script.now.lines) stdin.now (files given.now)).rest) }
     ensures files { IfOk result (λ p. (name : List ℕ) → files p.files name ≡ (script_meaning (lines_of script.now.lines) stdin.now (files given.now)).files name) }
-    ensures settled { IfOk result (λ p. p.settled ≡ false) }
-    ensures soft { IfOk result (λ p. p.soft ≡ []) }
+    ensures settled { IfOk result (λ p. IsTrue p.settled ↔ IsSettledScript (lines_of script.now.lines) stdin.now (files given.now)) }
+    ensures soft { IfOk result (λ p. (name : List ℕ) → Contains p.soft name ↔ ((script_meaning (lines_of script.now.lines) stdin.now (files given.now)).soft name ≡ true)) }
+    ensures soft_order { IfOk result (λ p. IsStrictlySortedBy name_cmp p.soft) }
     ensures large { IfErr result (IsDue (Outgrows (script_tree (lines_of script.now.lines)) stdin.now (files given.now))) }
 {
     let mut store = match given.copy(alloc) {
@@ -125,13 +206,14 @@ pub fn plain<A: Allocator + Copy, B: Allocator, C: Allocator>(
         Err(_) => return Err(PlainFault::Memory),
     };
     let mut out = Vec::new(alloc);
-    let rest = run_lines(alloc, script.lines.as_slice(), stdin, &mut store, &mut out)?;
+    let ran = run_lines(alloc, script.lines.as_slice(), stdin, &mut store, &mut out)?;
+    let settled = are_clear(script.lines.as_slice()) && ran.verdict.is_settled;
     Ok(Plain {
         out: Bytes::from_vec(out),
         files: store,
-        rest: Bytes::copy_of(alloc, rest)?,
-        settled: false,
-        soft: Words::from_vec(Vec::new(alloc)),
+        rest: Bytes::copy_of(alloc, ran.rest)?,
+        settled,
+        soft: Words::from_vec(in_order(alloc, ran.verdict.soft.as_slice())?),
     })
 }
 

@@ -7,6 +7,7 @@ pub mod Lines
 pub mod Meaning
 pub mod Programs
 pub mod Script
+pub mod Settled
 pub mod Short
 pub mod Tee
 pub mod Value

@@ -32,8 +32,6 @@ fn expect(
     for (name, bytes) in want {
         assert!(rt; outcome.files.get(name.as_bytes()) == Some(*bytes));
     }
-    assert!(rt; !outcome.settled);
-    assert!(rt; outcome.soft.as_slice().is_empty());
     Ok(())
 }
 
@@ -159,7 +157,7 @@ fn keeps_to_the_limits(rt: HostRuntime) -> Result<(), Fail> {
 fn refused_memory_is_told(rt: HostRuntime) -> Result<(), Fail> {
     let script = load(
         rt.alloc(),
-        b"echo one two three; (echo four | cat; cat < p) > f; echo five >> f; cat f | tee g; wc g; head -1 g | grep f".as_slice(),
+        b"echo one two three; (echo four | cat; cat < p) > f; echo five >> f; cat f | tee g; wc g; head -1 g | grep f; tee f < g | tee h | head -0".as_slice(),
     )?;
     let given = files_of(rt.alloc(), &[("p", b"p\n".as_slice())])?;
     let mut refused = 0;
@@ -310,5 +308,87 @@ fn makes_no_201st_file(rt: HostRuntime) -> Result<(), Fail> {
             Err(PlainFault::TooLarge)
         )
     );
+    Ok(())
+}
+
+// Runs a script on this input and compares whether it is settled and its soft names, each followed by a space.
+fn expect_verdict(
+    rt: &(impl Abort + AllocGlobal),
+    stdin: &str,
+    script: &str,
+    is_settled: bool,
+    soft: &str,
+) -> Result<(), Fail> {
+    let alloc = rt.alloc();
+    let big = "0123456789ab\n".repeat(alloc, 100)?;
+    let mut long = "x".repeat(alloc, 1023)?;
+    long.push('\n')?;
+    let given = [
+        ("big", big.as_bytes()),
+        ("p", P.as_bytes()),
+        ("w2", long.as_bytes()),
+    ];
+    let loaded = load(alloc, script.as_bytes())?;
+    let given = files_of(alloc, &given)?;
+    let outcome = plain(alloc, &loaded, stdin.as_bytes(), &given)?;
+    assert_eq!(rt; outcome.settled, is_settled, "{script}");
+    let mut told = Vec::new(alloc);
+    for name in outcome.soft.as_slice() {
+        told.extend_from_slice(name.as_slice())?;
+        told.push(b' ')?;
+    }
+    assert_eq!(rt; told.as_slice(), soft.as_bytes(), "{script}");
+    Ok(())
+}
+
+// The left side of a pipe runs to its end, also where the right side leaves early.
+#[test]
+fn early_readers_change_no_output(rt: HostRuntime) -> Result<(), Fail> {
+    let big = "0123456789ab\n".repeat(rt.alloc(), 100)?;
+    let given = [("big", big.as_bytes()), ("p", P.as_bytes())];
+    let whole = [("c", big.as_bytes())];
+    let line = "0123456789ab\n";
+    expect(&rt, "cat big | tee c | head -1", &given, line, &whole)?;
+    expect(&rt, "tee c < big | cat | head -1", &given, line, &whole)?;
+    let script = "tee c < big | head -1; echo c";
+    expect(&rt, script, &given, "0123456789ab\nc\n", &whole)?;
+    let counted = "0123456789ab\n4 4 14 p\n";
+    expect(&rt, "cat < big | head -1; wc p", &given, counted, &[])?;
+    expect_on(&rt, big.as_str(), "cat | head -1\nwc p", &given, counted, "")?;
+    Ok(())
+}
+
+#[test]
+fn tells_verdicts(rt: HostRuntime) -> Result<(), Fail> {
+    let rows = [
+        ("cat big | wc", true, ""),
+        ("cat big | (head -2; wc)", true, ""),
+        ("cat big | head -1", true, ""),
+        ("cat w2 | grep x", true, ""),
+        ("echo a &", false, ""),
+        ("cat f | tee f", false, ""),
+        ("(echo a; cat f) > f", false, ""),
+        ("cat big | tee c | head -1", true, "c "),
+        ("tee c < big | head -1; cat c", false, "c "),
+        ("cat < big | head -1; wc p", true, ""),
+        ("tee c < big | head -1; echo c", true, "c "),
+        ("tee c < big | cat | head -1", true, "c "),
+        ("(tee c < big; cat c) | head -1", true, "c "),
+        ("(tee c < big | cat) | head -1", true, "c "),
+        ("foo\ncd x\n(echo a > f) &", false, ""),
+        ("cat c\ntee c < big | head -1", false, "c "),
+        (
+            "(tee b a < big; cat p > ab) | head -1; tee a B < big | head -1",
+            false,
+            "B a ab b ",
+        ),
+    ];
+    for (script, is_settled, soft) in rows {
+        expect_verdict(&rt, "", script, is_settled, soft)?;
+    }
+    let big = "0123456789ab\n".repeat(rt.alloc(), 100)?;
+    expect_verdict(&rt, big.as_str(), "cat | head -1\nwc p", true, "")?;
+    expect_verdict(&rt, big.as_str(), "cat | head -1\nwc", false, "")?;
+    expect_verdict(&rt, "", "cat big | (cat | head -1; cat)", false, "")?;
     Ok(())
 }

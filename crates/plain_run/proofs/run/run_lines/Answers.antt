@@ -1,39 +1,68 @@
-use Rattle.std.proofs.Common.{◌≡◌, ◌<◌, ◌+◌, length, drop, ap, arith, sym, subst}
+use Rattle.std.proofs.Common.{ap₂, ◌≡◌, ◌↔◌, IsTrue, ◌||◌, ◌&&◌, not, ◌∙◌, get_or, ◌<◌, ◌+◌, length, drop, take, ap, arith, sym, subst}
 use Rattle.std.specs.Prelude.{map}
 use Rattle.std.proofs.lemmas.Result.{err_from_is_err_and}
 use Rattle.mem_files.specs.Files.{files}
+use Rattle.conflict_check.specs.Names.{no_names, uses_input}
+use Rattle.script_load.specs.Settled.{IsSettled}
 use Rattle.script_load.specs.Limits.{Outgrows}
 use Rattle.script_load.specs.Line.{line_of}
 use Rattle.script_load.specs.Meaning.{meaning, line_tree}
 use Rattle.plain_run.specs.Gives.{Gives, IsDue}
-use Rattle.plain_run.proofs.Lines.{IsRunTo, run_none, run_one, line_due, run_all, next_line, no_line}
+use Rattle.plain_run.specs.Tells.{Tells, is_met}
+use Rattle.plain_run.proofs.Lines.{IsRunTo, IsToldTo, told_none, told_one, told_all, run_none, run_one, line_due, run_all, next_line, no_line}
+use Rattle.plain_run.proofs.SettledLines.{IsSettledTo, all_names, settled_none, settled_one, settled_all, apart_lines, meet_lines, more_names}
 use Rattle.plain_run.proofs.run.run_lines.Goals as goal
 
-pub loop-line-preserved : goal.loop-line-preserved
-loop-line-preserved g c =
+pub loop-i-preserved : goal.loop-i-preserved
+loop-i-preserved g c =
     let lines = c.args.lines.now in
-    let i = c.loop-line.line-index in
+    let i = c.loop-i.i in
     let inside : i < length lines = omega arith in
     let later = map line_of (drop (i + 1) lines) in
-    let so_far = subst (λ ls. IsRunTo (map line_of lines) c.args.input.now (files c.args.store.now) c.args.out.now.items ls c.loop-line.rest.now (files c.loop-line.store) c.loop-line.out.items) (next_line lines i c.line-item.result inside) c.loop-line.invariant in
-    let here = ap line_of c.line-item.is in
-    run_one (map line_of lines) c.args.input.now (files c.args.store.now) c.args.out.now.items _ later c.loop-line.rest.now c.loop-line.out.items c.run_line.new.out.items c.in_ok-rest.rest.now (files c.loop-line.store) (files c.run_line.new.store) so_far
-    (subst (λ line. Gives (meaning (line_tree line) c.loop-line.rest.now (files c.loop-line.store)) c.loop-line.out.items c.run_line.new.out.items c.in_ok-rest.rest.now (files c.run_line.new.store)) here c.in_ok-rest.ensures.gives)
+    let so_far = subst (λ ls. IsRunTo (map line_of lines) c.args.input.now (files c.args.store.now) c.args.out.now.items ls c.loop-i.rest.now (files c.loop-i.store) c.loop-i.out.items) (next_line lines i c.index-lines-i.result inside) c.loop-i.invariant.runs in
+    let here = ap line_of c.index-lines-i.is in
+    let gives = subst (λ line. Gives (meaning (line_tree line) c.loop-i.rest.now (files c.loop-i.store)) c.loop-i.out.items c.run_line.new.out.items c.in_ok-ran.ran.rest.now (files c.run_line.new.store)) here c.in_ok-ran.ensures.gives in
+    let tells = subst (λ line. Tells (meaning (line_tree line) c.loop-i.rest.now (files c.loop-i.store)) c.in_ok-ran.ran.verdict.is_loose c.in_ok-ran.ran.verdict.soft.items) here c.in_ok-ran.ensures.tells in
+    let told = subst (λ ls. IsToldTo (map line_of lines) c.args.input.now (files c.args.store.now) ls c.loop-i.rest.now (files c.loop-i.store) c.loop-i.verdict.is_loose c.loop-i.verdict.soft.items) (next_line lines i c.index-lines-i.result inside) c.loop-i.invariant.tells in
+    let own = c.in_ok-ran.ran.verdict in
+    let alone = subst (λ line. IsTrue own.is_settled ↔ IsSettled (line_tree line) no_names c.loop-i.rest.now (files c.loop-i.store)) here c.in_ok-ran.ensures.settled in
+    let settled = subst (λ ls. IsSettledTo (map line_of lines) c.args.input.now (files c.args.store.now) (all_names (take i lines)) ls c.loop-i.rest.now (files c.loop-i.store) c.loop-i.verdict.is_settled c.loop-i.verdict.is_loose) (next_line lines i c.index-lines-i.result inside) c.loop-i.invariant.settled in
+    let own_verdict : c.in_ok-verdict.verdict.is_settled ≡ (c.loop-i.verdict.is_settled && own.is_settled && not (is_met own.soft.items (take i lines) || is_met own.soft.items (drop (i + 1) lines)) && not (c.loop-i.verdict.is_loose && uses_input (line_tree (line_of c.index-lines-i.result)))) = c.in_ok-verdict.ensures.settled ∙ ap₂ (λ b a. c.loop-i.verdict.is_settled && own.is_settled && not (is_met own.soft.items b || is_met own.soft.items a) && not (c.loop-i.verdict.is_loose && uses_input (line_tree (line_of c.index-lines-i.result)))) c.lines_before-before.ensures c.lines_after-after.ensures in
+    record {
+      runs = run_one (map line_of lines) c.args.input.now (files c.args.store.now) c.args.out.now.items _ later c.loop-i.rest.now c.loop-i.out.items c.run_line.new.out.items c.in_ok-ran.ran.rest.now (files c.loop-i.store) (files c.run_line.new.store) so_far gives;
+      tells = told_one (map line_of lines) c.args.input.now (files c.args.store.now) _ later c.loop-i.rest.now c.loop-i.out.items c.run_line.new.out.items c.in_ok-ran.ran.rest.now (files c.loop-i.store) (files c.run_line.new.store) c.loop-i.verdict.is_loose c.in_ok-ran.ran.verdict.is_loose c.in_ok-verdict.verdict.is_loose c.loop-i.verdict.soft.items c.in_ok-ran.ran.verdict.soft.items c.in_ok-verdict.verdict.soft.items told gives tells c.in_ok-verdict.ensures.loose c.in_ok-verdict.ensures.soft;
+      settled = settled_one (map line_of lines) c.args.input.now (files c.args.store.now) (all_names (take i lines)) (all_names (take (i + 1) lines)) (line_of (get_or lines i c.index-lines-i.result)) later c.loop-i.rest.now c.loop-i.out.items c.run_line.new.out.items c.in_ok-ran.ran.rest.now (files c.loop-i.store) (files c.run_line.new.store)
+          c.loop-i.verdict.is_settled own.is_settled c.in_ok-verdict.verdict.is_settled c.loop-i.verdict.is_loose own.is_loose c.in_ok-verdict.verdict.is_loose (is_met own.soft.items (take i lines) || is_met own.soft.items (drop (i + 1) lines)) own.soft.items
+          settled gives tells alone (apart_lines (take i lines) (drop (i + 1) lines) own.soft.items) (meet_lines (take i lines) (drop (i + 1) lines) own.soft.items) (more_names lines i c.index-lines-i.result inside)
+          (own_verdict ∙ ap (λ line. c.loop-i.verdict.is_settled && own.is_settled && not (is_met own.soft.items (take i lines) || is_met own.soft.items (drop (i + 1) lines)) && not (c.loop-i.verdict.is_loose && uses_input (line_tree line))) here) c.in_ok-verdict.ensures.loose;
+    }
 
-pub returns-in_err-rest-clause-large : goal.returns-in_err-rest-clause-large
-returns-in_err-rest-clause-large g c =
+pub returns-in_err-ran-clause-large : goal.returns-in_err-ran-clause-large
+returns-in_err-ran-clause-large g c =
     let p = err_from_is_err_and c.from_residual.result c.from_residual.ensures.1 in
     let lines = c.args.lines.now in
-    let i = c.loop-line.line-index in
+    let i = c.loop-i.i in
     let inside : i < length lines = omega arith in
-    let so_far = subst (λ ls. IsRunTo (map line_of lines) c.args.input.now (files c.args.store.now) c.args.out.now.items ls c.loop-line.rest.now (files c.loop-line.store) c.loop-line.out.items) (next_line lines i c.line-item.result inside) c.loop-line.invariant in
-    let here = ap line_of c.line-item.is in
-    rw (p.1, p.2) (line_due (map line_of lines) c.args.input.now (files c.args.store.now) c.args.out.now.items _ (map line_of (drop (i + 1) lines)) c.loop-line.rest.now c.loop-line.out.items (files c.loop-line.store) c.in_err-rest.field-0.0 so_far
-    (subst (λ line. IsDue (Outgrows (line_tree line) c.loop-line.rest.now (files c.loop-line.store)) c.in_err-rest.field-0.0) here c.in_err-rest.ensures.large))
+    let so_far = subst (λ ls. IsRunTo (map line_of lines) c.args.input.now (files c.args.store.now) c.args.out.now.items ls c.loop-i.rest.now (files c.loop-i.store) c.loop-i.out.items) (next_line lines i c.index-lines-i.result inside) c.loop-i.invariant.runs in
+    let here = ap line_of c.index-lines-i.is in
+    rw (p.1, p.2) (line_due (map line_of lines) c.args.input.now (files c.args.store.now) c.args.out.now.items _ (map line_of (drop (i + 1) lines)) c.loop-i.rest.now c.loop-i.out.items (files c.loop-i.store) c.in_err-ran.field-0.0 so_far
+    (subst (λ line. IsDue (Outgrows (line_tree line) c.loop-i.rest.now (files c.loop-i.store)) c.in_err-ran.field-0.0) here c.in_err-ran.ensures.large))
 
-pub returns : goal.returns
-returns g c =
-    record {
-      gives = run_all (map line_of c.args.lines.now) c.args.input.now (files c.args.store.now) c.args.out.now.items (map line_of (drop c.loop-line.line-index c.args.lines.now)) c.loop-line.rest.now c.loop-line.out.items (files c.loop-line.store) (no_line c.args.lines.now c.loop-line.line-index (omega arith)) c.loop-line.invariant;
-      large = tt;
-    }
+pub loop-i-init : goal.loop-i-init
+loop-i-init g c = record {
+  runs = run_none (map line_of c.args.lines.now) c.args.input.now c.args.out.now.items (files c.args.store.now);
+  tells = told_none (map line_of c.args.lines.now) c.args.input.now (files c.args.store.now) c.firm-verdict.result.is_loose c.firm-verdict.result.soft.items c.firm-verdict.ensures.loose c.firm-verdict.ensures.soft;
+  settled = settled_none (map line_of c.args.lines.now) c.args.input.now (files c.args.store.now) c.firm-verdict.result.is_settled c.firm-verdict.result.is_loose c.firm-verdict.ensures.settled c.firm-verdict.ensures.loose;
+}
+
+pub returns-clause-gives : goal.returns-clause-gives
+returns-clause-gives g c =
+    run_all (map line_of c.args.lines.now) c.args.input.now (files c.args.store.now) c.args.out.now.items (map line_of (drop c.loop-i.i c.args.lines.now)) c.loop-i.rest.now c.loop-i.out.items (files c.loop-i.store) (no_line c.args.lines.now c.loop-i.i (omega arith)) c.loop-i.invariant.runs
+
+pub returns-clause-tells : goal.returns-clause-tells
+returns-clause-tells g c =
+    told_all (map line_of c.args.lines.now) c.args.input.now (files c.args.store.now) (map line_of (drop c.loop-i.i c.args.lines.now)) c.loop-i.rest.now (files c.loop-i.store) c.loop-i.verdict.is_loose c.loop-i.verdict.soft.items (no_line c.args.lines.now c.loop-i.i (omega arith)) c.loop-i.invariant.tells
+
+pub returns-clause-settled : goal.returns-clause-settled
+returns-clause-settled g c =
+    settled_all (map line_of c.args.lines.now) c.args.input.now (files c.args.store.now) (all_names (take c.loop-i.i c.args.lines.now)) (map line_of (drop c.loop-i.i c.args.lines.now)) c.loop-i.rest.now (files c.loop-i.store) c.loop-i.verdict.is_settled c.loop-i.verdict.is_loose (no_line c.args.lines.now c.loop-i.i (omega arith)) c.loop-i.invariant.settled

@@ -1,0 +1,28 @@
+-- What a verdict says of a value, and how verdicts come together.
+use Rattle.std.specs.Prelude.{◌≡◌, Bool, not, ◌&&◌, List, ℕ, ◌++◌, if◌then◌else◌}
+use Rattle.std.specs.List.{list_any}
+use Rattle.sh_tree.specs.Tree.{Tree}
+use Rattle.mem_files.specs.Name.{Name}
+use Rattle.conflict_check.specs.Names.{among, names}
+use Rattle.conflict_check.specs.Occurrences.{written}
+use Rattle.script_load.specs.declared.line.Line.{Line}
+use Rattle.script_load.specs.Line.{line_of}
+use Rattle.script_load.specs.Meaning.{line_tree}
+use Rattle.script_load.specs.Value.{Value}
+
+-- whether the value is loose, and its soft names
+pub record Tells (value : Value) (is_loose : Bool) (names : List Name) : Type 0 where
+  pub loose : is_loose ≡ value.loose
+  pub soft : (name : Name) → among names name ≡ value.soft name
+
+-- no soft name of one side is a name of the other
+abbrev pub are_apart : Tree → List Name → Tree → List Name → Bool
+are_apart left first right second = not (list_any (names right) first) && not (list_any (names left) second)
+
+-- soft names, and where the pipe is cut what its left side writes
+abbrev pub with_lost : Bool → List Name → Tree → List Name
+with_lost is_cut soft left = if is_cut then soft ++ written left else soft
+
+-- one of these words is a name of one of the lines
+abbrev pub is_met : {A : _} → List Name → List (Line A) → Bool
+is_met words lines = list_any (λ line. list_any (names (line_tree (line_of line))) words) lines
