@@ -1,5 +1,5 @@
 -- How many slots pass a test after each call on the table of processes.
-use Rattle.std.proofs.Common.{◌≡◌, ◌≢◌, ℕ, zero, suc, ◌+◌, ◌<◌, List, [], ◌∷◌, Bool, true, false, Option, Some, None, length, get_or, refl, sym, ap, ◌∙◌, arith}
+use Rattle.std.proofs.Common.{◌≡◌, ℕ, zero, suc, ◌+◌, ◌<◌, [], ◌∷◌, Bool, true, false, Option, Some, None, length, refl, ap, ◌∙◌, arith}
 use Rattle.std.proofs.Math.ListN.{set}
 use Rattle.std.proofs.lemmas.Bool.{and_parts}
 use Rattle.std.proofs.lemmas.List.Sums.{sum_by-set, sum_by-cons}
@@ -10,7 +10,7 @@ use Rattle.proc_table.specs.declared.states.Channel.{Channel}
 use Rattle.proc_table.specs.declared.states.Channel.TheVariants.{Children}
 use Rattle.proc_table.specs.declared.states.Status.{Status}
 use Rattle.proc_table.specs.declared.states.Status.TheVariants.{Runnable, Running, Asleep, Zombie}
-use Rattle.proc_table.specs.Slots.{Slot, Table, Process, at, is_free, has_status, tally, same_channel, is_asleep_status, is_asleep_on_status, is_zombie_status, is_running_status, is_runnable_status, is_asleep, is_asleep_on, is_runnable, is_running, is_zombie, is_child_of, is_zombie_child_of, parent_of}
+use Rattle.proc_table.specs.Slots.{Slot, Table, Process, at, is_free, has_status, tally, same_channel, is_asleep_status, is_asleep_on_status, is_zombie_status, is_runnable_status, is_asleep, is_asleep_on, is_runnable, is_zombie, is_child_of, parent_of}
 use Rattle.proc_table.specs.Calls.{with_status, made_ready, put_to_sleep, with_fds, woken, woken_status, all_woken, given, buried, exited, zombie_child, lowest_free, forked, newborn, freed, reaped}
 use Rattle.proc_table.proofs.Changes.{was_free, child_within, was_zombie_child, mapped}
 

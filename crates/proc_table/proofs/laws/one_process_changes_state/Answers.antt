@@ -1,5 +1,5 @@
 -- One slot is written.
-use Rattle.std.proofs.Common.{ap, refl}
+use Rattle.std.proofs.Common.{ap}
 use Rattle.proc_table.specs.declared.states.Status.TheVariants.{Runnable, Running, Asleep}
 use Rattle.proc_table.specs.Slots.{Slot, at, has_status, is_free}
 use Rattle.proc_table.specs.Calls.{with_status, made_ready, put_to_sleep}
