@@ -1,16 +1,15 @@
 -- What each call on the table of processes does to one slot and to the others.
-use Rattle.std.proofs.Common.{◌≡◌, ◌≢◌, ◌⊎◌, ℕ, zero, suc, ◌<◌, List, [], ◌∷◌, Bool, true, false, Option, Some, None, length, get_or, refl, sym, ap, ◌∙◌, arith, get_or-set_other, get_or-set_same, inl, inr}
-use Rattle.std.proofs.Math.ListN.{set, get_or-map}
+use Rattle.std.proofs.Common.{◌≡◌, ◌≢◌, ◌⊎◌, ℕ, zero, suc, ◌<◌, [], ◌∷◌, Bool, true, false, Option, Some, None, length, refl, sym, ap, ◌∙◌, get_or-set_other, get_or-set_same, inl, inr}
+use Rattle.std.proofs.Math.ListN.{set}
 use Rattle.std.proofs.lemmas.Bool.{and_parts, both_ways, cases_eq, eqb-true, ne_eqb}
 use Rattle.std.specs.Prelude.{◌==◌, ◌||◌, map, is_some, if◌then◌else◌}
-use Rattle.user_calls.specs.declared.calls.Reply.{Reply}
 use Rattle.fd_table.specs.Descriptors.{Descriptors}
 use Rattle.proc_table.specs.declared.states.Channel.{Channel}
 use Rattle.proc_table.specs.declared.states.Channel.TheVariants.{Children}
 use Rattle.proc_table.specs.declared.states.Status.{Status}
 use Rattle.proc_table.specs.declared.states.Status.TheVariants.{Zombie}
-use Rattle.proc_table.specs.Slots.{Slot, Table, Process, at, is_free, is_number, is_child_of, is_zombie, is_zombie_child_of, parent_of}
-use Rattle.proc_table.specs.Calls.{with_status, status_set, woken, all_woken, given, parent_after, buried, exited, zombie_child, woken_by_exit, lowest_free, forked, newborn, freed, reaped}
+use Rattle.proc_table.specs.Slots.{Slot, Table, at, is_free, is_number, is_child_of, is_zombie, is_zombie_child_of, parent_of}
+use Rattle.proc_table.specs.Calls.{with_status, woken, all_woken, given, parent_after, buried, exited, zombie_child, woken_by_exit, lowest_free, forked, newborn, freed, reaped}
 use Rattle.proc_table.proofs.Found.{position_found}
 
 -- a slot that was written from what it held; where there is none it stays free

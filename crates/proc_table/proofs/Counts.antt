@@ -1,5 +1,5 @@
 -- How many slots pass a test after each call on the table of processes.
-use Rattle.std.proofs.Common.{◌≡◌, ◌≢◌, ℕ, zero, suc, ◌+◌, ◌<◌, List, [], ◌∷◌, Bool, true, false, Option, Some, None, length, get_or, refl, sym, ap, ◌∙◌, arith}
+use Rattle.std.proofs.Common.{◌≡◌, ℕ, zero, suc, ◌+◌, ◌<◌, [], ◌∷◌, Bool, true, false, Option, Some, None, length, refl, ap, ◌∙◌, arith}
 use Rattle.std.proofs.Math.ListN.{set}
 use Rattle.std.proofs.lemmas.Bool.{and_parts}
 use Rattle.std.proofs.lemmas.List.Sums.{sum_by-set, sum_by-cons}
@@ -10,8 +10,8 @@ use Rattle.proc_table.specs.declared.states.Channel.{Channel}
 use Rattle.proc_table.specs.declared.states.Channel.TheVariants.{Children}
 use Rattle.proc_table.specs.declared.states.Status.{Status}
 use Rattle.proc_table.specs.declared.states.Status.TheVariants.{Runnable, Running, Asleep, Zombie}
-use Rattle.proc_table.specs.Slots.{Slot, Table, Process, at, is_free, has_status, tally, same_channel, is_asleep_status, is_asleep_on_status, is_zombie_status, is_running_status, is_runnable_status, is_asleep, is_asleep_on, is_runnable, is_running, is_zombie, is_child_of, is_zombie_child_of, parent_of}
-use Rattle.proc_table.specs.Calls.{with_status, made_ready, put_to_sleep, woken, woken_status, all_woken, given, buried, exited, zombie_child, lowest_free, forked, newborn, freed, reaped}
+use Rattle.proc_table.specs.Slots.{Slot, Table, Process, at, is_free, has_status, tally, same_channel, is_asleep_status, is_asleep_on_status, is_zombie_status, is_runnable_status, is_asleep, is_asleep_on, is_runnable, is_zombie, is_child_of, parent_of}
+use Rattle.proc_table.specs.Calls.{with_status, made_ready, put_to_sleep, with_fds, woken, woken_status, all_woken, given, buried, exited, zombie_child, lowest_free, forked, newborn, freed, reaped}
 use Rattle.proc_table.proofs.Changes.{was_free, child_within, was_zombie_child, mapped}
 
 tally_is : (b c : Bool) → b ≡ c → cond {A = ℕ} b 1 0 ≡ tally c
@@ -51,13 +51,13 @@ fork_states test t child parent m fds found =
 
 -- ---- one process
 
--- writing a slot from what it held frees none and takes none
-pub free_stays : {S : Type 0} (f : Slot S → Slot S) (keeps : (x : Slot S) → is_free (f x) ≡ is_free x) (t : Table S) (pid : ℕ) → count_by is_free (set t pid (f (at t pid))) ≡ count_by is_free t
-free_stays f keeps [] pid = refl
-free_stays f keeps (x ∷ t) zero =
-    omega (arith, sum_by-cons (λ y. cond {A = ℕ} (is_free y) 1 0) (f x) t, sum_by-cons (λ y. cond {A = ℕ} (is_free y) 1 0) x t, ap (λ (b : Bool). cond {A = ℕ} b 1 0) (keeps x))
-free_stays f keeps (x ∷ t) (suc pid) =
-    omega (arith, sum_by-cons (λ y. cond {A = ℕ} (is_free y) 1 0) x (set t pid (f (at t pid))), sum_by-cons (λ y. cond {A = ℕ} (is_free y) 1 0) x t, free_stays f keeps t pid)
+-- writing a slot from what it held, so that a test says the same
+pub count_stays : {S : Type 0} (test : Slot S → Bool) (f : Slot S → Slot S) (keeps : (x : Slot S) → test (f x) ≡ test x) (t : Table S) (pid : ℕ) → count_by test (set t pid (f (at t pid))) ≡ count_by test t
+count_stays test f keeps [] pid = refl
+count_stays test f keeps (x ∷ t) zero =
+    omega (arith, sum_by-cons (λ y. cond {A = ℕ} (test y) 1 0) (f x) t, sum_by-cons (λ y. cond {A = ℕ} (test y) 1 0) x t, ap (λ (b : Bool). cond {A = ℕ} b 1 0) (keeps x))
+count_stays test f keeps (x ∷ t) (suc pid) =
+    omega (arith, sum_by-cons (λ y. cond {A = ℕ} (test y) 1 0) x (set t pid (f (at t pid))), sum_by-cons (λ y. cond {A = ℕ} (test y) 1 0) x t, count_stays test f keeps t pid)
 
 pub made_ready_free : {S : Type 0} (m : S) (reply : Reply) (x : Slot S) → is_free (made_ready m reply x) ≡ is_free x
 made_ready_free m reply None = refl
@@ -66,6 +66,14 @@ made_ready_free m reply (Some p) = refl
 pub put_to_sleep_free : {S : Type 0} (channel : Channel) (put : ℕ) (x : Slot S) → is_free (put_to_sleep channel put x) ≡ is_free x
 put_to_sleep_free channel put None = refl
 put_to_sleep_free channel put (Some p) = refl
+
+pub with_fds_status : {S : Type 0} (test : Status → Bool) (fds : Descriptors) (x : Slot S) → has_status test (with_fds fds x) ≡ has_status test x
+with_fds_status test fds None = refl
+with_fds_status test fds (Some p) = refl
+
+pub with_fds_free : {S : Type 0} (fds : Descriptors) (x : Slot S) → is_free (with_fds fds x) ≡ is_free x
+with_fds_free fds None = refl
+with_fds_free fds (Some p) = refl
 
 -- ---- wake-ups
 
@@ -162,7 +170,7 @@ with_status_free s (Some p) = refl
 
 pub exit_free : {S : Type 0} (t : Table S) (pid : ℕ) → count_by is_free (exited t pid) ≡ count_by is_free t
 exit_free t pid =
-    exit_as_buried is_free all_woken_free t pid ∙ free_stays (with_status Zombie) (with_status_free Zombie) (map (given pid) t) pid ∙ map_counts is_free (given pid) (given_free pid) t
+    exit_as_buried is_free all_woken_free t pid ∙ count_stays is_free (with_status Zombie) (with_status_free Zombie) (map (given pid) t) pid ∙ map_counts is_free (given pid) (given_free pid) t
 
 mapped_within : {S : Type 0} (f : Slot S → Slot S) (t : Table S) (pid : ℕ) (p : Process S) → at t pid ≡ Some p → pid < length (map f t)
 mapped_within f [] pid p is = absurd (let no : ⊥ = cc in no)

@@ -1,5 +1,5 @@
 -- What each call on the table of processes does.
-use Rattle.std.specs.Prelude.{ℕ, Bool, if◌then◌else◌, List, ◌∷◌, Option, Some, None, map, position, is_some, replicate, slice_set}
+use Rattle.std.specs.Prelude.{ℕ, if◌then◌else◌, ◌∷◌, Option, Some, None, map, position, is_some, replicate, slice_set}
 use Rattle.user_calls.specs.declared.calls.Reply.{Reply}
 use Rattle.user_calls.specs.declared.calls.Reply.TheVariants.{Start, Child}
 use Rattle.fd_table.specs.Descriptors.{Descriptors}
@@ -10,7 +10,7 @@ use Rattle.proc_table.specs.declared.states.Status.{Status}
 use Rattle.proc_table.specs.declared.states.Status.TheVariants.{Runnable, Running, Asleep, Zombie}
 use Rattle.proc_table.specs.declared.table.Waited.{Waited}
 use Rattle.proc_table.specs.declared.table.Waited.TheVariants.{Reaped, NoChildren, MustSleep}
-use Rattle.proc_table.specs.Slots.{Table, Slot, Process, at, is_free, is_number, is_asleep_on, is_asleep_on_status, is_child_of, is_zombie_child_of, parent_of}
+use Rattle.proc_table.specs.Slots.{Table, Slot, Process, at, is_free, is_number, is_asleep_on_status, is_child_of, is_zombie_child_of, parent_of}
 
 -- a process from which no descriptor is open and that nothing was answered yet
 abbrev pub booted : {S : Type 0} → Option ℕ → S → Process S

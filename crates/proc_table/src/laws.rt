@@ -10,7 +10,7 @@ ghost use Rattle.proc_table.specs.declared.states.Channel.{Channel};
 ghost use Rattle.proc_table.specs.declared.states.Status.{Status};
 ghost use Rattle.proc_table.specs.declared.states.Status.TheVariants.{Runnable, Running, Asleep, Zombie};
 ghost use Rattle.proc_table.specs.Slots.{Process, Slot, Table, at, has_status, is_asleep, is_asleep_on, is_child_of, is_free, is_runnable, is_running, is_zombie, is_zombie_child_of, tally};
-ghost use Rattle.proc_table.specs.Calls.{all_woken, dispatched, exited, forked, given, lowest_free, made_ready, newborn, put_to_sleep, readied, reaped, slept, with_status, woken, woken_by_exit, zombie_child};
+ghost use Rattle.proc_table.specs.Calls.{all_woken, dispatched, exited, fds_set, forked, given, lowest_free, made_ready, newborn, put_to_sleep, readied, reaped, slept, with_fds, with_status, woken, woken_by_exit, zombie_child};
 
 use user_calls::Machine;
 
@@ -39,6 +39,14 @@ pub fn ready_changes_one_slot<M: Machine>()
 pub fn sleep_changes_one_slot<M: Machine>()
     ensures slot { (t : Table M.State) (pid put : ℕ) (channel : Channel) → at (slept t pid channel put) pid ≡ put_to_sleep channel put (at t pid) }
     ensures others { (t : Table M.State) (pid put other : ℕ) (channel : Channel) → other ≢ pid → at (slept t pid channel put) other ≡ at t other }
+{}
+
+/// A process whose descriptors were changed has these; no other slot changes, and as many are in each state as before.
+pub fn fds_mut_changes_one_slot<M: Machine>()
+    ensures slot { (t : Table M.State) (pid : ℕ) (fds : Descriptors) → at (fds_set t pid fds) pid ≡ with_fds fds (at t pid) }
+    ensures others { (t : Table M.State) (pid other : ℕ) (fds : Descriptors) → other ≢ pid → at (fds_set t pid fds) other ≡ at t other }
+    ensures counts { (test : Status → Bool) (t : Table M.State) (pid : ℕ) (fds : Descriptors)
+        → (count_by (has_status test) (fds_set t pid fds) ≡ count_by (has_status test) t) × (count_by is_free (fds_set t pid fds) ≡ count_by is_free t) }
 {}
 
 /// A wake-up wakes each slot by itself.

@@ -1,8 +1,12 @@
 //! One process, and the slot that it is in.
 
-ghost use Rattle.std.specs.Prelude.{◌≡◌, count_by, map};
+ghost use Rattle.std.specs.Borrow.{Lends, sem};
+ghost use Rattle.std.specs.Prelude.{◌≡◌, IfSome, IsSome, count_by, map};
+ghost use Rattle.std.specs.contracts.option.Option.{the_row as option_row};
+ghost use Rattle.fd_table.specs.contracts.descriptors.Fds.{the_row as fds_row};
+ghost use Rattle.proc_table.specs.contracts.process.Process.{the_row as process_row};
 ghost use Rattle.proc_table.specs.Slots.{is_asleep_on, is_child_of, is_runnable, is_running, is_running_on, is_zombie_child_of};
-ghost use Rattle.proc_table.specs.Calls.{all_woken, given, woken};
+ghost use Rattle.proc_table.specs.Calls.{all_woken, given, with_fds, woken};
 
 use crate::{Channel, Pid, Status};
 use fd_table::Fds;
@@ -30,7 +34,10 @@ impl<M: Machine> Model for Process<M> {
 }
 
 impl<M: Machine> Process<M> {
+    ghost use Rattle.std.specs.Borrow.{Lends, sem};
     ghost use Rattle.std.specs.Prelude.{◌≡◌};
+    ghost use Rattle.fd_table.specs.contracts.descriptors.Fds.{the_row as fds_row};
+    ghost use Rattle.proc_table.specs.contracts.process.Process.{the_row as process_row};
     ghost use Rattle.proc_table.specs.Slots.{is_asleep_on_status, is_number, is_running_on_status, is_running_status, is_runnable_status, is_zombie_status};
     ghost use Rattle.proc_table.specs.Calls.{booted, newborn};
 
@@ -72,6 +79,14 @@ impl<M: Machine> Process<M> {
         ensures { self.new ≡ record self.old { parent = Some parent } }
     {
         self.parent = Some(parent);
+    }
+
+    // The descriptors, to be changed.
+    fn fds_mut(&mut self) -> &mut Fds
+        ensures* lends { sem 𝓛 (Lends (process_row M.row M.State.row M.Machine) fds_row self.entry result (λ fds. record self.old { fds = fds })) }
+        ensures value { result.now ≡ self.old.fds }
+    {
+        &mut self.fds
     }
 
     fn is_child_of(&self, pid: Pid) -> bool
@@ -117,6 +132,18 @@ impl<M: Machine> Process<M> {
             Status::Asleep(other) => channel.is(other),
             _ => false,
         }
+    }
+}
+
+// The descriptors of the slot's process, to be changed.
+pub(crate) fn fds_of<M: Machine>(slot: &mut Option<Process<M>>) -> &mut Fds
+    requires { IsSome slot.old }
+    ensures* lends { sem 𝓛 (Lends (option_row (process_row M.row M.State.row M.Machine)) fds_row slot.entry result (λ fds. with_fds fds slot.old)) }
+    ensures value { IfSome slot.old (λ process. result.now ≡ process.fds) }
+{
+    match slot {
+        Some(process) => process.fds_mut(),
+        None => unreachable!(),
     }
 }
 

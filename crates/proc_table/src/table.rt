@@ -1,13 +1,13 @@
 //! The table.
 
 use crate::process::{
-    give_all, is_child_of, is_runnable, is_running, is_running_on, is_zombie_child_of, wake_all,
+    fds_of, give_all, is_child_of, is_runnable, is_running, is_running_on, is_zombie_child_of,
+    wake_all,
 };
 use crate::{Channel, PROCS, Pid, Process, State, Status};
 use fd_table::Fds;
 use std::alloc::{AllocError, Allocator};
 use std::marker::Model;
-use std::mem;
 use thiserror::Error;
 use user_calls::{Machine, Reply};
 
@@ -51,6 +51,9 @@ impl<M: Machine, A: Allocator> Model for Procs<M, A> {
 }
 
 impl<M: Machine, A: Allocator> Procs<M, A> {
+    ghost use Rattle.std.specs.Borrow.{Lends, sem};
+    ghost use Rattle.fd_table.specs.contracts.descriptors.Fds.{the_row as fds_row};
+    ghost use Rattle.proc_table.specs.contracts.table.Procs.{the_row as procs_row};
     ghost use Rattle.std.specs.Prelude.{◌≡◌, ◌≢◌, ◌≤◌, ◌<◌, All, IfOk, IfSome, IsSome, IsTrue, ◌↔◌, OnErr, None, Some, true, false, count_by, position};
     ghost use Rattle.proc_table.specs.declared.pid.TheConstants.{PROCS};
     ghost use Rattle.proc_table.specs.declared.table.TheConstants.{HARTS};
@@ -149,7 +152,7 @@ impl<M: Machine, A: Allocator> Procs<M, A> {
     }
 
     /// Whether there is a process in the slot: what `fork`, `parent`, `machine`, `reply`, `fds`,
-    /// `replace_fds` and `put` ask.
+    /// `fds_mut` and `put` ask.
     pub fn is_used(&self, pid: Pid) -> bool
         ensures { IsTrue result ↔ IsSome (at self.now pid) }
     {
@@ -221,16 +224,13 @@ impl<M: Machine, A: Allocator> Procs<M, A> {
         }
     }
 
-    /// Gives a process these descriptors, and gives back those that it had.
-    pub fn replace_fds(&mut self, pid: Pid, fds: Fds) -> Fds
+    /// The descriptors of a process, to be changed: what they end as is what the process has.
+    pub fn fds_mut(&mut self, pid: Pid) -> &mut Fds
         requires { IsSome (at self.old pid) }
-        ensures before { IfSome (at self.old pid) (λ process. result ≡ process.fds) }
-        ensures after { self.new ≡ fds_set self.old pid fds }
+        ensures* lends { sem 𝓛 (Lends (procs_row M.row A.row M.State.row M.Machine A.Allocator) fds_row self.entry result (fds_set self.old pid)) }
+        ensures value { IfSome (at self.old pid) (λ process. result.now ≡ process.fds) }
     {
-        match &mut self.slots[pid.index()] {
-            Some(process) => mem::replace(&mut process.fds, fds),
-            None => unreachable!(),
-        }
+        fds_of(&mut self.slots[pid.index()])
     }
 
     /// How many bytes the write that a process makes has put so far, while it sleeps or until it is tried again; 0

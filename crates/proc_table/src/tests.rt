@@ -1,9 +1,13 @@
-ghost use Rattle.std.specs.Prelude.{◌≡◌};
+ghost use Rattle.std.specs.Prelude.{◌≡◌, IfSome, IsSome};
+ghost use Rattle.fd_table.specs.Descriptors.{installed};
+ghost use Rattle.proc_table.specs.Slots.{at};
+ghost use Rattle.proc_table.specs.Calls.{fds_set};
 
 use super::*;
-use fd_table::{Fds, Object, OpenFiles};
+use fd_table::{Entry, FdFault, Fds, Object, OpenFiles};
 use linked_list_allocator::LocalHeap;
 use std::alloc::Allocator;
+use std::mem;
 use std::test::Fail;
 use user_calls::{Call, Machine, Reply};
 
@@ -134,6 +138,28 @@ fn has<A: Allocator>(
             && procs.reply(pid).same(reply)
             && procs.fds(pid).get(0).is_ok() == opened,
     )
+}
+
+// Opens the lowest descriptor of a process that isn't open.
+fn install<M: Machine, A: Allocator>(
+    procs: &mut Procs<M, A>,
+    pid: Pid,
+    entry: Entry,
+) -> Result<usize, FdFault>
+    requires { IsSome (at procs.old pid) }
+    ensures { IfSome (at procs.old pid) (λ process. procs.new ≡ fds_set procs.old pid (installed process.fds entry)) }
+{
+    procs.fds_mut(pid).install(entry)
+}
+
+// Gives a process these descriptors, and gives back those that it had: what is written through `fds_mut` is what the
+// process has, by its contract.
+fn swap_fds<M: Machine, A: Allocator>(procs: &mut Procs<M, A>, pid: Pid, fds: Fds) -> Fds
+    requires { IsSome (at procs.old pid) }
+    ensures before { IfSome (at procs.old pid) (λ process. result ≡ process.fds) }
+    ensures after { procs.new ≡ fds_set procs.old pid fds }
+{
+    mem::replace(procs.fds_mut(pid), fds)
 }
 
 #[test]
@@ -345,6 +371,70 @@ fn a_child_gets_its_descriptors(rt: HostRuntime) -> Result<(), Fail> {
     let child = procs.fork(parent, machine(3), fds)?;
     assert!(rt; has(&procs, child.index(), 3, &Reply::Child, true)?);
     assert!(rt; has(&procs, 1, 0, &Reply::Start, false)?);
+    Ok(())
+}
+
+#[test]
+fn descriptors_change_in_their_slot(rt: HostRuntime) -> Result<(), Fail> {
+    let mut procs = Procs::new(rt.alloc(), machine(5), machine(6))?;
+    assert_eq!(rt; fork(&mut procs, 1)?, 2);
+    let shell = Pid::shell();
+    if !procs.is_used(shell) {
+        return Err(Fail::from("no shell"));
+    }
+    let mut files = OpenFiles::new();
+    let entry = files.add(Object::Out)?;
+    assert_eq!(rt; install(&mut procs, shell, entry), Ok(0));
+    assert!(rt; has(&procs, 0, 5, &Reply::Start, false)?);
+    assert!(rt; has(&procs, 1, 6, &Reply::Start, true)?);
+    assert!(rt; has(&procs, 2, 7, &Reply::Child, false)?);
+    assert_eq!(rt;
+        (state(&procs, 1)?, state(&procs, 2)?),
+        (State::Runnable, State::Runnable)
+    );
+    assert_eq!(rt;
+        (parent_and_put(&procs, 1)?, parent_and_put(&procs, 2)?),
+        ((0, 0), (1, 0))
+    );
+    let before = swap_fds(&mut procs, shell, Fds::new());
+    assert!(rt; before.get(0).is_ok());
+    assert!(rt; has(&procs, 1, 6, &Reply::Start, false)?);
+    Ok(())
+}
+
+#[test]
+fn what_a_call_asks_is_told(rt: HostRuntime) -> Result<(), Fail> {
+    let mut procs = Procs::new(rt.alloc(), machine(0), machine(0))?;
+    for child in 2..6usize {
+        assert_eq!(rt; fork(&mut procs, 1)?, child);
+    }
+    assert_eq!(rt; run_all(&mut procs), 6);
+    sleep(&mut procs, 3, Channel::PipeBytes(1), 0)?;
+    exit(&mut procs, 4)?;
+    let stops = pid(5)?;
+    if !procs.is_running(stops) {
+        return Err(Fail::from("it may not stop"));
+    }
+    procs.ready(stops, machine(0), Reply::Done);
+
+    // 0, 1 and 2 run, 3 sleeps, 4 is a zombie, 5 is Runnable, and all others are free.
+    for index in 0..PROCS {
+        let pid = pid(index)?;
+        assert_eq!(rt;
+            (procs.is_used(pid), procs.is_running(pid)),
+            (index < 6, index < 3)
+        );
+        for hart in 0..HARTS {
+            assert_eq!(rt;
+                procs.runs_on(hart, pid),
+                procs.running_on(hart) == Some(pid)
+            );
+        }
+    }
+    for hart in 0..HARTS {
+        assert_eq!(rt; procs.is_idle(hart), procs.running_on(hart).is_none());
+    }
+    assert_eq!(rt; procs.running(), 3);
     Ok(())
 }
 

@@ -1,9 +1,9 @@
 -- One slot is written.
-use Rattle.std.proofs.Common.{ap, refl}
+use Rattle.std.proofs.Common.{ap}
 use Rattle.proc_table.specs.declared.states.Status.TheVariants.{Runnable, Running, Asleep}
-use Rattle.proc_table.specs.Slots.{Slot, at, has_status}
+use Rattle.proc_table.specs.Slots.{Slot, at, has_status, is_free}
 use Rattle.proc_table.specs.Calls.{with_status, made_ready, put_to_sleep}
-use Rattle.proc_table.proofs.Counts.{status_counts, free_stays, with_status_free, made_ready_free, put_to_sleep_free}
+use Rattle.proc_table.proofs.Counts.{status_counts, count_stays, with_status_free, made_ready_free, put_to_sleep_free}
 use Rattle.proc_table.proofs.laws.one_process_changes_state.Goals as goal
 
 pub returns-clause-dispatched : goal.returns-clause-dispatched
@@ -20,4 +20,4 @@ returns-clause-slept g c = λ test t pid put channel p is.
 
 pub returns-clause-free : goal.returns-clause-free
 returns-clause-free g c = λ t pid put hart machine reply channel.
-    (free_stays (with_status (Running hart)) (with_status_free (Running hart)) t pid, free_stays (made_ready machine reply) (made_ready_free machine reply) t pid, free_stays (put_to_sleep channel put) (put_to_sleep_free channel put) t pid)
+    (count_stays is_free (with_status (Running hart)) (with_status_free (Running hart)) t pid, count_stays is_free (made_ready machine reply) (made_ready_free machine reply) t pid, count_stays is_free (put_to_sleep channel put) (put_to_sleep_free channel put) t pid)

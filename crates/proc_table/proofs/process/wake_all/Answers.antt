@@ -1,5 +1,5 @@
 -- A slot is woken in its place, and counted where it slept on the channel.
-use Rattle.std.proofs.Common.{◌≡◌, ◌<◌, length, refl, ◌∙◌, sym, ap, arith}
+use Rattle.std.proofs.Common.{◌∙◌, sym, arith}
 use Rattle.proc_table.specs.Calls.{woken}
 use Rattle.proc_table.specs.Slots.{is_asleep_on}
 use Rattle.proc_table.proofs.InPlace.{in_place, count_yes, count_no}

@@ -1,6 +1,5 @@
 -- The slots before this one are woken and counted.
-use Rattle.std.proofs.Common.{◌≡◌, ◌≤◌, ◌+◌, count_by, length, take, drop, ◌++◌}
-use Rattle.std.specs.Prelude.{map}
+use Rattle.std.proofs.Common.{◌≡◌, ◌≤◌, ◌+◌, count_by, take, drop, ◌++◌}
 use Rattle.proc_table.specs.Calls.{all_woken}
 use Rattle.proc_table.specs.Slots.{is_asleep_on}
 use Rattle.proc_table.proofs.process.wake_all.Given as goal
