@@ -1,4 +1,6 @@
 mod Blocks
+mod Giving
+mod Teeing
 mod Buffer
 mod Counts
 pub mod Ended

@@ -1,6 +1,7 @@
 pub mod Ahead
 pub mod Alone
 pub mod Frame
+pub mod Given
 pub mod Runs
 pub mod State
 pub mod Still

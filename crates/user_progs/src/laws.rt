@@ -13,12 +13,16 @@ ghost use Rattle.user_progs.specs.Ahead.{still_opens, still_writes, still_uses};
 ghost use Rattle.user_progs.specs.Alone.{World, May, after_call, to_out};
 ghost use Rattle.user_progs.specs.Still.{still, left_of, after_bytes};
 ghost use Rattle.user_progs.specs.Waits.{Waits, BeginsShort};
-ghost use Rattle.user_progs.specs.Frame.{depends_on};
+ghost use Rattle.user_progs.specs.Frame.{depends_on, may_change, only_changed};
 ghost use Rattle.user_progs.specs.Tame.{AreTame};
 ghost use Rattle.user_progs.specs.Runs.{first_process, after_replies, MayBe, Comes};
 
-/// A program other than `tee` that runs alone, whatever its reads give and how much at a time: what it wrote so far begins what the
+/// A program that runs alone, whatever its reads give and how much at a time: what it wrote so far begins what the
 /// program function writes, and once it calls `Exit`, its output, the input left and the files are the function's.
+///
+/// Each argument of `echo` has at most 1,024 bytes, as many as one call writes, and `tee` has at most 16 file words.
+/// Opens are answered by the files, with a descriptor above 2 that the program doesn't hold; a read gives at least one
+/// byte where any is left; each write and close is done.
 pub fn a_program_alone_does_what_its_function_says()
     ensures { (program : Program) (arguments : List Bytes) (input : Bytes) (F : FileMap) (replies : List Reply) → BeginsShort program arguments
         → MayBe (first_process program arguments input F) replies
@@ -26,14 +30,15 @@ pub fn a_program_alone_does_what_its_function_says()
 {}
 
 /// What is left of a program: of one that was found, all that its function says; and each reply that a program alone
-/// may be given leaves what the next call writes and what follows it. After each it waits for the reply to its call.
+/// may be given leaves what the next call writes and what follows it. After each it waits for the reply to its call,
+/// with its files open where it left them.
 pub fn each_call_keeps_what_is_left()
     ensures begins { (program : Program) (arguments : List Bytes) (world : World)
         → still (begins program arguments) world ≡ program_value (Some program) arguments world.input world.files }
-    ensures kept { (state : State) (call : Call) (reply : Reply) (world : World) → Waits state call → May call reply world
+    ensures kept { (state : State) (call : Call) (reply : Reply) (world : World) → Waits state call world → May call reply world
         → still state world ≡ left_of (turn state reply) 0 (after_call call reply world) }
-    ensures waits { (state : State) (call : Call) (reply : Reply) (world : World) → Waits state call → May call reply world
-        → Waits (turn state reply).next (turn state reply).call }
+    ensures waits { (state : State) (call : Call) (reply : Reply) (world : World) → Waits state call world → May call reply world
+        → Waits (turn state reply).next (turn state reply).call (after_call call reply world) }
     ensures put { (turn : Turn) (put more : ℕ) (world : World)
         → left_of turn put world ≡ after_bytes (take more (drop put (to_out turn.call))) (left_of turn (put + more) world) }
 {}
@@ -54,10 +59,11 @@ pub fn what_lies_ahead_shrinks()
     ensures uses { (state : State) (reply : Reply) → still_uses state ≡ false → still_uses (next_of state reply) ≡ false }
 {}
 
-/// What a program other than `tee` still does when it runs alone: it depends on no other files than those that it may
-/// still open and the one that it reads, and changes no file.
+/// What a program still does when it runs alone depends on no other files than those that it may still open and those
+/// that it holds open; and it changes no other files than those that it may still open for writing or holds so, which
+/// only `tee` does.
 pub fn what_is_left_depends_on_its_own_files()
-    ensures { (state : State) (call : Call) (world : World) (G : FileMap) → Waits state call
+    ensures { (state : State) (call : Call) (world : World) (G : FileMap) → Waits state call world
         → ((name : Name) → depends_on state world name ≡ true → world.files name ≡ G name)
-        → still state (record world { files = G }) ≡ record (still state world) { files = G } }
+        → still state (record world { files = G }) ≡ record (still state world) { files = only_changed (may_change state world) (still state world).files G } }
 {}
