@@ -14,3 +14,4 @@ pub mod Chunks
 pub mod Taming
 pub mod Shrinking
 pub mod Framing
+pub mod Exiting

@@ -1,5 +1,6 @@
 pub mod Ahead
 pub mod Alone
+pub mod Exits
 pub mod Frame
 pub mod Given
 pub mod Runs

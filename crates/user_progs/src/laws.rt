@@ -1,10 +1,11 @@
 //! Laws of the programs: each function's contract is the law, and its body is empty.
 
-ghost use Rattle.std.specs.Prelude.{◌≡◌, ℕ, ◌+◌, true, false, List, [], Some, take, drop};
+ghost use Rattle.std.specs.Prelude.{◌≡◌, ℕ, ◌+◌, ◌≤◌, true, false, List, [], length, Some, take, drop};
 ghost use Rattle.mem_files.specs.Name.{Name, Bytes};
 ghost use Rattle.mem_files.specs.Files.{FileMap};
 ghost use Rattle.conflict_check.specs.declared.program.Program.{Program};
 ghost use Rattle.user_calls.specs.declared.calls.Call.{Call};
+ghost use Rattle.user_calls.specs.declared.calls.Call.TheVariants.{Exit};
 ghost use Rattle.user_calls.specs.declared.calls.Reply.{Reply};
 ghost use Rattle.script_load.specs.Programs.{program_value};
 ghost use Rattle.user_progs.specs.State.{State, begins};
@@ -14,7 +15,8 @@ ghost use Rattle.user_progs.specs.Alone.{World, May, after_call, to_out};
 ghost use Rattle.user_progs.specs.Still.{still, left_of, after_bytes};
 ghost use Rattle.user_progs.specs.Waits.{Waits, BeginsShort};
 ghost use Rattle.user_progs.specs.Frame.{depends_on, may_change, only_changed};
-ghost use Rattle.user_progs.specs.Tame.{AreTame};
+ghost use Rattle.user_progs.specs.Tame.{Among, AreTame};
+ghost use Rattle.user_progs.specs.Exits.{calls_on, most_calls};
 ghost use Rattle.user_progs.specs.Runs.{first_process, after_replies, MayBe, Comes};
 
 /// A program that runs alone, whatever its reads give and how much at a time: what it wrote so far begins what the
@@ -49,6 +51,13 @@ pub fn each_call_keeps_what_is_left()
 pub fn a_program_makes_no_other_calls()
     ensures { (program : Program) (arguments : List Bytes) (first : Reply) (replies : List Reply)
         → AreTame program arguments (next_of (begins program arguments) first) (call_of (begins program arguments) first) [] replies }
+{}
+
+/// Whatever a program is answered, refused writes too: `Exit` is among its first (n + 4) * (W + 1) calls, where the
+/// replies hold n bytes, which is what it reads, and the program has W words, its name among them.
+pub fn a_program_exits_in_time()
+    ensures { (program : Program) (arguments : List Bytes) (replies : List Reply) → most_calls arguments replies ≤ length replies
+        → Among Exit (take (most_calls arguments replies) (calls_on (begins program arguments) replies)) }
 {}
 
 /// Whatever a program is answered, the names that it may still open and those that it may still open for writing only
