@@ -167,9 +167,6 @@ pub gives_next_kept : (fds : List ℕ) (at place : ℕ) (bytes : Bytes) (world :
     fixed world.input [] (given_block (drop at fds) (take at fds) world.own bytes world.input world.files) ≡ left_of (tee_gives_next fds at bytes) 0 world
 gives_next_kept fds at place bytes world stands = go (nat_lt at (length fds)) refl
   where
-    value : Value
-    value = tee_still (tee_gives fds at bytes) world
-
     go : (more : Bool) → nat_lt at (length fds) ≡ more →
         fixed world.input [] (given_block (drop at fds) (take at fds) world.own bytes world.input world.files)
         ≡ left_of (if more then record { call = Write (slice_index_or fds at 0) bytes; next = tees (tee_gives fds at bytes) } else tee_waits fds) 0 world
