@@ -15,3 +15,4 @@ pub mod Taming
 pub mod Shrinking
 pub mod Framing
 pub mod Exiting
+pub mod Unused

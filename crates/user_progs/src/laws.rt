@@ -76,3 +76,9 @@ pub fn what_is_left_depends_on_its_own_files()
         → ((name : Name) → depends_on state world name ≡ true → world.files name ≡ G name)
         → still state (record world { files = G }) ≡ record (still state world) { files = only_changed (may_change state world) (still state world).files G } }
 {}
+
+/// A program that no longer reads standard input leaves it as it is, and does the same whatever it holds.
+pub fn an_unused_input_is_left()
+    ensures { (state : State) (call : Call) (world : World) (input : Bytes) → Waits state call world → still_uses state ≡ false
+        → still state (record world { input = input }) ≡ record (still state world) { rest = input } }
+{}
