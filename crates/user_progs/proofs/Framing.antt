@@ -76,11 +76,11 @@ only_where N change F G same other agree = λ i name. go name (N name) refl i
     go name true e = sym (same name (agree name e))
     go name false e = other name e
 
-not_left : (a b : Bool) → (a || b) ≡ false → a ≡ false
+pub not_left : (a b : Bool) → (a || b) ≡ false → a ≡ false
 not_left true b e = cc
 not_left false b e = refl
 
-not_right : (a b : Bool) → (a || b) ≡ false → b ≡ false
+pub not_right : (a b : Bool) → (a || b) ≡ false → b ≡ false
 not_right true b e = cc
 not_right false b e = e
 

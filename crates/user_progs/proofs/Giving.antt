@@ -177,7 +177,7 @@ none_given place fds own F at = λ i name. by_name fds at name i
 whole_file : (bytes : Bytes) → Some (written [] 0 bytes) ≡ Some bytes
 whole_file bytes = ap Some (written_start [] bytes ∙ ap (λ (z : Bytes). bytes ++ z) (drop-nil (length bytes)) ∙ append-nil bytes)
 
-opened_place : (fds : List ℕ) (own : List OwnFile) (new : OwnFile) (name : Name) → AreOthers new.fd fds → place_in fds (new ∷ own) name ≡ place_in fds own name
+pub opened_place : (fds : List ℕ) (own : List OwnFile) (new : OwnFile) (name : Name) → AreOthers new.fd fds → place_in fds (new ∷ own) name ≡ place_in fds own name
 opened_place [] own new name others = refl
 opened_place (fd ∷ fds) own new name others =
     let here = ap (λ (t : Bool). if t then Some new else held own fd) (ne_eqb new.fd fd (λ e. others.0 (sym e))) in

@@ -16,3 +16,5 @@ pub mod Shrinking
 pub mod Framing
 pub mod Exiting
 pub mod Unused
+pub mod Holding
+mod Worked

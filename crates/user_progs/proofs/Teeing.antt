@@ -61,10 +61,10 @@ pub tee_next_waits : (fds : List ℕ) (names : List Name) (world : World) → le
 tee_next_waits fds [] world few distinct at = (refl, distinct, (0, at))
 tee_next_waits fds (name ∷ later) world few distinct at = (refl, omega (arith, few), distinct, at)
 
-abbrev new_file : ℕ → Name → OwnFile
+abbrev pub new_file : ℕ → Name → OwnFile
 new_file fd name = record { fd = fd; name = name; at = 0 }
 
-abbrev with_new : ℕ → Name → World → World
+abbrev pub with_new : ℕ → Name → World → World
 with_new fd name world = record world { own = new_file fd name ∷ world.own; files = with_file world.files name [] }
 
 after_open_is : (fd : ℕ) (name : Name) (world : World) → is_openable name ≡ true → after_call (OpenFile name Fresh) (Fd fd) world ≡ with_new fd name world
@@ -105,7 +105,7 @@ block_name name = go (nat_le (length name) BLOCK_SIZE) refl
         inr (too_long (block name) (omega (arith, length-take BLOCK_SIZE name)), too_long name (omega (arith, many)))
 
 -- what holds of a turn and the world after each reply to an open holds after this one
-by_open : (Q : Turn → World → Type 0) (fds : List ℕ) (name : Name) (later : List Name) (world : World) (reply : Reply) → length fds + length later < 16 →
+pub by_open : (Q : Turn → World → Type 0) (fds : List ℕ) (name : Name) (later : List Name) (world : World) (reply : Reply) → length fds + length later < 16 →
     (is_openable name ≡ false → Q (tee_cannot_open name) world) →
     ((fd : ℕ) → is_openable name ≡ true → 2 < fd → held world.own fd ≡ None → Q (tee_opens_next (fds ++ fd ∷ []) later) (with_new fd name world)) →
     May (OpenFile (block name) Fresh) reply world → Q (tee_opened fds name later (fd_in reply)) (after_call (OpenFile (block name) Fresh) reply world)

@@ -77,6 +77,14 @@ pub fn what_is_left_depends_on_its_own_files()
         → still state (record world { files = G }) ≡ record (still state world) { files = only_changed (may_change state world) (still state world).files G } }
 {}
 
+/// After each reply that a program alone may be given, it depends on no more files than before, and may change no more.
+pub fn what_it_depends_on_shrinks()
+    ensures depends { (state : State) (call : Call) (reply : Reply) (world : World) (name : Name) → Waits state call world → May call reply world
+        → depends_on state world name ≡ false → depends_on (next_of state reply) (after_call call reply world) name ≡ false }
+    ensures changes { (state : State) (call : Call) (reply : Reply) (world : World) (name : Name) → Waits state call world → May call reply world
+        → may_change state world name ≡ false → may_change (next_of state reply) (after_call call reply world) name ≡ false }
+{}
+
 /// A program that no longer reads standard input leaves it as it is, and does the same whatever it holds.
 pub fn an_unused_input_is_left()
     ensures { (state : State) (call : Call) (world : World) (input : Bytes) → Waits state call world → still_uses state ≡ false
