@@ -1,5 +1,7 @@
 -- Bytes that are put into a block piece by piece.
-use Rattle.std.proofs.Common.{◌≡◌, ◌∙◌, ℕ, zero, suc, List, [], ◌∷◌, ◌++◌, take, refl, ap, append_assoc}
+use Rattle.std.proofs.Common.{◌≡◌, ◌∙◌, ℕ, zero, suc, ◌<◌, false, List, [], ◌∷◌, ◌++◌, length, take, refl, ap, arith, append_assoc}
+use Rattle.std.proofs.lemmas.Bool.Decides.{nat_tests}
+use Rattle.mem_files.specs.Name.{Name, is_openable}
 
 -- what was cut off at the end stays so
 pub cut_again : (n : ℕ) (xs ys : List ℕ) → take n (take n xs ++ ys) ≡ take n (xs ++ ys)
@@ -18,6 +20,10 @@ cut_thrice n a b c d =
 -- one more piece
 pub more_put : (n : ℕ) (xs ys zs text : List ℕ) → text ≡ take n (xs ++ ys) → take n (text ++ zs) ≡ take n (xs ++ (ys ++ zs))
 more_put n xs ys zs text e = ap (λ (t : List ℕ). take n (t ++ zs)) e ∙ cut_again n (xs ++ ys) zs ∙ ap (λ (t : List ℕ). take n t) (append_assoc xs ys zs)
+
+-- a name that doesn't fit a block can't be opened
+pub too_long : (name : Name) → 14 < length name → is_openable name ≡ false
+too_long name long = grind (arith, nat_tests)
 
 -- a piece that ends in a space
 pub spaced : (ds rest : List ℕ) → (ds ++ 32 ∷ []) ++ rest ≡ ds ++ 32 ∷ rest

@@ -1,7 +1,7 @@
 -- Each call of a program that runs alone keeps what it still does: before the reply, that is what the next call
 -- writes and what follows it.
 use Rattle.std.proofs.Common.{◌≡◌, ◌∙◌, ℕ, zero, suc, ◌+◌, ◌-◌, ◌<◌, ◌≤◌, ◌==◌, Bool, true, false, List, [], ◌∷◌, ◌++◌, length, take, drop, drop-drop, append_assoc, take-append-drop, Option, Some, None, refl, sym, ap, subst, arith, nat_le}
-use Rattle.std.specs.Prelude.{if◌then◌else◌}
+use Rattle.std.specs.Prelude.{if◌then◌else◌, slice_index_or}
 use Rattle.std.proofs.lemmas.Bool.{eq-eqb}
 use Rattle.std.proofs.lemmas.List.{take_all, length-take}
 use Rattle.std.proofs.lemmas.Bool.Decides.{nat_tests}
@@ -21,11 +21,13 @@ use Rattle.script_load.specs.Value.{Value, fixed, nothing}
 use Rattle.script_load.specs.Inputs.{found, of_found, of_files, filter_value}
 use Rattle.script_load.specs.Head.{first_lines, after_lines, line_count}
 use Rattle.script_load.specs.Programs.{echo_out, program_value}
-use Rattle.user_progs.specs.State.{Filter, copying, heading, counting, searching, Source, standard, file, Work, cat_reads, cat_writes, head_reads, head_writes, wc_reads, wc_writes, grep_reads, grep_writes, State, begins, echo_word, echo_space, opens, works, closes, tees, told, ended}
+use Rattle.user_progs.specs.State.{Filter, copying, heading, counting, searching, Source, standard, file, Work, cat_reads, cat_writes, head_reads, head_writes, wc_reads, wc_writes, grep_reads, grep_writes, Tee, tee_opens, tee_reads, tee_writes, tee_gives, State, begins, echo_word, echo_space, opens, works, closes, tees, told, ended}
 use Rattle.user_progs.specs.Turn.{Turn, Step, reads, writes, finishes, fails, turn, turn_by, first_step, work_step, filter_of, fd_of, block, opens_next, begins_filter, begins_head, begins_program, name_of, echo_next, echo_end}
 use Rattle.user_progs.specs.Alone.{OwnFile, World, can_open, held, moved_on, left_of_file, left_at, Takes, MayOpen, May, opened_files, after_read, after_call, to_out}
 use Rattle.user_progs.specs.Still.{of_input, work_out, work_rest, work_still, echo_rest, still, after_bytes, left_of}
-use Rattle.user_progs.specs.Waits.{AreShort, BeginsShort, IsWrite, IsApart, WorkWaits, Waits}
+use Rattle.user_progs.specs.Waits.{AreShort, BeginsShort, IsWrite, IsApart, WorkWaits, TeeWaits, Waits}
+use Rattle.user_progs.proofs.Blocks.{too_long}
+use Rattle.user_progs.proofs.Teeing.{tee_next_kept, tee_open_kept, tee_read_kept, gives_next_kept, gave}
 use Rattle.user_progs.proofs.Work.{Kept, GoesOn, step_out, step_rest, begins_kept, cat_kept, head_kept, head_begins, unread}
 use Rattle.user_progs.proofs.Counting.{wc_kept}
 use Rattle.user_progs.proofs.Search.{buffer_kept, grep_kept}
@@ -90,10 +92,6 @@ write_kept work step (file fd name later) world kept =
     (ap (λ (o : Bytes). o ++ of_files (of_input (filter_of work)) later world.files) kept.out)
     refl
     ∙ on_file (filter_of work) step fd name later world kept.on
-
--- a name that doesn't fit a block can't be opened
-too_long : (name : Name) → 14 < length name → is_openable name ≡ false
-too_long name long = grind (arith, nat_tests)
 
 none_found : (F : FileMap) (name : Name) → is_openable name ≡ false → found F name ≡ None
 none_found F name e = ap (λ (t : Bool). if t then F name else None) e
@@ -289,10 +287,25 @@ begins_program_kept Echo arguments world short = echo_kept arguments world short
 begins_program_kept Grep [] world short = refl
 begins_program_kept Grep (pattern ∷ names) world short = filter_begins (searching pattern) names world
 begins_program_kept Head arguments world short = head_begins_kept arguments world
-begins_program_kept Tee' arguments world short = absurd short
+begins_program_kept Tee' arguments world short = tee_next_kept [] arguments world
 begins_program_kept Wc arguments world short = filter_begins counting arguments world
 
-pub call_kept : (state : State) (call : Call) (reply : Reply) (world : World) → Waits state call → May call reply world →
+tee_kept : (tee : Tee) (call : Call) (reply : Reply) (world : World) → TeeWaits tee call world → May call reply world → still (tees tee) world ≡ left_of (turn (tees tee) reply) 0 (after_call call reply world)
+tee_kept (tee_opens fds name later) call reply world (is, few, distinct, at) may =
+    tee_open_kept fds name later world reply few at (subst (λ (c : Call). May c reply world) is may)
+    ∙ ap (λ (c : Call). left_of (turn (tees (tee_opens fds name later)) reply) 0 (after_call c reply world)) (sym is)
+tee_kept (tee_reads fds) call reply world (is, distinct, (place, at)) may =
+    let heard : May (Read 0 512) reply world = subst (λ (c : Call). May c reply world) is may in
+    replied (tees (tee_reads fds)) call (Read 0 512) reply world (Bytes' heard.0) _ is heard.1 (tee_read_kept fds place world heard.0 at heard.2)
+tee_kept (tee_writes fds bytes) call reply world (is, distinct, (place, at)) may =
+    replied (tees (tee_writes fds bytes)) call (Write 1 bytes) reply world Done _ is (subst (λ (c : Call). May c reply world) is may) (gives_next_kept fds 0 place bytes world at)
+tee_kept (tee_gives fds at bytes) call reply world (is, inside, distinct, (place, had, stands)) may =
+    let now = gave fds at bytes place world inside distinct had stands in
+    let after = after_call (Write (slice_index_or fds at 0) bytes) Done world in
+    replied (tees (tee_gives fds at bytes)) call (Write (slice_index_or fds at 0) bytes) reply world Done _ is (subst (λ (c : Call). May c reply world) is may)
+    (now.value ∙ gives_next_kept fds (at + 1) place bytes after now.stands)
+
+pub call_kept : (state : State) (call : Call) (reply : Reply) (world : World) → Waits state call world → May call reply world →
     still state world ≡ left_of (turn state reply) 0 (after_call call reply world)
 call_kept (begins program arguments) call reply world waits may =
     replied (begins program arguments) call (Exec true) reply world Done _ waits.0 (subst (λ (c : Call). May c reply world) waits.0 may) (begins_program_kept program arguments world waits.1)
@@ -306,7 +319,7 @@ call_kept (opens filter name later) call reply world waits may =
 call_kept (works work source) call reply world waits may = work_kept work source call reply world waits.0 waits.1 may
 call_kept (closes filter later) call reply world (fd, is) may =
     replied (closes filter later) call (Close fd) reply world Done _ is (subst (λ (c : Call). May c reply world) is may) (next_open filter later world ∙ closed_kept filter later world fd)
-call_kept (tees tee) call reply world waits may = absurd waits
+call_kept (tees tee) call reply world waits may = tee_kept tee call reply world waits may
 call_kept told call reply world (fd, some, low, (bytes, is)) may =
     replied told call (Write fd bytes) reply world Done _ is (subst (λ (c : Call). May c reply world) is may)
     (ap (λ (w : World). nothing w.input w.files) (sym (low_write fd bytes world low)))

@@ -1,4 +1,6 @@
 mod Blocks
+mod Giving
+mod Teeing
 mod Buffer
 mod Counts
 pub mod Ended
@@ -12,3 +14,7 @@ pub mod Chunks
 pub mod Taming
 pub mod Shrinking
 pub mod Framing
+pub mod Exiting
+pub mod Unused
+pub mod Holding
+mod Worked

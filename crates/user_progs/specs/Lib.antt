@@ -1,6 +1,8 @@
 pub mod Ahead
 pub mod Alone
+pub mod Exits
 pub mod Frame
+pub mod Given
 pub mod Runs
 pub mod State
 pub mod Still

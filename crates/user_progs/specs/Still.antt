@@ -1,5 +1,5 @@
 -- What a program still does from a state on, when it runs alone: the remaining meaning of the state.
-use Rattle.std.specs.Prelude.{ℕ, ◌+◌, List, [], ◌∷◌, ◌++◌, length, drop, Some}
+use Rattle.std.specs.Prelude.{ℕ, ◌+◌, List, [], ◌∷◌, ◌++◌, length, take, drop, Some}
 use Rattle.mem_files.specs.Name.{Name, Bytes}
 use Rattle.script_load.specs.Value.{Value, fixed, nothing}
 use Rattle.script_load.specs.Inputs.{of_files}
@@ -7,9 +7,10 @@ use Rattle.script_load.specs.Grep.{grep_out, grep_left}
 use Rattle.script_load.specs.Head.{first_lines, after_lines}
 use Rattle.script_load.specs.Wc.{wc_line, line_ends, words_after, capped}
 use Rattle.script_load.specs.Programs.{echo_out, program_value}
-use Rattle.user_progs.specs.State.{Filter, copying, heading, counting, searching, Source, standard, file, Work, cat_reads, cat_writes, head_reads, head_writes, wc_reads, wc_writes, grep_reads, grep_writes, State, begins, echo_word, echo_space, opens, works, closes, tees, told, ended}
+use Rattle.user_progs.specs.State.{Filter, copying, heading, counting, searching, Source, standard, file, Work, cat_reads, cat_writes, head_reads, head_writes, wc_reads, wc_writes, grep_reads, grep_writes, Tee, tee_opens, tee_reads, tee_writes, tee_gives, State, begins, echo_word, echo_space, opens, works, closes, tees, told, ended}
 use Rattle.user_progs.specs.Turn.{Turn, filter_of, counts_line}
 use Rattle.user_progs.specs.Alone.{World, left_at, to_out}
+use Rattle.user_progs.specs.Given.{given, given_block, left_open}
 
 -- what is written of an input of this name and these bytes, and what is left of it
 abbrev pub of_input : Filter → Name → Bytes → Bytes
@@ -51,6 +52,14 @@ abbrev pub echo_rest : List Bytes → Bytes
 echo_rest [] = 10 ∷ []
 echo_rest (argument ∷ later) = 32 ∷ echo_out (argument ∷ later)
 
+-- what tee still does; a block that it writes is in no file so far, or in those before the one to which it is written now
+abbrev pub tee_still : Tee → World → Value
+tee_still (tee_opens fds name later) world = left_open fds (name ∷ later) world
+tee_still (tee_reads fds) world = left_open fds [] world
+tee_still (tee_writes fds bytes) world = fixed world.input [] (given fds world.own (bytes ++ world.input) world.files)
+tee_still (tee_gives fds at bytes) world =
+    fixed world.input [] (given_block (drop at fds) (take at fds) world.own bytes world.input world.files)
+
 -- what a program does once the call that it waits for is answered; what that call writes to descriptor 1 is not in it
 abbrev pub still : State → World → Value
 still (begins program arguments) world = program_value (Some program) arguments world.input world.files
@@ -59,7 +68,7 @@ still (echo_space later) world = fixed (echo_out later) world.input world.files
 still (opens filter name later) world = fixed (of_files (of_input filter) (name ∷ later) world.files) world.input world.files
 still (works work source) world = work_still work source world
 still (closes filter later) world = fixed (of_files (of_input filter) later world.files) world.input world.files
-still (tees tee) world = nothing world.input world.files
+still (tees tee) world = tee_still tee world
 still told world = nothing world.input world.files
 still ended world = nothing world.input world.files
 

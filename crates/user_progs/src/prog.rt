@@ -37,6 +37,8 @@ pub struct Prog<'t, A: Allocator> {
 /// a file up), over the others; none for another name, and for no words.
 ///
 /// One call moves at most 1,024 bytes: of a longer argument `echo` writes the first 1,024, and messages are cut there.
+/// `tee` holds at most 16 files, as many as a process has descriptors, and ends at a later one as at a file that can't be
+/// opened.
 pub fn lookup<'t, A: Allocator>(words: &'t [Bytes<A>]) -> Option<Prog<'t, A>>
     ensures { found_state result ≡ first_state words.now }
 {
