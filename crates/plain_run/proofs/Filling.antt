@@ -1,5 +1,5 @@
 -- One file more was given its bytes.
-use Rattle.std.proofs.Common.{◌≡◌, ℕ, suc, ◌+◌, ◌<◌, true, List, [], ◌∷◌, cond, length, drop, get_or, sym, ◌∙◌, ap, subst, arith, inr, inl}
+use Rattle.std.proofs.Common.{◌≡◌, ℕ, suc, ◌+◌, ◌<◌, true, List, ◌∷◌, cond, length, drop, get_or, sym, ◌∙◌, ap, subst, arith, inr, inl}
 use Rattle.std.proofs.Math.Seq.{drop-cons}
 use Rattle.mem_files.specs.Name.{Name, Bytes, is_openable}
 use Rattle.mem_files.specs.Files.{FileMap, with_file}

@@ -1,5 +1,5 @@
 -- No command takes a file away.
-use Rattle.std.proofs.Common.{◌≡◌, ◌≢◌, Bool, true, false, cond, List, [], ◌∷◌, Option, Some, None, sym, ◌∙◌}
+use Rattle.std.proofs.Common.{◌≢◌, Bool, true, false, cond, List, [], ◌∷◌, Option, Some, None, sym, ◌∙◌}
 use Rattle.std.specs.Str.{bytes_eq}
 use Rattle.sh_tree.specs.declared.tree.Mode.{Mode}
 use Rattle.sh_tree.specs.declared.tree.Mode.TheVariants.{Input, Fresh, Over}

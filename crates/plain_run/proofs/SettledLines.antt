@@ -1,11 +1,9 @@
 -- Lines one after the other: whether they are settled so far, and the lines that are left are, says whether the whole is.
-use Rattle.std.proofs.Common.{◌≡◌, ◌↔◌, IsTrue, ℕ, ◌+◌, ◌<◌, ◌≤◌, Bool, true, false, not, ◌||◌, ◌&&◌, List, [], ◌∷◌, ◌++◌, length, take, drop, get_or, refl, sym, ap, ap₂, subst, ◌∙◌}
+use Rattle.std.proofs.Common.{◌≡◌, ◌↔◌, IsTrue, ℕ, ◌+◌, ◌<◌, Bool, true, false, not, ◌||◌, ◌&&◌, List, [], ◌∷◌, ◌++◌, length, take, get_or, refl, sym, ap, subst, ◌∙◌}
 use Rattle.std.specs.Prelude.{map}
 use Rattle.std.specs.List.{list_any}
-use Rattle.std.specs.Str.{bytes_eq}
 use Rattle.std.proofs.lemmas.Bool.{false≢true, or_parts, or_from, or_left, or_right, and_from, and_parts}
 use Rattle.std.proofs.lemmas.List.{take_more}
-use Rattle.sh_tree.specs.Tree.{Tree, list, exec}
 use Rattle.mem_files.specs.Name.{Name, Bytes}
 use Rattle.mem_files.specs.Files.{FileMap}
 use Rattle.conflict_check.specs.Clear.{has_back, IsClear}
@@ -16,7 +14,7 @@ use Rattle.script_load.specs.Meaning.{meaning, line_tree, script_tree}
 use Rattle.script_load.specs.Settled.{AreNoneOf, IsSettled}
 use Rattle.plain_run.specs.Gives.{Gives}
 use Rattle.plain_run.specs.Tells.{Tells, is_met}
-use Rattle.plain_run.proofs.Settling.{soft_inside, settled_among, settled_alone, none_of_these, these_pass, not_true, not_both, never_both, either, both_none}
+use Rattle.plain_run.proofs.Settling.{soft_inside, settled_among, settled_alone, none_of_these, these_pass, not_true, not_both, never_both, either}
 
 abbrev pub all_names : {B : _} → List (Line B) → Names
 all_names lines name = names (script_tree (map line_of lines)) name

@@ -1,5 +1,5 @@
 -- When a command is settled among others: no soft name of it is one of theirs.
-use Rattle.std.proofs.Common.{◌≡◌, ◌≢◌, ◌↔◌, IsTrue, not, subst, Bool, true, false, ◌||◌, ◌&&◌, cond, List, [], ◌∷◌, Option, Some, None, refl, sym, ap, ap₂, ◌∙◌, inl, inr, ◌⊎◌}
+use Rattle.std.proofs.Common.{◌≡◌, ◌≢◌, ◌↔◌, IsTrue, not, subst, Bool, true, false, ◌||◌, ◌&&◌, cond, List, [], ◌∷◌, Option, Some, None, refl, sym, ap, ap₂, ◌∙◌}
 use Rattle.std.specs.Prelude.{IfSome}
 use Rattle.std.specs.List.{list_any}
 use Rattle.std.proofs.lemmas.Slice.Eq.{bytes_eq-Decides}
@@ -21,8 +21,8 @@ use Rattle.script_load.specs.Inputs.{found, filter_value}
 use Rattle.script_load.specs.Meaning.{meaning, opened, input_value, output_value, written_value}
 use Rattle.script_load.specs.Programs.{program_value, words_value}
 use Rattle.script_load.specs.Settled.{AreNoneOf, with_name, IsSettled}
-use Rattle.script_load.specs.Tee.{are_openable, tee_value}
-use Rattle.script_load.specs.Value.{Value, nothing, is_cut}
+use Rattle.script_load.specs.Tee.{are_openable}
+use Rattle.script_load.specs.Value.{Value, is_cut}
 use Rattle.script_load.specs.Wc.{wc_line}
 use Rattle.plain_run.specs.Gives.{Gives}
 use Rattle.plain_run.specs.Tells.{Tells, are_apart, with_lost}

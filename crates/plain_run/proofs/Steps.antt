@@ -1,9 +1,9 @@
 -- How the value of a command is made of what its parts gave, and when a limit was passed.
-use Rattle.std.proofs.Common.{◌≡◌, ◌≢◌, ◌<◌, Bool, true, false, List, [], ◌∷◌, ◌++◌, length, drop, refl, sym, ◌∙◌, ap, subst, append_assoc, inl, inr, arith, None}
+use Rattle.std.proofs.Common.{◌≡◌, ◌≢◌, ◌<◌, Bool, true, false, [], ◌++◌, length, refl, sym, ◌∙◌, ap, subst, append_assoc, inl, inr, arith, None}
 use Rattle.std.proofs.lemmas.List.{append-nil, drop_all}
 use Rattle.sh_tree.specs.declared.tree.Mode.{Mode}
 use Rattle.sh_tree.specs.declared.tree.Mode.TheVariants.{Input, Fresh, Over}
-use Rattle.sh_tree.specs.Tree.{Tree, exec, redir, pipe, list, back}
+use Rattle.sh_tree.specs.Tree.{Tree, redir, pipe, list}
 use Rattle.mem_files.specs.Name.{Name, Bytes, is_openable}
 use Rattle.mem_files.specs.Files.{FileMap, with_file, bytes_of}
 use Rattle.mem_files.specs.Listing.{max_size}

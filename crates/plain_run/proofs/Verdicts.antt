@@ -1,19 +1,19 @@
 -- How the verdict of a command is made of those of its parts.
-use Rattle.std.proofs.Common.{◌≡◌, ◌≢◌, Bool, true, false, ◌||◌, ◌&&◌, not, List, [], ◌∷◌, ◌++◌, Option, Some, None, refl, sym, ap, ap₂, subst, ◌∙◌}
+use Rattle.std.proofs.Common.{◌≡◌, ◌≢◌, Bool, true, false, ◌||◌, ◌&&◌, not, List, [], ◌++◌, Some, refl, sym, ap, ap₂, subst, ◌∙◌}
 use Rattle.std.specs.Str.{bytes_eq}
 use Rattle.std.proofs.lemmas.List.Folds.{list_any-append}
 use Rattle.sh_tree.specs.declared.tree.Mode.{Mode}
 use Rattle.sh_tree.specs.declared.tree.Mode.TheVariants.{Input, Fresh, Over}
-use Rattle.sh_tree.specs.Tree.{Tree, exec, redir, pipe, list, back}
+use Rattle.sh_tree.specs.Tree.{Tree, redir, pipe, list}
 use Rattle.mem_files.specs.Name.{Name, Bytes, is_openable}
 use Rattle.mem_files.specs.Files.{FileMap}
-use Rattle.conflict_check.specs.Names.{among, names, writes, uses_input}
+use Rattle.conflict_check.specs.Names.{among, writes, uses_input}
 use Rattle.conflict_check.specs.Occurrences.{written}
 use Rattle.conflict_check.specs.Program.{is_empty}
 use Rattle.conflict_check.proofs.Listed.{writes_listed}
 use Rattle.script_load.specs.Inputs.{found}
-use Rattle.script_load.specs.Meaning.{meaning, opened, input_value, output_value, written_value}
-use Rattle.script_load.specs.Value.{Value, is_cut, from_value}
+use Rattle.script_load.specs.Meaning.{meaning, opened, input_value, written_value}
+use Rattle.script_load.specs.Value.{is_cut}
 use Rattle.plain_run.specs.Gives.{Gives}
 use Rattle.plain_run.specs.Tells.{Tells, with_lost}
 use Rattle.plain_run.proofs.Steps.{output_is}

@@ -1,5 +1,5 @@
 -- What a run of something did, and which faults are due.
-use Rattle.std.specs.Prelude.{◌≡◌, List, ◌++◌}
+use Rattle.std.specs.Prelude.{◌≡◌, ◌++◌}
 use Rattle.mem_files.specs.Name.{Bytes}
 use Rattle.mem_files.specs.Files.{FileMap}
 use Rattle.script_load.specs.Value.{Value}

@@ -1,5 +1,5 @@
 -- What a verdict says of a value, and how verdicts come together.
-use Rattle.std.specs.Prelude.{◌≡◌, Bool, not, ◌&&◌, List, ℕ, ◌++◌, if◌then◌else◌}
+use Rattle.std.specs.Prelude.{◌≡◌, Bool, not, ◌&&◌, List, ◌++◌, if◌then◌else◌}
 use Rattle.std.specs.List.{list_any}
 use Rattle.sh_tree.specs.Tree.{Tree}
 use Rattle.mem_files.specs.Name.{Name}

@@ -15,12 +15,12 @@ const MIB: usize = 1 << 20;
 
 const BLOCK: usize = 512;
 
-const ROUNDS: u32 = 5;
+const ROUNDS: u32 = 3;
 
 // More calls than a program makes that is given a MiB byte by byte.
 const MOST_CALLS: u64 = 1 << 22;
 
-const TWINS: u32 = 1 << 18;
+const TWINS: u32 = 1 << 16;
 
 // A ring of so many machines is filled with twins.
 const RING: usize = 8;

@@ -354,7 +354,14 @@ fn early_readers_change_no_output(rt: HostRuntime) -> Result<(), Fail> {
     expect(&rt, script, &given, "0123456789ab\nc\n", &whole)?;
     let counted = "0123456789ab\n4 4 14 p\n";
     expect(&rt, "cat < big | head -1; wc p", &given, counted, &[])?;
-    expect_on(&rt, big.as_str(), "cat | head -1\nwc p", &given, counted, "")?;
+    expect_on(
+        &rt,
+        big.as_str(),
+        "cat | head -1\nwc p",
+        &given,
+        counted,
+        "",
+    )?;
     Ok(())
 }
 

@@ -1,4 +1,4 @@
-use Rattle.std.proofs.Common.{sym, arith, length, drop}
+use Rattle.std.proofs.Common.{sym, arith, drop}
 use Rattle.std.proofs.lemmas.List.{drop_all, take_all, length-drop}
 use Rattle.plain_run.proofs.grep.after_buffer.Goals as goal
 

@@ -1,5 +1,4 @@
-use Rattle.std.proofs.Common.{◌∙◌, sym, ap, ◌++◌, ◌∷◌, [], length, arith}
-use Rattle.std.proofs.lemmas.List.{length-append}
+use Rattle.std.proofs.Common.{◌∙◌, sym, ap, ◌++◌, ◌∷◌, []}
 use Rattle.plain_run.proofs.Ended.{on_match, on_other, on_line, at_end, out_none, untested_none, out_stop, untested_stop}
 use Rattle.script_load.specs.Grep.{grep_out, untested}
 use Rattle.plain_run.proofs.grep.grep_lines.Goals as goal

@@ -1,4 +1,4 @@
-use Rattle.std.proofs.Common.{◌≡◌, ◌↔◌, ◌<◌, ◌+◌, false, length, drop, get_or, ap, arith, sym, subst}
+use Rattle.std.proofs.Common.{◌≡◌, ◌↔◌, ◌<◌, ◌+◌, false, length, drop, get_or, ap, arith, subst}
 use Rattle.std.specs.Prelude.{map}
 use Rattle.conflict_check.specs.Clear.{has_back, IsClear}
 use Rattle.script_load.specs.Line.{line_of}

@@ -1,4 +1,4 @@
-use Rattle.std.proofs.Common.{◌≡◌, ◌||◌, ap, sym, ◌∙◌}
+use Rattle.std.proofs.Common.{◌||◌, ap, sym, ◌∙◌}
 use Rattle.plain_run.proofs.line_verdicts.with_line.Goals.{then-so_far, else-so_far}
 use Rattle.plain_run.proofs.line_verdicts.with_line.Goals as goal
 

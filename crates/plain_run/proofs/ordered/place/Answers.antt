@@ -1,8 +1,5 @@
 -- The place is among the names, behind each that the name is above, and before each other.
-use Rattle.std.proofs.Common.{◌≡◌, ap, sym, ◌∙◌, arith, get_or, false, true, Bool}
-use Rattle.std.specs.declared.cmp.Ordering.{Ordering}
-use Rattle.std.specs.Ordering.{is_gt}
-use Rattle.mem_files.specs.Name.{Name, name_cmp}
+use Rattle.std.proofs.Common.{arith}
 use Rattle.plain_run.proofs.Places.{place_within, place_upto, place_above, compared}
 use Rattle.plain_run.proofs.ordered.place.Goals as goal
 

@@ -1,7 +1,7 @@
 -- Each arm's value is made of what its parts gave, and each fault that a part told is due.
 use Rattle.std.proofs.Common.{◌≡◌, ◌≢◌, ◌<◌, ◌↔◌, IsTrue, not, ap₂, true, ap, sym, ◌∙◌, subst, rules, Ok, Some, ◌||◌, ◌&&◌, ◌++◌, [], length}
 use Rattle.std.specs.Prelude.{option_copied}
-use Rattle.std.proofs.lemmas.Result.{err_from_is_err_and, IfErr-weaker, IfOk-weaker}
+use Rattle.std.proofs.lemmas.Result.{err_from_is_err_and}
 use Rattle.sh_tree.specs.declared.tree.Mode.TheVariants.{Input}
 use Rattle.sh_tree.specs.Tree.{redir, pipe, list, tree_of}
 use Rattle.mem_files.specs.Name.{is_openable}

@@ -1,5 +1,5 @@
 -- The soft names are those of the run, in order.
-use Rattle.std.proofs.Common.{◌≡◌, ◌↔◌, IsTrue, false, true, subst, ap, sym, ◌∙◌, rules, List, ℕ}
+use Rattle.std.proofs.Common.{◌≡◌, ◌↔◌, IsTrue, false, subst, ap, sym, ◌∙◌, rules, List, ℕ}
 use Rattle.mem_files.specs.Files.{files}
 use Rattle.conflict_check.specs.Names.{among}
 use Rattle.script_load.specs.Line.{lines_of}

@@ -1,4 +1,4 @@
-use Rattle.std.proofs.Common.{ap₂, ◌≡◌, ◌↔◌, IsTrue, ◌||◌, ◌&&◌, not, ◌∙◌, get_or, ◌<◌, ◌+◌, length, drop, take, ap, arith, sym, subst}
+use Rattle.std.proofs.Common.{ap₂, ◌≡◌, ◌↔◌, IsTrue, ◌||◌, ◌&&◌, not, ◌∙◌, get_or, ◌<◌, ◌+◌, length, drop, take, ap, arith, subst}
 use Rattle.std.specs.Prelude.{map}
 use Rattle.std.proofs.lemmas.Result.{err_from_is_err_and}
 use Rattle.mem_files.specs.Files.{files}

@@ -1,4 +1,4 @@
-use Rattle.std.proofs.Common.{◌≡◌, drop, take}
+use Rattle.std.proofs.Common.{drop, take}
 use Rattle.std.specs.Prelude.{map}
 use Rattle.mem_files.specs.Files.{files}
 use Rattle.script_load.specs.Line.{line_of}
