@@ -2,8 +2,7 @@ ghost use Rattle.std.specs.Prelude.{◌≡◌, ◌≢◌, ◌↔◌, ℕ, List, 
 ghost use Rattle.std.specs.Io.KnownBytes.{Appends};
 ghost use Rattle.script_load.specs.Line.{lines_of};
 ghost use Rattle.xvsh.specs.Check.{AreTold, AreHarmless};
-ghost use Rattle.xvsh.specs.Drive.{WritesMeaning, RanCheck, verdict_text};
-ghost use Rattle.xvsh.specs.Running.{IsScriptAtFault};
+ghost use Rattle.xvsh.specs.Drive.{WritesMeaning, RanCheck, IsTellFault, IsCheckFault, verdict_text};
 ghost use Rattle.xvsh.specs.Status.{status_of};
 
 use crate::checking::check;
@@ -26,6 +25,8 @@ fn check_script<'a, W: Write>(
     ensures told { OnOk result ((text : List ℕ) × AreTold 1 (lines_of script.now.lines) text
         × Appends (W.contents out.old) (W.contents out.new) text) }
     ensures harmless { IfOk result (λ is. IsTrue is ↔ AreHarmless (lines_of script.now.lines)) }
+    ensures fault { IfErr result IsTellFault }
+    ensures refusal { IfErr result (λ fault. fault ≢ Fault.Unwritten → out.new ≡ out.old) }
 {
     let checked = check(alloc, script)?;
     write(out, checked.text.as_slice())?;
@@ -40,6 +41,8 @@ fn run_check<'a, H: Host, W: Write>(
     out: &mut W,
 ) -> Result<bool, Fault<'a>>
     ensures ran { IfOk result (λ is. RanCheck (H.input host.old) (H.file host.old) script.now is (W.contents out.old) (W.contents out.new)) }
+    ensures fault { IfErr result (IsCheckFault (H.input host.old) (H.file host.old) script.now) }
+    ensures refusal { IfErr result (λ fault. fault ≢ Fault.Unwritten → out.new ≡ out.old) }
 {
     let bytes = read(alloc, host, script)?;
     let loaded = load(alloc, bytes.as_slice())?;
@@ -82,7 +85,10 @@ fn run_command<'a, H: Host, W: Write, E: Write>(
     host: &mut H,
     out: &mut W,
     err: &mut E,
-) -> Result<u8, Fault<'a>> {
+) -> Result<u8, Fault<'a>>
+    ensures refusal { IfErr result (λ fault. fault ≢ Fault.Unwritten → out.new ≡ out.old) }
+    ensures status { IfOk result (λ status. status ≢ 0 → status ≢ 3 → out.new ≡ out.old) }
+{
     if let Some(plain) = matches.subcommand_matches("plain") {
         let script = plain.get_str("script").unwrap_or(STDIN);
         let paths = plain.get_strs("paths").unwrap_or(&[]);
@@ -104,7 +110,9 @@ fn run_words<H: Host, W: Write, E: Write>(
     host: &mut H,
     out: &mut W,
     err: &mut E,
-) -> u8 {
+) -> u8
+    ensures nothing_written { result ≢ 0 → result ≢ 1 → result ≢ 3 → out.new ≡ out.old }
+{
     let Ok(command) = command_line(alloc) else {
         return tell(Fault::Memory, err);
     };
@@ -150,7 +158,7 @@ pub fn drive<H: Host, W: Write, E: Write>(
     err: &mut E,
 ) -> u8
     ensures meaning { words.items ≡ [] → result ≡ 0 → WritesMeaning (H.input host.old) (W.contents out.old) (W.contents out.new) }
-    ensures nothing_written { words.items ≡ [] → result ≢ 0 → result ≢ 1 → out.new ≡ out.old }
+    ensures nothing_written { result ≢ 0 → result ≢ 1 → result ≢ 3 → out.new ≡ out.old }
 {
     if !words.is_empty() {
         return run_words(alloc, words.as_slice(), host, out, err);
