@@ -4,6 +4,7 @@
 
 mod clashes;
 mod conflict;
+mod head;
 pub mod laws;
 mod program;
 mod questions;
@@ -11,5 +12,6 @@ mod simple;
 
 pub use clashes::clash;
 pub use conflict::{Clash, ClashKind};
+pub use head::{has_wrong_option, head_files, is_count};
 pub use program::Program;
 pub use questions::{has_back, names_it, reads_it, uses_input, writes_it};

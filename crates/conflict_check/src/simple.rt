@@ -1,68 +1,13 @@
 //! Simple commands: the words that name files, and what their programs do.
 ghost use Rattle.std.specs.Prelude.{◌≡◌};
-ghost use Rattle.std.specs.List.{list_all};
 ghost use Rattle.conflict_check.specs.Names.{among, words_use_input};
 ghost use Rattle.conflict_check.specs.Occurrences.{words_files, words_files_read, words_files_written};
-ghost use Rattle.conflict_check.specs.Program.{are_count_digits, file_words, has_wrong_option, head_files, is_count, is_digit, is_option, program_uses_input};
+ghost use Rattle.conflict_check.specs.Program.{file_words, program_uses_input};
 
+use crate::head::{has_wrong_option, head_files};
 use crate::program::Program;
 use sh_lexer::Bytes;
 use std::alloc::Allocator;
-
-fn is_option(argument: &[u8]) -> bool
-    ensures { result ≡ is_option argument.now }
-{
-    argument.first() == Some(&b'-')
-}
-
-fn is_digit(byte: u8) -> bool
-    ensures { result ≡ is_digit byte }
-{
-    byte.is_ascii_digit()
-}
-
-fn are_digits(bytes: &[u8]) -> bool
-    ensures { result ≡ list_all is_digit bytes.now }
-{
-    bytes.iter().all(|byte| is_digit(*byte))
-}
-
-// One to nine digits.
-fn are_count_digits(digits: &[u8]) -> bool
-    ensures { result ≡ are_count_digits digits.now }
-{
-    1 <= digits.len() && digits.len() <= 9 && are_digits(digits)
-}
-
-// head's count: `-` and one to nine digits.
-fn is_count(argument: &[u8]) -> bool
-    ensures { result ≡ is_count argument.now }
-{
-    match argument.split_first() {
-        Some((byte, digits)) => *byte == b'-' && are_count_digits(digits),
-        None => false,
-    }
-}
-
-// head was given a first argument that begins with `-` and is no count.
-fn has_wrong_option<A: Allocator>(arguments: &[Bytes<A>]) -> bool
-    ensures { result ≡ has_wrong_option arguments.now }
-{
-    match arguments.first() {
-        Some(first) => is_option(first.as_slice()) && !is_count(first.as_slice()),
-        None => false,
-    }
-}
-
-fn head_files<A: Allocator>(arguments: &[Bytes<A>]) -> &[Bytes<A>]
-    ensures { result.now ≡ head_files arguments.now }
-{
-    match arguments.split_first() {
-        Some((first, later)) if is_count(first.as_slice()) => later,
-        Some((first, _)) if is_option(first.as_slice()) => &[],
-        _ => arguments,
-    }
-}
 
 // The arguments of a program that name files.
 fn file_arguments<A: Allocator>(program: Program, arguments: &[Bytes<A>]) -> &[Bytes<A>]

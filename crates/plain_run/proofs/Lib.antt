@@ -1,7 +1,3 @@
-pub mod Ended
-pub mod Filling
-pub mod Full
-pub mod HeadCount
 pub mod Kept
 pub mod Lines
 pub mod Places
@@ -9,4 +5,3 @@ pub mod SettledLines
 pub mod Settling
 pub mod Steps
 pub mod Verdicts
-pub mod Zeros

@@ -12,7 +12,7 @@ use Rattle.script_load.specs.declared.line.Line.{Line}
 use Rattle.script_load.specs.Line.{ScriptLine, line_of}
 use Rattle.script_load.specs.Meaning.{meaning, line_tree, script_tree}
 use Rattle.script_load.specs.Settled.{AreNoneOf, IsSettled}
-use Rattle.plain_run.specs.Gives.{Gives}
+use Rattle.plain_progs.specs.Gives.{Gives}
 use Rattle.plain_run.specs.Tells.{Tells, is_met}
 use Rattle.plain_run.proofs.Settling.{soft_inside, settled_among, settled_alone, none_of_these, these_pass, not_true, not_both, never_both, either}
 

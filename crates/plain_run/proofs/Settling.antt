@@ -24,7 +24,7 @@ use Rattle.script_load.specs.Settled.{AreNoneOf, with_name, IsSettled}
 use Rattle.script_load.specs.Tee.{are_openable}
 use Rattle.script_load.specs.Value.{Value, is_cut}
 use Rattle.script_load.specs.Wc.{wc_line}
-use Rattle.plain_run.specs.Gives.{Gives}
+use Rattle.plain_progs.specs.Gives.{Gives}
 use Rattle.plain_run.specs.Tells.{Tells, are_apart, with_lost}
 use Rattle.plain_run.proofs.Verdicts.{among_lost}
 

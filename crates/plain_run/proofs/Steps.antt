@@ -11,9 +11,9 @@ use Rattle.mem_files.specs.Overlay.{overlay}
 use Rattle.script_load.specs.Limits.{OnOpened, Outgrows, HasNoRoom}
 use Rattle.script_load.specs.Meaning.{meaning, opened, at_end, output_value, written_value}
 use Rattle.script_load.specs.Value.{Value}
-use Rattle.plain_run.specs.declared.fault.PlainFault.{PlainFault}
-use Rattle.plain_run.specs.declared.fault.PlainFault.TheVariants.{TooLarge, Memory}
-use Rattle.plain_run.specs.Gives.{Gives, IsDue}
+use Rattle.plain_progs.specs.declared.fault.PlainFault.{PlainFault}
+use Rattle.plain_progs.specs.declared.fault.PlainFault.TheVariants.{TooLarge, Memory}
+use Rattle.plain_progs.specs.Gives.{Gives, IsDue}
 use Rattle.plain_run.specs.Held.{held}
 use Rattle.plain_run.proofs.Kept.{meaning_keeps, opened_is_there}
 

@@ -14,7 +14,7 @@ use Rattle.conflict_check.proofs.Listed.{writes_listed}
 use Rattle.script_load.specs.Inputs.{found}
 use Rattle.script_load.specs.Meaning.{meaning, opened, input_value, written_value}
 use Rattle.script_load.specs.Value.{is_cut}
-use Rattle.plain_run.specs.Gives.{Gives}
+use Rattle.plain_progs.specs.Gives.{Gives}
 use Rattle.plain_run.specs.Tells.{Tells, with_lost}
 use Rattle.plain_run.proofs.Steps.{output_is}
 

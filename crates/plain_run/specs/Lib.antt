@@ -1,4 +1,3 @@
-pub mod Gives
 pub mod Held
 pub mod Place
 pub mod Tells

@@ -10,7 +10,7 @@ use Rattle.proc_table.specs.declared.states.Status.{Status}
 use Rattle.proc_table.specs.declared.states.Status.TheVariants.{Zombie}
 use Rattle.proc_table.specs.Slots.{Slot, Table, at, is_free, is_number, is_child_of, is_zombie, is_zombie_child_of, parent_of}
 use Rattle.proc_table.specs.Calls.{with_status, woken, all_woken, given, parent_after, buried, exited, zombie_child, woken_by_exit, lowest_free, forked, newborn, freed, reaped}
-use Rattle.proc_table.proofs.Found.{position_found}
+use Rattle.fd_table.proofs.Lists.{position_found}
 
 -- a slot that was written from what it held; where there is none it stays free
 pub written : {S : Type 0} (f : Slot S → Slot S) (free : f None ≡ None) (t : Table S) (pid : ℕ) → at (set t pid (f (at t pid))) pid ≡ f (at t pid)

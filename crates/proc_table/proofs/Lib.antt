@@ -1,4 +1,3 @@
 mod InPlace
-mod Found
 mod Changes
 mod Counts

@@ -13,6 +13,11 @@ words_after inside [] = 0
 words_after inside (byte ∷ bytes) =
     (if not inside && not (is_white byte) then 1 else 0) + words_after (not (is_white byte)) bytes
 
+-- whether the bytes end inside a word, after a byte that is of a word or is not
+abbrev pub ends_inside : Bool → Bytes → Bool
+ends_inside inside [] = inside
+ends_inside inside (byte ∷ bytes) = ends_inside (not (is_white byte)) bytes
+
 -- the longest runs of bytes that are not white space
 abbrev pub words : Bytes → ℕ
 words bytes = words_after false bytes

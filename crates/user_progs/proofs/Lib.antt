@@ -2,9 +2,6 @@ mod Blocks
 mod Giving
 mod Teeing
 mod Buffer
-mod Counts
-pub mod Ended
-mod Zeros
 pub mod Work
 pub mod Counting
 pub mod Search

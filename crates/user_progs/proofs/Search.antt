@@ -14,7 +14,7 @@ use Rattle.user_calls.specs.declared.block.TheConstants.{BLOCK_SIZE}
 use Rattle.user_progs.specs.State.{searching, grep_reads}
 use Rattle.user_progs.specs.Turn.{Step, reads, finishes, block, grep_lines, grep_goes_on, grep_got}
 use Rattle.user_progs.specs.Alone.{Takes}
-use Rattle.user_progs.proofs.Ended.{tested_none, tested_one, out_line, out_other, untested_line}
+use Rattle.prog_parts.proofs.Ended.{tested_none, tested_one, out_line, out_other, untested_line}
 use Rattle.user_progs.proofs.Buffer.{at_match, at_other}
 use Rattle.user_progs.proofs.Work.{Kept, left_over}
 

@@ -1,5 +1,5 @@
 -- What a program does with a reply: the call that it makes, and the state in which it waits for the reply to that.
-use Rattle.std.specs.Prelude.{ℕ, zero, suc, ◌+◌, ◌-◌, ◌==◌, nat_lt, nat_le, Bool, true, false, not, List, [], ◌∷◌, ◌++◌, length, take, drop, slice_index_or, Option, Some, None, if◌then◌else◌, codes}
+use Rattle.std.specs.Prelude.{ℕ, zero, suc, ◌+◌, ◌-◌, ◌==◌, nat_lt, nat_le, Bool, true, false, List, [], ◌∷◌, ◌++◌, length, take, drop, slice_index_or, Option, Some, None, if◌then◌else◌, codes}
 use Rattle.std.specs.Fmt.{decimal}
 use Rattle.mem_files.specs.Name.{Name, Bytes}
 use Rattle.conflict_check.specs.declared.program.Program.{Program}
@@ -11,11 +11,10 @@ use Rattle.user_calls.specs.declared.calls.Call.{Call}
 use Rattle.user_calls.specs.declared.calls.Call.TheVariants.{Exit, Read, Write, OpenFile, Close}
 use Rattle.user_calls.specs.declared.calls.Reply.{Reply}
 use Rattle.user_calls.specs.declared.calls.Reply.TheVariants.{Start, Child, Done, Bytes as Bytes', Fd, Ends, Refused}
-use Rattle.sh_lexer.specs.Tokens.{is_white}
 use Rattle.grep_match.specs.Match.{matches}
 use Rattle.script_load.specs.Grep.{tested}
 use Rattle.script_load.specs.Head.{line_count}
-use Rattle.script_load.specs.Wc.{line_ends, words_after, capped}
+use Rattle.script_load.specs.Wc.{line_ends, words_after, ends_inside, capped}
 use Rattle.user_progs.specs.State.{Filter, copying, heading, counting, searching, Source, standard, file, Work, cat_reads, cat_writes, head_reads, head_writes, wc_reads, wc_writes, grep_reads, grep_writes, Tee, tee_opens, tee_reads, tee_writes, tee_gives, State, begins, echo_word, echo_space, opens, works, closes, tees, told, ended}
 
 pub record Turn : Type 0 where
@@ -140,10 +139,6 @@ head_wrote lines left true = head_goes_on lines left
 head_wrote lines left false = fails (codes "head: write error\n")
 
 -- wc (user/wc.c)
-abbrev pub ends_inside : Bool → Bytes → Bool
-ends_inside inside [] = inside
-ends_inside inside (byte ∷ bytes) = ends_inside (not (is_white byte)) bytes
-
 abbrev pub counts_line : ℕ → ℕ → ℕ → Name → Bytes
 counts_line lines words count name = decimal lines ++ 32 ∷ (decimal words ++ 32 ∷ (decimal count ++ 32 ∷ (name ++ 10 ∷ [])))
 

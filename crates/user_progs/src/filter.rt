@@ -7,6 +7,7 @@ ghost use Rattle.user_progs.specs.View.{turn_of, step_of, filter_of_code, work_o
 
 use crate::state::{At, Filter, Source, Step, Turn, Work};
 use crate::{cat, grep, head, wc};
+use prog_parts::BUFFER;
 use sh_lexer::Bytes;
 use std::alloc::Allocator;
 use user_calls::{Block, Call, Mode, Reply};
@@ -112,10 +113,7 @@ fn first_step<'t>(filter: Filter<'t>) -> Step<'t>
         Filter::Copying => Step::Reads(cat::CHUNK, Work::CatReads),
         Filter::Heading(lines) => head::goes_on(lines, lines),
         Filter::Counting => Step::Reads(cat::CHUNK, Work::WcReads(wc::NOTHING)),
-        Filter::Searching(pattern) => Step::Reads(
-            grep::BUFFER,
-            Work::GrepReads(pattern, Block::new()),
-        ),
+        Filter::Searching(pattern) => Step::Reads(BUFFER, Work::GrepReads(pattern, Block::new())),
     }
 }
 

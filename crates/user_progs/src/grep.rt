@@ -1,46 +1,17 @@
 //! `user/grep.c`: the lines of each input that match the pattern. Its buffer of 1,024 bytes holds at most 1,023.
 
-ghost use Rattle.std.specs.Prelude.{◌≡◌, ◌==◌, ◌≤◌, ◌++◌, ◌∷◌, length, IfSome, IfNone};
+ghost use Rattle.std.specs.Prelude.{◌≡◌, ◌≤◌, length};
 ghost use Rattle.user_calls.specs.declared.block.TheConstants.{BLOCK_SIZE};
-ghost use Rattle.std.specs.List.{list_any};
-ghost use Rattle.script_load.specs.Lines.{HasNoLf};
-ghost use Rattle.script_load.specs.Grep.{is_whole as whole};
 ghost use Rattle.user_progs.specs.Turn.{grep_got, grep_goes_on, grep_keeps, begins_grep, bytes_in};
 ghost use Rattle.user_progs.specs.View.{step_of, turn_of};
 
 use crate::filter;
 use crate::state::{Filter, Step, Turn, Work};
 use grep_match::is_match;
-use memchr::memchr;
+use prog_parts::{BUFFER, is_whole, split_line};
 use sh_lexer::Bytes;
 use std::alloc::Allocator;
 use user_calls::{Block, Reply};
-
-// The most bytes that are held of a line with its LF.
-pub const BUFFER: usize = 1023;
-
-fn has_zero(line: &[u8]) -> bool
-    ensures { result ≡ list_any (λ byte. byte == 0) line.now }
-{
-    memchr(0, line).is_some()
-}
-
-// A line that the buffer holds with its LF, and that has no byte 0.
-fn is_whole(line: &[u8]) -> bool
-    ensures { result ≡ whole line.now }
-{
-    line.len() < BUFFER && !has_zero(line)
-}
-
-// The first line that ends in LF, without it, and what follows it.
-fn split_line(bytes: &[u8]) -> Option<(&[u8], &[u8])>
-    ensures none { IfNone result (HasNoLf bytes.now) }
-    ensures line { IfSome result (λ cut. HasNoLf cut.0.now) }
-    ensures some { IfSome result (λ cut. bytes.now ≡ cut.0.now ++ 10 ∷ cut.1.now) }
-{
-    let end = memchr(b'\n', bytes)?;
-    Some((&bytes[..end], &bytes[end + 1..]))
-}
 
 // Keeps these bytes, in which there is no line to test.
 fn keeps<'t>(pattern: &'t [u8], kept: &[u8]) -> Step<'t>

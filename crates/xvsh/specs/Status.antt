@@ -5,8 +5,8 @@ use Rattle.mem_files.specs.declared.fault.FilesFault.{FilesFault}
 use Rattle.mem_files.specs.declared.fault.FilesFault.TheVariants.{BadName as files_name, Missing as files_missing, FullFiles as files_full, FullSize as files_size, Memory as files_memory, Gap as files_gap}
 use Rattle.script_load.specs.declared.fault.LoadFault.{LoadFault}
 use Rattle.script_load.specs.declared.fault.LoadFault.TheVariants.{LineTooLong as load_long, ByteZero as load_zero, Memory as load_memory}
-use Rattle.plain_run.specs.declared.fault.PlainFault.{PlainFault}
-use Rattle.plain_run.specs.declared.fault.PlainFault.TheVariants.{TooLarge as plain_large, Memory as plain_memory}
+use Rattle.plain_progs.specs.declared.fault.PlainFault.{PlainFault}
+use Rattle.plain_progs.specs.declared.fault.PlainFault.TheVariants.{TooLarge as plain_large, Memory as plain_memory}
 use Rattle.xvsh.specs.declared.host.HostFault.{HostFault}
 use Rattle.xvsh.specs.declared.host.HostFault.TheVariants.{Unreadable as host_unreadable, TooLong as host_long, Memory as host_memory}
 use Rattle.xvsh.specs.declared.fault.Fault.{Fault}

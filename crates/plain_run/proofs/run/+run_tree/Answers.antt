@@ -13,7 +13,7 @@ use Rattle.script_load.specs.Inputs.{found}
 use Rattle.script_load.specs.Limits.{Outgrows}
 use Rattle.script_load.specs.Meaning.{meaning}
 use Rattle.script_load.specs.Settled.{IsSettled}
-use Rattle.plain_run.specs.Gives.{Gives, IsDue}
+use Rattle.plain_progs.specs.Gives.{Gives, IsDue}
 use Rattle.plain_run.specs.Tells.{Tells, are_apart, with_lost}
 use Rattle.plain_run.proofs.Settling.{into_settled, from_settled, list_is_settled, pipe_is_settled}
 use Rattle.plain_run.proofs.Steps.{due_right, due_later, list_gives, pipe_gives, still_there, into_gives, due_body, due_end}

@@ -7,7 +7,7 @@ use Rattle.script_load.specs.Settled.{IsSettled}
 use Rattle.script_load.specs.Limits.{Outgrows}
 use Rattle.script_load.specs.Line.{line_of}
 use Rattle.script_load.specs.Meaning.{meaning, line_tree}
-use Rattle.plain_run.specs.Gives.{Gives, IsDue}
+use Rattle.plain_progs.specs.Gives.{Gives, IsDue}
 use Rattle.plain_run.specs.Tells.{Tells, is_met}
 use Rattle.plain_run.proofs.Lines.{IsRunTo, IsToldTo, told_none, told_one, told_all, run_none, run_one, line_due, run_all, next_line, no_line}
 use Rattle.plain_run.proofs.SettledLines.{IsSettledTo, all_names, settled_none, settled_one, settled_all, apart_lines, meet_lines, more_names}

@@ -1,0 +1,3 @@
+pub mod Filling
+pub mod Full
+pub mod Prefixes

@@ -1,6 +1,0 @@
-use Rattle.std.proofs.Common.{◌∙◌}
-use Rattle.plain_run.proofs.Zeros.{zero_test}
-use Rattle.plain_run.proofs.grep.has_zero.Goals as goal
-
-pub returns : goal.returns
-returns c = c.is_some.ensures ∙ zero_test c.args.line.now c.memchr.result c.memchr.ensures

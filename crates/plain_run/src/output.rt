@@ -1,0 +1,101 @@
+//! The file of a redirection for writing: opened, and closed with what was written.
+ghost use Rattle.std.specs.Prelude.{◌≡◌, ◌≢◌, ◌<◌, true, false, Ok, None, [], length, IfOk, IfErr, OnOk};
+ghost use Rattle.sh_tree.specs.declared.tree.Mode.TheVariants.{Input};
+ghost use Rattle.mem_files.specs.Name.{is_openable};
+ghost use Rattle.mem_files.specs.Files.{files, with_file};
+ghost use Rattle.mem_files.specs.Listing.{max_size};
+ghost use Rattle.mem_files.specs.Overlay.{overlay};
+ghost use Rattle.script_load.specs.Limits.{HasNoRoom};
+ghost use Rattle.script_load.specs.Meaning.{opened};
+ghost use Rattle.plain_progs.specs.Gives.{IsDue};
+ghost use Rattle.plain_run.specs.Held.{held};
+
+use mem_files::{Files, FilesFault};
+use plain_progs::{PlainFault, give};
+use sh_tree::Mode;
+use std::alloc::{AllocError, Allocator};
+
+// What a file holds that a redirection leaves in place: under `>>` all that it holds, else nothing.
+pub fn held_bytes<A: Allocator + Copy>(
+    alloc: A,
+    mode: Mode,
+    store: &Files<A>,
+    name: &[u8],
+) -> Result<Vec<u8, A>, AllocError>
+    ensures { IfOk result (λ bytes. bytes.items ≡ held mode (files store.now) name.now) }
+{
+    match (mode, store.get(name)) {
+        (Mode::Over, Some(bytes)) => bytes.to_vec(alloc),
+        _ => Ok(Vec::new(alloc)),
+    }
+}
+
+// Opens a file for writing; false where its name can't be opened, and then nothing changes.
+pub fn open_output<A: Allocator + Copy>(
+    mode: Mode,
+    store: &mut Files<A>,
+    name: &[u8],
+) -> Result<bool, PlainFault>
+    requires { mode ≢ Input }
+    ensures answer { IfOk result (λ is_open. is_open ≡ is_openable name.now) }
+    ensures opened { result ≡ Ok true → files store.new ≡ opened mode name.now (files store.old) }
+    ensures refused { result ≡ Ok false → store.new ≡ store.old }
+    ensures openable { IfErr result (IsDue (is_openable name.now ≡ true)) }
+    ensures full { IfErr result (IsDue (HasNoRoom (files store.old) name.now)) }
+{
+    if mode == Mode::Over {
+        open_kept(store, name)
+    } else {
+        open_emptied(store, name)
+    }
+}
+
+// Under `>>` a file is made where it is missing.
+fn open_kept<A: Allocator + Copy>(store: &mut Files<A>, name: &[u8]) -> Result<bool, PlainFault>
+    ensures answer { IfOk result (λ is_open. is_open ≡ is_openable name.now) }
+    ensures opened { result ≡ Ok true → files store.new ≡ opened Mode.Over name.now (files store.old) }
+    ensures refused { result ≡ Ok false → store.new ≡ store.old }
+    ensures openable { IfErr result (IsDue (is_openable name.now ≡ true)) }
+    ensures full { IfErr result (IsDue (HasNoRoom (files store.old) name.now)) }
+{
+    let _ = store.count();
+    match store.create(name) {
+        Ok(()) => Ok(true),
+        Err(FilesFault::BadName) => Ok(false),
+        Err(FilesFault::FullFiles) => Err(PlainFault::TooLarge),
+        Err(_) => Err(PlainFault::Memory),
+    }
+}
+
+// Under `>` it is empty then.
+fn open_emptied<A: Allocator + Copy>(store: &mut Files<A>, name: &[u8]) -> Result<bool, PlainFault>
+    ensures answer { IfOk result (λ is_open. is_open ≡ is_openable name.now) }
+    ensures opened { result ≡ Ok true → files store.new ≡ opened Mode.Fresh name.now (files store.old) }
+    ensures refused { result ≡ Ok false → store.new ≡ store.old }
+    ensures openable { IfErr result (IsDue (is_openable name.now ≡ true)) }
+    ensures full { IfErr result (IsDue (HasNoRoom (files store.old) name.now)) }
+{
+    give(store, name, &[])
+}
+
+// Gives a file that was opened for writing what was written to it, over what it held.
+pub fn close_output<A: Allocator + Copy>(
+    store: &mut Files<A>,
+    name: &[u8],
+    mut written: Vec<u8, A>,
+    held: &[u8],
+) -> Result<(), PlainFault>
+    requires openable { is_openable name.now ≡ true }
+    requires present { files store.old name.now ≢ None }
+    ensures closed { OnOk result (files store.new ≡ with_file (files store.old) name.now (overlay written.items held.now)) }
+    ensures large { IfErr result (IsDue (max_size < length (overlay written.items held.now))) }
+{
+    if written.len() < held.len() {
+        written.extend_from_slice(&held[written.len()..])?;
+    }
+    match store.put(name, written.as_slice()) {
+        Ok(()) => Ok(()),
+        Err(FilesFault::FullSize) => Err(PlainFault::TooLarge),
+        Err(_) => Err(PlainFault::Memory),
+    }
+}

@@ -1,6 +1,0 @@
-use Rattle.std.proofs.Common.{◌∙◌}
-use Rattle.user_progs.proofs.Zeros.{zero_test}
-use Rattle.user_progs.proofs.grep.has_zero.Goals as goal
-
-pub returns : goal.returns
-returns c = c.is_some.ensures ∙ zero_test c.args.line.now c.memchr.result c.memchr.ensures
