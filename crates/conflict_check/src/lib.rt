@@ -15,3 +15,4 @@ pub use conflict::{Clash, ClashKind};
 pub use head::{has_wrong_option, head_files, is_count};
 pub use program::Program;
 pub use questions::{has_back, names_it, reads_it, uses_input, writes_it};
+pub use simple::{file_words, words_written};

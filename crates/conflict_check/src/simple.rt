@@ -36,7 +36,8 @@ fn program_uses_input<A: Allocator>(program: Program, arguments: &[Bytes<A>]) ->
     }
 }
 
-// The words of a simple command that name files.
+/// The words of a simple command that name files, by its program and the text: all arguments of `cat`,
+/// `tee` and `wc`, those of `grep` behind its pattern, and those of `head` that [`head_files`] gives (own).
 pub fn file_words<A: Allocator>(words: &[Bytes<A>]) -> &[Bytes<A>]
     ensures { result.now ≡ words_files words.now }
 {
@@ -62,7 +63,7 @@ pub fn words_read<A: Allocator>(words: &[Bytes<A>]) -> &[Bytes<A>]
     }
 }
 
-// Those that it writes.
+/// Those of them that it writes: all arguments of `tee` (own).
 pub fn words_written<A: Allocator>(words: &[Bytes<A>]) -> &[Bytes<A>]
     ensures { result.now ≡ words_files_written words.now }
 {
@@ -92,4 +93,35 @@ pub fn contains<A: Allocator>(words: &[Bytes<A>], name: &[u8]) -> bool
     ensures { result ≡ among words.now name.now }
 {
     words.iter().any(|word| name == word.as_slice())
+}
+
+#[cfg(test)]
+mod tests {
+    use super::*;
+    use std::process::Abort;
+    use std::test::Fail;
+
+    #[test]
+    fn tells_the_words_that_name_files(rt: HostRuntime) -> Result<(), Fail> {
+        // the name and two arguments of a command, how many of them name files, and how many it writes
+        let rows = [
+            (["cat", "a", "b"], 2, 0),
+            (["echo", "a", "b"], 0, 0),
+            (["grep", "a", "b"], 1, 0),
+            (["head", "-1", "b"], 1, 0),
+            (["head", "-x", "b"], 0, 0),
+            (["tee", "a", "b"], 2, 2),
+            (["wc", "a", "b"], 2, 0),
+            (["sh", "a", "b"], 0, 0),
+        ];
+        for (words, named, written) in rows {
+            let mut copies = Vec::new(rt.alloc());
+            for word in words {
+                copies.push(Bytes::copy_of(rt.alloc(), word.as_bytes())?)?;
+            }
+            assert_eq!(rt; file_words(copies.as_slice()).len(), named);
+            assert_eq!(rt; words_written(copies.as_slice()).len(), written);
+        }
+        Ok(())
+    }
 }

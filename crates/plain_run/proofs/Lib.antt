@@ -1,7 +1,8 @@
 pub mod Kept
 pub mod Lines
-pub mod Places
+pub mod NameSets
 pub mod SettledLines
 pub mod Settling
+pub mod Spans
 pub mod Steps
 pub mod Verdicts

@@ -13,35 +13,14 @@ use Rattle.script_load.specs.Line.{ScriptLine, line_of}
 use Rattle.script_load.specs.Meaning.{meaning, line_tree, script_tree}
 use Rattle.script_load.specs.Settled.{AreNoneOf, IsSettled}
 use Rattle.plain_progs.specs.Gives.{Gives}
-use Rattle.plain_run.specs.Tells.{Tells, is_met}
+use Rattle.plain_run.specs.Spans.{all_names}
+use Rattle.plain_run.specs.Tells.{Tells}
+use Rattle.plain_run.proofs.NameSets.{exchanged}
 use Rattle.plain_run.proofs.Settling.{soft_inside, settled_among, settled_alone, none_of_these, these_pass, not_true, not_both, never_both, either}
-
-abbrev pub all_names : {B : _} → List (Line B) → Names
-all_names lines name = names (script_tree (map line_of lines)) name
-
-met_none : {B : _} (lines : List (Line B)) (words : List Name) → AreNoneOf (among words) (all_names lines) → is_met words lines ≡ false
-met_none [] words none = refl
-met_none (line ∷ lines) words none =
-    or_from (list_any (names (line_tree (line_of line))) words) (is_met words lines)
-    (not_true (list_any (names (line_tree (line_of line))) words) (these_pass words (among words) (names (line_tree (line_of line))) (λ name. refl) (λ name is. (or_parts (names (line_tree (line_of line)) name) (all_names lines name) (none name is)).0)))
-    (met_none lines words (λ name is. (or_parts (names (line_tree (line_of line)) name) (all_names lines name) (none name is)).1))
 
 not_false : (b : Bool) → b ≡ false → not b ≡ true
 not_false true e = sym e
 not_false false e = refl
-
-none_met : {B : _} (lines : List (Line B)) (words : List Name) → is_met words lines ≡ false → AreNoneOf (among words) (all_names lines)
-none_met [] words e name is = refl
-none_met (line ∷ lines) words e name is =
-    let p = or_parts (list_any (names (line_tree (line_of line))) words) (is_met words lines) e in
-    or_from (names (line_tree (line_of line)) name) (all_names lines name)
-    (none_of_these words (among words) (names (line_tree (line_of line))) (λ n. refl) (not_false (list_any (names (line_tree (line_of line))) words) p.0) name is)
-    (none_met lines words p.1 name is)
-
-exchanged : (a b c : Bool) → (a || (b || c)) ≡ (b || (a || c))
-exchanged true true c = refl
-exchanged true false c = refl
-exchanged false b c = refl
 
 names_push : {B : _} (lines : List (Line B)) (line : Line B) (name : Name) → all_names (lines ++ line ∷ []) name ≡ (names (line_tree (line_of line)) name || all_names lines name)
 names_push [] line name = refl
@@ -110,17 +89,12 @@ settled_one whole input F before later line lines rest now new left G H s own al
           (λ was. or_from (uses_input T) (uses_input A) (not_both loose (uses_input T) p.1 was) (uses (l ∙ or_left loose one was)));
     }
 
--- what the search among the other lines finds
-pub apart_lines : {B : _} (before after : List (Line B)) (words : List Name) → (is_met words before || is_met words after) ≡ false → AreNoneOf (among words) (both (all_names after) (all_names before))
-apart_lines before after words e name is =
-    let p = or_parts (is_met words before) (is_met words after) e in
-    or_from (all_names after name) (all_names before name) (none_met after words p.1 name is) (none_met before words p.0 name is)
+-- no word is among these names just where a search finds none
+pub apart_words : (words : List Name) (P : Names) (meets : Bool) → meets ≡ list_any P words → meets ≡ false → AreNoneOf (among words) P
+apart_words words P meets is e = none_of_these words (among words) P (λ name. refl) (not_false (list_any P words) (sym is ∙ e))
 
-pub meet_lines : {B : _} (before after : List (Line B)) (words : List Name) → AreNoneOf (among words) (both (all_names after) (all_names before)) → (is_met words before || is_met words after) ≡ false
-meet_lines before after words none =
-    or_from (is_met words before) (is_met words after)
-    (met_none before words (λ name is. (or_parts (all_names after name) (all_names before name) (none name is)).1))
-    (met_none after words (λ name is. (or_parts (all_names after name) (all_names before name) (none name is)).0))
+pub meet_words : (words : List Name) (P : Names) (meets : Bool) → meets ≡ list_any P words → AreNoneOf (among words) P → meets ≡ false
+meet_words words P meets is none = is ∙ not_true (list_any P words) (these_pass words (among words) P (λ name. refl) none)
 
 pub more_names : {B : _} (lines : List (Line B)) (i : ℕ) (d : Line B) → i < length lines → (name : Name) → names (script_tree (map line_of (take (i + 1) lines))) name ≡ (names (line_tree (line_of (get_or lines i d))) name || names (script_tree (map line_of (take i lines))) name)
 more_names lines i d inside name = ap (λ ls. all_names ls name) (take_more lines i d inside) ∙ names_push (take i lines) (get_or lines i d) name

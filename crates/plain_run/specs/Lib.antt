@@ -1,3 +1,3 @@
 pub mod Held
-pub mod Place
+pub mod Spans
 pub mod Tells

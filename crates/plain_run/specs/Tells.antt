@@ -5,9 +5,6 @@ use Rattle.sh_tree.specs.Tree.{Tree}
 use Rattle.mem_files.specs.Name.{Name}
 use Rattle.conflict_check.specs.Names.{among, names}
 use Rattle.conflict_check.specs.Occurrences.{written}
-use Rattle.script_load.specs.declared.line.Line.{Line}
-use Rattle.script_load.specs.Line.{line_of}
-use Rattle.script_load.specs.Meaning.{line_tree}
 use Rattle.script_load.specs.Value.{Value}
 
 -- whether the value is loose, and its soft names
@@ -22,7 +19,3 @@ are_apart left first right second = not (list_any (names right) first) && not (l
 -- soft names, and where the pipe is cut what its left side writes
 abbrev pub with_lost : Bool → List Name → Tree → List Name
 with_lost is_cut soft left = if is_cut then soft ++ written left else soft
-
--- one of these words is a name of one of the lines
-abbrev pub is_met : {A : _} → List Name → List (Line A) → Bool
-is_met words lines = list_any (λ line. list_any (names (line_tree (line_of line))) words) lines

@@ -2,6 +2,7 @@
 #![tactic(auto)]
 
 mod line_verdicts;
+mod name_lines;
 mod ordered;
 mod outcome;
 mod output;

@@ -12,7 +12,8 @@ ghost use Rattle.script_load.specs.Meaning.{meaning, line_tree, script_tree, scr
 ghost use Rattle.plain_progs.specs.Gives.{Gives, IsDue};
 ghost use Rattle.plain_run.specs.Tells.{Tells};
 
-use crate::line_verdicts::{are_clear, lines_after, lines_before, with_line};
+use crate::line_verdicts::{are_clear, with_line};
+use crate::name_lines::is_met_beside;
 use crate::ordered::in_order;
 use crate::outcome::Plain;
 use crate::output::{close_output, held_bytes, open_output};
@@ -163,12 +164,12 @@ fn run_lines<'i, A: Allocator + Copy, B: Allocator>(
 {
     let mut rest = input;
     let mut verdict = Verdict::firm(alloc);
+    let mut spans = None;
     for (i, line) in lines.iter().enumerate() {
         let ran = run_line(alloc, line, rest, store, out)?;
         rest = ran.rest;
-        let before = lines_before(lines, i);
-        let after = lines_after(lines, i);
-        verdict = with_line(verdict, before, line, after, ran.verdict)?;
+        let is_met = is_met_beside(alloc, &mut spans, lines, i, ran.verdict.soft.as_slice())?;
+        verdict = with_line(verdict, line, is_met, ran.verdict)?;
     }
     Ok(Ran { rest, verdict })
 }
@@ -184,8 +185,9 @@ fn run_lines<'i, A: Allocator + Copy, B: Allocator>(
 /// The soft names are those that left sides of cut pipes write, also of a script that isn't settled.
 /// They cost nothing where no pipe is cut: only then the names that its left side writes are copied.
 ///
-/// The verdict evaluates no command twice. Each line is asked once for `&` and clashes; only for a
-/// line that has soft names, and while the script may still be settled, the other lines are searched.
+/// The verdict evaluates no command twice, and each line is asked once for `&` and clashes. At the
+/// first line that has soft names the names of all lines are put in order, once, so that no line is
+/// searched for the names of another.
 pub fn plain<A: Allocator + Copy, B: Allocator, C: Allocator>(
     alloc: A,
     script: &Script<B>,

@@ -3,10 +3,10 @@ ghost use Rattle.std.specs.Prelude.{◌≡◌, ◌++◌, ◌||◌, ◌&&◌, not
 ghost use Rattle.std.specs.List.{list_any};
 ghost use Rattle.sh_tree.specs.Tree.{tree_of};
 ghost use Rattle.conflict_check.specs.Names.{among, names, uses_input};
-ghost use Rattle.conflict_check.specs.Occurrences.{words_files_written, written};
+ghost use Rattle.conflict_check.specs.Occurrences.{written};
 ghost use Rattle.plain_run.specs.Tells.{are_apart, with_lost};
 
-use conflict_check::{Program, names_it, uses_input};
+use conflict_check::{names_it, uses_input, words_written};
 use sh_lexer::Bytes;
 use sh_tree::{Cmd, Mode};
 use std::alloc::{AllocError, Allocator};
@@ -19,19 +19,6 @@ pub struct Verdict<A: Allocator> {
     pub is_loose: bool,
     // Names of files whose bytes may depend on it.
     pub soft: Vec<Bytes<A>, A>,
-}
-
-// The words that a simple command writes: those of `tee` behind its name.
-fn words_written<B: Allocator>(words: &[Bytes<B>]) -> &[Bytes<B>]
-    ensures { result.now ≡ words_files_written words.now }
-{
-    let Some((name, arguments)) = words.split_first() else {
-        return &[];
-    };
-    match Program::named(name.as_slice()) {
-        Some(Program::Tee) => arguments,
-        _ => &[],
-    }
 }
 
 // Adds words to a list.

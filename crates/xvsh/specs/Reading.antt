@@ -1,5 +1,5 @@
 -- What is read at the paths of the command line, after what the host tells of them.
-use Rattle.std.specs.Prelude.{◌≡◌, ◌≢◌, ℕ, ◌<◌, false, List, [], ◌∷◌, ◌++◌, Option, None, IfSome, if◌then◌else◌, length, codes}
+use Rattle.std.specs.Prelude.{◌≡◌, ℕ, ◌<◌, false, List, [], ◌∷◌, ◌++◌, Option, None, IfSome, if◌then◌else◌, length, codes}
 use Rattle.std.specs.Borrow.{Bor}
 use Rattle.std.specs.Str.{bytes_eq}
 use Rattle.mem_files.specs.Name.{Name, Bytes, is_openable}

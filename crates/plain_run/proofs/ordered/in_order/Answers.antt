@@ -1,18 +1,21 @@
-use Rattle.std.proofs.Common.{arith, ap, sym, subst, ◌∙◌}
+-- The list has the names of the set's keys, in their order.
+use Rattle.std.proofs.Common.{◌∙◌, sym, ap, subst}
 use Rattle.std.specs.List.Sorted.{IsStrictlySortedBy}
 use Rattle.mem_files.specs.Name.{name_cmp}
 use Rattle.conflict_check.specs.Names.{among}
-use Rattle.plain_run.proofs.Places.{none_sorted, among_more}
+use Rattle.plain_run.proofs.NameSets.{sorted_items, all_listed}
 use Rattle.plain_run.proofs.ordered.in_order.Goals as goal
 
-pub loop-name-init : goal.loop-name-init
-loop-name-init g c = record {
-  ordered = subst (IsStrictlySortedBy name_cmp) (sym c.new-list.ensures.items) none_sorted;
-  names = λ name. ap (λ l. among l name) c.new-list.ensures.items;
-}
+pub returns-clause-ordered : goal.returns-clause-ordered
+returns-clause-ordered g c =
+    let keys = c.in_ok-set.set.keys in
+    let begun = c.into_iter-name-iterator.ensures.into_iter_gives in
+    let all = all_listed (λ key. key.items) c.loop-name.list.items c.loop-name.name-iterator c.into_iter-name-iterator.result keys c.in-None.ensures.steps.0 c.loop-name.invariant begun.0 in
+    subst (IsStrictlySortedBy name_cmp) (sym all) (sorted_items (λ key. key.items) keys begun.4)
 
-pub loop-name-preserved : goal.loop-name-preserved
-loop-name-preserved g c = record {
-  ordered = c.in_ok-insert.ensures.ordered;
-  names = among_more c.args.names.now c.loop-name.list.items c.insert.new.names.items c.loop-name.name-index c.name-item.result c.as_slice.result.now (omega arith) (c.as_slice.ensures ∙ c.name-item.is) c.loop-name.invariant.names c.in_ok-insert.ensures.names;
-}
+pub returns-clause-names : goal.returns-clause-names
+returns-clause-names g c = λ name.
+    let keys = c.in_ok-set.set.keys in
+    let begun = c.into_iter-name-iterator.ensures.into_iter_gives in
+    let all = all_listed (λ key. key.items) c.loop-name.list.items c.loop-name.name-iterator c.into_iter-name-iterator.result keys c.in-None.ensures.steps.0 c.loop-name.invariant begun.0 in
+    ap (λ ns. among ns name) all ∙ c.in_ok-set.ensures name

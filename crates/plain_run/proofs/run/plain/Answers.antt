@@ -5,7 +5,7 @@ use Rattle.conflict_check.specs.Names.{among}
 use Rattle.script_load.specs.Line.{lines_of}
 use Rattle.script_load.specs.Meaning.{script_meaning}
 use Rattle.plain_run.specs.Tells.{Tells}
-use Rattle.plain_run.proofs.Places.{contained, contains}
+use Rattle.plain_run.proofs.NameSets.{contained, contains}
 use Rattle.conflict_check.specs.Clear.{has_back, IsClear}
 use Rattle.conflict_check.specs.Names.{no_names}
 use Rattle.script_load.specs.Meaning.{script_tree}

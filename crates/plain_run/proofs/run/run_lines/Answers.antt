@@ -1,16 +1,18 @@
-use Rattle.std.proofs.Common.{ap₂, ◌≡◌, ◌↔◌, IsTrue, ◌||◌, ◌&&◌, not, ◌∙◌, get_or, ◌<◌, ◌+◌, length, drop, take, ap, arith, subst}
+use Rattle.std.proofs.Common.{◌≡◌, ◌↔◌, IsTrue, ◌&&◌, not, ◌∙◌, get_or, ◌<◌, ◌+◌, length, drop, take, ap, arith, subst}
 use Rattle.std.specs.Prelude.{map}
+use Rattle.std.specs.List.{list_any}
 use Rattle.std.proofs.lemmas.Result.{err_from_is_err_and}
 use Rattle.mem_files.specs.Files.{files}
-use Rattle.conflict_check.specs.Names.{no_names, uses_input}
+use Rattle.conflict_check.specs.Names.{no_names, both, uses_input}
 use Rattle.script_load.specs.Settled.{IsSettled}
 use Rattle.script_load.specs.Limits.{Outgrows}
 use Rattle.script_load.specs.Line.{line_of}
 use Rattle.script_load.specs.Meaning.{meaning, line_tree}
 use Rattle.plain_progs.specs.Gives.{Gives, IsDue}
-use Rattle.plain_run.specs.Tells.{Tells, is_met}
+use Rattle.plain_run.specs.Spans.{all_names}
+use Rattle.plain_run.specs.Tells.{Tells}
 use Rattle.plain_run.proofs.Lines.{IsRunTo, IsToldTo, told_none, told_one, told_all, run_none, run_one, line_due, run_all, next_line, no_line}
-use Rattle.plain_run.proofs.SettledLines.{IsSettledTo, all_names, settled_none, settled_one, settled_all, apart_lines, meet_lines, more_names}
+use Rattle.plain_run.proofs.SettledLines.{IsSettledTo, settled_none, settled_one, settled_all, apart_words, meet_words, more_names}
 use Rattle.plain_run.proofs.run.run_lines.Goals as goal
 
 pub loop-i-preserved : goal.loop-i-preserved
@@ -27,14 +29,16 @@ loop-i-preserved g c =
     let own = c.in_ok-ran.ran.verdict in
     let alone = subst (λ line. IsTrue own.is_settled ↔ IsSettled (line_tree line) no_names c.loop-i.rest.now (files c.loop-i.store)) here c.in_ok-ran.ensures.settled in
     let settled = subst (λ ls. IsSettledTo (map line_of lines) c.args.input.now (files c.args.store.now) (all_names (take i lines)) ls c.loop-i.rest.now (files c.loop-i.store) c.loop-i.verdict.is_settled c.loop-i.verdict.is_loose) (next_line lines i c.index-lines-i.result inside) c.loop-i.invariant.settled in
-    let own_verdict : c.in_ok-verdict.verdict.is_settled ≡ (c.loop-i.verdict.is_settled && own.is_settled && not (is_met own.soft.items (take i lines) || is_met own.soft.items (drop (i + 1) lines)) && not (c.loop-i.verdict.is_loose && uses_input (line_tree (line_of c.index-lines-i.result)))) = c.in_ok-verdict.ensures.settled ∙ ap₂ (λ b a. c.loop-i.verdict.is_settled && own.is_settled && not (is_met own.soft.items b || is_met own.soft.items a) && not (c.loop-i.verdict.is_loose && uses_input (line_tree (line_of c.index-lines-i.result)))) c.lines_before-before.ensures c.lines_after-after.ensures in
+    let others = both (all_names (drop (i + 1) lines)) (all_names (take i lines)) in
+    let met : c.in_ok-is_met.is_met ≡ list_any others own.soft.items = c.in_ok-is_met.ensures.met ∙ ap (list_any others) c.as_slice.ensures.value in
     record {
       runs = run_one (map line_of lines) c.args.input.now (files c.args.store.now) c.args.out.now.items _ later c.loop-i.rest.now c.loop-i.out.items c.run_line.new.out.items c.in_ok-ran.ran.rest.now (files c.loop-i.store) (files c.run_line.new.store) so_far gives;
       tells = told_one (map line_of lines) c.args.input.now (files c.args.store.now) _ later c.loop-i.rest.now c.loop-i.out.items c.run_line.new.out.items c.in_ok-ran.ran.rest.now (files c.loop-i.store) (files c.run_line.new.store) c.loop-i.verdict.is_loose c.in_ok-ran.ran.verdict.is_loose c.in_ok-verdict.verdict.is_loose c.loop-i.verdict.soft.items c.in_ok-ran.ran.verdict.soft.items c.in_ok-verdict.verdict.soft.items told gives tells c.in_ok-verdict.ensures.loose c.in_ok-verdict.ensures.soft;
+      told = c.in_ok-is_met.ensures.told;
       settled = settled_one (map line_of lines) c.args.input.now (files c.args.store.now) (all_names (take i lines)) (all_names (take (i + 1) lines)) (line_of (get_or lines i c.index-lines-i.result)) later c.loop-i.rest.now c.loop-i.out.items c.run_line.new.out.items c.in_ok-ran.ran.rest.now (files c.loop-i.store) (files c.run_line.new.store)
-          c.loop-i.verdict.is_settled own.is_settled c.in_ok-verdict.verdict.is_settled c.loop-i.verdict.is_loose own.is_loose c.in_ok-verdict.verdict.is_loose (is_met own.soft.items (take i lines) || is_met own.soft.items (drop (i + 1) lines)) own.soft.items
-          settled gives tells alone (apart_lines (take i lines) (drop (i + 1) lines) own.soft.items) (meet_lines (take i lines) (drop (i + 1) lines) own.soft.items) (more_names lines i c.index-lines-i.result inside)
-          (own_verdict ∙ ap (λ line. c.loop-i.verdict.is_settled && own.is_settled && not (is_met own.soft.items (take i lines) || is_met own.soft.items (drop (i + 1) lines)) && not (c.loop-i.verdict.is_loose && uses_input (line_tree line))) here) c.in_ok-verdict.ensures.loose;
+          c.loop-i.verdict.is_settled own.is_settled c.in_ok-verdict.verdict.is_settled c.loop-i.verdict.is_loose own.is_loose c.in_ok-verdict.verdict.is_loose c.in_ok-is_met.is_met own.soft.items
+          settled gives tells alone (apart_words own.soft.items others c.in_ok-is_met.is_met met) (meet_words own.soft.items others c.in_ok-is_met.is_met met) (more_names lines i c.index-lines-i.result inside)
+          (c.in_ok-verdict.ensures.settled ∙ ap (λ line. c.loop-i.verdict.is_settled && own.is_settled && not c.in_ok-is_met.is_met && not (c.loop-i.verdict.is_loose && uses_input (line_tree line))) here) c.in_ok-verdict.ensures.loose;
     }
 
 pub returns-in_err-ran-clause-large : goal.returns-in_err-ran-clause-large
@@ -52,6 +56,7 @@ pub loop-i-init : goal.loop-i-init
 loop-i-init g c = record {
   runs = run_none (map line_of c.args.lines.now) c.args.input.now c.args.out.now.items (files c.args.store.now);
   tells = told_none (map line_of c.args.lines.now) c.args.input.now (files c.args.store.now) c.firm-verdict.result.is_loose c.firm-verdict.result.soft.items c.firm-verdict.ensures.loose c.firm-verdict.ensures.soft;
+  told = tt;
   settled = settled_none (map line_of c.args.lines.now) c.args.input.now (files c.args.store.now) c.firm-verdict.result.is_settled c.firm-verdict.result.is_loose c.firm-verdict.ensures.settled c.firm-verdict.ensures.loose;
 }
 

@@ -1,9 +1,10 @@
 use Rattle.std.proofs.Common.{drop, take}
-use Rattle.std.specs.Prelude.{map}
+use Rattle.std.specs.Prelude.{map, IfSome}
 use Rattle.mem_files.specs.Files.{files}
 use Rattle.script_load.specs.Line.{line_of}
 use Rattle.plain_run.proofs.Lines.{IsRunTo, IsToldTo}
-use Rattle.plain_run.proofs.SettledLines.{IsSettledTo, all_names}
+use Rattle.plain_run.specs.Spans.{all_names, AreSpans}
+use Rattle.plain_run.proofs.SettledLines.{IsSettledTo}
 use Rattle.plain_run.proofs.run.run_lines.Given as goal
 
 -- the lines that are left complete what was done and told
@@ -11,5 +12,6 @@ abbrev pub invariant-loop-i : goal.invariant-loop-i
 invariant-loop-i g l = record {
   runs : IsRunTo (map line_of l.lines) l.fn.input (files l.fn.store) l.fn.out.items (map line_of (drop l.i l.lines)) l.rest (files l.store) l.out.items;
   tells : IsToldTo (map line_of l.lines) l.fn.input (files l.fn.store) (map line_of (drop l.i l.lines)) l.rest (files l.store) l.verdict.is_loose l.verdict.soft.items;
+  told : IfSome l.spans (AreSpans l.lines);
   settled : IsSettledTo (map line_of l.lines) l.fn.input (files l.fn.store) (all_names (take l.i l.lines)) (map line_of (drop l.i l.lines)) l.rest (files l.store) l.verdict.is_settled l.verdict.is_loose;
 }

@@ -1,6 +1,6 @@
 use Rattle.std.proofs.Common.{◌≡◌, ◌∙◌, ◌&&◌, ◌+◌, ◌<◌, length, drop, ap, sym, subst, arith, refl, get_or}
 use Rattle.std.specs.Prelude.{map, ◌↔◌, IsTrue}
-use Rattle.script_load.specs.Line.{line_of, lines_of}
+use Rattle.script_load.specs.Line.{line_of}
 use Rattle.plain_run.proofs.Lines.{next_line, no_line}
 use Rattle.xvsh.specs.Check.{AreTold, AreHarmless, IsTold, IsHarmless}
 use Rattle.xvsh.proofs.Telling.{Completes, Decides, told_none, told_one, told_all, harmless_one, harmless_all}

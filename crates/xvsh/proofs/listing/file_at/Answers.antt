@@ -1,4 +1,4 @@
-use Rattle.std.proofs.Common.{◌≡◌, Some, None, sym, ◌∙◌, ap, [], ◌∷◌, List, ℕ}
+use Rattle.std.proofs.Common.{◌≡◌, Some, None, sym, ◌∙◌, ap, List, ℕ}
 use Rattle.xvsh.proofs.Places.{at_place}
 use Rattle.xvsh.proofs.listing.file_at.Goals as goal
 

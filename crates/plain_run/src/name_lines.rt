@@ -1,0 +1,154 @@
+//! Which lines of a script name a file, so that no name is searched for in every line.
+ghost use Rattle.std.specs.Prelude.{◌≡◌, ◌+◌, List, ℕ, take, drop, OnOk, IfOk, IfSome};
+ghost use Rattle.std.specs.List.{list_any};
+ghost use Rattle.std.specs.Str.{bytes_eq};
+ghost use Rattle.sh_tree.specs.Tree.{tree_of};
+ghost use Rattle.conflict_check.specs.Names.{among, both, names};
+ghost use Rattle.script_load.specs.Line.{line_of};
+ghost use Rattle.script_load.specs.Meaning.{line_tree};
+ghost use Rattle.plain_run.specs.Spans.{all_names, span_of, reached, is_beside, AreSpans};
+
+use conflict_check::file_words;
+use script_load::Line;
+use sh_lexer::Bytes;
+use sh_tree::Cmd;
+use std::alloc::{AllocError, Allocator};
+use std::collections::BTreeMap;
+
+// The first and the last line, counted from 0, that have a name.
+#[derive(Clone, Copy)]
+pub struct Span {
+    first: usize,
+    last: usize,
+}
+
+// The span of each name.
+#[derive(Drop)]
+pub struct NameLines<A: Allocator> {
+    spans: BTreeMap<Vec<u8, A>, Span, A>,
+}
+
+impl<A: Allocator + Copy> NameLines<A> {
+    // Lets the span of a name reach to this line, which is not before any so far.
+    fn reach(&mut self, alloc: A, name: &[u8], line: usize) -> Result<(), AllocError>
+        ensures { OnOk result ((other : List ℕ) → span_of self.new other ≡ reached (bytes_eq other name.now) line (span_of self.old other)) }
+    {
+        let first = match self.spans.get(name) {
+            Some(span) => span.first,
+            None => line,
+        };
+        let span = Span { first, last: line };
+        self.spans.insert(name.to_vec(alloc)?, span)?;
+        Ok(())
+    }
+
+    // The same for each of these names.
+    fn reach_all<B: Allocator>(
+        &mut self,
+        alloc: A,
+        names: &[Bytes<B>],
+        line: usize,
+    ) -> Result<(), AllocError>
+        ensures { OnOk result ((other : List ℕ) → span_of self.new other ≡ reached (among names.now other) line (span_of self.old other)) }
+    {
+        for name in names {
+            self.reach(alloc, name.as_slice(), line)?;
+        }
+        Ok(())
+    }
+
+    // The same for each name of a tree.
+    fn reach_tree<B: Allocator>(
+        &mut self,
+        alloc: A,
+        tree: &Cmd<B>,
+        line: usize,
+    ) -> Result<(), AllocError>
+        ensures { OnOk result ((other : List ℕ) → span_of self.new other ≡ reached (names (tree_of tree.now) other) line (span_of self.old other)) }
+    {
+        match tree {
+            Cmd::Exec(words) => self.reach_all(alloc, file_words(words.as_slice()), line),
+            Cmd::Redir { name, body, .. } => {
+                self.reach(alloc, name.as_slice(), line)?;
+                self.reach_tree(alloc, body, line)
+            }
+            Cmd::Pipe(left, right) | Cmd::List(left, right) => {
+                self.reach_tree(alloc, left, line)?;
+                self.reach_tree(alloc, right, line)
+            }
+            Cmd::Back(body) => self.reach_tree(alloc, body, line),
+        }
+    }
+
+    // The same for each name of the line at this place.
+    fn reach_line<B: Allocator>(
+        &mut self,
+        alloc: A,
+        line: &Line<B>,
+        at: usize,
+    ) -> Result<(), AllocError>
+        ensures { OnOk result ((other : List ℕ) → span_of self.new other ≡ reached (names (line_tree (line_of line.now)) other) at (span_of self.old other)) }
+    {
+        match line {
+            Line::Tree(tree) => self.reach_tree(alloc, tree, at),
+            Line::Bad(..) | Line::Cd(_) => Ok(()),
+        }
+    }
+
+    // The spans of all names of these lines.
+    pub fn of<B: Allocator>(alloc: A, lines: &[Line<B>]) -> Result<Self, AllocError>
+        ensures { IfOk result (λ index. AreSpans lines.now index) }
+    {
+        let mut index = NameLines {
+            spans: BTreeMap::new(alloc),
+        };
+        for (at, line) in lines.iter().enumerate() {
+            index.reach_line(alloc, line, at)?;
+        }
+        Ok(index)
+    }
+
+    // Whether another line than this has the name.
+    fn is_beside(&self, name: &[u8], line: usize) -> bool
+        ensures { result ≡ is_beside line (span_of self.now name.now) }
+    {
+        match self.spans.get(name) {
+            Some(span) => span.first < line || line < span.last,
+            None => false,
+        }
+    }
+
+    // Whether another line than this has one of the names.
+    pub fn are_beside<B: Allocator>(&self, names: &[Bytes<B>], line: usize) -> bool
+        ensures { result ≡ list_any (λ name. is_beside line (span_of self.now name)) names.now }
+    {
+        names
+            .iter()
+            .any(|name| self.is_beside(name.as_slice(), line))
+    }
+}
+
+// Whether another line than the one at this place has one of the names. The spans are found out where
+// they are needed for the first time.
+pub fn is_met_beside<A: Allocator + Copy, B: Allocator>(
+    alloc: A,
+    spans: &mut Option<NameLines<A>>,
+    lines: &[Line<B>],
+    at: usize,
+    names: &[Bytes<A>],
+) -> Result<bool, AllocError>
+    requires told { IfSome spans.old (AreSpans lines.now) }
+    ensures told { OnOk result (IfSome spans.new (AreSpans lines.now)) }
+    ensures met { IfOk result (λ is_met. is_met ≡ list_any (both (all_names (drop (at + 1) lines.now)) (all_names (take at lines.now))) names.now) }
+{
+    if names.is_empty() {
+        return Ok(false);
+    }
+    let known = match spans.take() {
+        Some(known) => known,
+        None => NameLines::of(alloc, lines)?,
+    };
+    let is_met = known.are_beside(names, at);
+    *spans = Some(known);
+    Ok(is_met)
+}
