@@ -63,7 +63,7 @@ pub fn words_read<A: Allocator>(words: &[Bytes<A>]) -> &[Bytes<A>]
     }
 }
 
-/// Those of them that it writes: all arguments of `tee` (own).
+/// The words of a simple command that name the files that it writes: all arguments of `tee` (own).
 pub fn words_written<A: Allocator>(words: &[Bytes<A>]) -> &[Bytes<A>]
     ensures { result.now ≡ words_files_written words.now }
 {
