@@ -5,36 +5,29 @@ use Rattle.std.proofs.Math.Bool.{or-false}
 use Rattle.std.proofs.lemmas.List.Folds.{list_any-append}
 use Rattle.sh_tree.specs.declared.tree.Mode.TheVariants.{Input, Fresh, Over}
 use Rattle.sh_tree.specs.Tree.{Tree, exec, redir, pipe, list, back}
-use Rattle.conflict_check.specs.declared.program.Program.{Program}
-use Rattle.conflict_check.specs.declared.program.Program.TheVariants.{Cat, Echo, Grep, Head, Tee, Wc}
-use Rattle.conflict_check.specs.Program.{program_of}
-use Rattle.conflict_check.specs.Names.{among, names, program_reads, program_writes, reads, words_read, words_write, writes}
-use Rattle.conflict_check.specs.Occurrences.{files_by, files_written_by, occurrences, words_files, words_files_written, written}
+use Rattle.prog_parts.specs.declared.program.Program.{Program}
+use Rattle.prog_parts.specs.declared.program.Program.TheVariants.{Cat, Echo, Grep, Head, Tee, Wc}
+use Rattle.prog_parts.specs.NameSets.{among}
+use Rattle.prog_parts.specs.Program.{program_of, file_words}
+use Rattle.prog_parts.specs.Words.{by_program, files_read, files_written, words_files}
+use Rattle.conflict_check.specs.Names.{names, reads, words_read, words_write, writes}
+use Rattle.conflict_check.specs.Occurrences.{occurrences, written}
 
 among_two : (name : List ℕ) (xs ys : List (List ℕ)) → among (xs ++ ys) name ≡ (among xs name || among ys name)
 among_two name xs ys = list_any-append (bytes_eq name) xs ys
 
-program_written : (program : Option Program) (arguments : List (List ℕ)) (name : List ℕ) → program_writes program arguments name ≡ among (files_written_by program arguments) name
-program_written None arguments name = refl
-program_written (Some Cat) arguments name = refl
-program_written (Some Echo) arguments name = refl
-program_written (Some Grep) arguments name = refl
-program_written (Some Head) arguments name = refl
-program_written (Some Tee) arguments name = refl
-program_written (Some Wc) arguments name = refl
+-- of the file words of a program, all are read or all are written
+files_named : (program : Program) (arguments : List (List ℕ)) (name : List ℕ) → (among (files_read program arguments) name || among (files_written program arguments) name) ≡ among (file_words program arguments) name
+files_named Cat arguments name = or-false _
+files_named Echo arguments name = refl
+files_named Grep arguments name = or-false _
+files_named Head arguments name = or-false _
+files_named Tee arguments name = refl
+files_named Wc arguments name = or-false _
 
-program_named : (program : Option Program) (arguments : List (List ℕ)) (name : List ℕ) → (program_reads program arguments name || program_writes program arguments name) ≡ among (files_by program arguments) name
+program_named : (program : Option Program) (arguments : List (List ℕ)) (name : List ℕ) → (among (by_program files_read [] program arguments) name || among (by_program files_written [] program arguments) name) ≡ among (by_program file_words [] program arguments) name
 program_named None arguments name = refl
-program_named (Some Cat) arguments name = or-false _
-program_named (Some Echo) arguments name = refl
-program_named (Some Grep) arguments name = or-false _
-program_named (Some Head) arguments name = or-false _
-program_named (Some Tee) arguments name = refl
-program_named (Some Wc) arguments name = or-false _
-
-words_listed : (words : List (List ℕ)) (name : List ℕ) → words_write words name ≡ among (words_files_written words) name
-words_listed [] name = refl
-words_listed (word ∷ arguments) name = program_written (program_of word) arguments name
+program_named (Some program) arguments name = files_named program arguments name
 
 words_named : (words : List (List ℕ)) (name : List ℕ) → (words_read words name || words_write words name) ≡ among (words_files words) name
 words_named [] name = refl
@@ -42,7 +35,7 @@ words_named (word ∷ arguments) name = program_named (program_of word) argument
 
 -- the names that a tree writes are those of the places where it writes
 pub writes_listed : (tree : Tree) (name : List ℕ) → writes tree name ≡ among (written tree) name
-writes_listed (exec words) name = words_listed words name
+writes_listed (exec words) name = refl
 writes_listed (redir Input file body) name = writes_listed body name
 writes_listed (redir Fresh file body) name = ap (λ b. bytes_eq name file || b) (writes_listed body name)
 writes_listed (redir Over file body) name = ap (λ b. bytes_eq name file || b) (writes_listed body name)

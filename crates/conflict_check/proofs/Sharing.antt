@@ -10,7 +10,8 @@ use Rattle.std.proofs.lemmas.Slice.Eq.{bytes_eq-Decides}
 use Rattle.sh_tree.specs.Tree.{Tree}
 use Rattle.conflict_check.specs.Clash.{shared, IsFirstShared}
 use Rattle.conflict_check.specs.Clear.{AreApart}
-use Rattle.conflict_check.specs.Names.{among, names, reads, writes}
+use Rattle.prog_parts.specs.NameSets.{among}
+use Rattle.conflict_check.specs.Names.{names, reads, writes}
 use Rattle.conflict_check.specs.Occurrences.{occurrences, share_a_name, written}
 use Rattle.conflict_check.proofs.Listed.{names_listed, names_parts, writes_listed}
 

@@ -5,7 +5,8 @@ use Rattle.sh_tree.specs.Tree.{Tree, redir, pipe, list, back}
 use Rattle.conflict_check.specs.declared.conflict.ClashKind.{ClashKind}
 use Rattle.conflict_check.specs.declared.conflict.ClashKind.TheVariants.{PipeSides, Enclosing}
 use Rattle.conflict_check.specs.Clear.{AreApart, is_touched, IsClear}
-use Rattle.conflict_check.specs.Names.{Names, names, reads, writes}
+use Rattle.prog_parts.specs.NameSets.{Names}
+use Rattle.conflict_check.specs.Names.{names, reads, writes}
 use Rattle.conflict_check.specs.Occurrences.{occurrences}
 
 -- the names that clash between the two sides of a pipe: those that one side writes and the other reads or writes

@@ -1,4 +1,3 @@
-pub mod Program
 pub mod Names
 pub mod Occurrences
 pub mod Clear

@@ -1,65 +1,18 @@
--- The names that a tree reads and writes, and whether it uses its standard input: all by its text. Sets of names are tests.
-use Rattle.std.specs.Prelude.{ℕ, Bool, false, ◌||◌, List, [], ◌∷◌, Option, Some, None}
-use Rattle.std.specs.List.{list_any}
+-- The names that a tree reads and writes, and whether it uses its standard input: all by its text (own).
+use Rattle.std.specs.Prelude.{ℕ, Bool, false, ◌||◌, List}
 use Rattle.std.specs.Str.{bytes_eq}
 use Rattle.sh_tree.specs.declared.tree.Mode.{Mode}
 use Rattle.sh_tree.specs.declared.tree.Mode.TheVariants.{Input, Fresh, Over}
 use Rattle.sh_tree.specs.Tree.{Tree, exec, redir, pipe, list, back}
-use Rattle.conflict_check.specs.declared.program.Program.{Program}
-use Rattle.conflict_check.specs.declared.program.Program.TheVariants.{Cat, Echo, Grep, Head, Tee, Wc}
-use Rattle.conflict_check.specs.Program.{program_of, file_words, program_uses_input}
+use Rattle.prog_parts.specs.NameSets.{Names, among}
+use Rattle.prog_parts.specs.Words.{words_files_read, words_files_written, words_use_input}
 
-abbrev pub Names : Type 0
-Names = List ℕ → Bool
-
--- the set of no names
-abbrev pub no_names : Names
-no_names name = false
-
--- the names of one set and of the other
-abbrev pub both : Names → Names → Names
-both these those name = these name || those name
-
--- the names of a list
-abbrev pub among : List (List ℕ) → Names
-among words name = list_any (bytes_eq name) words
-
--- what a program of these words reads by name
-abbrev pub program_reads : Option Program → List (List ℕ) → Names
-program_reads None arguments name = false
-program_reads (Some Cat) arguments name = among (file_words Cat arguments) name
-program_reads (Some Echo) arguments name = false
-program_reads (Some Grep) arguments name = among (file_words Grep arguments) name
-program_reads (Some Head) arguments name = among (file_words Head arguments) name
-program_reads (Some Tee) arguments name = false
-program_reads (Some Wc) arguments name = among (file_words Wc arguments) name
-
--- what it writes by name
-abbrev pub program_writes : Option Program → List (List ℕ) → Names
-program_writes None arguments name = false
-program_writes (Some Cat) arguments name = false
-program_writes (Some Echo) arguments name = false
-program_writes (Some Grep) arguments name = false
-program_writes (Some Head) arguments name = false
-program_writes (Some Tee) arguments name = among (file_words Tee arguments) name
-program_writes (Some Wc) arguments name = false
-
--- whether it reads standard input
-abbrev pub uses_by : Option Program → List (List ℕ) → Bool
-uses_by None arguments = false
-uses_by (Some program) arguments = program_uses_input program arguments
-
+-- the names that a simple command reads, and those that it writes
 abbrev pub words_read : List (List ℕ) → Names
-words_read [] name = false
-words_read (word ∷ arguments) name = program_reads (program_of word) arguments name
+words_read words name = among (words_files_read words) name
 
 abbrev pub words_write : List (List ℕ) → Names
-words_write [] name = false
-words_write (word ∷ arguments) name = program_writes (program_of word) arguments name
-
-abbrev pub words_use_input : List (List ℕ) → Bool
-words_use_input [] = false
-words_use_input (word ∷ arguments) = uses_by (program_of word) arguments
+words_write words name = among (words_files_written words) name
 
 -- the name of a redirection is read under <, and written under > and >>
 abbrev pub mode_reads : Mode → Bool → Bool

@@ -9,7 +9,7 @@ ghost use Rattle.conflict_check.specs.Occurrences.{occurrences, share_a_name, wr
 
 use crate::conflict::{Clash, ClashKind};
 use crate::questions::{names_it, reads_it, writes_it};
-use crate::simple::{file_words, words_written};
+use prog_parts::{file_words, words_written};
 use sh_lexer::Bytes;
 use sh_tree::{Cmd, Mode};
 use std::alloc::Allocator;
@@ -24,8 +24,10 @@ fn is_touched<A: Allocator>(mode: Mode, file: &[u8], body: &Cmd<A>) -> bool
     }
 }
 
-// Whether one of these words is a name of the tree.
-fn has_name_of<A: Allocator>(words: &[Bytes<A>], tree: &Cmd<A>) -> bool
+/// Whether one of these words is a name of the tree: one that it reads or writes by its text (own).
+///
+/// Takes no memory. It recurses as deep as the tree is high.
+pub fn has_name_of<A: Allocator, B: Allocator>(words: &[Bytes<A>], tree: &Cmd<B>) -> bool
     ensures { result ≡ list_any (names (tree_of tree.now)) words.now }
 {
     words.iter().any(|word| names_it(tree, word.as_slice()))

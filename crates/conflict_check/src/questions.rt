@@ -4,7 +4,7 @@ ghost use Rattle.sh_tree.specs.Tree.{tree_of};
 ghost use Rattle.conflict_check.specs.Clear.{has_back};
 ghost use Rattle.conflict_check.specs.Names.{names, reads, uses_input, writes};
 
-use crate::simple::{contains, file_words, words_read, words_written};
+use prog_parts::{file_words, is_among, words_read, words_use_input, words_written};
 use sh_tree::{Cmd, Mode};
 use std::alloc::Allocator;
 
@@ -31,7 +31,7 @@ pub fn uses_input<A: Allocator>(tree: &Cmd<A>) -> bool
     ensures { result ≡ uses_input (tree_of tree.now) }
 {
     match tree {
-        Cmd::Exec(words) => crate::simple::uses_input(words.as_slice()),
+        Cmd::Exec(words) => words_use_input(words.as_slice()),
         Cmd::Redir {
             mode: Mode::Input,
             ..
@@ -51,7 +51,7 @@ pub fn reads_it<A: Allocator>(tree: &Cmd<A>, name: &[u8]) -> bool
     ensures { result ≡ reads (tree_of tree.now) name.now }
 {
     match tree {
-        Cmd::Exec(words) => contains(words_read(words.as_slice()), name),
+        Cmd::Exec(words) => is_among(words_read(words.as_slice()), name),
         Cmd::Redir {
             mode: Mode::Input,
             name: file,
@@ -73,7 +73,7 @@ pub fn writes_it<A: Allocator>(tree: &Cmd<A>, name: &[u8]) -> bool
     ensures { result ≡ writes (tree_of tree.now) name.now }
 {
     match tree {
-        Cmd::Exec(words) => contains(words_written(words.as_slice()), name),
+        Cmd::Exec(words) => is_among(words_written(words.as_slice()), name),
         Cmd::Redir {
             mode: Mode::Input,
             body,
@@ -98,7 +98,7 @@ pub fn names_it<A: Allocator>(tree: &Cmd<A>, name: &[u8]) -> bool
     ensures { result ≡ names (tree_of tree.now) name.now }
 {
     match tree {
-        Cmd::Exec(words) => contains(file_words(words.as_slice()), name),
+        Cmd::Exec(words) => is_among(file_words(words.as_slice()), name),
         Cmd::Redir {
             name: file,
             body,

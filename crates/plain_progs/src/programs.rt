@@ -1,7 +1,7 @@
 ghost use Rattle.std.specs.Prelude.{◌≡◌, ◌++◌, OnOk, IfOk, IfErr};
 ghost use Rattle.mem_files.specs.Files.{files};
-ghost use Rattle.script_load.specs.Limits.{WordsOutgrow};
-ghost use Rattle.script_load.specs.Programs.{echo_out, grep_value, head_value, words_value};
+ghost use Rattle.sh_meaning.specs.Limits.{WordsOutgrow};
+ghost use Rattle.sh_meaning.specs.Programs.{echo_out, grep_value, head_value, words_value};
 ghost use Rattle.plain_progs.specs.Gives.{Gives, IsDue};
 
 use crate::fault::PlainFault;
@@ -10,9 +10,8 @@ use crate::grep::Grep;
 use crate::head::Head;
 use crate::tee::tee;
 use crate::wc::Wc;
-use conflict_check::Program;
 use mem_files::Files;
-use prog_parts::head_request;
+use prog_parts::{Program, head_request};
 use sh_lexer::Bytes;
 use std::alloc::{AllocError, Allocator};
 

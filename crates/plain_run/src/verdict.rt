@@ -2,11 +2,13 @@
 ghost use Rattle.std.specs.Prelude.{◌≡◌, ◌++◌, ◌||◌, ◌&&◌, not, [], false, true, OnOk, IfOk};
 ghost use Rattle.std.specs.List.{list_any};
 ghost use Rattle.sh_tree.specs.Tree.{tree_of};
-ghost use Rattle.conflict_check.specs.Names.{among, names, uses_input};
+ghost use Rattle.prog_parts.specs.NameSets.{among};
+ghost use Rattle.conflict_check.specs.Names.{names, uses_input};
 ghost use Rattle.conflict_check.specs.Occurrences.{written};
 ghost use Rattle.plain_run.specs.Tells.{are_apart, with_lost};
 
-use conflict_check::{names_it, uses_input, words_written};
+use conflict_check::{has_name_of, uses_input};
+use prog_parts::{is_among, words_written};
 use sh_lexer::Bytes;
 use sh_tree::{Cmd, Mode};
 use std::alloc::{AllocError, Allocator};
@@ -78,20 +80,6 @@ fn add_lost<A: Allocator + Copy, B: Allocator>(
     }
 }
 
-// Whether the name is one of these words.
-fn contains<A: Allocator>(words: &[Bytes<A>], name: &[u8]) -> bool
-    ensures { result ≡ among words.now name.now }
-{
-    words.iter().any(|word| name == word.as_slice())
-}
-
-// Whether one of these words is a name of the tree.
-fn has_name_of<A: Allocator, B: Allocator>(words: &[Bytes<A>], tree: &Cmd<B>) -> bool
-    ensures { result ≡ list_any (names (tree_of tree.now)) words.now }
-{
-    words.iter().any(|word| names_it(tree, word.as_slice()))
-}
-
 // Whether no soft name of one side is a name of the other.
 fn are_apart<A: Allocator, B: Allocator>(
     left: &Cmd<B>,
@@ -139,7 +127,7 @@ impl<A: Allocator + Copy> Verdict<A> {
         ensures soft { result.soft.items ≡ self.soft.items }
     {
         Verdict {
-            is_settled: self.is_settled && !contains(self.soft.as_slice(), name),
+            is_settled: self.is_settled && !is_among(self.soft.as_slice(), name),
             is_loose: self.is_loose,
             soft: self.soft,
         }
@@ -152,7 +140,7 @@ impl<A: Allocator + Copy> Verdict<A> {
         ensures soft { result.soft.items ≡ self.soft.items }
     {
         Verdict {
-            is_settled: self.is_settled && !contains(self.soft.as_slice(), name),
+            is_settled: self.is_settled && !is_among(self.soft.as_slice(), name),
             is_loose: false,
             soft: self.soft,
         }

@@ -7,7 +7,7 @@ use Rattle.std.specs.Str.Parse.{AllDigits, digits_value}
 use Rattle.std.proofs.lemmas.Int.Digits.{digits_value-lt, digits_value_more}
 use Rattle.std.proofs.lemmas.Str.Parse.{digits_value-take-le, digit_at}
 use Rattle.std.proofs.Math.Nat.{pow-le-pow_right}
-use Rattle.conflict_check.specs.Program.{is_digit, are_count_digits}
+use Rattle.prog_parts.specs.Head.{is_digit, are_count_digits}
 use Rattle.mem_files.specs.Name.{Bytes}
 
 digit_small : (c : ℕ) → is_digit c ≡ true → digit_value c < 10

@@ -6,9 +6,9 @@ use Rattle.std.proofs.lemmas.List.{append-nil}
 use Rattle.std.proofs.lemmas.List.Sums.{take_while-cons}
 use Rattle.grep_match.specs.Match.{matches}
 use Rattle.mem_files.specs.Name.{Bytes}
-use Rattle.script_load.specs.Lines.{HasNoLf}
-use Rattle.script_load.specs.Grep.{longer, ended_lines, is_whole, tested, with_ends, grep_out, untested}
-use Rattle.script_load.proofs.Cuts.{all_tail}
+use Rattle.prog_parts.specs.Lines.{HasNoLf}
+use Rattle.prog_parts.specs.Grep.{longer, ended_lines, is_whole, tested, with_ends, grep_out, untested}
+use Rattle.prog_parts.proofs.Cuts.{all_tail}
 
 not_lf : (b : ℕ) (bytes : Bytes) → HasNoLf (b ∷ bytes) → (b == 10) ≡ false
 not_lf b bytes none = let other : b ≢ 10 = none 0 0 (omega arith) in grind (arith, nat_tests)

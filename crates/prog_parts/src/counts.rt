@@ -1,7 +1,8 @@
 //! The counts of `wc` (`user/wc.c`).
 ghost use Rattle.std.specs.Prelude.{◌≡◌, ◌≤◌, length};
-ghost use Rattle.sh_lexer.specs.Tokens.{is_white as white};
-ghost use Rattle.script_load.specs.Wc.{line_ends, words_after, ends_inside};
+ghost use Rattle.prog_parts.specs.Wc.{line_ends, words_after, ends_inside};
+
+use sh_lexer::is_white;
 
 /// What `wc` counts in some bytes.
 #[derive(Clone, Copy, Debug, PartialEq, Eq)]
@@ -12,13 +13,6 @@ pub struct Counted {
     pub words: u64,
     /// Whether the bytes end inside a word.
     pub is_inside: bool,
-}
-
-// Space, tab, LF, vertical tab and CR.
-fn is_white(byte: u8) -> bool
-    ensures { result ≡ white byte }
-{
-    matches!(byte, b' ' | b'\t' | b'\n' | 11 | b'\r')
 }
 
 /// How many LFs the bytes have, how many words begin in them, and whether they end inside a word;

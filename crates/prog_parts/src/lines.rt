@@ -1,8 +1,8 @@
 //! The lines of `grep` (`user/grep.c`).
 ghost use Rattle.std.specs.Prelude.{◌≡◌, ◌==◌, ◌++◌, ◌∷◌, IfSome, IfNone};
 ghost use Rattle.std.specs.List.{list_any};
-ghost use Rattle.script_load.specs.Lines.{HasNoLf};
-ghost use Rattle.script_load.specs.Grep.{is_whole as whole};
+ghost use Rattle.prog_parts.specs.Lines.{HasNoLf};
+ghost use Rattle.prog_parts.specs.Grep.{is_whole as whole};
 
 use memchr::memchr;
 

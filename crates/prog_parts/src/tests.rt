@@ -28,6 +28,10 @@ fn head_asks_for_ten_lines_or_its_count(rt: HostRuntime) -> Result<(), Fail> {
         ("-999999999", Some((999_999_999, 1))),
         ("-0123456789", None),
         ("-x", None),
+        ("-", None),
+        ("-1x", None),
+        ("12", Some((10, 2))),
+        ("", Some((10, 2))),
         ("f", Some((10, 2))),
     ];
     for (first, want) in rows {
@@ -53,4 +57,52 @@ fn words_go_on_from_the_bytes_before(rt: HostRuntime) {
         (counted.lines, counted.words, counted.is_inside),
         (0, 1, true)
     );
+}
+
+#[test]
+fn knows_six_names(rt: HostRuntime) {
+    let rows = [
+        ("cat", Some(Program::Cat)),
+        ("echo", Some(Program::Echo)),
+        ("grep", Some(Program::Grep)),
+        ("head", Some(Program::Head)),
+        ("tee", Some(Program::Tee)),
+        ("wc", Some(Program::Wc)),
+        ("sh", None),
+        ("", None),
+        ("cats", None),
+        ("Cat", None),
+    ];
+    for (name, want) in rows {
+        assert!(rt; Program::named(name.as_bytes()) == want, "at {name}");
+    }
+}
+
+#[test]
+fn tells_the_words_that_name_files(rt: HostRuntime) -> Result<(), Fail> {
+    // the name and two arguments of a command: how many of them name files, how many it reads, how
+    // many it writes, and whether it reads standard input
+    let rows = [
+        (["cat", "a", "b"], 2, 2, 0, false),
+        (["echo", "a", "b"], 0, 0, 0, false),
+        (["grep", "a", "b"], 1, 1, 0, false),
+        (["head", "-1", "b"], 1, 1, 0, false),
+        (["head", "-x", "b"], 0, 0, 0, false),
+        (["tee", "a", "b"], 2, 0, 2, true),
+        (["wc", "a", "b"], 2, 2, 0, false),
+        (["sh", "a", "b"], 0, 0, 0, false),
+    ];
+    for (words, named, read, written, uses) in rows {
+        let mut copies = Vec::new(rt.alloc());
+        for word in words {
+            copies.push(Bytes::copy_of(rt.alloc(), word.as_bytes())?)?;
+        }
+        let copies = copies.as_slice();
+        assert_eq!(rt; file_words(copies).len(), named);
+        assert_eq!(rt; words_read(copies).len(), read);
+        assert_eq!(rt; words_written(copies).len(), written);
+        assert_eq!(rt; words_use_input(copies), uses);
+        assert!(rt; is_among(copies, b"b".as_slice()) && !is_among(copies, b"c".as_slice()));
+    }
+    Ok(())
 }

@@ -1,4 +1,4 @@
-pub mod Counts
-pub mod Cuts
+pub mod Checked
+pub mod OneScript
 pub mod Reading
-pub mod ShortLines
+pub mod SmallLines

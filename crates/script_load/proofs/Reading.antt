@@ -4,9 +4,9 @@ use Rattle.std.specs.Prelude.{All}
 use Rattle.std.specs.List.{AllZip}
 use Rattle.std.proofs.lemmas.List.{append-nil}
 use Rattle.script_load.specs.Line.{ScriptLine}
-use Rattle.script_load.specs.Lines.{IsFirstLine, AreLines}
+use Rattle.prog_parts.specs.Lines.{IsFirstLine, AreLines}
 use Rattle.script_load.specs.Script.{IsFine, AllFine, IsLineOf, IsScript}
-use Rattle.script_load.proofs.Cuts.{one_cut}
+use Rattle.prog_parts.proofs.Cuts.{one_cut}
 
 -- the lines up to rest are read
 pub record IsReadTo (bytes rest : List ℕ) (lines : List ScriptLine) : Type 0 where

@@ -1,14 +1,4 @@
-pub mod Grep
-pub mod Head
-pub mod Inputs
+pub mod Codes
 pub mod Limits
 pub mod Line
-pub mod Lines
-pub mod Meaning
-pub mod Programs
 pub mod Script
-pub mod Settled
-pub mod Short
-pub mod Tee
-pub mod Value
-pub mod Wc

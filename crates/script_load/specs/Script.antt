@@ -6,7 +6,7 @@ use Rattle.sh_tree.specs.Fault.{HasFault, HasTree}
 use Rattle.script_load.specs.declared.fault.LoadFault.{LoadFault}
 use Rattle.script_load.specs.declared.fault.LoadFault.TheVariants.{LineTooLong, ByteZero, Memory}
 use Rattle.script_load.specs.Line.{ScriptLine, command, bad, cd}
-use Rattle.script_load.specs.Lines.{AreLines}
+use Rattle.prog_parts.specs.Lines.{AreLines}
 
 -- the text begins with the three bytes `cd `
 abbrev pub BeginsCd : List ℕ → Type 0

@@ -1,5 +1,5 @@
 ghost use Rattle.std.specs.Prelude.{◌≡◌, [], IfNone, IfSome};
-ghost use Rattle.script_load.specs.Lines.{IsFirstLine};
+ghost use Rattle.prog_parts.specs.Lines.{IsFirstLine};
 
 use memchr::memchr;
 

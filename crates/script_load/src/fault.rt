@@ -37,3 +37,12 @@ impl<T: Drop> From<AllocFailed<T>> for LoadFault {
         LoadFault::Memory
     }
 }
+
+/// A line of a script that was made by hand has a word, a redirection's name or a text of more than 511
+/// bytes, or a command of more than nine words.
+#[derive(Clone, Copy, Debug, PartialEq, Eq, Error)]
+#[error("line {line} is too large")]
+pub struct LineTooLarge {
+    /// The number of the line, counted from 1.
+    pub line: usize,
+}

@@ -8,7 +8,7 @@ mod line;
 mod loading;
 mod script;
 
-pub use fault::LoadFault;
+pub use fault::{LineTooLarge, LoadFault};
 pub use line::{Line, Lines};
 pub use loading::load;
 pub use script::Script;

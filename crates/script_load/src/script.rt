@@ -1,13 +1,97 @@
-ghost use Rattle.std.specs.Prelude.{◌≡◌, true};
-ghost use Rattle.script_load.specs.Line.{lines_of};
-ghost use Rattle.script_load.specs.Short.{are_short};
+ghost use Rattle.std.specs.Prelude.{◌≡◌, true, map, IfNone, IfSome, IfErr, IfOk};
+ghost use Rattle.script_load.specs.Limits.{are_small, is_small_line, IsFirstLarge};
+ghost use Rattle.script_load.specs.Line.{line_of, lines_of};
 
-use crate::line::Lines;
+use crate::fault::LineTooLarge;
+use crate::line::{Line, Lines};
+use sh_tree::{has_few_words, is_short};
 use std::alloc::Allocator;
 
-/// The lines of a script. Every word, redirection name and text in them has at most 511 bytes.
+/// The most bytes of a line's text (own).
+const MAX_TEXT: usize = 511;
+
+/// The lines of a script. Every word, redirection name and text in them has at most 511 bytes, and no
+/// command has more than nine words.
 #[derive(Drop)]
 pub struct Script<A: Allocator> {
     pub lines: Lines<A>,
-    ghost short: { are_short (lines_of lines) ≡ true },
+    ghost small: { are_small (lines_of lines) ≡ true },
+}
+
+// Whether a line is within the limits.
+fn is_small<A: Allocator>(line: &Line<A>) -> bool
+    ensures { result ≡ is_small_line (line_of line.now) }
+{
+    match line {
+        Line::Tree(tree) => is_short(tree) && has_few_words(tree),
+        Line::Bad(_, text) | Line::Cd(text) => text.as_slice().len() <= MAX_TEXT,
+    }
+}
+
+// The number of the first of these lines that is not within the limits, counted from 1.
+fn first_large<A: Allocator>(lines: &[Line<A>]) -> Option<usize>
+    ensures none { IfNone result (are_small (map line_of lines.now) ≡ true) }
+    ensures some { IfSome result (IsFirstLarge (map line_of lines.now)) }
+{
+    for (i, line) in lines.iter().enumerate() {
+        if !is_small(line) {
+            return Some(i + 1);
+        }
+    }
+    None
+}
+
+impl<A: Allocator> Script<A> {
+    /// The script of lines that were made by hand (own). It is refused, and the lines dropped, where a
+    /// word, a redirection's name or a text has more than 511 bytes, or a command more than nine words:
+    /// the first such line is told, counted from 1.
+    pub fn from_lines(lines: Lines<A>) -> Result<Script<A>, LineTooLarge>
+        ensures script { IfOk result (λ script. lines_of script.lines ≡ lines_of lines) }
+        ensures fault { IfErr result (λ fault. IsFirstLarge (lines_of lines) fault.line) }
+    {
+        match first_large(lines.as_slice()) {
+            Some(line) => Err(LineTooLarge { line }),
+            None => Ok(Script { lines }),
+        }
+    }
+}
+
+#[cfg(test)]
+mod tests {
+    use super::*;
+    use sh_lexer::Bytes;
+    use sh_tree::{Cmd, Words};
+    use std::alloc::{AllocError, Global};
+    use std::test::Fail;
+
+    // A command of so many words of so many bytes each.
+    fn command(alloc: Global, words: usize, bytes: usize) -> Result<Line<Global>, AllocError> {
+        let mut all = Vec::new(alloc);
+        for _ in 0..words {
+            all.push(Bytes::from_vec(vec![in alloc; b'x'; bytes]?))?;
+        }
+        Ok(Line::Tree(Cmd::Exec(Words::from_vec(all))))
+    }
+
+    #[test]
+    fn large_lines_are_refused(rt: HostRuntime) -> Result<(), Fail> {
+        // the words of the second line's command, the bytes of each, and whether it is taken
+        let rows = [(9, 511, true), (10, 1, false), (1, 512, false)];
+        for (words, bytes, is_taken) in rows {
+            let mut lines = Vec::new(rt.alloc());
+            lines.push(command(rt.alloc(), 1, 1)?)?;
+            lines.push(command(rt.alloc(), words, bytes)?)?;
+            match Script::from_lines(Lines::from_vec(lines)) {
+                Ok(script) => {
+                    assert!(rt; is_taken);
+                    assert_eq!(rt; script.lines.as_slice().len(), 2);
+                }
+                Err(fault) => {
+                    assert!(rt; !is_taken);
+                    assert_eq!(rt; fault, LineTooLarge { line: 2 });
+                }
+            }
+        }
+        Ok(())
+    }
 }

@@ -4,7 +4,10 @@ ghost use Rattle.sh_lexer.specs.Tokens.{is_white, is_word_byte, IsTextOf, IsToke
 use crate::token::{Kind, Token};
 use std::alloc::{AllocError, Allocator};
 
-fn is_white(byte: u8) -> bool
+/// Whether a byte is white space: space, tab, LF, vertical tab or CR (`user/sh.c`'s `whitespace`, and
+/// what `user/wc.c` parts words by).
+#[inline]
+pub fn is_white(byte: u8) -> bool
     ensures { result ≡ is_white byte }
 {
     matches!(byte, b' ' | b'\t' | b'\n' | 11 | b'\r')

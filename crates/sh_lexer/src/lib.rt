@@ -7,5 +7,5 @@ mod lexer;
 mod token;
 
 pub use bytes::Bytes;
-pub use lexer::tokens;
+pub use lexer::{is_white, tokens};
 pub use token::{Kind, Token};

@@ -1,4 +1,5 @@
 //! Expected values are worked out by hand from the grammar and the table of faults.
+use crate::limits::{has_few_words, is_short};
 use crate::{Cmd, Mode, ParseFault, copy_in, parse, same};
 use ParseFault::{Leftover, MissingFile, MissingParen, TooManyWords, Unexpected};
 use bumpalo::Bump;
@@ -375,6 +376,26 @@ fn finds_a_fault_a_million_deep(rt: HostRuntime) -> Result<(), Fail> {
     match parse(rt.alloc(), line.as_slice()) {
         Err(fault) => assert_eq!(rt; fault, MissingParen(1_000_000)),
         Ok(_) => assert!(rt; false),
+    }
+    Ok(())
+}
+
+#[test]
+fn trees_within_the_limits_are_known(rt: HostRuntime) -> Result<(), Fail> {
+    // a command, and whether all its words and names are short; no command that is parsed has ten words
+    let long = vec![in rt.alloc(); b'x'; 512]?;
+    let mut named = b"a > ".to_vec(rt.alloc())?;
+    named.extend_from_slice(long.as_slice())?;
+    let rows = [
+        (b"a b | (c > f; d &)".as_slice(), true),
+        (&long[..511], true),
+        (long.as_slice(), false),
+        (named.as_slice(), false),
+    ];
+    for (line, is) in rows {
+        let tree = parse(rt.alloc(), line)?;
+        assert_eq!(rt; is_short(&tree), is);
+        assert!(rt; has_few_words(&tree));
     }
     Ok(())
 }

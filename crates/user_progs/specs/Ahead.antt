@@ -1,7 +1,8 @@
 -- Which names a program may still open or write, and whether it still reads standard input, by its state. Sets of names are tests.
-use Rattle.std.specs.Prelude.{Bool, true, false, ◌||◌, ◌∷◌, Some}
-use Rattle.conflict_check.specs.Program.{program_uses_input}
-use Rattle.conflict_check.specs.Names.{Names, among, program_reads, program_writes}
+use Rattle.std.specs.Prelude.{Bool, true, false, ◌||◌, ◌∷◌}
+use Rattle.prog_parts.specs.Program.{program_uses_input}
+use Rattle.prog_parts.specs.NameSets.{Names, among}
+use Rattle.prog_parts.specs.Words.{files_read, files_written}
 use Rattle.user_progs.specs.State.{Source, standard, file, Tee, tee_opens, tee_reads, tee_writes, tee_gives, State, begins, echo_word, echo_space, opens, works, closes, tees, told, ended}
 
 abbrev pub source_opens : Source → Names
@@ -16,7 +17,7 @@ tee_opens_still (tee_gives fds at bytes) name = false
 
 -- the names that it may still open; what it holds open is not among them
 abbrev pub still_opens : State → Names
-still_opens (begins program arguments) name = program_reads (Some program) arguments name || program_writes (Some program) arguments name
+still_opens (begins program arguments) name = among (files_read program arguments) name || among (files_written program arguments) name
 still_opens (echo_word later) name = false
 still_opens (echo_space later) name = false
 still_opens (opens filter current later) name = among (current ∷ later) name
@@ -28,7 +29,7 @@ still_opens ended name = false
 
 -- of these, those that it opens for writing
 abbrev pub still_writes : State → Names
-still_writes (begins program arguments) name = program_writes (Some program) arguments name
+still_writes (begins program arguments) name = among (files_written program arguments) name
 still_writes (echo_word later) name = false
 still_writes (echo_space later) name = false
 still_writes (opens filter current later) name = false

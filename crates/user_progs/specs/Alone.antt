@@ -9,7 +9,7 @@ use Rattle.user_calls.specs.declared.calls.Call.{Call}
 use Rattle.user_calls.specs.declared.calls.Call.TheVariants.{Fork, Exec, Exit, Wait, MakePipe, Read, Write, OpenFile, Close, Dup}
 use Rattle.user_calls.specs.declared.calls.Reply.{Reply}
 use Rattle.user_calls.specs.declared.calls.Reply.TheVariants.{Done, Bytes as Bytes', Fd, Refused}
-use Rattle.script_load.specs.Inputs.{found}
+use Rattle.sh_meaning.specs.Inputs.{found}
 use Rattle.user_progs.specs.Turn.{bytes_in, fd_in}
 
 -- an open file of the program's own: its descriptor, its name, and the byte at which it goes on

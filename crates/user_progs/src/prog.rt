@@ -5,7 +5,7 @@ ghost use Rattle.user_progs.specs.View.{first_state, found_state};
 
 use crate::state::{At, Filter, Turn};
 use crate::{echo, filter, grep, head, tee};
-use conflict_check::Program;
+use prog_parts::Program;
 use sh_lexer::Bytes;
 use std::alloc::Allocator;
 use std::marker::Model;

@@ -3,7 +3,7 @@
 ghost use Rattle.std.specs.Prelude.{◌≡◌, ◌↔◌, IsTrue};
 
 use crate::tee::Tee;
-use conflict_check::Program;
+use prog_parts::Program;
 use sh_lexer::Bytes;
 use std::alloc::Allocator;
 use user_calls::{Block, Call};

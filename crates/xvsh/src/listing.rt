@@ -1,8 +1,9 @@
 ghost use Rattle.std.specs.Prelude.{◌≡◌, ◌++◌, ◌<◌, OnOk, IfOk, slice_get, Some, length};
-ghost use Rattle.conflict_check.specs.Names.{among};
+ghost use Rattle.prog_parts.specs.NameSets.{among};
 ghost use Rattle.xvsh.specs.Listing.{soft_mark, file_text, list_text};
 
 use mem_files::Files;
+use prog_parts::is_among;
 use sh_lexer::Bytes;
 use std::alloc::{AllocError, Global};
 
@@ -34,13 +35,6 @@ fn mark(is_soft: bool) -> &'static [u8]
     if is_soft { b" soft".as_slice() } else { &[] }
 }
 
-// Whether a name is one of these words.
-fn is_among(name: &[u8], words: &[Bytes<Global>]) -> bool
-    ensures { result ≡ among words.now name.now }
-{
-    words.iter().any(|word| word.as_slice() == name)
-}
-
 // The name and the bytes of a file by its place in byte order.
 fn file_at(files: &Files<Global>, place: usize) -> (&[u8], &[u8])
     requires { place < length files.now }
@@ -68,7 +62,7 @@ pub fn listing(
     let mut text = Vec::new(alloc);
     for i in 0..files.count() {
         let (name, bytes) = file_at(files, i);
-        add_text(alloc, is_among(name, soft), name, bytes, &mut text)?;
+        add_text(alloc, is_among(soft, name), name, bytes, &mut text)?;
     }
     Ok(text)
 }

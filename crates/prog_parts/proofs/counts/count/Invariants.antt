@@ -1,5 +1,5 @@
 use Rattle.std.proofs.Common.{◌≡◌, ◌≤◌, ◌+◌, drop}
-use Rattle.script_load.specs.Wc.{line_ends, words_after, ends_inside}
+use Rattle.prog_parts.specs.Wc.{line_ends, words_after, ends_inside}
 use Rattle.prog_parts.proofs.counts.count.Given as goal
 
 -- the counts of the bytes that are left complete those so far, which are no more than the bytes passed

@@ -2,7 +2,7 @@ use Rattle.std.proofs.Common.{◌≡◌, ◌≤◌, ◌<◌, length, List, ℕ, 
 use Rattle.std.specs.Prelude.{Contains}
 use Rattle.std.proofs.lemmas.Grind.{get_or_default_zero}
 use Rattle.script_load.specs.Script.{IsFine}
-use Rattle.script_load.proofs.Cuts.{checked_one, checked_all, faulty}
+use Rattle.script_load.proofs.Checked.{checked_one, checked_all, faulty}
 use Rattle.script_load.proofs.loading.check.Goals as goal
 
 false_not_true : false ≡ true → ⊥

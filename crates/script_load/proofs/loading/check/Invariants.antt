@@ -1,5 +1,5 @@
 use Rattle.std.proofs.Common.{length}
-use Rattle.script_load.proofs.Cuts.{IsCheckedTo}
+use Rattle.script_load.proofs.Checked.{IsCheckedTo}
 use Rattle.script_load.proofs.loading.check.Given as goal
 
 abbrev pub invariant-loop-line : goal.invariant-loop-line

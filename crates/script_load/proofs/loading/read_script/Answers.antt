@@ -2,9 +2,9 @@ use Rattle.std.proofs.Common.{arith}
 use Rattle.std.specs.Prelude.{map}
 use Rattle.std.proofs.lemmas.List.{map-append}
 use Rattle.script_load.specs.Line.{line_of}
-use Rattle.script_load.proofs.Cuts.{first_line_shorter}
+use Rattle.prog_parts.proofs.Cuts.{first_line_shorter}
 use Rattle.script_load.proofs.Reading.{read_none, read_one, read_all}
-use Rattle.script_load.proofs.ShortLines.{script_short}
+use Rattle.script_load.proofs.SmallLines.{script_small}
 use Rattle.script_load.proofs.loading.read_script.Goals as goal
 
 pub loop-text-init : goal.loop-text-init
@@ -21,7 +21,7 @@ loop-text-preserved g c =
 pub invariant_of-result : goal.invariant_of-result
 invariant_of-result g c =
     let script = read_all c.args.bytes.now c.loop-text.rest.now (map line_of c.loop-text.lines.items) c.loop-text.invariant c.in_default.ensures.none c.requires in
-    record { short = rw c.from_vec.ensures (script_short c.args.bytes.now (map line_of c.loop-text.lines.items) script) }
+    record { small = rw c.from_vec.ensures (script_small c.args.bytes.now (map line_of c.loop-text.lines.items) script) }
 
 pub returns : goal.returns
 returns g c =

@@ -1,0 +1,3 @@
+pub mod Bools
+pub mod Fixed
+pub mod NothingMet

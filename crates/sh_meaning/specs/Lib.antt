@@ -1,0 +1,7 @@
+pub mod Inputs
+pub mod Limits
+pub mod Meaning
+pub mod Programs
+pub mod Settled
+pub mod Tee
+pub mod Value

@@ -1,0 +1,55 @@
+-- When the order in which processes run changes nothing that a script gives, but for soft names.
+use Rattle.std.specs.Prelude.{◌≡◌, true, false, ◌||◌, List, IfSome}
+use Rattle.std.specs.Str.{bytes_eq}
+use Rattle.sh_tree.specs.declared.tree.Mode.{Mode}
+use Rattle.sh_tree.specs.declared.tree.Mode.TheVariants.{Input, Fresh, Over}
+use Rattle.sh_tree.specs.Tree.{Tree, exec, redir, pipe, list, back}
+use Rattle.mem_files.specs.Name.{Name, Bytes, is_openable}
+use Rattle.mem_files.specs.Files.{FileMap}
+use Rattle.conflict_check.specs.Clear.{has_back, IsClear}
+use Rattle.prog_parts.specs.NameSets.{Names, no_names, both}
+use Rattle.conflict_check.specs.Names.{names, writes, uses_input}
+use Rattle.sh_meaning.specs.Inputs.{found}
+use Rattle.script_load.specs.Line.{ScriptLine}
+use Rattle.sh_meaning.specs.Meaning.{meaning, opened, script_tree}
+use Rattle.sh_meaning.specs.Value.{is_cut}
+
+-- no name of the one set is in the other
+abbrev pub AreNoneOf : Names → Names → Type 0
+AreNoneOf these those = (name : Name) → these name ≡ true → those name ≡ false
+
+-- a name, and those of a set
+abbrev pub with_name : Name → Names → Names
+with_name name others other = bytes_eq other name || others other
+
+-- a body under < runs on the bytes of the file if that is found, and one under > or >> if the file can be opened
+abbrev pub IfRun : Mode → Name → FileMap → (Bytes → Type 0) → Type 0 → Type 0
+IfRun Input name F read wrote = IfSome (found F name) read
+IfRun Fresh name F read wrote = is_openable name ≡ true → wrote
+IfRun Over name F read wrote = is_openable name ≡ true → wrote
+
+-- a settled tree of a script that has these names outside it: at each pipe that is cut, what the left
+-- side writes is named nowhere else, and after a command that is loose none uses the input
+abbrev pub IsSettled : Tree → Names → Bytes → FileMap → Type 0
+IsSettled (exec words) outside input F = Unit {0}
+IsSettled (redir mode name body) outside input F =
+    IfRun mode name F
+    (λ bytes. IsSettled body (with_name name outside) bytes F)
+    (IsSettled body (with_name name outside) input (opened mode name F))
+IsSettled (pipe left right) outside input F =
+    IsSettled left (both (names right) outside) input F ×
+    IsSettled right (both (names left) outside) (meaning left input F).out (meaning left input F).files ×
+    (is_cut (meaning right (meaning left input F).out (meaning left input F).files) ≡ true → AreNoneOf (writes left) (both (names right) outside))
+IsSettled (list left right) outside input F =
+    IsSettled left (both (names right) outside) input F ×
+    IsSettled right (both (names left) outside) (meaning left input F).rest (meaning left input F).files ×
+    ((meaning left input F).loose ≡ true → uses_input right ≡ false)
+IsSettled (back body) outside input F = IsSettled body outside input F
+
+-- a settled script: no command of it runs behind &, its commands can't come upon each other at a file,
+-- and all of it is settled, with nothing outside
+abbrev pub IsSettledScript : List ScriptLine → Bytes → FileMap → Type 0
+IsSettledScript lines input F =
+    (has_back (script_tree lines) ≡ false) ×
+    IsClear (script_tree lines) ×
+    IsSettled (script_tree lines) no_names input F

@@ -1,0 +1,29 @@
+//! Laws of the definitions, each the contract of a function that does nothing.
+ghost use Rattle.std.specs.Prelude.{◌≡◌, true, false, List};
+ghost use Rattle.mem_files.specs.Files.{FileMap};
+ghost use Rattle.mem_files.specs.Name.{Bytes, Name};
+ghost use Rattle.prog_parts.specs.NameSets.{Names};
+ghost use Rattle.sh_tree.specs.Tree.{Tree};
+ghost use Rattle.script_load.specs.Line.{ScriptLine};
+ghost use Rattle.sh_meaning.specs.Meaning.{meaning, script_meaning};
+ghost use Rattle.sh_meaning.specs.Programs.{words_value};
+ghost use Rattle.sh_meaning.specs.Settled.{IsSettled, IsSettledScript};
+
+/// What a simple command gives doesn't depend on the order in which processes run: it leaves nothing
+/// loose, has no soft names and meets none.
+pub fn a_simple_command_is_fixed()
+    ensures loose { (words : List Bytes) (input : Bytes) (F : FileMap) → (words_value words input F).loose ≡ false }
+    ensures soft { (words : List Bytes) (input : Bytes) (F : FileMap) (name : Name) → (words_value words input F).soft name ≡ false }
+    ensures met { (words : List Bytes) (input : Bytes) (F : FileMap) (name : Name) → (words_value words input F).met name ≡ false }
+{}
+
+/// In a settled tree no command meets a soft file or a loose input, and no name outside it is soft.
+pub fn a_settled_tree_meets_nothing()
+    ensures met { (tree : Tree) (outside : Names) (input : Bytes) (F : FileMap) → IsSettled tree outside input F → (name : Name) → (meaning tree input F).met name ≡ false }
+    ensures soft { (tree : Tree) (outside : Names) (input : Bytes) (F : FileMap) → IsSettled tree outside input F → (name : Name) → outside name ≡ true → (meaning tree input F).soft name ≡ false }
+{}
+
+/// In a settled script no command meets a soft file or a loose input.
+pub fn a_settled_script_meets_nothing()
+    ensures { (lines : List ScriptLine) (input : Bytes) (F : FileMap) → IsSettledScript lines input F → (name : Name) → (script_meaning lines input F).met name ≡ false }
+{}
