@@ -4,8 +4,8 @@ use Rattle.std.proofs.Math.Seq.{drop-cons}
 use Rattle.mem_files.specs.Name.{Name, Bytes, is_openable}
 use Rattle.mem_files.specs.Files.{FileMap, with_file}
 use Rattle.mem_files.specs.Listing.{max_size}
-use Rattle.script_load.specs.Limits.{OnOpened, FillOutgrows, HasNoRoom}
-use Rattle.script_load.specs.Tee.{filled}
+use Rattle.sh_meaning.specs.Limits.{OnOpened, FillOutgrows, HasNoRoom}
+use Rattle.sh_meaning.specs.Tee.{filled}
 
 filled_one : (name : Name) (names : List Name) (bytes : Bytes) (F : FileMap) → is_openable name ≡ true → filled (name ∷ names) bytes F ≡ filled names bytes (with_file F name bytes)
 filled_one name names bytes F good = ap (λ b. cond b (filled names bytes (with_file F name bytes)) F) good

@@ -2,7 +2,7 @@
 use Rattle.std.proofs.Common.{◌≡◌, ◌≢◌, ℕ, zero, suc, ◌+◌, ◌-◌, ◌<◌, ◌==◌, true, false, Bool, cond, [], ◌∷◌, ◌++◌, length, drop, take, get_or, refl, sym, ◌∙◌, ap, arith, append_assoc}
 use Rattle.std.proofs.Math.Seq.{drop-cons, take-suc}
 use Rattle.mem_files.specs.Name.{Bytes}
-use Rattle.script_load.specs.Head.{first_lines}
+use Rattle.prog_parts.specs.Head.{first_lines}
 
 -- one byte more of the lines that are left
 pub one_byte : (left i : ℕ) (bytes : Bytes) → left ≢ 0 → i < length bytes → take i bytes ++ first_lines left (drop i bytes) ≡ take (i + 1) bytes ++ first_lines (left - cond (get_or bytes i 0 == 10) 1 0) (drop (i + 1) bytes)

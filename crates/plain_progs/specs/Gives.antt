@@ -2,7 +2,7 @@
 use Rattle.std.specs.Prelude.{◌≡◌, ◌++◌}
 use Rattle.mem_files.specs.Name.{Bytes}
 use Rattle.mem_files.specs.Files.{FileMap}
-use Rattle.script_load.specs.Value.{Value}
+use Rattle.sh_meaning.specs.Value.{Value}
 use Rattle.plain_progs.specs.declared.fault.PlainFault.{PlainFault}
 use Rattle.plain_progs.specs.declared.fault.PlainFault.TheVariants.{TooLarge, Memory}
 

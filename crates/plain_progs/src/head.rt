@@ -1,6 +1,6 @@
 //! The first lines of `head` (own: xv6 has none).
 ghost use Rattle.std.specs.Prelude.{◌≡◌, ◌≤◌, ◌==◌, length, take, if◌then◌else◌};
-ghost use Rattle.script_load.specs.Head.{first_lines, after_lines};
+ghost use Rattle.prog_parts.specs.Head.{first_lines, after_lines};
 
 use crate::filter::Filter;
 use std::alloc::{AllocError, Allocator};

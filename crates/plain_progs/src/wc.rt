@@ -1,6 +1,6 @@
 //! The counts of `wc` (`user/wc.c`).
 ghost use Rattle.std.specs.Prelude.{[]};
-ghost use Rattle.script_load.specs.Wc.{wc_line};
+ghost use Rattle.prog_parts.specs.Wc.{wc_line};
 
 use crate::filter::Filter;
 use prog_parts::count;

@@ -7,17 +7,18 @@ use Rattle.sh_tree.specs.Tree.{Tree, exec, redir, pipe, list, back}
 use Rattle.mem_files.specs.Name.{Name, Bytes, is_openable}
 use Rattle.mem_files.specs.Files.{FileMap, with_file}
 use Rattle.mem_files.proofs.Kept.{at_name}
-use Rattle.conflict_check.specs.declared.program.Program.{Program}
-use Rattle.conflict_check.specs.declared.program.Program.TheVariants.{Cat, Echo, Grep, Head, Tee, Wc}
-use Rattle.conflict_check.specs.Program.{program_of, head_files, has_wrong_option}
-use Rattle.script_load.specs.Meaning.{meaning, opened, input_value, output_value}
-use Rattle.script_load.specs.Grep.{grep_out, grep_left}
-use Rattle.script_load.specs.Head.{first_lines, after_lines, line_count}
-use Rattle.script_load.specs.Inputs.{found, filter_value}
-use Rattle.script_load.specs.Programs.{program_value, words_value}
-use Rattle.script_load.specs.Tee.{are_openable, filled}
-use Rattle.script_load.specs.Value.{Value, fixed, nothing}
-use Rattle.script_load.specs.Wc.{wc_line}
+use Rattle.prog_parts.specs.declared.program.Program.{Program}
+use Rattle.prog_parts.specs.declared.program.Program.TheVariants.{Cat, Echo, Grep, Head, Tee, Wc}
+use Rattle.prog_parts.specs.Program.{program_of}
+use Rattle.prog_parts.specs.Head.{head_files, has_wrong_option}
+use Rattle.sh_meaning.specs.Meaning.{meaning, opened, input_value, output_value}
+use Rattle.prog_parts.specs.Grep.{grep_out, grep_left}
+use Rattle.prog_parts.specs.Head.{first_lines, after_lines, line_count}
+use Rattle.sh_meaning.specs.Inputs.{found, filter_value}
+use Rattle.sh_meaning.specs.Programs.{program_value, words_value}
+use Rattle.sh_meaning.specs.Tee.{are_openable, filled}
+use Rattle.sh_meaning.specs.Value.{Value, fixed, nothing}
+use Rattle.prog_parts.specs.Wc.{wc_line}
 
 -- a name with a file keeps one
 abbrev pub Keeps : FileMap → FileMap → Type 0

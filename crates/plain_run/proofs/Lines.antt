@@ -4,12 +4,12 @@ use Rattle.std.specs.Prelude.{map}
 use Rattle.std.proofs.lemmas.List.{append-nil, drop_all}
 use Rattle.sh_tree.specs.Tree.{list}
 use Rattle.mem_files.specs.Name.{Name, Bytes}
-use Rattle.conflict_check.specs.Names.{among}
+use Rattle.prog_parts.specs.NameSets.{among}
 use Rattle.mem_files.specs.Files.{FileMap}
 use Rattle.script_load.specs.declared.line.Line.{Line}
-use Rattle.script_load.specs.Limits.{Outgrows}
+use Rattle.sh_meaning.specs.Limits.{Outgrows}
 use Rattle.script_load.specs.Line.{ScriptLine, line_of}
-use Rattle.script_load.specs.Meaning.{meaning, line_tree, script_tree}
+use Rattle.sh_meaning.specs.Meaning.{meaning, line_tree, script_tree}
 use Rattle.plain_progs.specs.declared.fault.PlainFault.{PlainFault}
 use Rattle.plain_progs.specs.Gives.{Gives, IsDue}
 use Rattle.plain_run.specs.Tells.{Tells}

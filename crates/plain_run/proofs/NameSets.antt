@@ -14,7 +14,7 @@ use Rattle.std.proofs.lemmas.Bool.{false≢true, or_left}
 use Rattle.std.proofs.lemmas.List.{append-nil}
 use Rattle.std.proofs.lemmas.Slice.Eq.{bytes_eq-Decides}
 use Rattle.mem_files.specs.Name.{Name, name_cmp}
-use Rattle.conflict_check.specs.Names.{among}
+use Rattle.prog_parts.specs.NameSets.{among}
 
 -- only equal names tie
 pub same : (m n : Name) → name_cmp m n ≡ Equal → m ≡ n

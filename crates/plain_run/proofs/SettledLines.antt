@@ -7,11 +7,12 @@ use Rattle.std.proofs.lemmas.List.{take_more}
 use Rattle.mem_files.specs.Name.{Name, Bytes}
 use Rattle.mem_files.specs.Files.{FileMap}
 use Rattle.conflict_check.specs.Clear.{has_back, IsClear}
-use Rattle.conflict_check.specs.Names.{Names, no_names, among, both, names, uses_input}
+use Rattle.prog_parts.specs.NameSets.{Names, no_names, among, both}
+use Rattle.conflict_check.specs.Names.{names, uses_input}
 use Rattle.script_load.specs.declared.line.Line.{Line}
 use Rattle.script_load.specs.Line.{ScriptLine, line_of}
-use Rattle.script_load.specs.Meaning.{meaning, line_tree, script_tree}
-use Rattle.script_load.specs.Settled.{AreNoneOf, IsSettled}
+use Rattle.sh_meaning.specs.Meaning.{meaning, line_tree, script_tree}
+use Rattle.sh_meaning.specs.Settled.{AreNoneOf, IsSettled}
 use Rattle.plain_progs.specs.Gives.{Gives}
 use Rattle.plain_run.specs.Spans.{all_names}
 use Rattle.plain_run.specs.Tells.{Tells}

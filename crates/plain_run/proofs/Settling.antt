@@ -10,20 +10,22 @@ use Rattle.sh_tree.specs.declared.tree.Mode.TheVariants.{Input, Fresh, Over}
 use Rattle.sh_tree.specs.Tree.{Tree, exec, redir, pipe, list, back}
 use Rattle.mem_files.specs.Name.{Name, Bytes, is_openable}
 use Rattle.mem_files.specs.Files.{FileMap}
-use Rattle.conflict_check.specs.declared.program.Program.{Program}
-use Rattle.conflict_check.specs.declared.program.Program.TheVariants.{Cat, Echo, Grep, Head, Tee, Wc}
-use Rattle.conflict_check.specs.Program.{program_of, head_files, has_wrong_option, is_empty}
-use Rattle.conflict_check.specs.Names.{Names, no_names, among, both, names, writes, uses_input}
+use Rattle.prog_parts.specs.declared.program.Program.{Program}
+use Rattle.prog_parts.specs.declared.program.Program.TheVariants.{Cat, Echo, Grep, Head, Tee, Wc}
+use Rattle.prog_parts.specs.Program.{program_of, is_empty}
+use Rattle.prog_parts.specs.Head.{head_files, has_wrong_option}
+use Rattle.prog_parts.specs.NameSets.{Names, no_names, among, both}
+use Rattle.conflict_check.specs.Names.{names, writes, uses_input}
 use Rattle.conflict_check.proofs.Sharing.{none_pass}
-use Rattle.script_load.specs.Grep.{grep_out, grep_left}
-use Rattle.script_load.specs.Head.{first_lines, after_lines, line_count}
-use Rattle.script_load.specs.Inputs.{found, filter_value}
-use Rattle.script_load.specs.Meaning.{meaning, opened, input_value, output_value, written_value}
-use Rattle.script_load.specs.Programs.{program_value, words_value}
-use Rattle.script_load.specs.Settled.{AreNoneOf, with_name, IsSettled}
-use Rattle.script_load.specs.Tee.{are_openable}
-use Rattle.script_load.specs.Value.{Value, is_cut}
-use Rattle.script_load.specs.Wc.{wc_line}
+use Rattle.prog_parts.specs.Grep.{grep_out, grep_left}
+use Rattle.prog_parts.specs.Head.{first_lines, after_lines, line_count}
+use Rattle.sh_meaning.specs.Inputs.{found, filter_value}
+use Rattle.sh_meaning.specs.Meaning.{meaning, opened, input_value, output_value, written_value}
+use Rattle.sh_meaning.specs.Programs.{program_value, words_value}
+use Rattle.sh_meaning.specs.Settled.{AreNoneOf, with_name, IsSettled}
+use Rattle.sh_meaning.specs.Tee.{are_openable}
+use Rattle.sh_meaning.specs.Value.{Value, is_cut}
+use Rattle.prog_parts.specs.Wc.{wc_line}
 use Rattle.plain_progs.specs.Gives.{Gives}
 use Rattle.plain_run.specs.Tells.{Tells, are_apart, with_lost}
 use Rattle.plain_run.proofs.Verdicts.{among_lost}

@@ -8,9 +8,9 @@ use Rattle.mem_files.specs.Name.{Name, Bytes, is_openable}
 use Rattle.mem_files.specs.Files.{FileMap, with_file, bytes_of}
 use Rattle.mem_files.specs.Listing.{max_size}
 use Rattle.mem_files.specs.Overlay.{overlay}
-use Rattle.script_load.specs.Limits.{OnOpened, Outgrows, HasNoRoom}
-use Rattle.script_load.specs.Meaning.{meaning, opened, at_end, output_value, written_value}
-use Rattle.script_load.specs.Value.{Value}
+use Rattle.sh_meaning.specs.Limits.{OnOpened, Outgrows, HasNoRoom}
+use Rattle.sh_meaning.specs.Meaning.{meaning, opened, at_end, output_value, written_value}
+use Rattle.sh_meaning.specs.Value.{Value}
 use Rattle.plain_progs.specs.declared.fault.PlainFault.{PlainFault}
 use Rattle.plain_progs.specs.declared.fault.PlainFault.TheVariants.{TooLarge, Memory}
 use Rattle.plain_progs.specs.Gives.{Gives, IsDue}

@@ -7,13 +7,14 @@ use Rattle.sh_tree.specs.declared.tree.Mode.TheVariants.{Input, Fresh, Over}
 use Rattle.sh_tree.specs.Tree.{Tree, redir, pipe, list}
 use Rattle.mem_files.specs.Name.{Name, Bytes, is_openable}
 use Rattle.mem_files.specs.Files.{FileMap}
-use Rattle.conflict_check.specs.Names.{among, writes, uses_input}
+use Rattle.prog_parts.specs.NameSets.{among}
+use Rattle.conflict_check.specs.Names.{writes, uses_input}
 use Rattle.conflict_check.specs.Occurrences.{written}
-use Rattle.conflict_check.specs.Program.{is_empty}
+use Rattle.prog_parts.specs.Program.{is_empty}
 use Rattle.conflict_check.proofs.Listed.{writes_listed}
-use Rattle.script_load.specs.Inputs.{found}
-use Rattle.script_load.specs.Meaning.{meaning, opened, input_value, written_value}
-use Rattle.script_load.specs.Value.{is_cut}
+use Rattle.sh_meaning.specs.Inputs.{found}
+use Rattle.sh_meaning.specs.Meaning.{meaning, opened, input_value, written_value}
+use Rattle.sh_meaning.specs.Value.{is_cut}
 use Rattle.plain_progs.specs.Gives.{Gives}
 use Rattle.plain_run.specs.Tells.{Tells, with_lost}
 use Rattle.plain_run.proofs.Steps.{output_is}

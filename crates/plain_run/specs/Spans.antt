@@ -3,11 +3,12 @@ use Rattle.std.specs.Prelude.{◌≡◌, ℕ, ◌+◌, nat_lt, Bool, true, false
 use Rattle.std.specs.BTreeMap.{get_by}
 use Rattle.std.specs.Ordering.{nat_cmp}
 use Rattle.std.specs.Cmp.Lexicographic.{slice_cmp}
-use Rattle.conflict_check.specs.Names.{Names, both, names}
+use Rattle.prog_parts.specs.NameSets.{Names, both}
+use Rattle.conflict_check.specs.Names.{names}
 use Rattle.mem_files.specs.Name.{Name}
 use Rattle.script_load.specs.declared.line.Line.{Line}
 use Rattle.script_load.specs.Line.{line_of}
-use Rattle.script_load.specs.Meaning.{script_tree}
+use Rattle.sh_meaning.specs.Meaning.{script_tree}
 use Rattle.plain_run.specs.declared.name_lines.NameLines.{NameLines}
 use Rattle.plain_run.specs.declared.name_lines.Span.{Span}
 

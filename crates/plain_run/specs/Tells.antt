@@ -3,9 +3,10 @@ use Rattle.std.specs.Prelude.{◌≡◌, Bool, not, ◌&&◌, List, ◌++◌, if
 use Rattle.std.specs.List.{list_any}
 use Rattle.sh_tree.specs.Tree.{Tree}
 use Rattle.mem_files.specs.Name.{Name}
-use Rattle.conflict_check.specs.Names.{among, names}
+use Rattle.prog_parts.specs.NameSets.{among}
+use Rattle.conflict_check.specs.Names.{names}
 use Rattle.conflict_check.specs.Occurrences.{written}
-use Rattle.script_load.specs.Value.{Value}
+use Rattle.sh_meaning.specs.Value.{Value}
 
 -- whether the value is loose, and its soft names
 pub record Tells (value : Value) (is_loose : Bool) (names : List Name) : Type 0 where

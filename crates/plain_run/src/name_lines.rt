@@ -3,9 +3,10 @@ ghost use Rattle.std.specs.Prelude.{◌≡◌, ◌+◌, List, ℕ, take, drop, O
 ghost use Rattle.std.specs.List.{list_any};
 ghost use Rattle.std.specs.Str.{bytes_eq};
 ghost use Rattle.sh_tree.specs.Tree.{tree_of};
-ghost use Rattle.conflict_check.specs.Names.{among, both, names};
+ghost use Rattle.prog_parts.specs.NameSets.{among, both};
+ghost use Rattle.conflict_check.specs.Names.{names};
 ghost use Rattle.script_load.specs.Line.{line_of};
-ghost use Rattle.script_load.specs.Meaning.{line_tree};
+ghost use Rattle.sh_meaning.specs.Meaning.{line_tree};
 ghost use Rattle.plain_run.specs.Spans.{all_names, span_of, reached, is_beside, AreSpans};
 
 use conflict_check::file_words;

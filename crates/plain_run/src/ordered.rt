@@ -3,7 +3,7 @@ ghost use Rattle.std.specs.Prelude.{◌≡◌, List, ℕ, map, IfOk};
 ghost use Rattle.std.specs.BTreeSet.{keys, IsOrdered};
 ghost use Rattle.std.specs.List.Sorted.{IsStrictlySortedBy};
 ghost use Rattle.mem_files.specs.Name.{name_cmp};
-ghost use Rattle.conflict_check.specs.Names.{among};
+ghost use Rattle.prog_parts.specs.NameSets.{among};
 
 use sh_lexer::Bytes;
 use std::alloc::{AllocError, Allocator};

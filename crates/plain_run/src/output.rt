@@ -5,8 +5,8 @@ ghost use Rattle.mem_files.specs.Name.{is_openable};
 ghost use Rattle.mem_files.specs.Files.{files, with_file};
 ghost use Rattle.mem_files.specs.Listing.{max_size};
 ghost use Rattle.mem_files.specs.Overlay.{overlay};
-ghost use Rattle.script_load.specs.Limits.{HasNoRoom};
-ghost use Rattle.script_load.specs.Meaning.{opened};
+ghost use Rattle.sh_meaning.specs.Limits.{HasNoRoom};
+ghost use Rattle.sh_meaning.specs.Meaning.{opened};
 ghost use Rattle.plain_progs.specs.Gives.{IsDue};
 ghost use Rattle.plain_run.specs.Held.{held};
 

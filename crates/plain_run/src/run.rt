@@ -3,12 +3,12 @@ ghost use Rattle.std.specs.List.Sorted.{IsStrictlySortedBy};
 ghost use Rattle.sh_tree.specs.Tree.{tree_of};
 ghost use Rattle.mem_files.specs.Files.{files};
 ghost use Rattle.mem_files.specs.Name.{name_cmp};
-ghost use Rattle.conflict_check.specs.Names.{no_names};
-ghost use Rattle.conflict_check.specs.Program.{is_empty};
-ghost use Rattle.script_load.specs.Settled.{IsSettled, IsSettledScript};
-ghost use Rattle.script_load.specs.Limits.{Outgrows};
+ghost use Rattle.prog_parts.specs.NameSets.{no_names};
+ghost use Rattle.prog_parts.specs.Program.{is_empty};
+ghost use Rattle.sh_meaning.specs.Settled.{IsSettled, IsSettledScript};
+ghost use Rattle.sh_meaning.specs.Limits.{Outgrows};
 ghost use Rattle.script_load.specs.Line.{line_of, lines_of};
-ghost use Rattle.script_load.specs.Meaning.{meaning, line_tree, script_tree, script_meaning};
+ghost use Rattle.sh_meaning.specs.Meaning.{meaning, line_tree, script_tree, script_meaning};
 ghost use Rattle.plain_progs.specs.Gives.{Gives, IsDue};
 ghost use Rattle.plain_run.specs.Tells.{Tells};
 

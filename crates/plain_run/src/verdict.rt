@@ -2,7 +2,8 @@
 ghost use Rattle.std.specs.Prelude.{◌≡◌, ◌++◌, ◌||◌, ◌&&◌, not, [], false, true, OnOk, IfOk};
 ghost use Rattle.std.specs.List.{list_any};
 ghost use Rattle.sh_tree.specs.Tree.{tree_of};
-ghost use Rattle.conflict_check.specs.Names.{among, names, uses_input};
+ghost use Rattle.prog_parts.specs.NameSets.{among};
+ghost use Rattle.conflict_check.specs.Names.{names, uses_input};
 ghost use Rattle.conflict_check.specs.Occurrences.{written};
 ghost use Rattle.plain_run.specs.Tells.{are_apart, with_lost};
 

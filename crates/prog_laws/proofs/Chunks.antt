@@ -2,12 +2,12 @@
 use Rattle.std.proofs.Common.{◌≡◌, ◌∙◌, ℕ, List, [], ◌∷◌, ◌++◌, append-nil, append_assoc, Some, true, refl, sym, ap, subst}
 use Rattle.mem_files.specs.Name.{Bytes}
 use Rattle.mem_files.specs.Files.{FileMap}
-use Rattle.conflict_check.specs.declared.program.Program.{Program}
+use Rattle.prog_parts.specs.declared.program.Program.{Program}
 use Rattle.user_calls.specs.declared.calls.Call.{Call}
 use Rattle.user_calls.specs.declared.calls.Call.TheVariants.{Exec, Exit}
 use Rattle.user_calls.specs.declared.calls.Reply.{Reply}
-use Rattle.script_load.specs.Value.{Value}
-use Rattle.script_load.specs.Programs.{program_value}
+use Rattle.sh_meaning.specs.Value.{Value}
+use Rattle.sh_meaning.specs.Programs.{program_value}
 use Rattle.user_progs.specs.State.{Work, cat_reads, cat_writes, head_reads, head_writes, wc_reads, wc_writes, grep_reads, grep_writes, Tee, tee_opens, tee_reads, tee_writes, tee_gives, State, begins, echo_word, echo_space, opens, works, closes, tees, told, ended}
 use Rattle.user_progs.specs.Turn.{turn, fd_of}
 use Rattle.prog_laws.specs.Alone.{World, May, after_call, to_out}

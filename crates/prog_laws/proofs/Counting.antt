@@ -8,7 +8,7 @@ use Rattle.std.proofs.lemmas.Fmt.{length-decimal-le_wide}
 use Rattle.sh_lexer.specs.Tokens.{is_white}
 use Rattle.mem_files.specs.Name.{Name, Bytes}
 use Rattle.user_calls.specs.declared.block.TheConstants.{BLOCK_SIZE}
-use Rattle.script_load.specs.Wc.{line_ends, words_after, ends_inside, capped}
+use Rattle.prog_parts.specs.Wc.{line_ends, words_after, ends_inside, capped}
 use Rattle.user_progs.specs.State.{counting, wc_reads}
 use Rattle.user_progs.specs.Turn.{yields, counts_line, wc_got, block}
 use Rattle.prog_laws.specs.Alone.{Takes}

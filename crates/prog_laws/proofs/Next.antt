@@ -2,11 +2,11 @@
 -- next state.
 use Rattle.std.proofs.Common.{◌≡◌, ℕ, Bool, true, false, List, [], ◌∷◌, refl}
 use Rattle.mem_files.specs.Name.{Name, Bytes}
-use Rattle.conflict_check.specs.declared.program.Program.{Program}
-use Rattle.conflict_check.specs.declared.program.Program.TheVariants.{Cat, Echo, Grep, Head, Tee as Tee', Wc}
-use Rattle.conflict_check.specs.Program.{head_files, has_wrong_option}
+use Rattle.prog_parts.specs.declared.program.Program.{Program}
+use Rattle.prog_parts.specs.declared.program.Program.TheVariants.{Cat, Echo, Grep, Head, Tee as Tee', Wc}
+use Rattle.prog_parts.specs.Head.{head_files, has_wrong_option}
 use Rattle.user_calls.specs.declared.calls.Reply.{Reply}
-use Rattle.script_load.specs.Head.{line_count}
+use Rattle.prog_parts.specs.Head.{line_count}
 use Rattle.user_progs.specs.State.{Filter, copying, heading, counting, searching, Source, standard, file, Work, Tee, State, begins, echo_word, echo_space, opens, works, closes, tees, told, ended}
 use Rattle.user_progs.specs.Turn.{Answer, yields, denies, strays, Step, reads, writes, finishes, fails, quits, fd_in, done_in, turn, turn_by, first_step, work_step, filter_of, name_of, opened_by, closed_by, opens_next, begins_filter, begins_head, begins_program, begun_by, echo_next, echo_end, tee_opens_next, tee_turn}
 

@@ -7,9 +7,9 @@ use Rattle.std.proofs.lemmas.List.{take_all, length-append, drop_all, append-nil
 use Rattle.std.proofs.Math.Seq.{drop-append_seam}
 use Rattle.mem_files.specs.Name.{Name, Bytes}
 use Rattle.grep_match.specs.Match.{matches}
-use Rattle.script_load.specs.Lines.{HasNoLf}
-use Rattle.script_load.specs.Grep.{is_whole, tested, with_ends, grep_out, grep_left}
-use Rattle.script_load.proofs.Cuts.{all_tail}
+use Rattle.prog_parts.specs.Lines.{HasNoLf}
+use Rattle.prog_parts.specs.Grep.{is_whole, tested, with_ends, grep_out, grep_left}
+use Rattle.prog_parts.proofs.Cuts.{all_tail}
 use Rattle.user_calls.specs.declared.block.TheConstants.{BLOCK_SIZE}
 use Rattle.user_progs.specs.State.{searching, grep_reads}
 use Rattle.user_progs.specs.Turn.{yields, Step, reads, finishes, block, grep_lines, grep_goes_on, grep_got}

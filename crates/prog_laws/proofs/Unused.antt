@@ -3,15 +3,16 @@ use Rattle.std.proofs.Common.{◌≡◌, zero, suc, Bool, true, false, List, [],
 use Rattle.std.specs.Prelude.{◌&&◌, not, if◌then◌else◌}
 use Rattle.mem_files.specs.Name.{Name, Bytes}
 use Rattle.mem_files.specs.Files.{FileMap}
-use Rattle.conflict_check.specs.declared.program.Program.{Program}
-use Rattle.conflict_check.specs.declared.program.Program.TheVariants.{Cat, Echo, Grep, Head, Tee as Tee', Wc}
-use Rattle.conflict_check.specs.Program.{program_uses_input, head_files, has_wrong_option, is_empty}
+use Rattle.prog_parts.specs.declared.program.Program.{Program}
+use Rattle.prog_parts.specs.declared.program.Program.TheVariants.{Cat, Echo, Grep, Head, Tee as Tee', Wc}
+use Rattle.prog_parts.specs.Program.{program_uses_input, is_empty}
+use Rattle.prog_parts.specs.Head.{head_files, has_wrong_option}
 use Rattle.user_calls.specs.declared.calls.Call.{Call}
-use Rattle.script_load.specs.Value.{nothing}
-use Rattle.script_load.specs.Inputs.{filter_value}
-use Rattle.script_load.specs.Head.{first_lines, after_lines, line_count}
-use Rattle.script_load.specs.Wc.{wc_line}
-use Rattle.script_load.specs.Programs.{program_value}
+use Rattle.sh_meaning.specs.Value.{nothing}
+use Rattle.sh_meaning.specs.Inputs.{filter_value}
+use Rattle.prog_parts.specs.Head.{first_lines, after_lines, line_count}
+use Rattle.prog_parts.specs.Wc.{wc_line}
+use Rattle.sh_meaning.specs.Programs.{program_value}
 use Rattle.user_progs.specs.State.{Source, standard, file, Work, State, begins, echo_word, echo_space, opens, works, closes, tees, told, ended}
 use Rattle.prog_laws.specs.Ahead.{still_uses}
 use Rattle.prog_laws.specs.Alone.{World}

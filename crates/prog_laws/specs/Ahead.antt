@@ -1,7 +1,8 @@
 -- Which names a program may still open or write, and whether it still reads standard input, by its state. Sets of names are tests.
 use Rattle.std.specs.Prelude.{Bool, true, false, ◌||◌, ◌∷◌, Some}
-use Rattle.conflict_check.specs.Program.{program_uses_input}
-use Rattle.conflict_check.specs.Names.{Names, among, program_reads, program_writes}
+use Rattle.prog_parts.specs.Program.{program_uses_input}
+use Rattle.prog_parts.specs.NameSets.{Names, among}
+use Rattle.prog_parts.specs.Words.{files_read, files_written}
 use Rattle.user_progs.specs.State.{Source, standard, file, Tee, tee_opens, tee_reads, tee_writes, tee_gives, State, begins, echo_word, echo_space, opens, works, closes, tees, told, ended}
 
 abbrev pub source_opens : Source → Names

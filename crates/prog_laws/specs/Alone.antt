@@ -10,7 +10,7 @@ use Rattle.user_calls.specs.declared.calls.Call.{Call}
 use Rattle.user_calls.specs.declared.calls.Call.TheVariants.{Fork, Exec, Exit, Wait, MakePipe, Read, Write, OpenFile, Close, Dup}
 use Rattle.user_calls.specs.declared.calls.Reply.{Reply}
 use Rattle.user_calls.specs.declared.calls.Reply.TheVariants.{Done, Bytes as Bytes', Fd, Refused}
-use Rattle.script_load.specs.Inputs.{found}
+use Rattle.sh_meaning.specs.Inputs.{found}
 use Rattle.user_progs.specs.Turn.{Answer, yields, denies, strays, bytes_in, fd_in, done_in}
 
 -- an open file of the program's own: its descriptor, its name, the mode that it was opened with, and the byte at which

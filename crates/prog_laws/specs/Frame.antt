@@ -3,7 +3,7 @@ use Rattle.std.specs.Prelude.{false, ◌||◌, List, ℕ, take, drop, Option, So
 use Rattle.std.specs.Option.{is_some}
 use Rattle.std.specs.Str.{bytes_eq}
 use Rattle.mem_files.specs.Files.{FileMap}
-use Rattle.conflict_check.specs.Names.{Names}
+use Rattle.prog_parts.specs.NameSets.{Names}
 use Rattle.user_progs.specs.State.{Source, standard, file, Tee, tee_opens, tee_reads, tee_writes, tee_gives, State, begins, echo_word, echo_space, opens, works, closes, tees, told, ended}
 use Rattle.prog_laws.specs.Ahead.{still_opens, still_writes}
 use Rattle.prog_laws.specs.Alone.{OwnFile, World, held}

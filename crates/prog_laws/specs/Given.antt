@@ -4,8 +4,8 @@ use Rattle.std.specs.Str.{bytes_eq}
 use Rattle.mem_files.specs.Name.{Name, Bytes}
 use Rattle.mem_files.specs.Files.{FileMap, bytes_of}
 use Rattle.mem_files.specs.Overlay.{written}
-use Rattle.script_load.specs.Value.{Value}
-use Rattle.script_load.specs.Tee.{tee_bytes, tee_value}
+use Rattle.sh_meaning.specs.Value.{Value}
+use Rattle.sh_meaning.specs.Tee.{tee_bytes, tee_value}
 use Rattle.prog_laws.specs.Alone.{OwnFile, World, is_to_read, held}
 
 -- the byte at which an open file goes on, where it has this name; else what is told of others

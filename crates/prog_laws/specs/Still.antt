@@ -1,12 +1,12 @@
 -- What a program still does from a state on, when it runs alone: the remaining meaning of the state.
 use Rattle.std.specs.Prelude.{ℕ, ◌+◌, List, [], ◌∷◌, ◌++◌, length, take, drop, Some}
 use Rattle.mem_files.specs.Name.{Name, Bytes}
-use Rattle.script_load.specs.Value.{Value, fixed, nothing}
-use Rattle.script_load.specs.Inputs.{of_files}
-use Rattle.script_load.specs.Grep.{grep_out, grep_left}
-use Rattle.script_load.specs.Head.{first_lines, after_lines}
-use Rattle.script_load.specs.Wc.{wc_line, line_ends, words_after, capped}
-use Rattle.script_load.specs.Programs.{echo_out, program_value}
+use Rattle.sh_meaning.specs.Value.{Value, fixed, nothing}
+use Rattle.sh_meaning.specs.Inputs.{of_files}
+use Rattle.prog_parts.specs.Grep.{grep_out, grep_left}
+use Rattle.prog_parts.specs.Head.{first_lines, after_lines}
+use Rattle.prog_parts.specs.Wc.{wc_line, line_ends, words_after, capped}
+use Rattle.sh_meaning.specs.Programs.{echo_out, program_value}
 use Rattle.user_progs.specs.State.{Filter, copying, heading, counting, searching, Source, standard, file, Work, cat_reads, cat_writes, head_reads, head_writes, wc_reads, wc_writes, grep_reads, grep_writes, Tee, tee_opens, tee_reads, tee_writes, tee_gives, State, begins, echo_word, echo_space, opens, works, closes, tees, told, ended}
 use Rattle.user_progs.specs.Turn.{Turn, filter_of, counts_line}
 use Rattle.prog_laws.specs.Alone.{World, left_at, to_out}

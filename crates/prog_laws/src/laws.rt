@@ -3,11 +3,11 @@
 ghost use Rattle.std.specs.Prelude.{◌≡◌, ℕ, ◌+◌, ◌≤◌, true, false, List, [], length, Some, take, drop};
 ghost use Rattle.mem_files.specs.Name.{Name, Bytes};
 ghost use Rattle.mem_files.specs.Files.{FileMap};
-ghost use Rattle.conflict_check.specs.declared.program.Program.{Program};
+ghost use Rattle.prog_parts.specs.declared.program.Program.{Program};
 ghost use Rattle.user_calls.specs.declared.calls.Call.{Call};
 ghost use Rattle.user_calls.specs.declared.calls.Call.TheVariants.{Exit};
 ghost use Rattle.user_calls.specs.declared.calls.Reply.{Reply};
-ghost use Rattle.script_load.specs.Programs.{program_value};
+ghost use Rattle.sh_meaning.specs.Programs.{program_value};
 ghost use Rattle.user_progs.specs.State.{State, begins};
 ghost use Rattle.user_progs.specs.Turn.{Turn, turn, call_of, next_of};
 ghost use Rattle.prog_laws.specs.Ahead.{still_opens, still_writes, still_uses};

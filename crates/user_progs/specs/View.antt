@@ -1,8 +1,8 @@
 -- The states of programs over borrowed words, as plain data.
 use Rattle.std.specs.Prelude.{List, [], ◌∷◌, Option, Some, None}
 use Rattle.mem_files.specs.Name.{Bytes}
-use Rattle.conflict_check.specs.declared.program.Program.{Program}
-use Rattle.conflict_check.specs.Program.{program_of}
+use Rattle.prog_parts.specs.declared.program.Program.{Program}
+use Rattle.prog_parts.specs.Program.{program_of}
 use Rattle.user_progs.specs.State.{Filter, copying, heading, counting, searching, Source, standard, file, Work, cat_reads, cat_writes, head_reads, head_writes, wc_reads, wc_writes, grep_reads, grep_writes, Tee, tee_opens, tee_reads, tee_writes, tee_gives, State, begins, echo_word, echo_space, opens, works, closes, tees, told, ended}
 use Rattle.user_progs.specs.Turn.{Turn, Step, reads, writes, finishes, fails, quits}
 use Rattle.user_progs.specs.declared.state.Filter.{Filter as Filter'}

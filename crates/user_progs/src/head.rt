@@ -1,7 +1,7 @@
 //! `head` (own): the first lines of each input, read one byte at a time, so that what follows them stays unread.
 
 ghost use Rattle.std.specs.Prelude.{◌≡◌};
-ghost use Rattle.conflict_check.specs.Program.{has_wrong_option};
+ghost use Rattle.prog_parts.specs.Head.{has_wrong_option};
 ghost use Rattle.user_progs.specs.Turn.{head_got, head_wrote, head_goes_on, begins_head, bytes_in, done_in};
 ghost use Rattle.user_progs.specs.View.{step_of, turn_of};
 

@@ -8,9 +8,9 @@ use Rattle.mem_files.specs.Files.{files}
 use Rattle.script_load.specs.declared.fault.LoadFault.{LoadFault}
 use Rattle.script_load.specs.declared.fault.LoadFault.TheVariants.{LineTooLong, ByteZero, Memory}
 use Rattle.script_load.specs.Line.{ScriptLine}
-use Rattle.script_load.specs.Meaning.{script_meaning}
+use Rattle.sh_meaning.specs.Meaning.{script_meaning}
 use Rattle.script_load.specs.Script.{IsScript, HasLoadFault}
-use Rattle.script_load.specs.Settled.{IsSettledScript}
+use Rattle.sh_meaning.specs.Settled.{IsSettledScript}
 use Rattle.xvsh.specs.declared.fault.Fault.{Fault}
 use Rattle.xvsh.specs.Path.{Path}
 use Rattle.xvsh.specs.Drive.{WritesMeaning}

@@ -4,12 +4,12 @@ use Rattle.std.specs.Prelude.{◌↔◌, Contains}
 use Rattle.std.specs.Io.KnownBytes.{Appends}
 use Rattle.std.proofs.lemmas.Bool.{false≢true}
 use Rattle.std.proofs.lemmas.List.{append-nil}
-use Rattle.conflict_check.specs.Names.{Names, among}
+use Rattle.prog_parts.specs.NameSets.{Names, among}
 use Rattle.plain_run.proofs.NameSets.{contained, contains}
 use Rattle.mem_files.specs.Name.{Name, Bytes}
 use Rattle.mem_files.specs.Files.{files}
 use Rattle.mem_files.specs.Listing.{AreFiles}
-use Rattle.script_load.specs.Value.{Value}
+use Rattle.sh_meaning.specs.Value.{Value}
 use Rattle.xvsh.specs.Running.{WritesRun}
 use Rattle.xvsh.specs.Listing.{file_text, list_text}
 

@@ -4,7 +4,7 @@ use Rattle.std.specs.Io.KnownBytes.{Appends}
 use Rattle.mem_files.specs.Name.{Bytes}
 use Rattle.mem_files.specs.Files.{no_files}
 use Rattle.script_load.specs.Line.{ScriptLine}
-use Rattle.script_load.specs.Meaning.{script_meaning}
+use Rattle.sh_meaning.specs.Meaning.{script_meaning}
 use Rattle.script_load.specs.Script.{IsScript}
 use Rattle.xvsh.specs.Check.{AreTold, AreHarmless}
 use Rattle.xvsh.specs.Path.{Path}

@@ -1,7 +1,7 @@
 -- The list of all files.
 use Rattle.std.specs.Prelude.{Bool, true, false, List, [], ◌∷◌, ◌++◌, length, codes}
 use Rattle.std.specs.Fmt.{decimal}
-use Rattle.conflict_check.specs.Names.{Names}
+use Rattle.prog_parts.specs.NameSets.{Names}
 use Rattle.mem_files.specs.Name.{Name, Bytes}
 
 -- what stands behind the length of a file whose bytes may depend on the order of processes

@@ -7,11 +7,11 @@ use Rattle.mem_files.specs.Files.{FileMap, files}
 use Rattle.mem_files.specs.Listing.{AreFiles}
 use Rattle.script_load.specs.declared.fault.LoadFault.TheVariants.{LineTooLong as load_long, ByteZero as load_zero, Memory as load_memory}
 use Rattle.script_load.specs.Line.{ScriptLine}
-use Rattle.script_load.specs.Limits.{Outgrows}
-use Rattle.script_load.specs.Meaning.{script_tree, script_meaning}
+use Rattle.sh_meaning.specs.Limits.{Outgrows}
+use Rattle.sh_meaning.specs.Meaning.{script_tree, script_meaning}
 use Rattle.script_load.specs.Script.{IsScript, HasLoadFault}
-use Rattle.script_load.specs.Settled.{IsSettledScript}
-use Rattle.script_load.specs.Value.{Value}
+use Rattle.sh_meaning.specs.Settled.{IsSettledScript}
+use Rattle.sh_meaning.specs.Value.{Value}
 use Rattle.xvsh.specs.Listing.{list_text}
 use Rattle.xvsh.specs.Path.{Path}
 use Rattle.xvsh.specs.Reading.{Agree, told_at, ArePut, IsReadFault, IsFilesFault}

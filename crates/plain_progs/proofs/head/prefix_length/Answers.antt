@@ -1,5 +1,5 @@
 use Rattle.std.proofs.Common.{◌∙◌, sym, ◌++◌, ◌+◌, ◌-◌, ap, take, drop, arith}
-use Rattle.script_load.specs.Head.{first_lines}
+use Rattle.prog_parts.specs.Head.{first_lines}
 use Rattle.plain_progs.proofs.Prefixes.{one_byte}
 use Rattle.plain_progs.proofs.head.prefix_length.Goals as goal
 

@@ -1,5 +1,5 @@
 use Rattle.std.proofs.Common.{◌≡◌, ◌++◌, drop, take}
-use Rattle.script_load.specs.Head.{first_lines}
+use Rattle.prog_parts.specs.Head.{first_lines}
 use Rattle.plain_progs.proofs.head.prefix_length.Given as goal
 
 -- the lines that are left to take complete those that were passed

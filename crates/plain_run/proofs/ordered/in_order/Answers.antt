@@ -2,7 +2,7 @@
 use Rattle.std.proofs.Common.{◌∙◌, sym, ap, subst}
 use Rattle.std.specs.List.Sorted.{IsStrictlySortedBy}
 use Rattle.mem_files.specs.Name.{name_cmp}
-use Rattle.conflict_check.specs.Names.{among}
+use Rattle.prog_parts.specs.NameSets.{among}
 use Rattle.plain_run.proofs.NameSets.{sorted_items, all_listed}
 use Rattle.plain_run.proofs.ordered.in_order.Goals as goal
 

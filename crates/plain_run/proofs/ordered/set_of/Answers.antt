@@ -4,7 +4,7 @@ use Rattle.std.specs.Str.{bytes_eq}
 use Rattle.std.proofs.Math.Bool.{or_comm}
 use Rattle.std.proofs.lemmas.List.{take_all}
 use Rattle.std.proofs.lemmas.List.Folds.{list_any_more}
-use Rattle.conflict_check.specs.Names.{among}
+use Rattle.prog_parts.specs.NameSets.{among}
 use Rattle.plain_run.proofs.NameSets.{among_put}
 use Rattle.plain_run.proofs.ordered.set_of.Goals as goal
 

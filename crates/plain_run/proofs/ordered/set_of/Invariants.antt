@@ -1,6 +1,6 @@
 use Rattle.std.proofs.Common.{◌≡◌, List, ℕ, take}
 use Rattle.std.specs.Prelude.{map}
-use Rattle.conflict_check.specs.Names.{among}
+use Rattle.prog_parts.specs.NameSets.{among}
 use Rattle.plain_run.proofs.ordered.set_of.Given as goal
 
 -- the set has the names so far

@@ -8,11 +8,12 @@ use Rattle.mem_files.specs.Name.{is_openable}
 use Rattle.mem_files.specs.Files.{files, with_file}
 use Rattle.mem_files.specs.Listing.{max_size}
 use Rattle.mem_files.specs.Overlay.{overlay}
-use Rattle.conflict_check.specs.Names.{no_names, uses_input}
-use Rattle.script_load.specs.Inputs.{found}
-use Rattle.script_load.specs.Limits.{Outgrows}
-use Rattle.script_load.specs.Meaning.{meaning}
-use Rattle.script_load.specs.Settled.{IsSettled}
+use Rattle.prog_parts.specs.NameSets.{no_names}
+use Rattle.conflict_check.specs.Names.{uses_input}
+use Rattle.sh_meaning.specs.Inputs.{found}
+use Rattle.sh_meaning.specs.Limits.{Outgrows}
+use Rattle.sh_meaning.specs.Meaning.{meaning}
+use Rattle.sh_meaning.specs.Settled.{IsSettled}
 use Rattle.plain_progs.specs.Gives.{Gives, IsDue}
 use Rattle.plain_run.specs.Tells.{Tells, are_apart, with_lost}
 use Rattle.plain_run.proofs.Settling.{into_settled, from_settled, list_is_settled, pipe_is_settled}

@@ -1,5 +1,5 @@
 use Rattle.std.proofs.Common.{arith}
-use Rattle.conflict_check.specs.Names.{among}
+use Rattle.prog_parts.specs.NameSets.{among}
 use Rattle.xvsh.proofs.Places.{one_file, all_files}
 use Rattle.xvsh.proofs.listing.listing.Goals as goal
 

@@ -1,5 +1,5 @@
 use Rattle.std.proofs.Common.{◌≡◌, ◌++◌, drop}
-use Rattle.conflict_check.specs.Names.{among}
+use Rattle.prog_parts.specs.NameSets.{among}
 use Rattle.xvsh.specs.Listing.{list_text}
 use Rattle.xvsh.proofs.listing.listing.Given as goal
 

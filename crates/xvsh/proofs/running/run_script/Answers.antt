@@ -1,8 +1,8 @@
 use Rattle.std.proofs.Common.{◌∙◌, ap}
-use Rattle.conflict_check.specs.Names.{among}
+use Rattle.prog_parts.specs.NameSets.{among}
 use Rattle.mem_files.specs.Files.{files}
 use Rattle.script_load.specs.Line.{lines_of}
-use Rattle.script_load.specs.Meaning.{script_meaning}
+use Rattle.sh_meaning.specs.Meaning.{script_meaning}
 use Rattle.xvsh.specs.Listing.{list_text}
 use Rattle.xvsh.proofs.Runs.{soft_list, writes_list, writes_output}
 use Rattle.xvsh.proofs.running.run_script.Goals.{then-lists_files+in_ok-list, else-lists_files}

@@ -2,7 +2,7 @@ use Rattle.std.proofs.Common.{refl, ◌∙◌, sym, ap, ◌||◌, take, arith}
 use Rattle.std.specs.Str.{bytes_eq}
 use Rattle.std.proofs.lemmas.List.{take_all}
 use Rattle.std.proofs.lemmas.List.Folds.{list_any_more}
-use Rattle.conflict_check.specs.Names.{among}
+use Rattle.prog_parts.specs.NameSets.{among}
 use Rattle.plain_run.specs.Spans.{span_of, reached}
 use Rattle.plain_run.proofs.Spans.{reached_again}
 use Rattle.plain_run.proofs.name_lines.NameLines.reach_all.Goals as goal

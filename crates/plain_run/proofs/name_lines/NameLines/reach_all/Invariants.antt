@@ -1,5 +1,5 @@
 use Rattle.std.proofs.Common.{◌≡◌, List, ℕ, take}
-use Rattle.conflict_check.specs.Names.{among}
+use Rattle.prog_parts.specs.NameSets.{among}
 use Rattle.plain_run.specs.Spans.{span_of, reached}
 use Rattle.plain_run.proofs.name_lines.NameLines.reach_all.Given as goal
 
