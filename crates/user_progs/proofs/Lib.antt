@@ -1,17 +1,2 @@
-mod Blocks
-mod Giving
-mod Teeing
-mod Buffer
-pub mod Work
-pub mod Counting
-pub mod Search
-pub mod Keeps
-pub mod Waiting
-pub mod Chunks
-pub mod Taming
-pub mod Shrinking
-pub mod Framing
-pub mod Exiting
-pub mod Unused
-pub mod Holding
-mod Worked
+pub mod Blocks
+pub mod Buffer

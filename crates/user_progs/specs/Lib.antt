@@ -1,12 +1,3 @@
-pub mod Ahead
-pub mod Alone
-pub mod Exits
-pub mod Frame
-pub mod Given
-pub mod Runs
 pub mod State
-pub mod Still
-pub mod Tame
 pub mod Turn
 pub mod View
-pub mod Waits

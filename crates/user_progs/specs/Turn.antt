@@ -1,5 +1,5 @@
 -- What a program does with a reply: the call that it makes, and the state in which it waits for the reply to that.
-use Rattle.std.specs.Prelude.{ℕ, zero, suc, ◌+◌, ◌-◌, ◌==◌, nat_lt, nat_le, Bool, true, false, List, [], ◌∷◌, ◌++◌, length, take, drop, slice_index_or, Option, Some, None, if◌then◌else◌, codes}
+use Rattle.std.specs.Prelude.{ℕ, zero, suc, ◌+◌, ◌-◌, ◌==◌, nat_lt, nat_le, Bool, true, false, List, [], ◌∷◌, ◌++◌, length, take, drop, slice_index_or, if◌then◌else◌, codes}
 use Rattle.std.specs.Fmt.{decimal}
 use Rattle.mem_files.specs.Name.{Name, Bytes}
 use Rattle.prog_parts.specs.declared.program.Program.{Program}
@@ -21,33 +21,41 @@ pub record Turn : Type 0 where
   pub call : Call
   pub next : State
 
--- what replies say
-abbrev pub bytes_in : Reply → Option Bytes
-bytes_in Start = None
-bytes_in Child = None
-bytes_in Done = None
-bytes_in (Bytes' bytes) = Some bytes
-bytes_in (Fd fd) = None
-bytes_in (Ends reader writer) = None
-bytes_in Refused = None
+-- what a call is answered: what it asks for, a refusal, or what such a call can't get
+pub data Answer (X : Type 0) : Type 0 where
+  yields : X → Answer X
+  denies : Answer X
+  strays : Answer X
 
-abbrev pub fd_in : Reply → Option ℕ
-fd_in Start = None
-fd_in Child = None
-fd_in Done = None
-fd_in (Bytes' bytes) = None
-fd_in (Fd fd) = Some fd
-fd_in (Ends reader writer) = None
-fd_in Refused = None
+-- to a read
+abbrev pub bytes_in : Reply → Answer Bytes
+bytes_in Start = strays
+bytes_in Child = strays
+bytes_in Done = strays
+bytes_in (Bytes' bytes) = yields bytes
+bytes_in (Fd fd) = strays
+bytes_in (Ends reader writer) = strays
+bytes_in Refused = denies
 
-abbrev pub is_done : Reply → Bool
-is_done Start = false
-is_done Child = false
-is_done Done = true
-is_done (Bytes' bytes) = false
-is_done (Fd fd) = false
-is_done (Ends reader writer) = false
-is_done Refused = false
+-- to an open
+abbrev pub fd_in : Reply → Answer ℕ
+fd_in Start = strays
+fd_in Child = strays
+fd_in Done = strays
+fd_in (Bytes' bytes) = strays
+fd_in (Fd fd) = yields fd
+fd_in (Ends reader writer) = strays
+fd_in Refused = denies
+
+-- to a write or a close, and to the call that began the program
+abbrev pub done_in : Reply → Answer (Unit {0})
+done_in Start = strays
+done_in Child = strays
+done_in Done = yields tt
+done_in (Bytes' bytes) = strays
+done_in (Fd fd) = strays
+done_in (Ends reader writer) = strays
+done_in Refused = denies
 
 -- as many bytes as one call moves
 abbrev pub block : Bytes → Bytes
@@ -105,38 +113,45 @@ pub data Step : Type 0 where
   -- it writes these bytes to descriptor 1
   writes : Bytes → Work → Step
   finishes : Step
+  -- it ends the program, with this message or without one
   fails : Bytes → Step
+  quits : Step
 
 abbrev pub turn_by : Step → Filter → Source → Turn
 turn_by (reads most work) filter source = record { call = Read (fd_of source) most; next = works work source }
 turn_by (writes bytes work) filter source = record { call = Write 1 bytes; next = works work source }
 turn_by finishes filter source = after_source filter source
 turn_by (fails message) filter source = tells message
+turn_by quits filter source = exits
 
 -- cat (user/cat.c)
-abbrev pub cat_got : Option Bytes → Step
-cat_got None = fails (codes "cat: read error\n")
-cat_got (Some []) = finishes
-cat_got (Some (byte ∷ bytes)) = writes (byte ∷ bytes) cat_writes
+abbrev pub cat_got : Answer Bytes → Step
+cat_got (yields []) = finishes
+cat_got (yields (byte ∷ bytes)) = writes (byte ∷ bytes) cat_writes
+cat_got denies = fails (codes "cat: read error\n")
+cat_got strays = quits
 
-abbrev pub cat_wrote : Bool → Step
-cat_wrote true = reads 512 cat_reads
-cat_wrote false = fails (codes "cat: write error\n")
+abbrev pub cat_wrote : Answer (Unit {0}) → Step
+cat_wrote (yields done) = reads 512 cat_reads
+cat_wrote denies = fails (codes "cat: write error\n")
+cat_wrote strays = quits
 
 -- head (own)
 abbrev pub head_goes_on : ℕ → ℕ → Step
 head_goes_on lines zero = finishes
 head_goes_on lines (suc left) = reads 1 (head_reads lines (suc left))
 
-abbrev pub head_got : ℕ → ℕ → Option Bytes → Step
-head_got lines left None = fails (codes "head: read error\n")
-head_got lines left (Some []) = finishes
-head_got lines zero (Some (byte ∷ bytes)) = finishes
-head_got lines (suc left) (Some (byte ∷ bytes)) = writes (byte ∷ []) (head_writes lines (if byte == 10 then left else suc left))
+abbrev pub head_got : ℕ → ℕ → Answer Bytes → Step
+head_got lines left (yields []) = finishes
+head_got lines zero (yields (byte ∷ bytes)) = finishes
+head_got lines (suc left) (yields (byte ∷ bytes)) = writes (byte ∷ []) (head_writes lines (if byte == 10 then left else suc left))
+head_got lines left denies = fails (codes "head: read error\n")
+head_got lines left strays = quits
 
-abbrev pub head_wrote : ℕ → ℕ → Bool → Step
-head_wrote lines left true = head_goes_on lines left
-head_wrote lines left false = fails (codes "head: write error\n")
+abbrev pub head_wrote : ℕ → ℕ → Answer (Unit {0}) → Step
+head_wrote lines left (yields done) = head_goes_on lines left
+head_wrote lines left denies = fails (codes "head: write error\n")
+head_wrote lines left strays = quits
 
 -- wc (user/wc.c)
 abbrev pub counts_line : ℕ → ℕ → ℕ → Name → Bytes
@@ -147,10 +162,11 @@ abbrev pub wc_counts : ℕ → ℕ → ℕ → Bool → Bytes → Work
 wc_counts lines words count inside bytes =
     wc_reads (capped (lines + line_ends bytes)) (capped (words + words_after inside bytes)) (capped (count + length bytes)) (ends_inside inside bytes)
 
-abbrev pub wc_got : ℕ → ℕ → ℕ → Bool → Name → Option Bytes → Step
-wc_got lines words count inside name None = fails (codes "wc: read error\n")
-wc_got lines words count inside name (Some []) = writes (block (counts_line lines words count name)) wc_writes
-wc_got lines words count inside name (Some (byte ∷ bytes)) = reads 512 (wc_counts lines words count inside (byte ∷ bytes))
+abbrev pub wc_got : ℕ → ℕ → ℕ → Bool → Name → Answer Bytes → Step
+wc_got lines words count inside name (yields []) = writes (block (counts_line lines words count name)) wc_writes
+wc_got lines words count inside name (yields (byte ∷ bytes)) = reads 512 (wc_counts lines words count inside (byte ∷ bytes))
+wc_got lines words count inside name denies = fails (codes "wc: read error\n")
+wc_got lines words count inside name strays = quits
 
 -- grep (user/grep.c, whose buffer of 1,024 bytes holds at most 1,023): with these bytes and no line to test, it reads on,
 -- or its buffer is full
@@ -167,10 +183,12 @@ grep_lines pattern (line ∷ lines) buffer =
 abbrev pub grep_goes_on : Bytes → Bytes → Step
 grep_goes_on pattern buffer = grep_lines pattern (tested buffer) buffer
 
-abbrev pub grep_got : Bytes → Bytes → Option Bytes → Step
-grep_got pattern kept None = finishes
-grep_got pattern kept (Some []) = finishes
-grep_got pattern kept (Some (byte ∷ bytes)) = grep_goes_on pattern (block (kept ++ byte ∷ bytes))
+-- a refused read ends an input, as its end does
+abbrev pub grep_got : Bytes → Bytes → Answer Bytes → Step
+grep_got pattern kept (yields []) = finishes
+grep_got pattern kept (yields (byte ∷ bytes)) = grep_goes_on pattern (block (kept ++ byte ∷ bytes))
+grep_got pattern kept denies = finishes
+grep_got pattern kept strays = quits
 
 abbrev pub first_step : Filter → Step
 first_step copying = reads 512 cat_reads
@@ -180,9 +198,9 @@ first_step (searching pattern) = reads 1023 (grep_reads pattern [])
 
 abbrev pub work_step : Work → Name → Reply → Step
 work_step cat_reads name reply = cat_got (bytes_in reply)
-work_step cat_writes name reply = cat_wrote (is_done reply)
+work_step cat_writes name reply = cat_wrote (done_in reply)
 work_step (head_reads lines left) name reply = head_got lines left (bytes_in reply)
-work_step (head_writes lines left) name reply = head_wrote lines left (is_done reply)
+work_step (head_writes lines left) name reply = head_wrote lines left (done_in reply)
 work_step (wc_reads lines words count inside) name reply = wc_got lines words count inside name (bytes_in reply)
 work_step wc_writes name reply = finishes
 work_step (grep_reads pattern kept) name reply = grep_got pattern kept (bytes_in reply)
@@ -198,9 +216,16 @@ filter_of wc_writes = counting
 filter_of (grep_reads pattern kept) = searching pattern
 filter_of (grep_writes pattern rest) = searching pattern
 
-abbrev pub opened_by : Filter → Name → List Name → Option ℕ → Turn
-opened_by filter name later None = tells (name_of_program filter ++ (codes ": cannot open " ++ (name ++ 10 ∷ [])))
-opened_by filter name later (Some fd) = turn_by (first_step filter) filter (file fd name later)
+abbrev pub opened_by : Filter → Name → List Name → Answer ℕ → Turn
+opened_by filter name later (yields fd) = turn_by (first_step filter) filter (file fd name later)
+opened_by filter name later denies = tells (name_of_program filter ++ (codes ": cannot open " ++ (name ++ 10 ∷ [])))
+opened_by filter name later strays = exits
+
+-- a file was closed; a close that is refused ends the program too
+abbrev pub closed_by : Filter → List Name → Answer (Unit {0}) → Turn
+closed_by filter later (yields done) = opens_next filter later
+closed_by filter later denies = exits
+closed_by filter later strays = exits
 
 abbrev pub begins_filter : Filter → List Name → Turn
 begins_filter filter [] = turn_by (first_step filter) filter standard
@@ -226,14 +251,16 @@ abbrev pub tee_cannot_open : Name → Turn
 tee_cannot_open name = tells (codes "tee" ++ (codes ": cannot open " ++ (name ++ 10 ∷ [])))
 
 -- it holds at most 16 files, as many as a process has descriptors
-abbrev pub tee_opened : List ℕ → Name → List Name → Option ℕ → Turn
-tee_opened fds name later None = tee_cannot_open name
-tee_opened fds name later (Some fd) = if nat_lt (length fds) 16 then tee_opens_next (fds ++ fd ∷ []) later else tee_cannot_open name
+abbrev pub tee_opened : List ℕ → Name → List Name → Answer ℕ → Turn
+tee_opened fds name later denies = tee_cannot_open name
+tee_opened fds name later strays = exits
+tee_opened fds name later (yields fd) = if nat_lt (length fds) 16 then tee_opens_next (fds ++ fd ∷ []) later else tee_cannot_open name
 
-abbrev pub tee_got : List ℕ → Option Bytes → Turn
-tee_got fds None = tells (codes "tee: read error\n")
-tee_got fds (Some []) = exits
-tee_got fds (Some (byte ∷ bytes)) = record { call = Write 1 (byte ∷ bytes); next = tees (tee_writes fds (byte ∷ bytes)) }
+abbrev pub tee_got : List ℕ → Answer Bytes → Turn
+tee_got fds (yields []) = exits
+tee_got fds (yields (byte ∷ bytes)) = record { call = Write 1 (byte ∷ bytes); next = tees (tee_writes fds (byte ∷ bytes)) }
+tee_got fds denies = tells (codes "tee: read error\n")
+tee_got fds strays = exits
 
 -- the file at this place is given these bytes, if there is one
 abbrev pub tee_gives_next : List ℕ → ℕ → Bytes → Turn
@@ -241,15 +268,16 @@ tee_gives_next fds at bytes =
     if nat_lt at (length fds) then record { call = Write (slice_index_or fds at 0) bytes; next = tees (tee_gives fds at bytes) }
     else tee_waits fds
 
-abbrev pub tee_wrote : List ℕ → ℕ → Bytes → Bool → Turn
-tee_wrote fds at bytes true = tee_gives_next fds at bytes
-tee_wrote fds at bytes false = tells (codes "tee: write error\n")
+abbrev pub tee_wrote : List ℕ → ℕ → Bytes → Answer (Unit {0}) → Turn
+tee_wrote fds at bytes (yields done) = tee_gives_next fds at bytes
+tee_wrote fds at bytes denies = tells (codes "tee: write error\n")
+tee_wrote fds at bytes strays = exits
 
 abbrev pub tee_turn : Tee → Reply → Turn
 tee_turn (tee_opens fds name later) reply = tee_opened fds name later (fd_in reply)
 tee_turn (tee_reads fds) reply = tee_got fds (bytes_in reply)
-tee_turn (tee_writes fds bytes) reply = tee_wrote fds 0 bytes (is_done reply)
-tee_turn (tee_gives fds at bytes) reply = tee_wrote fds (at + 1) bytes (is_done reply)
+tee_turn (tee_writes fds bytes) reply = tee_wrote fds 0 bytes (done_in reply)
+tee_turn (tee_gives fds at bytes) reply = tee_wrote fds (at + 1) bytes (done_in reply)
 
 abbrev pub begins_program : Program → List Bytes → Turn
 begins_program Cat arguments = begins_filter copying arguments
@@ -259,13 +287,21 @@ begins_program Head arguments = begins_head (has_wrong_option arguments) argumen
 begins_program Tee' arguments = tee_opens_next [] arguments
 begins_program Wc arguments = begins_filter counting arguments
 
+-- a program begins once the call that found it is done
+abbrev pub begun_by : Program → List Bytes → Answer (Unit {0}) → Turn
+begun_by program arguments (yields done) = begins_program program arguments
+begun_by program arguments denies = exits
+begun_by program arguments strays = exits
+
+-- what a program does with the reply to its call; one that such a call can't get makes it exit, unless the program
+-- ignores all replies to the call
 abbrev pub turn : State → Reply → Turn
-turn (begins program arguments) reply = begins_program program arguments
+turn (begins program arguments) reply = begun_by program arguments (done_in reply)
 turn (echo_word later) reply = echo_end later
 turn (echo_space later) reply = echo_next later
 turn (opens filter name later) reply = opened_by filter name later (fd_in reply)
 turn (works work source) reply = turn_by (work_step work (name_of source) reply) (filter_of work) source
-turn (closes filter later) reply = opens_next filter later
+turn (closes filter later) reply = closed_by filter later (done_in reply)
 turn (tees tee) reply = tee_turn tee reply
 turn told reply = exits
 turn ended reply = exits

@@ -4,7 +4,7 @@ use Rattle.mem_files.specs.Name.{Bytes}
 use Rattle.prog_parts.specs.declared.program.Program.{Program}
 use Rattle.prog_parts.specs.Program.{program_of}
 use Rattle.user_progs.specs.State.{Filter, copying, heading, counting, searching, Source, standard, file, Work, cat_reads, cat_writes, head_reads, head_writes, wc_reads, wc_writes, grep_reads, grep_writes, Tee, tee_opens, tee_reads, tee_writes, tee_gives, State, begins, echo_word, echo_space, opens, works, closes, tees, told, ended}
-use Rattle.user_progs.specs.Turn.{Turn, Step, reads, writes, finishes, fails}
+use Rattle.user_progs.specs.Turn.{Turn, Step, reads, writes, finishes, fails, quits}
 use Rattle.user_progs.specs.declared.state.Filter.{Filter as Filter'}
 use Rattle.user_progs.specs.declared.state.Filter.TheVariants.{Copying, Heading, Counting, Searching}
 use Rattle.user_progs.specs.declared.state.Source.{Source as Source'}
@@ -17,7 +17,7 @@ use Rattle.user_progs.specs.declared.state.At.{At}
 use Rattle.user_progs.specs.declared.state.At.TheVariants.{Begins, EchoWord, EchoSpace, Opens, Works, Closes, Tees, Told, Ended}
 use Rattle.user_progs.specs.declared.state.Turn.{Turn as Turn'}
 use Rattle.user_progs.specs.declared.state.Step.{Step as Step'}
-use Rattle.user_progs.specs.declared.state.Step.TheVariants.{Reads, Writes, Finishes, Fails}
+use Rattle.user_progs.specs.declared.state.Step.TheVariants.{Reads, Writes, Finishes, Fails, Quits}
 use Rattle.user_progs.specs.declared.prog.Prog.{Prog}
 
 abbrev pub filter_of_code : Filter' → Filter
@@ -65,6 +65,7 @@ step_of (Reads most work) = reads most (work_of_code work)
 step_of (Writes bytes work) = writes bytes (work_of_code work)
 step_of Finishes = finishes
 step_of (Fails message) = fails message.now
+step_of Quits = quits
 
 -- the state that a program is in
 abbrev pub state_of : {A : _} → Prog A → State

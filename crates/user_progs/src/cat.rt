@@ -1,7 +1,7 @@
 //! `user/cat.c`: the inputs, one after the other.
 
 ghost use Rattle.std.specs.Prelude.{◌≡◌};
-ghost use Rattle.user_progs.specs.Turn.{cat_got, cat_wrote, bytes_in, is_done};
+ghost use Rattle.user_progs.specs.Turn.{cat_got, cat_wrote, bytes_in, done_in};
 ghost use Rattle.user_progs.specs.View.{step_of};
 
 use crate::state::{Step, Work};
@@ -22,16 +22,18 @@ pub fn got(reply: &Reply) -> Step<'static>
                 Step::Writes(block.twin(), Work::CatWrites)
             }
         }
-        _ => Step::Fails(b"cat: read error\n"),
+        Reply::Refused => Step::Fails(b"cat: read error\n"),
+        _ => Step::Quits,
     }
 }
 
 // They were written, or could not be.
 pub fn wrote(reply: &Reply) -> Step<'static>
-    ensures { step_of result ≡ cat_wrote (is_done reply.now) }
+    ensures { step_of result ≡ cat_wrote (done_in reply.now) }
 {
     match reply {
         Reply::Done => Step::Reads(CHUNK, Work::CatReads),
-        _ => Step::Fails(b"cat: write error\n"),
+        Reply::Refused => Step::Fails(b"cat: write error\n"),
+        _ => Step::Quits,
     }
 }

@@ -2,7 +2,7 @@
 //! words, else each file, which is opened, worked on and closed.
 
 ghost use Rattle.std.specs.Prelude.{◌≡◌, ◌++◌, ◌∷◌, [], codes};
-ghost use Rattle.user_progs.specs.Turn.{begins_filter, opens_next, opened_by, turn_by, after_source, first_step, work_step, name_of_program, block, fd_in};
+ghost use Rattle.user_progs.specs.Turn.{begins_filter, opens_next, opened_by, closed_by, turn_by, after_source, first_step, work_step, name_of_program, block, fd_in, done_in};
 ghost use Rattle.user_progs.specs.View.{turn_of, step_of, filter_of_code, work_of_code, source_of_code};
 
 use crate::state::{At, Filter, Source, Step, Turn, Work};
@@ -44,10 +44,27 @@ pub fn opened<'t, A: Allocator>(
 ) -> Turn<'t, A>
     ensures { turn_of result ≡ opened_by (filter_of_code filter.entry) name.now later.now (fd_in reply.now) }
 {
-    let Reply::Fd(fd) = reply else {
-        return Turn::writes_last(2, cannot_open(program_name(filter), name));
+    let fd = match reply {
+        Reply::Fd(fd) => *fd,
+        Reply::Refused => return Turn::writes_last(2, cannot_open(program_name(filter), name)),
+        _ => return Turn::exits(),
     };
-    by_step(first_step(filter), filter, &Source::File(*fd, name, later))
+    by_step(first_step(filter), filter, &Source::File(fd, name, later))
+}
+
+// A file was closed, or could not be.
+pub fn closed<'t, A: Allocator>(
+    filter: Filter<'t>,
+    later: &'t [Bytes<A>],
+    reply: &Reply,
+) -> Turn<'t, A>
+    ensures { turn_of result ≡ closed_by (filter_of_code filter.entry) later.now (done_in reply.now) }
+{
+    match reply {
+        Reply::Done => return opens_next(filter, later),
+        _ => {}
+    }
+    Turn::exits()
 }
 
 // The message that a file can't be opened.
@@ -85,6 +102,7 @@ pub fn by_step<'t, A: Allocator>(
         Step::Writes(bytes, work) => (Call::Write(1, bytes), work),
         Step::Finishes => return after_source(filter, source),
         Step::Fails(message) => return Turn::tells(message),
+        Step::Quits => return Turn::exits(),
     };
     Turn {
         call,

@@ -51,8 +51,10 @@ pub fn goes_on<'t>(pattern: &'t [u8], buffer: &[u8]) -> Step<'t>
 pub fn got<'t>(pattern: &'t [u8], kept: &Block, reply: &Reply) -> Step<'t>
     ensures { step_of result ≡ grep_got pattern.now kept.now (bytes_in reply.now) }
 {
-    let Reply::Bytes(bytes) = reply else {
-        return Step::Finishes;
+    let bytes = match reply {
+        Reply::Bytes(bytes) => bytes,
+        Reply::Refused => return Step::Finishes,
+        _ => return Step::Quits,
     };
     if bytes.as_slice().is_empty() {
         return Step::Finishes;

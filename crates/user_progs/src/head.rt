@@ -2,7 +2,7 @@
 
 ghost use Rattle.std.specs.Prelude.{◌≡◌};
 ghost use Rattle.prog_parts.specs.Head.{has_wrong_option};
-ghost use Rattle.user_progs.specs.Turn.{head_got, head_wrote, head_goes_on, begins_head, bytes_in, is_done};
+ghost use Rattle.user_progs.specs.Turn.{head_got, head_wrote, head_goes_on, begins_head, bytes_in, done_in};
 ghost use Rattle.user_progs.specs.View.{step_of, turn_of};
 
 use crate::filter;
@@ -37,8 +37,10 @@ pub fn goes_on(lines: u32, left: u32) -> Step<'static>
 pub fn got(lines: u32, left: u32, reply: &Reply) -> Step<'static>
     ensures { step_of result ≡ head_got lines left (bytes_in reply.now) }
 {
-    let Reply::Bytes(block) = reply else {
-        return Step::Fails(b"head: read error\n");
+    let block = match reply {
+        Reply::Bytes(block) => block,
+        Reply::Refused => return Step::Fails(b"head: read error\n"),
+        _ => return Step::Quits,
     };
     let Some((byte, _)) = block.as_slice().split_first() else {
         return Step::Finishes;
@@ -52,10 +54,11 @@ pub fn got(lines: u32, left: u32, reply: &Reply) -> Step<'static>
 
 // It was written, or could not be.
 pub fn wrote(lines: u32, left: u32, reply: &Reply) -> Step<'static>
-    ensures { step_of result ≡ head_wrote lines left (is_done reply.now) }
+    ensures { step_of result ≡ head_wrote lines left (done_in reply.now) }
 {
     match reply {
         Reply::Done => goes_on(lines, left),
-        _ => Step::Fails(b"head: write error\n"),
+        Reply::Refused => Step::Fails(b"head: write error\n"),
+        _ => Step::Quits,
     }
 }

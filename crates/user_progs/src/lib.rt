@@ -9,7 +9,6 @@ mod echo;
 mod filter;
 mod grep;
 mod head;
-pub mod laws;
 mod prog;
 mod state;
 mod tee;

@@ -87,7 +87,10 @@ fn turn<'t, A: Allocator>(at: &At<'t, A>, reply: &Reply) -> Turn<'t, A>
     ensures { turn_of result ≡ turn (at_of at.now) reply.now }
 {
     match at {
-        At::Begins(program, arguments) => return begins(*program, arguments),
+        At::Begins(program, arguments) => match reply {
+            Reply::Done => return begins(*program, arguments),
+            _ => {}
+        },
         At::EchoWord(later) => return echo::end(later),
         At::EchoSpace(later) => return echo::next(later),
         At::Opens(filter, name, later) => return filter::opened(*filter, name, later, reply),
@@ -98,7 +101,7 @@ fn turn<'t, A: Allocator>(at: &At<'t, A>, reply: &Reply) -> Turn<'t, A>
                 source,
             );
         }
-        At::Closes(filter, later) => return filter::opens_next(*filter, later),
+        At::Closes(filter, later) => return filter::closed(*filter, later, reply),
         At::Tees(tee) => return tee::turn(tee, reply),
         At::Told => {}
         At::Ended => {}

@@ -91,8 +91,9 @@ pub enum Step<'t> {
     Writes(Block, Work<'t>),
     // It is done.
     Finishes,
-    // It ends the program with this message.
+    // It ends the program, with this message or without one.
     Fails(&'static [u8]),
+    Quits,
 }
 
 impl<'t, A: Allocator> Turn<'t, A> {

@@ -1,7 +1,7 @@
 //! `tee` (own): copies standard input to descriptor 1 and to each file.
 
 ghost use Rattle.std.specs.Prelude.{◌≡◌, ◌+◌, ◌<◌, ◌≤◌, ◌↔◌, ◌++◌, ◌∷◌, [], length, IsTrue, slice_index_or};
-ghost use Rattle.user_progs.specs.Turn.{tee_waits, tee_opens_next, tee_opened, tee_cannot_open, tee_got, tee_gives_next, tee_wrote, tee_turn, bytes_in, fd_in, is_done};
+ghost use Rattle.user_progs.specs.Turn.{tee_waits, tee_opens_next, tee_opened, tee_cannot_open, tee_got, tee_gives_next, tee_wrote, tee_turn, bytes_in, fd_in, done_in};
 ghost use Rattle.user_progs.specs.View.{turn_of, tee_of_code};
 
 use crate::cat::CHUNK;
@@ -156,11 +156,13 @@ fn opened<'t, A: Allocator>(
 ) -> Turn<'t, A>
     ensures { turn_of result ≡ tee_opened fds.now name.now later.now (fd_in reply.now) }
 {
-    let Reply::Fd(fd) = reply else {
-        return Turn::writes_last(2, cannot_open(b"tee", name));
+    let fd = match reply {
+        Reply::Fd(fd) => *fd,
+        Reply::Refused => return Turn::writes_last(2, cannot_open(b"tee", name)),
+        _ => return Turn::exits(),
     };
     if fds.as_slice().len() < FILES {
-        return opens_next(&fds.and(*fd), later);
+        return opens_next(&fds.and(fd), later);
     }
     Turn::writes_last(2, cannot_open(b"tee", name))
 }
@@ -169,8 +171,10 @@ fn opened<'t, A: Allocator>(
 fn got<'t, A: Allocator>(fds: &Outputs, reply: &Reply) -> Turn<'t, A>
     ensures { turn_of result ≡ tee_got fds.now (bytes_in reply.now) }
 {
-    let Reply::Bytes(bytes) = reply else {
-        return Turn::tells(b"tee: read error\n");
+    let bytes = match reply {
+        Reply::Bytes(bytes) => bytes,
+        Reply::Refused => return Turn::tells(b"tee: read error\n"),
+        _ => return Turn::exits(),
     };
     if bytes.as_slice().is_empty() {
         return Turn::exits();
@@ -196,13 +200,13 @@ fn gives_next<'t, A: Allocator>(fds: &Outputs, at: usize, bytes: &Block) -> Turn
 
 // The bytes were written, or could not be; next is the file at this place.
 fn wrote<'t, A: Allocator>(fds: &Outputs, at: usize, bytes: &Block, reply: &Reply) -> Turn<'t, A>
-    ensures { turn_of result ≡ tee_wrote fds.now at bytes.now (is_done reply.now) }
+    ensures { turn_of result ≡ tee_wrote fds.now at bytes.now (done_in reply.now) }
 {
     match reply {
-        Reply::Done => return gives_next(fds, at, bytes),
-        _ => {}
+        Reply::Done => gives_next(fds, at, bytes),
+        Reply::Refused => Turn::tells(b"tee: write error\n"),
+        _ => Turn::exits(),
     }
-    Turn::tells(b"tee: write error\n")
 }
 
 // What is done with a reply.

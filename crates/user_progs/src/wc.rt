@@ -66,6 +66,7 @@ pub fn got(counts: &Counts, name: &[u8], reply: &Reply) -> Step<'static>
                 Step::Reads(CHUNK, counted(counts, block.as_slice()))
             }
         }
-        _ => Step::Fails(b"wc: read error\n"),
+        Reply::Refused => Step::Fails(b"wc: read error\n"),
+        _ => Step::Quits,
     }
 }

@@ -1,0 +1,17 @@
+mod Giving
+mod Teeing
+pub mod Next
+pub mod Fitting
+pub mod Work
+pub mod Counting
+pub mod Search
+pub mod Keeps
+pub mod Waiting
+pub mod Chunks
+pub mod Taming
+pub mod Shrinking
+pub mod Framing
+pub mod Exiting
+pub mod Unused
+pub mod Holding
+mod Worked

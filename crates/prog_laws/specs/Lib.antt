@@ -1,0 +1,10 @@
+pub mod Ahead
+pub mod Alone
+pub mod Exits
+pub mod Fits
+pub mod Frame
+pub mod Given
+pub mod Runs
+pub mod Still
+pub mod Tame
+pub mod Waits
