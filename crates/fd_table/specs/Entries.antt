@@ -84,6 +84,6 @@ moved_on n (Some f) = Some (record { object = f.object; count = f.count; offset 
 abbrev pub advanced : Entries → ℕ → ℕ → Entries
 advanced t e n = slice_set t e (moved_on n (entry_at t e))
 
--- how many entries are free
-abbrev pub free_count : Entries → ℕ
-free_count t = count_by is_free t
+-- how many places are free
+abbrev pub free_count : {X : Type 0} → List (Option X) → ℕ
+free_count places = count_by is_free places

@@ -33,6 +33,7 @@ impl Fds {
     ghost use Rattle.std.specs.Prelude.{◌≡◌, ◌≤◌, ◌<◌, IfSome, All, None, ok_or, length, replicate};
     ghost use Rattle.fd_table.specs.declared.descriptors.TheConstants.{DESCRIPTORS};
     ghost use Rattle.fd_table.specs.declared.faults.FdFault.TheVariants.{BadFd, FullFds};
+    ghost use Rattle.fd_table.specs.Entries.{free_count};
     ghost use Rattle.fd_table.specs.Descriptors.{entry_of, lowest_free, installed, dup_answer, after_dup, held_by_dup, close_answer, after_close, released_by_close, all_held, HoldsInUse, CanCountMore, CountsFit};
 
     /// No descriptor is open.
@@ -50,6 +51,14 @@ impl Fds {
         ensures within { IfSome result (λ fd. fd < DESCRIPTORS) }
     {
         self.places.iter().position(|place| place.is_none())
+    }
+
+    /// How many descriptors aren't open (own).
+    pub fn free_count(&self) -> usize
+        ensures count { result ≡ free_count self.now }
+        ensures within { result ≤ DESCRIPTORS }
+    {
+        self.places.iter().filter(|place| place.is_none()).count()
     }
 
     /// The entry that the descriptor `fd` holds (`argfd`).

@@ -1,16 +1,33 @@
 //! Laws of the definitions that the contracts cite: each function's contract is the law, and its body is empty.
 //!
-//! They say that an entry's count is the number of descriptors that hold it, over any list of tables of descriptors,
-//! and that each call keeps this. The table of the process that makes the call stands between the tables `before`
-//! and `after`; with none before it and none after it, it is the only one.
+//! The first two say how many calls find a free place. The others say that an entry's count is the number of
+//! descriptors that hold it, over any list of tables of descriptors, and that each call keeps this. The table of the
+//! process that makes the call stands between the tables `before` and `after`; with none before it and none after it,
+//! it is the only one.
 
-ghost use Rattle.std.specs.Prelude.{◌≡◌, ◌≤◌, ◌<◌, ◌+◌, ◌*◌, ◌^◌, ◌↔◌, ℕ, List, [], ◌∷◌, ◌++◌, All, IsPermutation, IsSome, None, Some, length, replicate};
+ghost use Rattle.std.specs.Prelude.{◌≡◌, ◌≤◌, ◌<◌, ◌+◌, ◌-◌, ◌*◌, ◌^◌, ◌↔◌, ℕ, List, [], ◌∷◌, ◌++◌, All, IsPermutation, IsSome, None, Some, length, replicate};
 ghost use Rattle.fd_table.specs.declared.names.Object.{Object};
 ghost use Rattle.fd_table.specs.declared.entries.TheConstants.{ENTRIES};
 ghost use Rattle.fd_table.specs.declared.descriptors.TheConstants.{DESCRIPTORS};
-ghost use Rattle.fd_table.specs.Entries.{Entries, IsInUse, entry_at, count_of, lowest_free_entry, added, held, released, advanced, last_object};
+ghost use Rattle.fd_table.specs.Entries.{Entries, IsInUse, entry_at, count_of, lowest_free_entry, added, held, released, advanced, last_object, free_count};
 ghost use Rattle.fd_table.specs.Descriptors.{Descriptors, entry_of, lowest_free, installed, without, dup_answer, after_dup, held_by_dup, after_close, released_by_close, all_held, HoldsInUse, CountsFit};
 ghost use Rattle.fd_table.specs.Holders.{holders, CountHolders};
+
+/// An install finds a place exactly where one is free, and leaves one free place less. So where two are free, two
+/// installs in a row find theirs.
+pub fn an_install_takes_one_free_place()
+    ensures found { (fds : Descriptors) → IsSome (lowest_free fds) ↔ (0 < free_count fds) }
+    ensures taken { (fds : Descriptors) (e : ℕ) → free_count (installed fds e) ≡ free_count fds - 1 }
+    ensures two { (fds : Descriptors) (e : ℕ) → 2 ≤ free_count fds → IsSome (lowest_free fds) × IsSome (lowest_free (installed fds e)) }
+{}
+
+/// An add finds an entry exactly where one is free, and leaves one free entry less. So where two are free, two adds in
+/// a row find theirs.
+pub fn an_add_takes_one_free_entry()
+    ensures found { (t : Entries) → IsSome (lowest_free_entry t) ↔ (0 < free_count t) }
+    ensures taken { (t : Entries) (object : Object) → free_count (added t object) ≡ free_count t - 1 }
+    ensures two { (t : Entries) (object : Object) → 2 ≤ free_count t → IsSome (lowest_free_entry t) × IsSome (lowest_free_entry (added t object)) }
+{}
 
 /// New entries count right: nobody holds them. A table with no open descriptor changes no count, and neither does the
 /// order of the tables.

@@ -6,12 +6,15 @@ fn installs_take_the_lowest_free_descriptor(rt: HostRuntime) -> Result<(), Fail>
     let mut files = OpenFiles::new();
     let mut fds = Fds::new();
     for want in 0..16usize {
-        assert_eq!(rt; fds.lowest_free(), Some(want));
+        assert_eq!(rt;
+            (fds.lowest_free(), fds.free_count()),
+            (Some(want), 16 - want)
+        );
         let entry = files.add(Object::Out)?;
         assert_eq!(rt; fds.install(entry), Ok(want));
     }
     let entry = files.add(Object::Diag)?;
-    assert_eq!(rt; fds.lowest_free(), None);
+    assert_eq!(rt; (fds.lowest_free(), fds.free_count()), (None, 0));
     assert_eq!(rt; fds.install(entry), Err(FdFault::FullFds));
     Ok(())
 }
@@ -27,12 +30,12 @@ fn dup_takes_the_place_that_close_leaves(rt: HostRuntime) -> Result<(), Fail> {
     let closed = fds.get(3)?;
     assert_eq!(rt; (closed.index(), files.count(closed)), (3, 1));
     assert!(rt; matches!(fds.close(&mut files, 3), Ok(Some(Object::PipeWrite(3)))));
-    assert_eq!(rt; files.free_count(), 97);
+    assert_eq!(rt; (files.free_count(), fds.free_count()), (97, 13));
     let shared = fds.get(0)?;
     assert_eq!(rt; files.count(shared), 1);
     assert_eq!(rt; fds.dup(&mut files, 0), Ok(3));
     assert_eq!(rt; (fds.get(3), files.count(shared)), (Ok(shared), 2));
-    assert_eq!(rt; files.free_count(), 97);
+    assert_eq!(rt; (files.free_count(), fds.free_count()), (97, 12));
 
     assert!(rt; fds.get(7).is_err() && fds.get(16).is_err());
     assert_eq!(rt; fds.dup(&mut files, 7), Err(FdFault::BadFd));

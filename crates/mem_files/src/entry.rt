@@ -1,4 +1,4 @@
-ghost use Rattle.std.specs.Prelude.{◌≡◌, ◌-◌, ◌≤◌, true, length, take, drop, min, IfOk, OnOk, OnErr};
+ghost use Rattle.std.specs.Prelude.{◌≡◌, ◌-◌, ◌≤◌, ◌++◌, ◌↔◌, IsTrue, true, length, take, drop, min, IfOk, OnOk, OnErr};
 ghost use Rattle.mem_files.specs.Name.{is_openable};
 ghost use Rattle.mem_files.specs.Overlay.{overlay, written};
 
@@ -64,6 +64,20 @@ impl<A: Allocator> Entry<A> {
         self.bytes.extend_from_slice(&bytes[inside..])?;
         self.bytes[at..at + inside].copy_from_slice(&bytes[..inside]);
         Ok(())
+    }
+
+    pub fn append(&mut self, bytes: &[u8]) -> Result<(), AllocError>
+        ensures ok { OnOk result (self.new ≡ (self.old.0, self.old.1 ++ bytes.now)) }
+        ensures err { OnErr result (self.new ≡ self.old) }
+    {
+        self.bytes.extend_from_slice(bytes)
+    }
+
+    // Whether both have the same name and the same bytes.
+    pub fn same<B: Allocator>(&self, other: &Entry<B>) -> bool
+        ensures { IsTrue result ↔ (self.now ≡ other.now) }
+    {
+        self.name() == other.name() && self.bytes() == other.bytes()
     }
 
     // Copies bytes from `at` on into the buffer, and tells how many.

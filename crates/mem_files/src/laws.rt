@@ -103,7 +103,7 @@ pub fn write_at_front()
     ensures { (b w : Bytes) → written b 0 w ≡ overlay w b }
 {}
 
-/// A write at the end appends.
+/// A write at the end appends: so `write_at` at the length of a file does what `append` does.
 pub fn write_at_end()
     ensures { (b w : Bytes) → written b (length b) w ≡ b ++ w }
 {}

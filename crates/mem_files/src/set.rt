@@ -1,4 +1,4 @@
-ghost use Rattle.std.specs.Prelude.{◌≡◌, ℕ, ◌+◌, ◌-◌, ◌<◌, ◌≤◌, ◌↔◌, ◌≢◌, true, false, [], length, take, drop, min, option_copied, option_map, slice_get, None, IsOkUnless, Err, ◌⊎◌, IsErrOf, IfOk, IfErr, IfSome, IsSomeAnd, OnOk, OnErr};
+ghost use Rattle.std.specs.Prelude.{◌≡◌, ℕ, ◌+◌, ◌-◌, ◌<◌, ◌≤◌, ◌↔◌, ◌≢◌, true, false, [], ◌++◌, length, take, drop, min, option_copied, option_map, slice_get, None, IsOkUnless, Err, ◌⊎◌, IsErrOf, IsOk, IsSome, IsTrue, IfOk, IfErr, IfSome, IsSomeAnd, OnOk, OnErr};
 ghost use Rattle.mem_files.specs.Name.{Name, is_openable};
 ghost use Rattle.mem_files.specs.Files.{files, with_file, bytes_of};
 ghost use Rattle.mem_files.specs.Overlay.{overlay, written};
@@ -131,6 +131,47 @@ impl<A: Allocator> Files<A> {
         Ok(())
     }
 
+    /// Appends the bytes to those of the file `name`, and tells how many it then has. Its room grows by doubling, so that
+    /// many appends are linear work (own: xv6 has no call that appends).
+    ///
+    /// In this order, each with nothing changed: `Missing` where there is no file of that name; `FullSize` where the
+    /// file would have more than 274,432 bytes; `Memory`.
+    pub fn append(&mut self, name: &[u8], bytes: &[u8]) -> Result<usize, FilesFault>
+        ensures holds { OnOk result (Holds self.old self.new name.now (bytes_of (files self.old name.now) ++ bytes.now)) }
+        ensures size { IfOk result (λ size. size ≡ length (bytes_of (files self.old name.now)) + length bytes.now) }
+        ensures missing { IsErrOf result FilesFault.Missing ↔ (files self.old name.now ≡ None) }
+        ensures full_size { IsErrOf result FilesFault.FullSize
+            ↔ IsSomeAnd (files self.old name.now) (λ old. max_size < length old + length bytes.now) }
+        ensures never { (result ≢ Err FilesFault.BadName) × (result ≢ Err FilesFault.FullFiles) × (result ≢ Err FilesFault.Gap) }
+        ensures same { OnErr result (self.new ≡ self.old) }
+    {
+        let Some(found) = find(self.entries.as_slice(), name) else {
+            return Err(FilesFault::Missing);
+        };
+        let entry = &mut self.entries[found];
+        let size = entry.bytes().len();
+        if bytes.len() > MAX_SIZE - size {
+            return Err(FilesFault::FullSize);
+        }
+        entry.append(bytes)?;
+        Ok(size + bytes.len())
+    }
+
+    /// Whether the two sets have the same files with the same bytes, by whatever allocators they are kept (own).
+    pub fn same<B: Allocator>(&self, other: &Files<B>) -> bool
+        ensures { IsTrue result ↔ (self.now ≡ other.now) }
+    {
+        if self.entries.len() != other.entries.len() {
+            return false;
+        }
+        for i in 0..self.entries.len() {
+            if !self.entries[i].same(&other.entries[i]) {
+                return false;
+            }
+        }
+        true
+    }
+
     /// An equal set of files, with memory from `alloc` (own). No file of it has room to spare.
     ///
     /// `Memory` where there is none; what was taken is given back.
@@ -178,7 +219,7 @@ impl<A: Allocator + Copy> Files<A> {
     }
 
     /// The file `name` is then there: empty where it was missing, and as it was otherwise, as after
-    /// `kernel/sysfile.c`'s `create`.
+    /// `kernel/sysfile.c`'s `create`. A file that is there takes no memory, so it isn't refused.
     ///
     /// In this order, each with nothing changed: `BadName` where the name can't be opened; `FullFiles`
     /// where the name is new and there are 200 files; `Memory`.
@@ -187,14 +228,13 @@ impl<A: Allocator + Copy> Files<A> {
         ensures bad_name { IsErrOf result FilesFault.BadName ↔ (is_openable name.now ≡ false) }
         ensures full_files { IsErrOf result FilesFault.FullFiles ↔ (is_openable name.now ≡ true) × IsFullFor self.old name.now }
         ensures never { (result ≢ Err FilesFault.Missing) × (result ≢ Err FilesFault.FullSize) × (result ≢ Err FilesFault.Gap) }
+        ensures there { IsSome (files self.old name.now) → IsOk result }
         ensures same { OnErr result (self.new ≡ self.old) }
     {
-        if !is_openable(name) {
-            return Err(FilesFault::BadName);
-        }
         match find(self.entries.as_slice(), name) {
             Some(_) => Ok(()),
-            None => self.add(name, &[]),
+            None if is_openable(name) => self.add(name, &[]),
+            None => Err(FilesFault::BadName),
         }
     }
 

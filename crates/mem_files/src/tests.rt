@@ -20,18 +20,6 @@ fn holds<A: Allocator>(set: &Files<A>, name: &[u8], bytes: &[u8]) -> bool {
     set.get(name) == Some(bytes)
 }
 
-fn is_same<A: Allocator, B: Allocator>(left: &Files<A>, right: &Files<B>) -> bool {
-    for i in 0..left.count() {
-        let Some(name) = left.name_at(i) else {
-            return false;
-        };
-        if right.name_at(i) != Some(name) || right.get(name) != left.get(name) {
-            return false;
-        }
-    }
-    left.count() == right.count()
-}
-
 #[test]
 fn one_file(rt: HostRuntime) -> Result<(), Fail> {
     let mut set = Files::new(rt.alloc());
@@ -62,8 +50,9 @@ fn names_that_cannot_be_opened(rt: HostRuntime) -> Result<(), Fail> {
         assert_eq!(rt; set.get(name), None);
         assert_eq!(rt; set.truncate(name), Err(FilesFault::Missing));
         assert_eq!(rt; set.write_at(name, 0, lines()), Err(FilesFault::Missing));
+        assert_eq!(rt; set.append(name, lines()), Err(FilesFault::Missing));
     }
-    assert!(rt; is_same(&set, &before));
+    assert!(rt; set.same(&before));
     set.put(b"123456789abcde".as_slice(), lines())?;
     assert_eq!(rt; set.count(), 2);
     Ok(())
@@ -84,7 +73,7 @@ fn at_most_200_files(rt: HostRuntime) -> Result<(), Fail> {
     );
     assert_eq!(rt; set.create(b"m".as_slice()), Err(FilesFault::FullFiles));
     assert_eq!(rt; set.create(b"n/".as_slice()), Err(FilesFault::BadName));
-    assert!(rt; is_same(&set, &before));
+    assert!(rt; set.same(&before));
     set.put(&[b'n', 255], lines())?;
     set.create(&[b'n', 56])?;
     assert_eq!(rt; set.count(), 200);
@@ -146,7 +135,7 @@ fn at_most_274432_bytes(rt: HostRuntime) -> Result<(), Fail> {
         set.write_at(b"p".as_slice(), 1, most.as_slice()),
         Err(FilesFault::FullSize)
     );
-    assert!(rt; is_same(&set, &before));
+    assert!(rt; set.same(&before));
     set.put(b"q".as_slice(), most.as_slice())?;
     set.write_at(b"p".as_slice(), 0, most.as_slice())?;
     assert!(rt; holds(&set, b"p".as_slice(), most.as_slice()));
@@ -192,6 +181,48 @@ fn reads_and_writes(rt: HostRuntime) -> Result<(), Fail> {
 }
 
 #[test]
+fn appends(rt: HostRuntime) -> Result<(), Fail> {
+    let mut set = with_p(rt.alloc())?;
+    assert_eq!(rt; set.append(b"p".as_slice(), b"z".as_slice()), Ok(15));
+    assert!(rt; holds(&set, b"p".as_slice(), b"b\naab\naabc\ncb\nz".as_slice()));
+    assert_eq!(rt; set.append(b"p".as_slice(), &[]), Ok(15));
+    let before = set.copy(rt.alloc())?;
+    assert_eq!(rt;
+        set.append(b"q".as_slice(), lines()),
+        Err(FilesFault::Missing)
+    );
+    let most = vec![in rt.alloc(); 7u8; 274_417]?;
+    let more = vec![in rt.alloc(); 7u8; 274_418]?;
+    assert_eq!(rt;
+        set.append(b"p".as_slice(), more.as_slice()),
+        Err(FilesFault::FullSize)
+    );
+    assert!(rt; set.same(&before));
+    assert_eq!(rt; set.append(b"p".as_slice(), most.as_slice()), Ok(274_432));
+    assert_eq!(rt; set.append(b"p".as_slice(), &[]), Ok(274_432));
+    assert_eq!(rt;
+        set.append(b"p".as_slice(), b"z".as_slice()),
+        Err(FilesFault::FullSize)
+    );
+    Ok(())
+}
+
+#[test]
+fn same_names_and_same_bytes(rt: HostRuntime) -> Result<(), Fail> {
+    let heap = LocalHeap::new(rt.alloc(), 4096)?;
+    let set = with_p(rt.alloc())?;
+    let mut other = set.copy(&heap)?;
+    assert!(rt; set.same(&other) && other.same(&set));
+    other.write_at(b"p".as_slice(), 13, b"z".as_slice())?;
+    assert!(rt; !set.same(&other) && !other.same(&set), "other bytes");
+    other.put(b"p".as_slice(), lines())?;
+    assert!(rt; set.same(&other));
+    other.create(b"q".as_slice())?;
+    assert!(rt; !set.same(&other) && !other.same(&set), "one file more");
+    Ok(())
+}
+
+#[test]
 fn empties_and_creates(rt: HostRuntime) -> Result<(), Fail> {
     let mut set = with_p(rt.alloc())?;
     set.create(b"q".as_slice())?;
@@ -204,7 +235,7 @@ fn empties_and_creates(rt: HostRuntime) -> Result<(), Fail> {
     let copy = set.copy(rt.alloc())?;
     assert_eq!(rt; copy.count(), 2);
     assert!(rt; holds(&copy, b"p".as_slice(), b"".as_slice()));
-    assert!(rt; is_same(&set, &copy));
+    assert!(rt; set.same(&copy));
     Ok(())
 }
 
@@ -214,6 +245,7 @@ enum Grows {
     PutOver,
     Create,
     Write,
+    Append,
 }
 
 fn grow<A: Allocator + Copy>(set: &mut Files<A>, call: Grows) -> Result<(), FilesFault> {
@@ -223,6 +255,7 @@ fn grow<A: Allocator + Copy>(set: &mut Files<A>, call: Grows) -> Result<(), File
         Grows::PutOver => set.put(b"p".as_slice(), &bytes),
         Grows::Create => set.create(b"q".as_slice()),
         Grows::Write => set.write_at(b"p".as_slice(), 14, &bytes),
+        Grows::Append => set.append(b"p".as_slice(), &bytes).map(|_size| ()),
     }
 }
 
@@ -254,7 +287,7 @@ fn refusals(rt: &(impl Abort + AllocGlobal), call: Grows) -> Result<(u32, u32), 
             Ok(()) => done = done.saturating_add(1),
             Err(fault) => {
                 assert_eq!(rt; fault, FilesFault::Memory, "{call:?} on {units} units");
-                assert!(rt; is_same(&set, &before), "{call:?} on {units} units");
+                assert!(rt; set.same(&before), "{call:?} on {units} units");
                 refused = refused.saturating_add(1);
             }
         }
@@ -264,7 +297,13 @@ fn refusals(rt: &(impl Abort + AllocGlobal), call: Grows) -> Result<(u32, u32), 
 
 #[test]
 fn want_of_memory_changes_nothing(rt: HostRuntime) -> Result<(), Fail> {
-    for call in [Grows::Put, Grows::PutOver, Grows::Create, Grows::Write] {
+    for call in [
+        Grows::Put,
+        Grows::PutOver,
+        Grows::Create,
+        Grows::Write,
+        Grows::Append,
+    ] {
         let (refused, done) = refusals(&rt, call)?;
         assert!(rt; refused > 5, "{call:?} was refused {refused} times");
         assert!(rt; done > 5, "{call:?} was done {done} times");
@@ -281,7 +320,7 @@ fn a_copy_needs_memory(rt: HostRuntime) -> Result<(), Fail> {
         let heap = LocalHeap::new(rt.alloc(), units * 16)?;
         match set.copy(&heap) {
             Ok(copy) => {
-                assert!(rt; is_same(&set, &copy));
+                assert!(rt; set.same(&copy));
                 done = done.saturating_add(1);
             }
             Err(fault) => {
@@ -316,7 +355,8 @@ fn calls_that_take_no_memory(rt: HostRuntime) -> Result<(), Fail> {
         let mut buf = [0u8; 4];
         assert_eq!(rt; set.read_at(b"p".as_slice(), 2, &mut buf), Ok(4));
         set.write_at(b"p".as_slice(), 2, &buf)?;
-        assert!(rt; is_same(&set, &set_of));
+        set.create(b"p".as_slice())?;
+        assert!(rt; set.same(&set_of));
         set.truncate(b"p".as_slice())?;
         assert!(rt; holds(&set, b"p".as_slice(), b"".as_slice()));
         assert_eq!(rt; Files::new(&heap).count(), 0);

@@ -3,15 +3,15 @@ use Rattle.std.proofs.Common.{◌≡◌, ℕ, zero, suc, ◌+◌, ◌<◌, [], �
 use Rattle.std.proofs.Math.ListN.{set}
 use Rattle.std.proofs.lemmas.Bool.{and_parts}
 use Rattle.std.proofs.lemmas.List.Sums.{sum_by-set, sum_by-cons}
-use Rattle.std.specs.Prelude.{cond, map, count_by, is_some, if◌then◌else◌}
+use Rattle.std.specs.Prelude.{cond, map, count_by, is_some, if◌then◌else◌, ◌&&◌, ◌||◌}
 use Rattle.user_calls.specs.declared.calls.Reply.{Reply}
 use Rattle.fd_table.specs.Descriptors.{Descriptors}
 use Rattle.proc_table.specs.declared.states.Channel.{Channel}
 use Rattle.proc_table.specs.declared.states.Channel.TheVariants.{Children}
 use Rattle.proc_table.specs.declared.states.Status.{Status}
 use Rattle.proc_table.specs.declared.states.Status.TheVariants.{Runnable, Running, Asleep, Zombie}
-use Rattle.proc_table.specs.Slots.{Slot, Table, Process, at, is_free, has_status, tally, same_channel, is_asleep_status, is_asleep_on_status, is_zombie_status, is_runnable_status, is_asleep, is_asleep_on, is_runnable, is_zombie, is_child_of, parent_of}
-use Rattle.proc_table.specs.Calls.{with_status, made_ready, put_to_sleep, with_fds, woken, woken_status, all_woken, given, buried, exited, zombie_child, lowest_free, forked, newborn, freed, reaped}
+use Rattle.proc_table.specs.Slots.{Slot, Table, Process, at, is_free, has_status, tally, same_channel, is_asleep_status, is_asleep_on_status, is_zombie_status, is_runnable_status, is_running_status, is_running, is_asleep, is_asleep_on, is_runnable, is_zombie, is_child_of, parent_of}
+use Rattle.proc_table.specs.Calls.{with_status, made_ready, put_to_sleep, with_fds, woken, woken_status, all_woken, given, buried, exited, zombie_child, lowest_free, forked, newborn, freed, reaped, wakes_at_exit}
 use Rattle.proc_table.proofs.Changes.{was_free, child_within, was_zombie_child, mapped}
 
 tally_is : (b c : Bool) → b ≡ c → cond {A = ℕ} b 1 0 ≡ tally c
@@ -190,6 +190,88 @@ buried_counts test t pid p is =
 pub exit_counts_by : {S : Type 0} (test : Status → Bool) → ((c : Channel) → test Runnable ≡ test (Asleep c)) → (t : Table S) (pid : ℕ) (p : Process S) → at t pid ≡ Some p → count_by (has_status test) (exited t pid) + tally (test p.status) ≡ count_by (has_status test) t + tally (test Zombie)
 exit_counts_by test same t pid p is =
     omega (arith, exit_as_buried (has_status test) (all_woken_same test same) t pid, buried_counts test t pid p is)
+
+-- a status that one channel's wake-up leaves asleep on another, and those that the first wakes
+twice_by : (b : Bool) (d e : Channel) → tally (is_asleep_on_status d (if b then Runnable else Asleep e)) + tally b ≡ tally (b || same_channel d e)
+twice_by true d e = refl
+twice_by false d e = omega arith
+
+twice_status : (c d : Channel) (s : Status) → tally (is_asleep_on_status d (woken_status c s)) + tally (is_asleep_on_status c s) ≡ tally (is_asleep_on_status c s || is_asleep_on_status d s)
+twice_status c d Runnable = refl
+twice_status c d (Running h) = refl
+twice_status c d (Asleep e) = twice_by (same_channel c e) d e
+twice_status c d Zombie = refl
+
+abbrev on_either : Channel → Channel → Status → Bool
+on_either c d s = is_asleep_on_status c s || is_asleep_on_status d s
+
+twice_slot : {S : Type 0} (c d : Channel) (x : Slot S) → tally (is_asleep_on d (woken c x)) + tally (is_asleep_on c x) ≡ tally (has_status (on_either c d) x)
+twice_slot c d None = refl
+twice_slot c d (Some p) = twice_status c d p.status
+
+-- the sleepers of the second channel that the first one's wake-up leaves, and those that it wakes
+twice_counts : {S : Type 0} (c d : Channel) (t : Table S) → count_by (is_asleep_on d) (all_woken c t) + count_by (is_asleep_on c) t ≡ count_by (has_status (on_either c d)) t
+twice_counts c d [] = refl
+twice_counts c d (x ∷ t) =
+    omega (arith, more_counts (is_asleep_on d) (woken c x) (all_woken c t), more_counts (is_asleep_on c) x t, more_counts (has_status (on_either c d)) x t, twice_slot c d x, twice_counts c d t)
+
+-- tests of states that agree
+same_slot : {S : Type 0} (test other : Status → Bool) → ((s : Status) → test s ≡ other s) → (x : Slot S) → has_status test x ≡ has_status other x
+same_slot test other same None = refl
+same_slot test other same (Some p) = same p.status
+
+same_test : {S : Type 0} (test other : Status → Bool) → ((s : Status) → test s ≡ other s) → (t : Table S) → count_by (has_status test) t ≡ count_by (has_status other) t
+same_test test other same [] = refl
+same_test test other same (x ∷ t) =
+    omega (arith, more_counts (has_status test) x t, more_counts (has_status other) x t, ap tally (same_slot test other same x), same_test test other same t)
+
+abbrev wakes_by : Channel → Bool → Status → Bool
+wakes_by c b s = is_asleep_on_status c s || (b && is_asleep_on_status (Children 0) s)
+
+no_other : (b : Bool) → (b || false) ≡ b
+no_other true = refl
+no_other false = refl
+
+-- Runnable and asleep after the wake-ups of an exit
+wake_ups : {S : Type 0} (c : Channel) (b : Bool) (t : Table S) → (count_by is_runnable (if b then all_woken (Children 0) (all_woken c t) else all_woken c t) ≡ count_by is_runnable t + count_by (has_status (wakes_by c b)) t) × (count_by is_asleep (if b then all_woken (Children 0) (all_woken c t) else all_woken c t) + count_by (has_status (wakes_by c b)) t ≡ count_by is_asleep t)
+wake_ups c true t =
+    let gone = all_woken c t in
+    let both = twice_counts c (Children 0) t in
+    (omega (arith, wake_runnable (Children 0) gone, wake_runnable c t, both), omega (arith, wake_asleep (Children 0) gone, wake_asleep c t, both))
+wake_ups c false t =
+    let one = same_test (wakes_by c false) (is_asleep_on_status c) (λ s. no_other (is_asleep_on_status c s)) t in
+    (omega (arith, wake_runnable c t, one), omega (arith, wake_asleep c t, one))
+
+-- a test that no running process and no zombie passes counts after a burial what it counted before
+running_fails : (test : Status → Bool) → ((h : ℕ) → test (Running h) ≡ false) → (s : Status) → is_running_status s ≡ true → test s ≡ false
+running_fails test fails Runnable is = cc
+running_fails test fails (Running h) is = fails h
+running_fails test fails (Asleep c) is = cc
+running_fails test fails Zombie is = cc
+
+buried_by : {S : Type 0} (test : Status → Bool) → ((h : ℕ) → test (Running h) ≡ false) → test Zombie ≡ false → (t : Table S) (pid : ℕ) (x : Slot S) → at t pid ≡ x → is_running x ≡ true → count_by (has_status test) (buried t pid) ≡ count_by (has_status test) t
+buried_by test fails gone t pid None is runs = absurd (let no : ⊥ = cc in no)
+buried_by test fails gone t pid (Some p) is runs =
+    omega (arith, buried_counts test t pid p is, ap tally (running_fails test fails p.status runs), ap tally gone)
+
+buried_same : {S : Type 0} (test : Status → Bool) → ((h : ℕ) → test (Running h) ≡ false) → test Zombie ≡ false → (t : Table S) (pid : ℕ) → is_running (at t pid) ≡ true → count_by (has_status test) (buried t pid) ≡ count_by (has_status test) t
+buried_same test fails gone t pid runs = buried_by test fails gone t pid (at t pid) refl runs
+
+no_wake : (b : Bool) → (b && false) ≡ false
+no_wake true = refl
+no_wake false = refl
+
+pub exit_runnable : {S : Type 0} (t : Table S) (pid : ℕ) → is_running (at t pid) ≡ true → count_by is_runnable (exited t pid) ≡ count_by is_runnable t + count_by (has_status (wakes_at_exit t pid)) t
+exit_runnable t pid runs =
+    let c = Children (parent_of (at t pid)) in
+    let b = is_some (zombie_child t pid) in
+    omega (arith, (wake_ups c b (buried t pid)).0, buried_same is_runnable_status (λ h. refl) refl t pid runs, buried_same (wakes_by c b) (λ h. no_wake b) (no_wake b) t pid runs)
+
+pub exit_asleep : {S : Type 0} (t : Table S) (pid : ℕ) → is_running (at t pid) ≡ true → count_by is_asleep (exited t pid) + count_by (has_status (wakes_at_exit t pid)) t ≡ count_by is_asleep t
+exit_asleep t pid runs =
+    let c = Children (parent_of (at t pid)) in
+    let b = is_some (zombie_child t pid) in
+    omega (arith, (wake_ups c b (buried t pid)).1, buried_same is_asleep_status (λ h. refl) refl t pid runs, buried_same (wakes_by c b) (λ h. no_wake b) (no_wake b) t pid runs)
 
 -- ---- wait
 

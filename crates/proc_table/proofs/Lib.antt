@@ -1,3 +1,4 @@
 mod InPlace
 mod Changes
 mod Counts
+mod Alone

@@ -1,5 +1,5 @@
 -- What each call on the table of processes does.
-use Rattle.std.specs.Prelude.{ℕ, if◌then◌else◌, ◌∷◌, Option, Some, None, map, position, is_some, replicate, slice_set}
+use Rattle.std.specs.Prelude.{◌≡◌, ℕ, ◌<◌, Bool, true, false, ◌&&◌, ◌||◌, if◌then◌else◌, ◌∷◌, All, Option, Some, None, map, position, is_some, replicate, slice_set}
 use Rattle.user_calls.specs.declared.calls.Reply.{Reply}
 use Rattle.user_calls.specs.declared.calls.Reply.TheVariants.{Start, Child}
 use Rattle.fd_table.specs.Descriptors.{Descriptors}
@@ -8,9 +8,10 @@ use Rattle.proc_table.specs.declared.states.Channel.{Channel}
 use Rattle.proc_table.specs.declared.states.Channel.TheVariants.{Children}
 use Rattle.proc_table.specs.declared.states.Status.{Status}
 use Rattle.proc_table.specs.declared.states.Status.TheVariants.{Runnable, Running, Asleep, Zombie}
+use Rattle.proc_table.specs.declared.table.TheConstants.{HARTS}
 use Rattle.proc_table.specs.declared.table.Waited.{Waited}
 use Rattle.proc_table.specs.declared.table.Waited.TheVariants.{Reaped, NoChildren, MustSleep}
-use Rattle.proc_table.specs.Slots.{Table, Slot, Process, at, is_free, is_number, is_asleep_on_status, is_child_of, is_zombie_child_of, parent_of}
+use Rattle.proc_table.specs.Slots.{Table, Slot, Process, at, is_free, is_number, is_runnable, is_running_on, is_asleep_on_status, is_child_of, is_zombie_child_of, parent_of}
 
 -- a process from which no descriptor is open and that nothing was answered yet
 abbrev pub booted : {S : Type 0} → Option ℕ → S → Process S
@@ -35,7 +36,7 @@ forked t child parent machine fds = slice_set t child (Some (newborn parent mach
 -- the same process with another status
 abbrev pub with_status : {S : Type 0} → Status → Slot S → Slot S
 with_status s None = None
-with_status s (Some p) = Some (record { status = s; parent = p.parent; machine = p.machine; reply = p.reply; fds = p.fds; put = p.put })
+with_status s (Some p) = Some (record p { status = s })
 
 -- the table after the status of pid is s
 abbrev pub status_set : {S : Type 0} → Table S → ℕ → Status → Table S
@@ -45,10 +46,14 @@ status_set t pid s = slice_set t pid (with_status s (at t pid))
 abbrev pub dispatched : {S : Type 0} → Table S → ℕ → ℕ → Table S
 dispatched t pid h = status_set t pid (Running h)
 
+-- pid may be given to hart h: there is such a hart, it runs nothing, and pid is the number of a Runnable process's slot
+abbrev pub CanDispatch : {S : Type 0} → Table S → ℕ → ℕ → Type 0
+CanDispatch t h pid = (h < HARTS) × All (λ slot. is_running_on h slot ≡ false) t × (is_runnable (at t pid) ≡ true)
+
 -- the same process Runnable, with this machine and reply and nothing put
 abbrev pub made_ready : {S : Type 0} → S → Reply → Slot S → Slot S
 made_ready machine reply None = None
-made_ready machine reply (Some p) = Some (record { status = Runnable; parent = p.parent; machine = machine; reply = reply; fds = p.fds; put = 0 })
+made_ready machine reply (Some p) = Some (record p { status = Runnable; machine = machine; reply = reply; put = 0 })
 
 -- the table after pid was made ready
 abbrev pub readied : {S : Type 0} → Table S → ℕ → S → Reply → Table S
@@ -57,7 +62,7 @@ readied t pid machine reply = slice_set t pid (made_ready machine reply (at t pi
 -- the same process asleep, with this many bytes put
 abbrev pub put_to_sleep : {S : Type 0} → Channel → ℕ → Slot S → Slot S
 put_to_sleep channel put None = None
-put_to_sleep channel put (Some p) = Some (record { status = Asleep channel; parent = p.parent; machine = p.machine; reply = p.reply; fds = p.fds; put = put })
+put_to_sleep channel put (Some p) = Some (record p { status = Asleep channel; put = put })
 
 -- the table after pid fell asleep
 abbrev pub slept : {S : Type 0} → Table S → ℕ → Channel → ℕ → Table S
@@ -66,7 +71,7 @@ slept t pid channel put = slice_set t pid (put_to_sleep channel put (at t pid))
 -- the same process with these descriptors
 abbrev pub with_fds : {S : Type 0} → Descriptors → Slot S → Slot S
 with_fds fds None = None
-with_fds fds (Some p) = Some (record { status = p.status; parent = p.parent; machine = p.machine; reply = p.reply; fds = fds; put = p.put })
+with_fds fds (Some p) = Some (record p { fds = fds })
 
 -- the table after pid got these descriptors
 abbrev pub fds_set : {S : Type 0} → Table S → ℕ → Descriptors → Table S
@@ -92,7 +97,7 @@ parent_after pid parent = if is_number pid parent then Some 0 else parent
 -- a slot after pid's children were given to init
 abbrev pub given : {S : Type 0} → ℕ → Slot S → Slot S
 given pid None = None
-given pid (Some p) = Some (record { status = p.status; parent = parent_after pid p.parent; machine = p.machine; reply = p.reply; fds = p.fds; put = p.put })
+given pid (Some p) = Some (record p { parent = parent_after pid p.parent })
 
 -- the lowest child of pid that is a zombie
 abbrev pub zombie_child : {S : Type 0} → Table S → ℕ → Option ℕ
@@ -117,6 +122,10 @@ abbrev pub woken_by_exit : {S : Type 0} → Table S → ℕ → Slot S → Slot 
 woken_by_exit t pid x =
     let once = woken (Children (parent_of (at t pid))) x in
     if is_some (zombie_child t pid) then woken (Children 0) once else once
+
+-- an exit of pid wakes a process of this status
+abbrev pub wakes_at_exit : {S : Type 0} → Table S → ℕ → Status → Bool
+wakes_at_exit t pid s = is_asleep_on_status (Children (parent_of (at t pid))) s || (is_some (zombie_child t pid) && is_asleep_on_status (Children 0) s)
 
 -- what a wait is answered, by the lowest child that is a zombie and the lowest child
 abbrev pub wait_by : Option ℕ → Option ℕ → Waited

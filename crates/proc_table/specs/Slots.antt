@@ -1,5 +1,5 @@
 -- What contracts see of the table of processes.
-use Rattle.std.specs.Prelude.{ℕ, Bool, true, false, ◌==◌, ◌&&◌, List, Option, Some, None, slice_index_or}
+use Rattle.std.specs.Prelude.{◌≡◌, ◌≢◌, ℕ, Bool, true, false, ◌==◌, ◌&&◌, List, Option, Some, None, slice_index_or}
 use Rattle.user_calls.specs.declared.calls.Reply.{Reply}
 use Rattle.fd_table.specs.Descriptors.{Descriptors}
 use Rattle.proc_table.specs.declared.states.Channel.{Channel}
@@ -153,6 +153,10 @@ parent_or_init (Some parent) = parent
 abbrev pub parent_of : {S : Type 0} → Slot S → ℕ
 parent_of None = 0
 parent_of (Some p) = parent_or_init p.parent
+
+-- every slot but init's is free
+abbrev pub IsAlone : {S : Type 0} → Table S → Type 0
+IsAlone t = (pid : ℕ) → pid ≢ 0 → at t pid ≡ None
 
 -- how many bytes a sleeping write of a slot's process has put so far
 abbrev pub put_of : {S : Type 0} → Slot S → ℕ

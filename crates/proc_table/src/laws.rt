@@ -10,7 +10,7 @@ ghost use Rattle.proc_table.specs.declared.states.Channel.{Channel};
 ghost use Rattle.proc_table.specs.declared.states.Status.{Status};
 ghost use Rattle.proc_table.specs.declared.states.Status.TheVariants.{Runnable, Running, Asleep, Zombie};
 ghost use Rattle.proc_table.specs.Slots.{Process, Slot, Table, at, has_status, is_asleep, is_asleep_on, is_child_of, is_free, is_runnable, is_running, is_zombie, is_zombie_child_of, tally};
-ghost use Rattle.proc_table.specs.Calls.{all_woken, dispatched, exited, fds_set, forked, given, lowest_free, made_ready, newborn, put_to_sleep, readied, reaped, slept, with_fds, with_status, woken, woken_by_exit, zombie_child};
+ghost use Rattle.proc_table.specs.Calls.{all_woken, dispatched, exited, fds_set, forked, given, lowest_free, made_ready, newborn, put_to_sleep, readied, reaped, slept, wakes_at_exit, with_fds, with_status, woken, woken_by_exit, zombie_child};
 
 use user_calls::Machine;
 
@@ -122,11 +122,16 @@ pub fn wakeup_counts<M: Machine>()
 {}
 
 /// An exit takes its process from the state that it is in to Zombie, and wakes sleepers: so many pass any test of
-/// states that doesn't tell Runnable from asleep.
+/// states that doesn't tell Runnable from asleep. An exit of a running process makes the sleepers that it wakes
+/// Runnable, and no other.
 pub fn exit_counts<M: Machine>()
     ensures states { (test : Status → Bool) (t : Table M.State) (pid : ℕ) (p : Process M.State) → ((c : Channel) → test Runnable ≡ test (Asleep c)) → at t pid ≡ Some p
         → count_by (has_status test) (exited t pid) + tally (test p.status) ≡ count_by (has_status test) t + tally (test Zombie) }
     ensures free { (t : Table M.State) (pid : ℕ) → count_by is_free (exited t pid) ≡ count_by is_free t }
+    ensures runnable { (t : Table M.State) (pid : ℕ) → is_running (at t pid) ≡ true
+        → count_by is_runnable (exited t pid) ≡ count_by is_runnable t + count_by (has_status (wakes_at_exit t pid)) t }
+    ensures asleep { (t : Table M.State) (pid : ℕ) → is_running (at t pid) ≡ true
+        → count_by is_asleep (exited t pid) + count_by (has_status (wakes_at_exit t pid)) t ≡ count_by is_asleep t }
 {}
 
 /// A wait that reaps a child makes one zombie's slot free.

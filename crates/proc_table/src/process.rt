@@ -2,10 +2,11 @@
 
 ghost use Rattle.std.specs.Borrow.{Lends, sem};
 ghost use Rattle.std.specs.Prelude.{◌≡◌, IfSome, IsSome, count_by, map};
+ghost use Rattle.std.specs.List.{list_all};
 ghost use Rattle.std.specs.contracts.option.Option.{the_row as option_row};
 ghost use Rattle.fd_table.specs.contracts.descriptors.Fds.{the_row as fds_row};
 ghost use Rattle.proc_table.specs.contracts.process.Process.{the_row as process_row};
-ghost use Rattle.proc_table.specs.Slots.{is_asleep_on, is_child_of, is_runnable, is_running, is_running_on, is_zombie_child_of};
+ghost use Rattle.proc_table.specs.Slots.{is_asleep_on, is_child_of, is_free, is_runnable, is_running, is_running_on, is_zombie_child_of};
 ghost use Rattle.proc_table.specs.Calls.{all_woken, given, with_fds, woken};
 
 use crate::{Channel, Pid, Status};
@@ -145,6 +146,13 @@ pub(crate) fn fds_of<M: Machine>(slot: &mut Option<Process<M>>) -> &mut Fds
         Some(process) => process.fds_mut(),
         None => unreachable!(),
     }
+}
+
+// Whether all these slots are free.
+pub(crate) fn are_free<M: Machine>(slots: &[Option<Process<M>>]) -> bool
+    ensures { result ≡ list_all is_free slots.now }
+{
+    slots.iter().all(|slot| slot.is_none())
 }
 
 // Whether the slot's process is a child of this one.

@@ -1,8 +1,8 @@
 //! The table.
 
 use crate::process::{
-    fds_of, give_all, is_child_of, is_runnable, is_running, is_running_on, is_zombie_child_of,
-    wake_all,
+    are_free, fds_of, give_all, is_child_of, is_runnable, is_running, is_running_on,
+    is_zombie_child_of, wake_all,
 };
 use crate::{Channel, PROCS, Pid, Process, State, Status};
 use fd_table::Fds;
@@ -55,10 +55,11 @@ impl<M: Machine, A: Allocator> Procs<M, A> {
     ghost use Rattle.fd_table.specs.contracts.descriptors.Fds.{the_row as fds_row};
     ghost use Rattle.proc_table.specs.contracts.table.Procs.{the_row as procs_row};
     ghost use Rattle.std.specs.Prelude.{◌≡◌, ◌≢◌, ◌≤◌, ◌<◌, All, IfOk, IfSome, IsSome, IsTrue, ◌↔◌, OnErr, None, Some, true, false, count_by, position};
+    ghost use Rattle.std.specs.Bool.{OnFalse, OnTrue};
     ghost use Rattle.proc_table.specs.declared.pid.TheConstants.{PROCS};
     ghost use Rattle.proc_table.specs.declared.table.TheConstants.{HARTS};
-    ghost use Rattle.proc_table.specs.Slots.{at, is_asleep_on, is_child_of, is_runnable, is_running, is_running_on, parent_of, put_of, state_of};
-    ghost use Rattle.proc_table.specs.Calls.{all_woken, boot_table, dispatched, exited, fds_set, forked, lowest_free, readied, reaped, slept, some_child, status_set, wait_answer, zombie_child};
+    ghost use Rattle.proc_table.specs.Slots.{IsAlone, at, is_asleep_on, is_child_of, is_runnable, is_running, is_running_on, parent_of, put_of, state_of};
+    ghost use Rattle.proc_table.specs.Calls.{CanDispatch, all_woken, boot_table, dispatched, exited, fds_set, forked, lowest_free, readied, reaped, slept, some_child, status_set, wait_answer, zombie_child};
 
     /// The table with init in slot 0 and the top shell, its child, in slot 1, and room for 62 processes more
     /// (`procinit` and `userinit`; that there are two processes from the start is own).
@@ -296,6 +297,20 @@ impl<M: Machine, A: Allocator> Procs<M, A> {
         Some(pid)
     }
 
+    /// The process in slot `pid` becomes Running on the hart, which is told by `true`. Where there is no such hart, where
+    /// it runs something, or where `pid` isn't the number of a Runnable process's slot, nothing changes (own).
+    pub fn dispatch_pid(&mut self, hart: u8, pid: usize) -> bool
+        ensures can { IsTrue result ↔ CanDispatch self.old hart pid }
+        ensures after { OnTrue result (self.new ≡ dispatched self.old pid hart) }
+        ensures same { OnFalse result (self.new ≡ self.old) }
+    {
+        if hart >= HARTS || !self.is_idle(hart) || !self.has_runnable(pid) {
+            return false;
+        }
+        self.set_status(Pid::at(pid), Status::Running(hart));
+        true
+    }
+
     /// The process that runs on the hart, if any: the lowest one (`myproc`).
     pub fn running_on(&self, hart: u8) -> Option<Pid>
         ensures { result ≡ position (is_running_on hart) self.now }
@@ -311,12 +326,35 @@ impl<M: Machine, A: Allocator> Procs<M, A> {
         self.slots.iter().filter(|slot| is_running(slot)).count()
     }
 
+    /// How many processes are Runnable (own).
+    pub fn runnable(&self) -> usize
+        ensures count { result ≡ count_by is_runnable self.now }
+        ensures within { result ≤ PROCS }
+    {
+        self.slots.iter().filter(|slot| is_runnable(slot)).count()
+    }
+
+    /// Whether every slot but init's is free (own).
+    pub fn is_alone(&self) -> bool
+        ensures { IsTrue result ↔ IsAlone self.now }
+    {
+        are_free(&self.slots[1..])
+    }
+
     // The number of the lowest free slot.
     fn free_index(&self) -> Option<usize>
         ensures value { result ≡ lowest_free self.now }
         ensures within { IfSome result (λ index. index < PROCS) }
     {
         self.slots.iter().position(|slot| slot.is_none())
+    }
+
+    // Whether the process in the slot of this number is Runnable; there is none past the last slot.
+    fn has_runnable(&self, index: usize) -> bool
+        ensures value { result ≡ is_runnable (at self.now index) }
+        ensures within { IsTrue result → index < PROCS }
+    {
+        index < PROCS && is_runnable(&self.slots[index])
     }
 
     // The number of the slot that runs on the hart.

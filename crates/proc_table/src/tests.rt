@@ -235,6 +235,52 @@ fn dispatch_tells_that_none_is_runnable(rt: HostRuntime) -> Result<(), Fail> {
 }
 
 #[test]
+fn dispatch_pid_takes_runnable_processes_alone(rt: HostRuntime) -> Result<(), Fail> {
+    let mut procs = Procs::new(rt.alloc(), machine(0), machine(0))?;
+    assert_eq!(rt; fork(&mut procs, 1)?, 2);
+    assert_eq!(rt; (procs.runnable(), procs.running()), (3, 0));
+    assert!(rt; !procs.dispatch_pid(8, 1), "there are harts 0 to 7");
+    assert!(rt; !procs.dispatch_pid(0, 64), "there are slots 0 to 63");
+    assert!(rt;
+        !procs.dispatch_pid(0, usize::MAX),
+        "there are slots 0 to 63"
+    );
+    assert!(rt; !procs.dispatch_pid(0, 3), "slot 3 is free");
+    assert_eq!(rt; (procs.runnable(), procs.running()), (3, 0));
+
+    assert!(rt; procs.dispatch_pid(7, 2));
+    assert_eq!(rt; state(&procs, 2)?, State::Running(7));
+    assert!(rt; !procs.dispatch_pid(7, 1), "hart 7 runs process 2");
+    assert!(rt; !procs.dispatch_pid(0, 2), "process 2 runs");
+    assert!(rt; procs.dispatch_pid(0, 1));
+    assert_eq!(rt; (procs.runnable(), procs.running()), (1, 2));
+
+    sleep(&mut procs, 2, Channel::Children(pid(2)?), 0)?;
+    assert!(rt; !procs.dispatch_pid(7, 2), "process 2 sleeps");
+    exit(&mut procs, 1)?;
+    assert!(rt; !procs.dispatch_pid(7, 1), "process 1 has exited");
+    assert!(rt; procs.dispatch_pid(7, 0));
+    assert_eq!(rt; (procs.runnable(), procs.running()), (0, 1));
+    Ok(())
+}
+
+#[test]
+fn init_is_alone_when_all_others_are_gone(rt: HostRuntime) -> Result<(), Fail> {
+    let mut procs = Procs::new(rt.alloc(), machine(0), machine(0))?;
+    assert_eq!(rt; fork(&mut procs, 1)?, 2);
+    assert_eq!(rt; run_all(&mut procs), 3);
+    assert!(rt; !procs.is_alone());
+    exit(&mut procs, 1)?;
+    assert_eq!(rt; wait(&mut procs, 0)?, Waited::Reaped(Pid::shell()));
+    assert!(rt; !procs.is_alone(), "process 2 runs");
+    exit(&mut procs, 2)?;
+    assert!(rt; !procs.is_alone(), "process 2 is a zombie");
+    assert_eq!(rt; wait(&mut procs, 0)?, Waited::Reaped(pid(2)?));
+    assert!(rt; procs.is_alone());
+    Ok(())
+}
+
+#[test]
 fn exit_gives_the_children_to_init(rt: HostRuntime) -> Result<(), Fail> {
     let mut procs = Procs::new(rt.alloc(), machine(0), machine(0))?;
     for (parent, child) in [(1, 2), (1, 3), (2, 4), (2, 5), (4, 6)] {
@@ -260,7 +306,9 @@ fn exit_gives_the_children_to_init(rt: HostRuntime) -> Result<(), Fail> {
     );
 
     // One child of it is a zombie, and its parent sleeps.
+    assert_eq!(rt; procs.runnable(), 0);
     exit(&mut procs, 2)?;
+    assert_eq!(rt; procs.runnable(), 2);
     assert_eq!(rt; state(&procs, 2)?, State::Zombie);
     assert_eq!(rt;
         (parent_and_put(&procs, 2)?.0, parent_and_put(&procs, 3)?.0),

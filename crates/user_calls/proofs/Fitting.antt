@@ -1,7 +1,7 @@
 -- As many bytes as there is room for are the first ones of all that could be held.
-use Rattle.std.proofs.Common.{◌≡◌, ◌∙◌, ℕ, ◌+◌, ◌≤◌, List, ◌++◌, length, take, min, true, ap, sym, arith, Result, IsOk, OnOk}
+use Rattle.std.proofs.Common.{◌≡◌, ◌∙◌, ℕ, ◌+◌, ◌≤◌, List, ◌++◌, length, take, min, ap, sym, arith, Result, IsOk, OnOk}
 use Rattle.std.specs.Prelude.{Ok, Err}
-use Rattle.std.proofs.lemmas.List.{take_all, take_min, length-take}
+use Rattle.std.proofs.lemmas.List.{take_min, length-take}
 use Rattle.std.proofs.Math.Seq.{take-append-add}
 
 -- what holds on success holds where there was success

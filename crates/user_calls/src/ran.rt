@@ -69,4 +69,12 @@ impl<M: Machine> Ran<M> {
     {
         self.after
     }
+
+    /// The call that it made, and the machine after the run.
+    pub fn into_parts(self) -> (Call, M)
+        ensures call { result.0 ≡ M.call_of self.before self.reply }
+        ensures after { M.view result.1 ≡ M.next_of self.before self.reply }
+    {
+        (self.call, self.after)
+    }
 }

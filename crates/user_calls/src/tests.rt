@@ -54,6 +54,10 @@ fn a_run_keeps_what_belongs_together(rt: HostRuntime) {
 
     let last = Ran::make(Countdown { left: 0 }, Reply::Done);
     assert!(rt; matches!(last.call(), Call::Exit));
+
+    let (call, after) = Ran::make(Countdown { left: 9 }, Reply::Done).into_parts();
+    assert!(rt; matches!(call, Call::Write(1, block) if block.as_slice() == [9u8].as_slice()));
+    assert_eq!(rt; after.left, 8);
 }
 
 #[test]

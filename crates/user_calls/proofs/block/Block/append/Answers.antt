@@ -1,5 +1,5 @@
 -- What was appended is as much as there was room for.
-use Rattle.std.proofs.Common.{◌∙◌, ◌++◌, ap, length, take}
+use Rattle.std.proofs.Common.{◌∙◌, length}
 use Rattle.user_calls.specs.declared.block.TheConstants.{BLOCK_SIZE}
 use Rattle.user_calls.proofs.Fitting.{on_success, fitting, fits}
 use Rattle.user_calls.proofs.block.Block.append.Goals as goal
