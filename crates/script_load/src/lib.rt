@@ -6,9 +6,11 @@ mod fault;
 pub mod laws;
 mod line;
 mod loading;
+mod profile;
 mod script;
 
 pub use fault::{LineTooLarge, LoadFault};
 pub use line::{Line, Lines};
-pub use loading::load;
+pub use loading::{load, load_with};
+pub use profile::Profile;
 pub use script::Script;

@@ -5,6 +5,7 @@ ghost use Rattle.script_load.specs.Script.{AllFine, HasLoadFault, IsLineOf, IsSc
 use crate::cutting::next_line;
 use crate::fault::LoadFault;
 use crate::line::{Line, Lines};
+use crate::profile::Profile;
 use crate::script::Script;
 use sh_lexer::Bytes;
 use sh_tree::{ParseFault, parse};
@@ -54,9 +55,14 @@ fn read_line<A: Allocator + Copy>(alloc: A, text: &[u8]) -> Result<Line<A>, Allo
 }
 
 // The lines of a script whose lines are fine.
-fn read_script<A: Allocator + Copy>(alloc: A, bytes: &[u8]) -> Result<Script<A>, AllocError>
+fn read_script<A: Allocator + Copy>(
+    alloc: A,
+    bytes: &[u8],
+    profile: Profile,
+) -> Result<Script<A>, AllocError>
     requires { AllFine bytes.now }
-    ensures { IfOk result (λ script. IsScript bytes.now (lines_of script.lines)) }
+    ensures script { IfOk result (λ script. IsScript bytes.now (lines_of script.lines)) }
+    ensures profile { IfOk result (λ script. script.profile ≡ profile) }
 {
     let mut lines = Vec::new(alloc);
     let mut rest = bytes;
@@ -66,10 +72,21 @@ fn read_script<A: Allocator + Copy>(alloc: A, bytes: &[u8]) -> Result<Script<A>,
     }
     Ok(Script {
         lines: Lines::from_vec(lines),
+        profile,
     })
 }
 
-/// The script of these bytes (`user/sh.c`'s `getcmd` and `main`; the limits are own).
+/// The script of these bytes under xv6's profile, in which `>>` writes over a file from its beginning:
+/// [`load_with`] at `Profile::Xv6`.
+pub fn load<A: Allocator + Copy>(alloc: A, bytes: &[u8]) -> Result<Script<A>, LoadFault>
+    ensures script { IfOk result (λ script. IsScript bytes.now (lines_of script.lines)) }
+    ensures profile { IfOk result (λ script. script.profile ≡ Profile.Xv6) }
+    ensures fault { IfErr result (HasLoadFault bytes.now) }
+{
+    load_with(alloc, bytes, Profile::Xv6)
+}
+
+/// The script of these bytes under a profile (`user/sh.c`'s `getcmd` and `main`; the limits are own).
 ///
 /// A line ends at LF; a last line without LF counts if it has a byte. A line that begins with `cd `
 /// is kept as such, a line that is no command with its fault, and any other as its tree: a line
@@ -78,12 +95,17 @@ fn read_script<A: Allocator + Copy>(alloc: A, bytes: &[u8]) -> Result<Script<A>,
 /// The lowest line that has more than 511 bytes before its LF, or holds a byte 0, is told, counted
 /// from 1; one with both is too long. These faults are looked for before anything is allocated.
 /// `Memory` comes only where no line has one.
-pub fn load<A: Allocator + Copy>(alloc: A, bytes: &[u8]) -> Result<Script<A>, LoadFault>
+pub fn load_with<A: Allocator + Copy>(
+    alloc: A,
+    bytes: &[u8],
+    profile: Profile,
+) -> Result<Script<A>, LoadFault>
     ensures script { IfOk result (λ script. IsScript bytes.now (lines_of script.lines)) }
+    ensures profile { IfOk result (λ script. script.profile ≡ profile) }
     ensures fault { IfErr result (HasLoadFault bytes.now) }
 {
     check(bytes)?;
-    Ok(read_script(alloc, bytes)?)
+    Ok(read_script(alloc, bytes, profile)?)
 }
 
 #[cfg(test)]

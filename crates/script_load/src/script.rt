@@ -4,17 +4,19 @@ ghost use Rattle.script_load.specs.Line.{line_of, lines_of};
 
 use crate::fault::LineTooLarge;
 use crate::line::{Line, Lines};
+use crate::profile::Profile;
 use sh_tree::{has_few_words, is_short};
 use std::alloc::Allocator;
 
 /// The most bytes of a line's text (own).
 const MAX_TEXT: usize = 511;
 
-/// The lines of a script. Every word, redirection name and text in them has at most 511 bytes, and no
-/// command has more than nine words.
+/// The lines of a script, and what `>>` means to it. Every word, redirection name and text in the lines
+/// has at most 511 bytes, and no command has more than nine words.
 #[derive(Drop)]
 pub struct Script<A: Allocator> {
     pub lines: Lines<A>,
+    pub profile: Profile,
     ghost small: { are_small (lines_of lines) ≡ true },
 }
 
@@ -42,16 +44,17 @@ fn first_large<A: Allocator>(lines: &[Line<A>]) -> Option<usize>
 }
 
 impl<A: Allocator> Script<A> {
-    /// The script of lines that were made by hand (own). It is refused, and the lines dropped, where a
+    /// The script of lines that were made by hand, under this profile (own). It is refused, and the lines dropped, where a
     /// word, a redirection's name or a text has more than 511 bytes, or a command more than nine words:
     /// the first such line is told, counted from 1.
-    pub fn from_lines(lines: Lines<A>) -> Result<Script<A>, LineTooLarge>
+    pub fn from_lines(lines: Lines<A>, profile: Profile) -> Result<Script<A>, LineTooLarge>
         ensures script { IfOk result (λ script. lines_of script.lines ≡ lines_of lines) }
+        ensures profile { IfOk result (λ script. script.profile ≡ profile) }
         ensures fault { IfErr result (λ fault. IsFirstLarge (lines_of lines) fault.line) }
     {
         match first_large(lines.as_slice()) {
             Some(line) => Err(LineTooLarge { line }),
-            None => Ok(Script { lines }),
+            None => Ok(Script { lines, profile }),
         }
     }
 }
@@ -81,10 +84,11 @@ mod tests {
             let mut lines = Vec::new(rt.alloc());
             lines.push(command(rt.alloc(), 1, 1)?)?;
             lines.push(command(rt.alloc(), words, bytes)?)?;
-            match Script::from_lines(Lines::from_vec(lines)) {
+            match Script::from_lines(Lines::from_vec(lines), Profile::Append) {
                 Ok(script) => {
                     assert!(rt; is_taken);
                     assert_eq!(rt; script.lines.as_slice().len(), 2);
+                    assert_eq!(rt; script.profile, Profile::Append);
                 }
                 Err(fault) => {
                     assert!(rt; !is_taken);

@@ -10,6 +10,10 @@ pub or_right : (a b : Bool) → b ≡ true → (a || b) ≡ true
 or_right true b e = refl
 or_right false b e = e
 
+pub not_left : (a b : Bool) → (a || b) ≡ false → a ≡ false
+not_left true b e = cc
+not_left false b e = refl
+
 pub not_right : (a b : Bool) → (a || b) ≡ false → b ≡ false
 not_right true b e = cc
 not_right false b e = e

@@ -1,3 +1,4 @@
 pub mod Bools
 pub mod Fixed
 pub mod NothingMet
+pub mod OneMeaning

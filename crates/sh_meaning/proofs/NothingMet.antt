@@ -9,6 +9,7 @@ use Rattle.mem_files.specs.Name.{Name, Bytes, is_openable}
 use Rattle.mem_files.specs.Files.{FileMap}
 use Rattle.prog_parts.specs.NameSets.{Names, both}
 use Rattle.conflict_check.specs.Names.{names, writes, uses_input}
+use Rattle.script_load.specs.declared.profile.Profile.{Profile}
 use Rattle.sh_meaning.specs.Inputs.{found}
 use Rattle.sh_meaning.specs.Meaning.{input_value, output_value, opened, written_value, meaning}
 use Rattle.sh_meaning.specs.Settled.{AreNoneOf, with_name, IsSettled}
@@ -53,26 +54,26 @@ of_input : (outside : Names) (file : Name) (bytes : Option Bytes) (input : Bytes
 of_input outside file None input F body IsGood each good = of_nothing outside input F
 of_input outside file (Some bytes) input F body IsGood each good = of_body outside file (body bytes) _ refl refl (each bytes good)
 
-of_output : (outside : Names) (mode : Mode) (file : Name) (input : Bytes) (F : FileMap) (v : Value) → (is_openable file ≡ true → MeetsNothing (with_name file outside) v) → MeetsNothing outside (output_value (is_openable file) input F (written_value mode file F v))
-of_output outside mode file input F v body = go (is_openable file) body
+of_output : (profile : Profile) (outside : Names) (mode : Mode) (file : Name) (input : Bytes) (F : FileMap) (v : Value) → (is_openable file ≡ true → MeetsNothing (with_name file outside) v) → MeetsNothing outside (output_value (is_openable file) input F (written_value profile mode file F v))
+of_output profile outside mode file input F v body = go (is_openable file) body
   where
-    go : (opens : Bool) → (opens ≡ true → MeetsNothing (with_name file outside) v) → MeetsNothing outside (output_value opens input F (written_value mode file F v))
+    go : (opens : Bool) → (opens ≡ true → MeetsNothing (with_name file outside) v) → MeetsNothing outside (output_value opens input F (written_value profile mode file F v))
     go false body = of_nothing outside input F
     go true body = of_body outside file v _ refl refl (body refl)
 
-pub meets_nothing : (tree : Tree) (outside : Names) (input : Bytes) (F : FileMap) → IsSettled tree outside input F → MeetsNothing outside (meaning tree input F)
-meets_nothing (exec words) outside input F settled = let f = fixed_words words input F in record { met = f.met; soft = λ n e. f.soft n }
-meets_nothing (back body) outside input F settled = meets_nothing body outside input F settled
-meets_nothing (redir Input file body) outside input F settled =
-    of_input outside file (found F file) input F (λ bytes. meaning body bytes F) (λ bytes. IsSettled body (with_name file outside) bytes F)
-    (λ bytes good. meets_nothing body (with_name file outside) bytes F good) settled
-meets_nothing (redir Fresh file body) outside input F settled = of_output outside Fresh file input F _ (λ opens. meets_nothing body (with_name file outside) input (opened Fresh file F) (settled opens))
-meets_nothing (redir Over file body) outside input F settled = of_output outside Over file input F _ (λ opens. meets_nothing body (with_name file outside) input (opened Over file F) (settled opens))
-meets_nothing (list left right) outside input F settled =
-    let v = meaning left input F in
-    of_seq outside (names left) (names right) (uses_input right) v (meaning right v.rest v.files)
-    (meets_nothing left (both (names right) outside) input F settled.0) (meets_nothing right (both (names left) outside) v.rest v.files settled.1) settled.2
-meets_nothing (pipe left right) outside input F settled =
-    let v = meaning left input F in
-    of_pipe outside (names left) (names right) (writes left) (uses_input left) v (meaning right v.out v.files)
-    (meets_nothing left (both (names right) outside) input F settled.0) (meets_nothing right (both (names left) outside) v.out v.files settled.1) settled.2
+pub meets_nothing : (profile : Profile) (tree : Tree) (outside : Names) (input : Bytes) (F : FileMap) → IsSettled profile tree outside input F → MeetsNothing outside (meaning profile tree input F)
+meets_nothing profile (exec words) outside input F settled = let f = fixed_words words input F in record { met = f.met; soft = λ n e. f.soft n }
+meets_nothing profile (back body) outside input F settled = meets_nothing profile body outside input F settled
+meets_nothing profile (redir Input file body) outside input F settled =
+    of_input outside file (found F file) input F (λ bytes. meaning profile body bytes F) (λ bytes. IsSettled profile body (with_name file outside) bytes F)
+    (λ bytes good. meets_nothing profile body (with_name file outside) bytes F good) settled
+meets_nothing profile (redir Fresh file body) outside input F settled = of_output profile outside Fresh file input F _ (λ opens. meets_nothing profile body (with_name file outside) input (opened Fresh file F) (settled opens))
+meets_nothing profile (redir Over file body) outside input F settled = of_output profile outside Over file input F _ (λ opens. meets_nothing profile body (with_name file outside) input (opened Over file F) (settled opens))
+meets_nothing profile (list left right) outside input F settled =
+    let v = meaning profile left input F in
+    of_seq outside (names left) (names right) (uses_input right) v (meaning profile right v.rest v.files)
+    (meets_nothing profile left (both (names right) outside) input F settled.0) (meets_nothing profile right (both (names left) outside) v.rest v.files settled.1) settled.2
+meets_nothing profile (pipe left right) outside input F settled =
+    let v = meaning profile left input F in
+    of_pipe outside (names left) (names right) (writes left) (uses_input left) v (meaning profile right v.out v.files)
+    (meets_nothing profile left (both (names right) outside) input F settled.0) (meets_nothing profile right (both (names left) outside) v.out v.files settled.1) settled.2

@@ -9,6 +9,7 @@ use Rattle.mem_files.specs.Listing.{max_files, max_size}
 use Rattle.prog_parts.specs.declared.program.Program.{Program}
 use Rattle.prog_parts.specs.declared.program.Program.TheVariants.{Cat, Echo, Grep, Head, Tee, Wc}
 use Rattle.prog_parts.specs.Program.{program_of}
+use Rattle.script_load.specs.declared.profile.Profile.{Profile}
 use Rattle.sh_meaning.specs.Inputs.{found}
 use Rattle.sh_meaning.specs.Tee.{tee_bytes}
 use Rattle.sh_meaning.specs.Meaning.{opened, at_end, meaning}
@@ -55,18 +56,18 @@ abbrev pub WordsOutgrow : List Bytes → Bytes → FileMap → Type 0
 WordsOutgrow [] input F = ⊥
 WordsOutgrow (word ∷ arguments) input F = ProgramOutgrows (program_of word) arguments input F
 
-abbrev pub RedirOutgrows : Mode → Name → FileMap → Value → (Bytes → Type 0) → Type 0 → Type 0
-RedirOutgrows Input name F value read wrote = OnFound (found F name) read
-RedirOutgrows Fresh name F value read wrote = OnOpened (is_openable name) (HasNoRoom F name) wrote (max_size < length (at_end Fresh (bytes_of (F name)) value.out))
-RedirOutgrows Over name F value read wrote = OnOpened (is_openable name) (HasNoRoom F name) wrote (max_size < length (at_end Over (bytes_of (F name)) value.out))
+abbrev pub RedirOutgrows : Profile → Mode → Name → FileMap → Value → (Bytes → Type 0) → Type 0 → Type 0
+RedirOutgrows profile Input name F value read wrote = OnFound (found F name) read
+RedirOutgrows profile Fresh name F value read wrote = OnOpened (is_openable name) (HasNoRoom F name) wrote (max_size < length (at_end profile Fresh (bytes_of (F name)) value.out))
+RedirOutgrows profile Over name F value read wrote = OnOpened (is_openable name) (HasNoRoom F name) wrote (max_size < length (at_end profile Over (bytes_of (F name)) value.out))
 
 -- on the way of its meaning, the command would make one file too many, or one that is too large
-abbrev pub Outgrows : Tree → Bytes → FileMap → Type 0
-Outgrows (exec words) input F = WordsOutgrow words input F
-Outgrows (redir mode name body) input F =
-    RedirOutgrows mode name F (meaning body input (opened mode name F)) (λ bytes. Outgrows body bytes F) (Outgrows body input (opened mode name F))
-Outgrows (pipe left right) input F =
-    Outgrows left input F ⊎ Outgrows right (meaning left input F).out (meaning left input F).files
-Outgrows (list left right) input F =
-    Outgrows left input F ⊎ Outgrows right (meaning left input F).rest (meaning left input F).files
-Outgrows (back body) input F = Outgrows body input F
+abbrev pub Outgrows : Profile → Tree → Bytes → FileMap → Type 0
+Outgrows profile (exec words) input F = WordsOutgrow words input F
+Outgrows profile (redir mode name body) input F =
+    RedirOutgrows profile mode name F (meaning profile body input (opened mode name F)) (λ bytes. Outgrows profile body bytes F) (Outgrows profile body input (opened mode name F))
+Outgrows profile (pipe left right) input F =
+    Outgrows profile left input F ⊎ Outgrows profile right (meaning profile left input F).out (meaning profile left input F).files
+Outgrows profile (list left right) input F =
+    Outgrows profile left input F ⊎ Outgrows profile right (meaning profile left input F).rest (meaning profile left input F).files
+Outgrows profile (back body) input F = Outgrows profile body input F

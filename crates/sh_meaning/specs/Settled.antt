@@ -9,6 +9,7 @@ use Rattle.mem_files.specs.Files.{FileMap}
 use Rattle.conflict_check.specs.Clear.{has_back, IsClear}
 use Rattle.prog_parts.specs.NameSets.{Names, no_names, both}
 use Rattle.conflict_check.specs.Names.{names, writes, uses_input}
+use Rattle.script_load.specs.declared.profile.Profile.{Profile}
 use Rattle.sh_meaning.specs.Inputs.{found}
 use Rattle.script_load.specs.Line.{ScriptLine}
 use Rattle.sh_meaning.specs.Meaning.{meaning, opened, script_tree}
@@ -30,26 +31,26 @@ IfRun Over name F read wrote = is_openable name ≡ true → wrote
 
 -- a settled tree of a script that has these names outside it: at each pipe that is cut, what the left
 -- side writes is named nowhere else, and after a command that is loose none uses the input
-abbrev pub IsSettled : Tree → Names → Bytes → FileMap → Type 0
-IsSettled (exec words) outside input F = Unit {0}
-IsSettled (redir mode name body) outside input F =
+abbrev pub IsSettled : Profile → Tree → Names → Bytes → FileMap → Type 0
+IsSettled profile (exec words) outside input F = Unit {0}
+IsSettled profile (redir mode name body) outside input F =
     IfRun mode name F
-    (λ bytes. IsSettled body (with_name name outside) bytes F)
-    (IsSettled body (with_name name outside) input (opened mode name F))
-IsSettled (pipe left right) outside input F =
-    IsSettled left (both (names right) outside) input F ×
-    IsSettled right (both (names left) outside) (meaning left input F).out (meaning left input F).files ×
-    (is_cut (meaning right (meaning left input F).out (meaning left input F).files) ≡ true → AreNoneOf (writes left) (both (names right) outside))
-IsSettled (list left right) outside input F =
-    IsSettled left (both (names right) outside) input F ×
-    IsSettled right (both (names left) outside) (meaning left input F).rest (meaning left input F).files ×
-    ((meaning left input F).loose ≡ true → uses_input right ≡ false)
-IsSettled (back body) outside input F = IsSettled body outside input F
+    (λ bytes. IsSettled profile body (with_name name outside) bytes F)
+    (IsSettled profile body (with_name name outside) input (opened mode name F))
+IsSettled profile (pipe left right) outside input F =
+    IsSettled profile left (both (names right) outside) input F ×
+    IsSettled profile right (both (names left) outside) (meaning profile left input F).out (meaning profile left input F).files ×
+    (is_cut (meaning profile right (meaning profile left input F).out (meaning profile left input F).files) ≡ true → AreNoneOf (writes left) (both (names right) outside))
+IsSettled profile (list left right) outside input F =
+    IsSettled profile left (both (names right) outside) input F ×
+    IsSettled profile right (both (names left) outside) (meaning profile left input F).rest (meaning profile left input F).files ×
+    ((meaning profile left input F).loose ≡ true → uses_input right ≡ false)
+IsSettled profile (back body) outside input F = IsSettled profile body outside input F
 
 -- a settled script: no command of it runs behind &, its commands can't come upon each other at a file,
 -- and all of it is settled, with nothing outside
-abbrev pub IsSettledScript : List ScriptLine → Bytes → FileMap → Type 0
-IsSettledScript lines input F =
+abbrev pub IsSettledScript : Profile → List ScriptLine → Bytes → FileMap → Type 0
+IsSettledScript profile lines input F =
     (has_back (script_tree lines) ≡ false) ×
     IsClear (script_tree lines) ×
-    IsSettled (script_tree lines) no_names input F
+    IsSettled profile (script_tree lines) no_names input F

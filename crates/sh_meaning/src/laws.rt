@@ -4,8 +4,11 @@ ghost use Rattle.mem_files.specs.Files.{FileMap};
 ghost use Rattle.mem_files.specs.Name.{Bytes, Name};
 ghost use Rattle.prog_parts.specs.NameSets.{Names};
 ghost use Rattle.sh_tree.specs.Tree.{Tree};
+ghost use Rattle.script_load.specs.declared.profile.Profile.{Profile};
+ghost use Rattle.script_load.specs.declared.profile.Profile.TheVariants.{Xv6, Append};
 ghost use Rattle.script_load.specs.Line.{ScriptLine};
-ghost use Rattle.sh_meaning.specs.Meaning.{meaning, script_meaning};
+ghost use Rattle.sh_meaning.specs.Meaning.{meaning, script_meaning, script_tree};
+ghost use Rattle.sh_meaning.specs.Over.{has_over};
 ghost use Rattle.sh_meaning.specs.Programs.{words_value};
 ghost use Rattle.sh_meaning.specs.Settled.{IsSettled, IsSettledScript};
 
@@ -19,11 +22,17 @@ pub fn a_simple_command_is_fixed()
 
 /// In a settled tree no command meets a soft file or a loose input, and no name outside it is soft.
 pub fn a_settled_tree_meets_nothing()
-    ensures met { (tree : Tree) (outside : Names) (input : Bytes) (F : FileMap) → IsSettled tree outside input F → (name : Name) → (meaning tree input F).met name ≡ false }
-    ensures soft { (tree : Tree) (outside : Names) (input : Bytes) (F : FileMap) → IsSettled tree outside input F → (name : Name) → outside name ≡ true → (meaning tree input F).soft name ≡ false }
+    ensures met { (profile : Profile) (tree : Tree) (outside : Names) (input : Bytes) (F : FileMap) → IsSettled profile tree outside input F → (name : Name) → (meaning profile tree input F).met name ≡ false }
+    ensures soft { (profile : Profile) (tree : Tree) (outside : Names) (input : Bytes) (F : FileMap) → IsSettled profile tree outside input F → (name : Name) → outside name ≡ true → (meaning profile tree input F).soft name ≡ false }
 {}
 
 /// In a settled script no command meets a soft file or a loose input.
 pub fn a_settled_script_meets_nothing()
-    ensures { (lines : List ScriptLine) (input : Bytes) (F : FileMap) → IsSettledScript lines input F → (name : Name) → (script_meaning lines input F).met name ≡ false }
+    ensures { (profile : Profile) (lines : List ScriptLine) (input : Bytes) (F : FileMap) → IsSettledScript profile lines input F → (name : Name) → (script_meaning profile lines input F).met name ≡ false }
+{}
+
+/// A script without `>>` has one meaning under both profiles.
+pub fn without_over_one_meaning()
+    ensures tree { (tree : Tree) (input : Bytes) (F : FileMap) → has_over tree ≡ false → meaning Xv6 tree input F ≡ meaning Append tree input F }
+    ensures script { (lines : List ScriptLine) (input : Bytes) (F : FileMap) → has_over (script_tree lines) ≡ false → script_meaning Xv6 lines input F ≡ script_meaning Append lines input F }
 {}

@@ -23,6 +23,6 @@ invariant_of-result g c =
     let script = read_all c.args.bytes.now c.loop-text.rest.now (map line_of c.loop-text.lines.items) c.loop-text.invariant c.in_default.ensures.none c.requires in
     record { small = rw c.from_vec.ensures (script_small c.args.bytes.now (map line_of c.loop-text.lines.items) script) }
 
-pub returns : goal.returns
-returns g c =
+pub returns-clause-script : goal.returns-clause-script
+returns-clause-script g c =
     rw c.from_vec.ensures (read_all c.args.bytes.now c.loop-text.rest.now (map line_of c.loop-text.lines.items) c.loop-text.invariant c.in_default.ensures.none c.requires)

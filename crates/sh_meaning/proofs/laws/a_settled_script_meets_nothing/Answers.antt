@@ -4,4 +4,4 @@ use Rattle.sh_meaning.proofs.NothingMet.{meets_nothing}
 use Rattle.sh_meaning.proofs.laws.a_settled_script_meets_nothing.Goals as goal
 
 pub returns : goal.returns
-returns c lines input F settled = (meets_nothing (script_tree lines) no_names input F settled.2).met
+returns c profile lines input F settled = (meets_nothing profile (script_tree lines) no_names input F settled.2).met
