@@ -19,6 +19,7 @@ use Rattle.sh_meaning.specs.Programs.{program_value, words_value}
 use Rattle.sh_meaning.specs.Tee.{are_openable, filled}
 use Rattle.sh_meaning.specs.Value.{Value, fixed, nothing}
 use Rattle.prog_parts.specs.Wc.{wc_line}
+use Rattle.script_load.specs.declared.profile.Profile.{Profile}
 
 -- a name with a file keeps one
 abbrev pub Keeps : FileMap → FileMap → Type 0
@@ -72,21 +73,21 @@ output_keeps : (b : Bool) (input : Bytes) (F : FileMap) (done : Value) → Keeps
 output_keeps true input F done each name has = each name has
 output_keeps false input F done each name has = has
 
-pub meaning_keeps : (T : Tree) (input : Bytes) (F : FileMap) → Keeps F (meaning T input F).files
-meaning_keeps (exec words) input F name has = words_keeps words input F name has
-meaning_keeps (redir Input file body) input F name has =
-    input_keeps (found F file) input F (λ bytes. meaning body bytes F) (λ bytes. meaning_keeps body bytes F) name has
-meaning_keeps (redir Fresh file body) input F name has =
+pub meaning_keeps : (profile : Profile) (T : Tree) (input : Bytes) (F : FileMap) → Keeps F (meaning profile T input F).files
+meaning_keeps profile (exec words) input F name has = words_keeps words input F name has
+meaning_keeps profile (redir Input file body) input F name has =
+    input_keeps (found F file) input F (λ bytes. meaning profile body bytes F) (λ bytes. meaning_keeps profile body bytes F) name has
+meaning_keeps profile (redir Fresh file body) input F name has =
     output_keeps (is_openable file) input F _
-    (λ other had. with_file_keeps (meaning body input (opened Fresh file F)).files file _ other (meaning_keeps body input (opened Fresh file F) other (with_file_keeps F file _ other had))) name has
-meaning_keeps (redir Over file body) input F name has =
+    (λ other had. with_file_keeps (meaning profile body input (opened Fresh file F)).files file _ other (meaning_keeps profile body input (opened Fresh file F) other (with_file_keeps F file _ other had))) name has
+meaning_keeps profile (redir Over file body) input F name has =
     output_keeps (is_openable file) input F _
-    (λ other had. with_file_keeps (meaning body input (opened Over file F)).files file _ other (meaning_keeps body input (opened Over file F) other (with_file_keeps F file _ other had))) name has
-meaning_keeps (pipe left right) input F name has =
-    meaning_keeps right (meaning left input F).out (meaning left input F).files name (meaning_keeps left input F name has)
-meaning_keeps (list left right) input F name has =
-    meaning_keeps right (meaning left input F).rest (meaning left input F).files name (meaning_keeps left input F name has)
-meaning_keeps (back body) input F name has = meaning_keeps body input F name has
+    (λ other had. with_file_keeps (meaning profile body input (opened Over file F)).files file _ other (meaning_keeps profile body input (opened Over file F) other (with_file_keeps F file _ other had))) name has
+meaning_keeps profile (pipe left right) input F name has =
+    meaning_keeps profile right (meaning profile left input F).out (meaning profile left input F).files name (meaning_keeps profile left input F name has)
+meaning_keeps profile (list left right) input F name has =
+    meaning_keeps profile right (meaning profile left input F).rest (meaning profile left input F).files name (meaning_keeps profile left input F name has)
+meaning_keeps profile (back body) input F name has = meaning_keeps profile body input F name has
 
 -- a file that was opened for writing is there
 pub opened_is_there : (mode : Mode) (file : Name) (F : FileMap) → mode ≢ Input → opened mode file F file ≢ None

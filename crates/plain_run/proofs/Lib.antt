@@ -5,4 +5,5 @@ pub mod SettledLines
 pub mod Settling
 pub mod Spans
 pub mod Steps
+pub mod TreeSize
 pub mod Verdicts

@@ -11,6 +11,7 @@ use Rattle.prog_parts.specs.NameSets.{Names, no_names, among, both}
 use Rattle.conflict_check.specs.Names.{names, uses_input}
 use Rattle.script_load.specs.declared.line.Line.{Line}
 use Rattle.script_load.specs.Line.{ScriptLine, line_of}
+use Rattle.script_load.specs.declared.profile.Profile.{Profile}
 use Rattle.sh_meaning.specs.Meaning.{meaning, line_tree, script_tree}
 use Rattle.sh_meaning.specs.Settled.{AreNoneOf, IsSettled}
 use Rattle.plain_progs.specs.Gives.{Gives}
@@ -28,50 +29,50 @@ names_push [] line name = refl
 names_push (first ∷ lines) line name = ap (λ b. names (line_tree (line_of first)) name || b) (names_push lines line name) ∙ exchanged (names (line_tree (line_of first)) name) (names (line_tree (line_of line)) name) (all_names lines name)
 
 -- the whole is settled just where the lines so far are and the lines that are left, among those before them, are
-pub record IsSettledTo (whole : List ScriptLine) (input : Bytes) (F : FileMap) (before : Names) (lines : List ScriptLine) (rest : Bytes) (G : FileMap) (is_settled is_loose : Bool) : Type 0 where
-  pub to : IsSettled (script_tree whole) no_names input F → IsTrue is_settled × IsSettled (script_tree lines) before rest G × (is_loose ≡ true → uses_input (script_tree lines) ≡ false)
-  pub from : IsTrue is_settled → IsSettled (script_tree lines) before rest G → (is_loose ≡ true → uses_input (script_tree lines) ≡ false) → IsSettled (script_tree whole) no_names input F
+pub record IsSettledTo (profile : Profile) (whole : List ScriptLine) (input : Bytes) (F : FileMap) (before : Names) (lines : List ScriptLine) (rest : Bytes) (G : FileMap) (is_settled is_loose : Bool) : Type 0 where
+  pub to : IsSettled profile (script_tree whole) no_names input F → IsTrue is_settled × IsSettled profile (script_tree lines) before rest G × (is_loose ≡ true → uses_input (script_tree lines) ≡ false)
+  pub from : IsTrue is_settled → IsSettled profile (script_tree lines) before rest G → (is_loose ≡ true → uses_input (script_tree lines) ≡ false) → IsSettled profile (script_tree whole) no_names input F
 
 not_so : (b : Bool) (P : Type 0) → b ≡ false → b ≡ true → P
 not_so true P first second = absurd (false≢true (sym first))
 not_so false P first second = absurd (false≢true second)
 
-pub settled_none : (lines : List ScriptLine) (input : Bytes) (F : FileMap) (is_settled is_loose : Bool) → is_settled ≡ true → is_loose ≡ false → IsSettledTo lines input F no_names lines input F is_settled is_loose
-settled_none lines input F is_settled is_loose s l = record {
+pub settled_none : (profile : Profile) (lines : List ScriptLine) (input : Bytes) (F : FileMap) (is_settled is_loose : Bool) → is_settled ≡ true → is_loose ≡ false → IsSettledTo profile lines input F no_names lines input F is_settled is_loose
+settled_none profile lines input F is_settled is_loose s l = record {
   to = λ settled. (s, settled, λ is. not_so is_loose (uses_input (script_tree lines) ≡ false) l is);
   from = λ _ settled _. settled;
 }
 
-pub settled_all : (whole : List ScriptLine) (input : Bytes) (F : FileMap) (before : Names) (lines : List ScriptLine) (rest : Bytes) (G : FileMap) (is_settled is_loose : Bool) → lines ≡ [] → IsSettledTo whole input F before lines rest G is_settled is_loose → IsTrue is_settled ↔ IsSettled (script_tree whole) no_names input F
-settled_all whole input F before lines rest G is_settled is_loose none so_far =
-    let end = subst (λ ls. IsSettledTo whole input F before ls rest G is_settled is_loose) none so_far in
+pub settled_all : (profile : Profile) (whole : List ScriptLine) (input : Bytes) (F : FileMap) (before : Names) (lines : List ScriptLine) (rest : Bytes) (G : FileMap) (is_settled is_loose : Bool) → lines ≡ [] → IsSettledTo profile whole input F before lines rest G is_settled is_loose → IsTrue is_settled ↔ IsSettled profile (script_tree whole) no_names input F
+settled_all profile whole input F before lines rest G is_settled is_loose none so_far =
+    let end = subst (λ ls. IsSettledTo profile whole input F before ls rest G is_settled is_loose) none so_far in
     (λ is. end.from is tt (λ _. refl), λ settled. (end.to settled).0)
 
 -- one more line
-pub settled_one : (whole : List ScriptLine) (input : Bytes) (F : FileMap) (before later : Names) (line : ScriptLine) (lines : List ScriptLine) (rest now new left : Bytes) (G H : FileMap) (s own all loose one both' meets : Bool) (words : List Name)
-    → IsSettledTo whole input F before (line ∷ lines) rest G s loose
-    → Gives (meaning (line_tree line) rest G) now new left H → Tells (meaning (line_tree line) rest G) one words
-    → IsTrue own ↔ IsSettled (line_tree line) no_names rest G
+pub settled_one : (profile : Profile) (whole : List ScriptLine) (input : Bytes) (F : FileMap) (before later : Names) (line : ScriptLine) (lines : List ScriptLine) (rest now new left : Bytes) (G H : FileMap) (s own all loose one both' meets : Bool) (words : List Name)
+    → IsSettledTo profile whole input F before (line ∷ lines) rest G s loose
+    → Gives (meaning profile (line_tree line) rest G) now new left H → Tells (meaning profile (line_tree line) rest G) one words
+    → IsTrue own ↔ IsSettled profile (line_tree line) no_names rest G
     → (meets ≡ false → AreNoneOf (among words) (both (names (script_tree lines)) before)) → (AreNoneOf (among words) (both (names (script_tree lines)) before) → meets ≡ false)
     → ((name : Name) → later name ≡ (names (line_tree line) name || before name))
     → all ≡ (s && own && not meets && not (loose && uses_input (line_tree line))) → both' ≡ (loose || one)
-    → IsSettledTo whole input F later lines left H all both'
-settled_one whole input F before later line lines rest now new left G H s own all loose one both' meets words so_far gives told alone apart meet same e l =
+    → IsSettledTo profile whole input F later lines left H all both'
+settled_one profile whole input F before later line lines rest now new left G H s own all loose one both' meets words so_far gives told alone apart meet same e l =
     let T = line_tree line in
     let A = script_tree lines in
-    let V = meaning T rest G in
-    let W = meaning A V.rest V.files in
-    let there : IsSettled A later V.rest V.files → IsSettled A later left H = λ h. subst (λ K. IsSettled A later left K) (sym gives.files) (subst (λ i. IsSettled A later i V.files) (sym gives.rest) h) in
-    let back' : IsSettled A later left H → IsSettled A later V.rest V.files = λ h. subst (λ K. IsSettled A later V.rest K) gives.files (subst (λ i. IsSettled A later i H) gives.rest h) in
+    let V = meaning profile T rest G in
+    let W = meaning profile A V.rest V.files in
+    let there : IsSettled profile A later V.rest V.files → IsSettled profile A later left H = λ h. subst (λ K. IsSettled profile A later left K) (sym gives.files) (subst (λ i. IsSettled profile A later i V.files) (sym gives.rest) h) in
+    let back' : IsSettled profile A later left H → IsSettled profile A later V.rest V.files = λ h. subst (λ K. IsSettled profile A later V.rest K) gives.files (subst (λ i. IsSettled profile A later i H) gives.rest h) in
     record {
       to = λ settled.
           let p = so_far.to settled in
-          let inside = soft_inside T (both (names A) before) rest G p.1.0 in
-          let a = soft_inside A (both (names T) before) V.rest V.files p.1.1 in (
+          let inside = soft_inside profile T (both (names A) before) rest G p.1.0 in
+          let a = soft_inside profile A (both (names T) before) V.rest V.files p.1.1 in (
             e ∙ and_from (s && own && not meets) (not (loose && uses_input T))
-                (and_from (s && own) (not meets) (and_from s own p.0 (alone.1 (settled_alone T (both (names A) before) rest G p.1.0))) (not_false meets (meet (λ name is. inside name (sym (told.soft name) ∙ is)))))
+                (and_from (s && own) (not meets) (and_from s own p.0 (alone.1 (settled_alone profile T (both (names A) before) rest G p.1.0))) (not_false meets (meet (λ name is. inside name (sym (told.soft name) ∙ is)))))
                 (never_both loose (uses_input T) (λ is. (or_parts (uses_input T) (uses_input A) (p.2 is)).0)),
-            there (settled_among A (both (names T) before) later V.rest V.files p.1.1 (λ name is. same name ∙ a name is)),
+            there (settled_among profile A (both (names T) before) later V.rest V.files p.1.1 (λ name is. same name ∙ a name is)),
             λ is. either loose one (sym l ∙ is) (λ was. (or_parts (uses_input T) (uses_input A) (p.2 was)).1) (λ its. p.1.2 (sym told.loose ∙ its)),
           );
       from = λ is settled uses.
@@ -81,10 +82,10 @@ settled_one whole input F before later line lines rest now new left G H s own al
           let r = and_parts s own q.0 in
           let none = apart (not_true meets q.1) in
           let inner = back' settled in
-          let a = soft_inside A later V.rest V.files inner in
+          let a = soft_inside profile A later V.rest V.files inner in
           so_far.from r.0 (
-            settled_among T no_names (both (names A) before) rest G (alone.0 r.1) (λ name soft. none name (told.soft name ∙ soft)),
-            settled_among A later (both (names T) before) V.rest V.files inner (λ name soft. sym (same name) ∙ a name soft),
+            settled_among profile T no_names (both (names A) before) rest G (alone.0 r.1) (λ name soft. none name (told.soft name ∙ soft)),
+            settled_among profile A later (both (names T) before) V.rest V.files inner (λ name soft. sym (same name) ∙ a name soft),
             λ its. uses (l ∙ or_right loose one (told.loose ∙ its)),
           )
           (λ was. or_from (uses_input T) (uses_input A) (not_both loose (uses_input T) p.1 was) (uses (l ∙ or_left loose one was)));

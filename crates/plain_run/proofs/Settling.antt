@@ -10,53 +10,19 @@ use Rattle.sh_tree.specs.declared.tree.Mode.TheVariants.{Input, Fresh, Over}
 use Rattle.sh_tree.specs.Tree.{Tree, exec, redir, pipe, list, back}
 use Rattle.mem_files.specs.Name.{Name, Bytes, is_openable}
 use Rattle.mem_files.specs.Files.{FileMap}
-use Rattle.prog_parts.specs.declared.program.Program.{Program}
-use Rattle.prog_parts.specs.declared.program.Program.TheVariants.{Cat, Echo, Grep, Head, Tee, Wc}
-use Rattle.prog_parts.specs.Program.{program_of, is_empty}
-use Rattle.prog_parts.specs.Head.{head_files, has_wrong_option}
+use Rattle.prog_parts.specs.Program.{is_empty}
 use Rattle.prog_parts.specs.NameSets.{Names, no_names, among, both}
 use Rattle.conflict_check.specs.Names.{names, writes, uses_input}
 use Rattle.conflict_check.proofs.Sharing.{none_pass}
-use Rattle.prog_parts.specs.Grep.{grep_out, grep_left}
-use Rattle.prog_parts.specs.Head.{first_lines, after_lines, line_count}
-use Rattle.sh_meaning.specs.Inputs.{found, filter_value}
+use Rattle.script_load.specs.declared.profile.Profile.{Profile}
+use Rattle.sh_meaning.specs.Inputs.{found}
 use Rattle.sh_meaning.specs.Meaning.{meaning, opened, input_value, output_value, written_value}
-use Rattle.sh_meaning.specs.Programs.{program_value, words_value}
 use Rattle.sh_meaning.specs.Settled.{AreNoneOf, with_name, IsSettled}
-use Rattle.sh_meaning.specs.Tee.{are_openable}
 use Rattle.sh_meaning.specs.Value.{Value, is_cut}
-use Rattle.prog_parts.specs.Wc.{wc_line}
+use Rattle.sh_meaning.proofs.Fixed.{fixed_words}
 use Rattle.plain_progs.specs.Gives.{Gives}
 use Rattle.plain_run.specs.Tells.{Tells, are_apart, with_lost}
 use Rattle.plain_run.proofs.Verdicts.{among_lost}
-
--- nothing of the value depends on an order
-pub record IsFirm (value : Value) : Type 0 where
-  pub loose : value.loose ≡ false
-  pub soft : (name : Name) → value.soft name ≡ false
-
-filter_firm : (write : Name → Bytes → Bytes) (left : Bytes → Bytes) (names : List Name) (input : Bytes) (F : FileMap) → IsFirm (filter_value write left names input F)
-filter_firm write left [] input F = record { loose = refl; soft = λ name. refl }
-filter_firm write left (n ∷ ns) input F = record { loose = refl; soft = λ name. refl }
-
-choice_firm : (b : Bool) (one other : Value) → IsFirm one → IsFirm other → IsFirm (cond b one other)
-choice_firm true one other first second = first
-choice_firm false one other first second = second
-
-program_firm : (p : Option Program) (arguments : List Bytes) (input : Bytes) (F : FileMap) → IsFirm (program_value p arguments input F)
-program_firm None arguments input F = record { loose = refl; soft = λ name. refl }
-program_firm (Some Cat) arguments input F = filter_firm (λ name bytes. bytes) (λ bytes. []) arguments input F
-program_firm (Some Echo) arguments input F = record { loose = refl; soft = λ name. refl }
-program_firm (Some Grep) [] input F = record { loose = refl; soft = λ name. refl }
-program_firm (Some Grep) (pattern ∷ names) input F = filter_firm (λ name. grep_out pattern) grep_left names input F
-program_firm (Some Head) arguments input F = choice_firm (has_wrong_option arguments) _ _ (record { loose = refl; soft = λ name. refl }) (filter_firm (λ name. first_lines (line_count arguments)) (after_lines (line_count arguments)) (head_files arguments) input F)
-program_firm (Some Tee) arguments input F = choice_firm (are_openable arguments) _ _ (record { loose = refl; soft = λ name. refl }) (record { loose = refl; soft = λ name. refl })
-program_firm (Some Wc) arguments input F = filter_firm wc_line (λ bytes. []) arguments input F
-
--- a simple command is firm
-pub words_firm : (words : List Bytes) (input : Bytes) (F : FileMap) → IsFirm (words_value words input F)
-words_firm [] input F = record { loose = refl; soft = λ name. refl }
-words_firm (word ∷ arguments) input F = program_firm (program_of word) arguments input F
 
 pub either : {P : Type 0} (a b : Bool) → (a || b) ≡ true → (a ≡ true → P) → (b ≡ true → P) → P
 either true b e first second = first refl
@@ -74,28 +40,28 @@ output_none true input F done O each name is = each refl name is
 output_none false input F done O each name is = absurd (false≢true is)
 
 -- no soft name of a settled command is outside
-pub soft_inside : (T : Tree) (O : Names) (input : Bytes) (F : FileMap) → IsSettled T O input F → AreNoneOf (meaning T input F).soft O
-soft_inside (exec words) O input F settled name is = absurd (false≢true (sym ((words_firm words input F).soft name) ∙ is))
-soft_inside (redir Input file body) O input F settled name is =
-    input_none (found F file) input F (λ bytes. meaning body bytes F) (λ bytes. IsSettled body (with_name file O) bytes F) O settled
-    (λ bytes inner other soft. (or_parts (bytes_eq other file) (O other) (soft_inside body (with_name file O) bytes F inner other soft)).1) name is
-soft_inside (redir Fresh file body) O input F settled name is =
-    output_none (is_openable file) input F (written_value Fresh file F (meaning body input (opened Fresh file F))) O
-    (λ good other soft. (or_parts (bytes_eq other file) (O other) (soft_inside body (with_name file O) input (opened Fresh file F) (settled good) other soft)).1) name is
-soft_inside (redir Over file body) O input F settled name is =
-    output_none (is_openable file) input F (written_value Over file F (meaning body input (opened Over file F))) O
-    (λ good other soft. (or_parts (bytes_eq other file) (O other) (soft_inside body (with_name file O) input (opened Over file F) (settled good) other soft)).1) name is
-soft_inside (pipe left right) O input F settled name is =
+pub soft_inside : (profile : Profile) (T : Tree) (O : Names) (input : Bytes) (F : FileMap) → IsSettled profile T O input F → AreNoneOf (meaning profile T input F).soft O
+soft_inside profile (exec words) O input F settled name is = absurd (false≢true (sym ((fixed_words words input F).soft name) ∙ is))
+soft_inside profile (redir Input file body) O input F settled name is =
+    input_none (found F file) input F (λ bytes. meaning profile body bytes F) (λ bytes. IsSettled profile body (with_name file O) bytes F) O settled
+    (λ bytes inner other soft. (or_parts (bytes_eq other file) (O other) (soft_inside profile body (with_name file O) bytes F inner other soft)).1) name is
+soft_inside profile (redir Fresh file body) O input F settled name is =
+    output_none (is_openable file) input F (written_value profile Fresh file F (meaning profile body input (opened Fresh file F))) O
+    (λ good other soft. (or_parts (bytes_eq other file) (O other) (soft_inside profile body (with_name file O) input (opened Fresh file F) (settled good) other soft)).1) name is
+soft_inside profile (redir Over file body) O input F settled name is =
+    output_none (is_openable file) input F (written_value profile Over file F (meaning profile body input (opened Over file F))) O
+    (λ good other soft. (or_parts (bytes_eq other file) (O other) (soft_inside profile body (with_name file O) input (opened Over file F) (settled good) other soft)).1) name is
+soft_inside profile (pipe left right) O input F settled name is =
     either _ _ is
     (λ earlier. either _ _ earlier
-    (λ first. (or_parts (names right name) (O name) (soft_inside left (both (names right) O) input F settled.0 name first)).1)
-    (λ second. (or_parts (names left name) (O name) (soft_inside right (both (names left) O) (meaning left input F).out (meaning left input F).files settled.1 name second)).1))
+    (λ first. (or_parts (names right name) (O name) (soft_inside profile left (both (names right) O) input F settled.0 name first)).1)
+    (λ second. (or_parts (names left name) (O name) (soft_inside profile right (both (names left) O) (meaning profile left input F).out (meaning profile left input F).files settled.1 name second)).1))
     (λ lost. let p = and_parts _ _ lost in (or_parts (names right name) (O name) (settled.2 p.0 name p.1)).1)
-soft_inside (list left right) O input F settled name is =
+soft_inside profile (list left right) O input F settled name is =
     either _ _ is
-    (λ first. (or_parts (names right name) (O name) (soft_inside left (both (names right) O) input F settled.0 name first)).1)
-    (λ second. (or_parts (names left name) (O name) (soft_inside right (both (names left) O) (meaning left input F).rest (meaning left input F).files settled.1 name second)).1)
-soft_inside (back body) O input F settled name is = soft_inside body O input F settled name is
+    (λ first. (or_parts (names right name) (O name) (soft_inside profile left (both (names right) O) input F settled.0 name first)).1)
+    (λ second. (or_parts (names left name) (O name) (soft_inside profile right (both (names left) O) (meaning profile left input F).rest (meaning profile left input F).files settled.1 name second)).1)
+soft_inside profile (back body) O input F settled name is = soft_inside profile body O input F settled name is
 
 none_input : (o : Option Bytes) (input : Bytes) (F : FileMap) (body : Bytes → Value) (P Q : Bytes → Type 0) (O : Names) → IfSome o P → AreNoneOf (input_value o input F body).soft O → ((bytes : Bytes) → P bytes → AreNoneOf (body bytes).soft O → Q bytes) → IfSome o Q
 none_input None input F body P Q O settled none each = tt
@@ -115,40 +81,40 @@ outer_side side O P soft inner none name is =
     or_from (side name) (P name) (or_parts (side name) (O name) (inner name is)).0 (none name is)
 
 -- a settled command is so among any others that have none of its soft names
-pub settled_among : (T : Tree) (O P : Names) (input : Bytes) (F : FileMap) → IsSettled T O input F → AreNoneOf (meaning T input F).soft P → IsSettled T P input F
-settled_among (exec words) O P input F settled none = tt
-settled_among (redir Input file body) O P input F settled none =
-    none_input (found F file) input F (λ bytes. meaning body bytes F) (λ bytes. IsSettled body (with_name file O) bytes F) (λ bytes. IsSettled body (with_name file P) bytes F) P settled none
-    (λ bytes inner below. settled_among body (with_name file O) (with_name file P) bytes F inner (outer_name file O P (meaning body bytes F).soft (soft_inside body (with_name file O) bytes F inner) below))
-settled_among (redir Fresh file body) O P input F settled none = λ good.
-    let below = none_output (is_openable file) input F (written_value Fresh file F (meaning body input (opened Fresh file F))) P good none in
-    settled_among body (with_name file O) (with_name file P) input (opened Fresh file F) (settled good) (outer_name file O P (meaning body input (opened Fresh file F)).soft (soft_inside body (with_name file O) input (opened Fresh file F) (settled good)) below)
-settled_among (redir Over file body) O P input F settled none = λ good.
-    let below = none_output (is_openable file) input F (written_value Over file F (meaning body input (opened Over file F))) P good none in
-    settled_among body (with_name file O) (with_name file P) input (opened Over file F) (settled good) (outer_name file O P (meaning body input (opened Over file F)).soft (soft_inside body (with_name file O) input (opened Over file F) (settled good)) below)
-settled_among (pipe left right) O P input F settled none =
-    let V = meaning left input F in
-    let W = meaning right V.out V.files in (
-      settled_among left (both (names right) O) (both (names right) P) input F settled.0
-          (outer_side (names right) O P V.soft (soft_inside left (both (names right) O) input F settled.0) (λ name is. none name (or_left (V.soft name || W.soft name) (is_cut W && writes left name) (or_left (V.soft name) (W.soft name) is)))),
-      settled_among right (both (names left) O) (both (names left) P) V.out V.files settled.1
-          (outer_side (names left) O P W.soft (soft_inside right (both (names left) O) V.out V.files settled.1) (λ name is. none name (or_left (V.soft name || W.soft name) (is_cut W && writes left name) (or_right (V.soft name) (W.soft name) is)))),
+pub settled_among : (profile : Profile) (T : Tree) (O P : Names) (input : Bytes) (F : FileMap) → IsSettled profile T O input F → AreNoneOf (meaning profile T input F).soft P → IsSettled profile T P input F
+settled_among profile (exec words) O P input F settled none = tt
+settled_among profile (redir Input file body) O P input F settled none =
+    none_input (found F file) input F (λ bytes. meaning profile body bytes F) (λ bytes. IsSettled profile body (with_name file O) bytes F) (λ bytes. IsSettled profile body (with_name file P) bytes F) P settled none
+    (λ bytes inner below. settled_among profile body (with_name file O) (with_name file P) bytes F inner (outer_name file O P (meaning profile body bytes F).soft (soft_inside profile body (with_name file O) bytes F inner) below))
+settled_among profile (redir Fresh file body) O P input F settled none = λ good.
+    let below = none_output (is_openable file) input F (written_value profile Fresh file F (meaning profile body input (opened Fresh file F))) P good none in
+    settled_among profile body (with_name file O) (with_name file P) input (opened Fresh file F) (settled good) (outer_name file O P (meaning profile body input (opened Fresh file F)).soft (soft_inside profile body (with_name file O) input (opened Fresh file F) (settled good)) below)
+settled_among profile (redir Over file body) O P input F settled none = λ good.
+    let below = none_output (is_openable file) input F (written_value profile Over file F (meaning profile body input (opened Over file F))) P good none in
+    settled_among profile body (with_name file O) (with_name file P) input (opened Over file F) (settled good) (outer_name file O P (meaning profile body input (opened Over file F)).soft (soft_inside profile body (with_name file O) input (opened Over file F) (settled good)) below)
+settled_among profile (pipe left right) O P input F settled none =
+    let V = meaning profile left input F in
+    let W = meaning profile right V.out V.files in (
+      settled_among profile left (both (names right) O) (both (names right) P) input F settled.0
+          (outer_side (names right) O P V.soft (soft_inside profile left (both (names right) O) input F settled.0) (λ name is. none name (or_left (V.soft name || W.soft name) (is_cut W && writes left name) (or_left (V.soft name) (W.soft name) is)))),
+      settled_among profile right (both (names left) O) (both (names left) P) V.out V.files settled.1
+          (outer_side (names left) O P W.soft (soft_inside profile right (both (names left) O) V.out V.files settled.1) (λ name is. none name (or_left (V.soft name || W.soft name) (is_cut W && writes left name) (or_right (V.soft name) (W.soft name) is)))),
       λ cut. outer_side (names right) O P (writes left) (settled.2 cut)
           (λ name is. none name (or_right (V.soft name || W.soft name) (is_cut W && writes left name) (and_from (is_cut W) (writes left name) cut is))),
     )
-settled_among (list left right) O P input F settled none =
-    let V = meaning left input F in
-    let W = meaning right V.rest V.files in (
-      settled_among left (both (names right) O) (both (names right) P) input F settled.0
-          (outer_side (names right) O P V.soft (soft_inside left (both (names right) O) input F settled.0) (λ name is. none name (or_left (V.soft name) (W.soft name) is))),
-      settled_among right (both (names left) O) (both (names left) P) V.rest V.files settled.1
-          (outer_side (names left) O P W.soft (soft_inside right (both (names left) O) V.rest V.files settled.1) (λ name is. none name (or_right (V.soft name) (W.soft name) is))),
+settled_among profile (list left right) O P input F settled none =
+    let V = meaning profile left input F in
+    let W = meaning profile right V.rest V.files in (
+      settled_among profile left (both (names right) O) (both (names right) P) input F settled.0
+          (outer_side (names right) O P V.soft (soft_inside profile left (both (names right) O) input F settled.0) (λ name is. none name (or_left (V.soft name) (W.soft name) is))),
+      settled_among profile right (both (names left) O) (both (names left) P) V.rest V.files settled.1
+          (outer_side (names left) O P W.soft (soft_inside profile right (both (names left) O) V.rest V.files settled.1) (λ name is. none name (or_right (V.soft name) (W.soft name) is))),
       settled.2,
     )
-settled_among (back body) O P input F settled none = settled_among body O P input F settled none
+settled_among profile (back body) O P input F settled none = settled_among profile body O P input F settled none
 
-pub settled_alone : (T : Tree) (O : Names) (input : Bytes) (F : FileMap) → IsSettled T O input F → IsSettled T no_names input F
-settled_alone T O input F settled = settled_among T O no_names input F settled (λ name is. refl)
+pub settled_alone : (profile : Profile) (T : Tree) (O : Names) (input : Bytes) (F : FileMap) → IsSettled profile T O input F → IsSettled profile T no_names input F
+settled_alone profile T O input F settled = settled_among profile T O no_names input F settled (λ name is. refl)
 
 pub not_true : (b : Bool) → not b ≡ true → b ≡ false
 not_true true e = sym e
@@ -185,25 +151,25 @@ abbrev ListHolds : Tree → Tree → List Name → List Name → Bool → Bool �
 ListHolds L R soft then first second loose = first && second && are_apart L soft R then && not (loose && uses_input R)
 
 -- a list is settled where both sides are, no soft name of one is a name of the other, and the right one doesn't use a loose input
-pub list_settled : (L R : Tree) (input : Bytes) (F : FileMap) (soft then : List Name) (first second loose : Bool) → (let V = meaning L input F in let W = meaning R V.rest V.files in ((name : Name) → among soft name ≡ V.soft name) → ((name : Name) → among then name ≡ W.soft name) → loose ≡ V.loose → IsTrue first ↔ IsSettled L no_names input F → IsTrue second ↔ IsSettled R no_names V.rest V.files → IsTrue (ListHolds L R soft then first second loose) ↔ IsSettled (list L R) no_names input F)
-list_settled L R input F soft then first second loose one other l left right =
-    let V = meaning L input F in
-    let W = meaning R V.rest V.files in (
+pub list_settled : (profile : Profile) (L R : Tree) (input : Bytes) (F : FileMap) (soft then : List Name) (first second loose : Bool) → (let V = meaning profile L input F in let W = meaning profile R V.rest V.files in ((name : Name) → among soft name ≡ V.soft name) → ((name : Name) → among then name ≡ W.soft name) → loose ≡ V.loose → IsTrue first ↔ IsSettled profile L no_names input F → IsTrue second ↔ IsSettled profile R no_names V.rest V.files → IsTrue (ListHolds L R soft then first second loose) ↔ IsSettled profile (list L R) no_names input F)
+list_settled profile L R input F soft then first second loose one other l left right =
+    let V = meaning profile L input F in
+    let W = meaning profile R V.rest V.files in (
       λ holds.
           let p = and_parts (first && second && are_apart L soft R then) (not (loose && uses_input R)) holds in
           let q = and_parts (first && second) (are_apart L soft R then) p.0 in
           let r = and_parts first second q.0 in
           let a = and_parts (not (list_any (names R) soft)) (not (list_any (names L) then)) q.1 in (
-            settled_among L no_names (both (names R) no_names) input F (left.0 r.0) (λ name is. both_none (names R) no_names name (none_of_these soft V.soft (names R) one a.0 name is) refl),
-            settled_among R no_names (both (names L) no_names) V.rest V.files (right.0 r.1) (λ name is. both_none (names L) no_names name (none_of_these then W.soft (names L) other a.1 name is) refl),
+            settled_among profile L no_names (both (names R) no_names) input F (left.0 r.0) (λ name is. both_none (names R) no_names name (none_of_these soft V.soft (names R) one a.0 name is) refl),
+            settled_among profile R no_names (both (names L) no_names) V.rest V.files (right.0 r.1) (λ name is. both_none (names L) no_names name (none_of_these then W.soft (names L) other a.1 name is) refl),
             λ is. not_both loose (uses_input R) p.1 (l ∙ is),
           ),
       λ settled.
-          let a = soft_inside L (both (names R) no_names) input F settled.0 in
-          let b = soft_inside R (both (names L) no_names) V.rest V.files settled.1 in
+          let a = soft_inside profile L (both (names R) no_names) input F settled.0 in
+          let b = soft_inside profile R (both (names L) no_names) V.rest V.files settled.1 in
           and_from (first && second && are_apart L soft R then) (not (loose && uses_input R))
           (and_from (first && second) (are_apart L soft R then)
-          (and_from first second (left.1 (settled_alone L (both (names R) no_names) input F settled.0)) (right.1 (settled_alone R (both (names L) no_names) V.rest V.files settled.1)))
+          (and_from first second (left.1 (settled_alone profile L (both (names R) no_names) input F settled.0)) (right.1 (settled_alone profile R (both (names L) no_names) V.rest V.files settled.1)))
           (and_from (not (list_any (names R) soft)) (not (list_any (names L) then))
           (these_pass soft V.soft (names R) one (λ name is. (or_parts (names R name) false (a name is)).0))
           (these_pass then W.soft (names L) other (λ name is. (or_parts (names L name) false (b name is)).0))))
@@ -211,10 +177,10 @@ list_settled L R input F soft then first second loose one other l left right =
     )
 
 -- a pipe: the same, and where it is cut no name that its left side writes is one of its right side
-pub pipe_settled : (L R : Tree) (input : Bytes) (F : FileMap) (soft then : List Name) (first second cut : Bool) → (let V = meaning L input F in let W = meaning R V.out V.files in ((name : Name) → among soft name ≡ V.soft name) → ((name : Name) → among then name ≡ W.soft name) → cut ≡ is_cut W → IsTrue first ↔ IsSettled L no_names input F → IsTrue second ↔ IsSettled R no_names V.out V.files → IsTrue (first && second && are_apart L (with_lost cut soft L) R then) ↔ IsSettled (pipe L R) no_names input F)
-pipe_settled L R input F soft then first second cut one other c left right =
-    let V = meaning L input F in
-    let W = meaning R V.out V.files in
+pub pipe_settled : (profile : Profile) (L R : Tree) (input : Bytes) (F : FileMap) (soft then : List Name) (first second cut : Bool) → (let V = meaning profile L input F in let W = meaning profile R V.out V.files in ((name : Name) → among soft name ≡ V.soft name) → ((name : Name) → among then name ≡ W.soft name) → cut ≡ is_cut W → IsTrue first ↔ IsSettled profile L no_names input F → IsTrue second ↔ IsSettled profile R no_names V.out V.files → IsTrue (first && second && are_apart L (with_lost cut soft L) R then) ↔ IsSettled profile (pipe L R) no_names input F)
+pipe_settled profile L R input F soft then first second cut one other c left right =
+    let V = meaning profile L input F in
+    let W = meaning profile R V.out V.files in
     let lost = with_lost cut soft L in
     let all : (name : Name) → among lost name ≡ (V.soft name || (cut && writes L name)) = λ name. among_lost cut soft L name ∙ ap (λ b. b || (cut && writes L name)) (one name) in
     let every : Names = λ name. V.soft name || (cut && writes L name) in (
@@ -223,15 +189,15 @@ pipe_settled L R input F soft then first second cut one other c left right =
           let r = and_parts first second q.0 in
           let a = and_parts (not (list_any (names R) lost)) (not (list_any (names L) then)) q.1 in
           let none = none_of_these lost every (names R) all a.0 in (
-            settled_among L no_names (both (names R) no_names) input F (left.0 r.0) (λ name is. both_none (names R) no_names name (none name (or_left (V.soft name) (cut && writes L name) is)) refl),
-            settled_among R no_names (both (names L) no_names) V.out V.files (right.0 r.1) (λ name is. both_none (names L) no_names name (none_of_these then W.soft (names L) other a.1 name is) refl),
+            settled_among profile L no_names (both (names R) no_names) input F (left.0 r.0) (λ name is. both_none (names R) no_names name (none name (or_left (V.soft name) (cut && writes L name) is)) refl),
+            settled_among profile R no_names (both (names L) no_names) V.out V.files (right.0 r.1) (λ name is. both_none (names L) no_names name (none_of_these then W.soft (names L) other a.1 name is) refl),
             λ is name w. both_none (names R) no_names name (none name (or_right (V.soft name) (cut && writes L name) (and_from cut (writes L name) (c ∙ is) w))) refl,
           ),
       λ settled.
-          let a = soft_inside L (both (names R) no_names) input F settled.0 in
-          let b = soft_inside R (both (names L) no_names) V.out V.files settled.1 in
+          let a = soft_inside profile L (both (names R) no_names) input F settled.0 in
+          let b = soft_inside profile R (both (names L) no_names) V.out V.files settled.1 in
           and_from (first && second) (are_apart L lost R then)
-          (and_from first second (left.1 (settled_alone L (both (names R) no_names) input F settled.0)) (right.1 (settled_alone R (both (names L) no_names) V.out V.files settled.1)))
+          (and_from first second (left.1 (settled_alone profile L (both (names R) no_names) input F settled.0)) (right.1 (settled_alone profile R (both (names L) no_names) V.out V.files settled.1)))
           (and_from (not (list_any (names R) lost)) (not (list_any (names L) then))
           (these_pass lost every (names R) all (λ name is. either (V.soft name) (cut && writes L name) is
           (λ soft'. (or_parts (names R name) false (a name soft')).0)
@@ -252,60 +218,60 @@ name_apart file words soft same none = go (among words file) refl where
   go false e = refl
 
 -- a body is settled beside the name of its redirection where that is none of its soft names
-pub body_settled : (file : Name) (T : Tree) (input : Bytes) (F : FileMap) (soft : List Name) (inner : Bool) → ((name : Name) → among soft name ≡ (meaning T input F).soft name) → IsTrue inner ↔ IsSettled T no_names input F → IsTrue (inner && not (among soft file)) ↔ IsSettled T (with_name file no_names) input F
-body_settled file T input F soft inner same body = (
+pub body_settled : (profile : Profile) (file : Name) (T : Tree) (input : Bytes) (F : FileMap) (soft : List Name) (inner : Bool) → ((name : Name) → among soft name ≡ (meaning profile T input F).soft name) → IsTrue inner ↔ IsSettled profile T no_names input F → IsTrue (inner && not (among soft file)) ↔ IsSettled profile T (with_name file no_names) input F
+body_settled profile file T input F soft inner same body = (
   λ holds.
       let p = and_parts inner (not (among soft file)) holds in
-      settled_among T no_names (with_name file no_names) input F (body.0 p.0) (apart_name file soft (meaning T input F).soft same p.1),
+      settled_among profile T no_names (with_name file no_names) input F (body.0 p.0) (apart_name file soft (meaning profile T input F).soft same p.1),
   λ settled.
-      and_from inner (not (among soft file)) (body.1 (settled_alone T (with_name file no_names) input F settled))
-      (name_apart file soft (meaning T input F).soft same (soft_inside T (with_name file no_names) input F settled)),
+      and_from inner (not (among soft file)) (body.1 (settled_alone profile T (with_name file no_names) input F settled))
+      (name_apart file soft (meaning profile T input F).soft same (soft_inside profile T (with_name file no_names) input F settled)),
 )
 
 if_found : (o : Option Bytes) (bytes : Bytes) (P : Bytes → Type 0) (b : Bool) → o ≡ Some bytes → IsTrue b ↔ P bytes → IsTrue b ↔ IfSome o P
 if_found o bytes P b is same = subst (λ q. IsTrue b ↔ IfSome q P) (sym is) same
 
-pub from_settled : (file : Name) (T : Tree) (input bytes : Bytes) (F : FileMap) (soft : List Name) (inner all : Bool) → found F file ≡ Some bytes → ((name : Name) → among soft name ≡ (meaning T bytes F).soft name) → IsTrue inner ↔ IsSettled T no_names bytes F → all ≡ (inner && not (among soft file)) → IsTrue all ↔ IsSettled (redir Input file T) no_names input F
-from_settled file T input bytes F soft inner all is same body e =
-    subst (λ b. IsTrue b ↔ IsSettled (redir Input file T) no_names input F) (sym e)
-    (if_found (found F file) bytes (λ b. IsSettled T (with_name file no_names) b F) (inner && not (among soft file)) is (body_settled file T bytes F soft inner same body))
+pub from_settled : (profile : Profile) (file : Name) (T : Tree) (input bytes : Bytes) (F : FileMap) (soft : List Name) (inner all : Bool) → found F file ≡ Some bytes → ((name : Name) → among soft name ≡ (meaning profile T bytes F).soft name) → IsTrue inner ↔ IsSettled profile T no_names bytes F → all ≡ (inner && not (among soft file)) → IsTrue all ↔ IsSettled profile (redir Input file T) no_names input F
+from_settled profile file T input bytes F soft inner all is same body e =
+    subst (λ b. IsTrue b ↔ IsSettled profile (redir Input file T) no_names input F) (sym e)
+    (if_found (found F file) bytes (λ b. IsSettled profile T (with_name file no_names) b F) (inner && not (among soft file)) is (body_settled profile file T bytes F soft inner same body))
 
-pub missing_settled : (file : Name) (T : Tree) (input : Bytes) (F : FileMap) → found F file ≡ None → IsSettled (redir Input file T) no_names input F
-missing_settled file T input F is = subst (λ o. IfSome o (λ b. IsSettled T (with_name file no_names) b F)) (sym is) tt
+pub missing_settled : (profile : Profile) (file : Name) (T : Tree) (input : Bytes) (F : FileMap) → found F file ≡ None → IsSettled profile (redir Input file T) no_names input F
+missing_settled profile file T input F is = subst (λ o. IfSome o (λ b. IsSettled profile T (with_name file no_names) b F)) (sym is) tt
 
-pub into_settled : (mode : Mode) (file : Name) (T : Tree) (input : Bytes) (F F1 : FileMap) (soft : List Name) (inner all : Bool) → mode ≢ Input → is_openable file ≡ true → F1 ≡ opened mode file F → ((name : Name) → among soft name ≡ (meaning T input F1).soft name) → IsTrue inner ↔ IsSettled T no_names input F1 → all ≡ (inner && not (among soft file)) → IsTrue all ↔ IsSettled (redir mode file T) no_names input F
-into_settled Input file T input F F1 soft inner all writes good is same body e = absurd (writes (λ _. Input))
-into_settled Fresh file T input F F1 soft inner all writes good is same body e =
-    let whole = body_settled file T input F1 soft inner same body in (
-      λ holds _. subst (λ G. IsSettled T (with_name file no_names) input G) is (whole.0 (sym e ∙ holds)),
-      λ settled. e ∙ whole.1 (subst (λ G. IsSettled T (with_name file no_names) input G) (sym is) (settled good)),
+pub into_settled : (profile : Profile) (mode : Mode) (file : Name) (T : Tree) (input : Bytes) (F F1 : FileMap) (soft : List Name) (inner all : Bool) → mode ≢ Input → is_openable file ≡ true → F1 ≡ opened mode file F → ((name : Name) → among soft name ≡ (meaning profile T input F1).soft name) → IsTrue inner ↔ IsSettled profile T no_names input F1 → all ≡ (inner && not (among soft file)) → IsTrue all ↔ IsSettled profile (redir mode file T) no_names input F
+into_settled profile Input file T input F F1 soft inner all writes good is same body e = absurd (writes (λ _. Input))
+into_settled profile Fresh file T input F F1 soft inner all writes good is same body e =
+    let whole = body_settled profile file T input F1 soft inner same body in (
+      λ holds _. subst (λ G. IsSettled profile T (with_name file no_names) input G) is (whole.0 (sym e ∙ holds)),
+      λ settled. e ∙ whole.1 (subst (λ G. IsSettled profile T (with_name file no_names) input G) (sym is) (settled good)),
     )
-into_settled Over file T input F F1 soft inner all writes good is same body e =
-    let whole = body_settled file T input F1 soft inner same body in (
-      λ holds _. subst (λ G. IsSettled T (with_name file no_names) input G) is (whole.0 (sym e ∙ holds)),
-      λ settled. e ∙ whole.1 (subst (λ G. IsSettled T (with_name file no_names) input G) (sym is) (settled good)),
+into_settled profile Over file T input F F1 soft inner all writes good is same body e =
+    let whole = body_settled profile file T input F1 soft inner same body in (
+      λ holds _. subst (λ G. IsSettled profile T (with_name file no_names) input G) is (whole.0 (sym e ∙ holds)),
+      λ settled. e ∙ whole.1 (subst (λ G. IsSettled profile T (with_name file no_names) input G) (sym is) (settled good)),
     )
 
-pub refused_settled : (mode : Mode) (file : Name) (T : Tree) (input : Bytes) (F : FileMap) → mode ≢ Input → is_openable file ≡ false → IsSettled (redir mode file T) no_names input F
-refused_settled Input file T input F writes bad = absurd (writes (λ _. Input))
-refused_settled Fresh file T input F writes bad = λ good. absurd (false≢true (sym bad ∙ good))
-refused_settled Over file T input F writes bad = λ good. absurd (false≢true (sym bad ∙ good))
+pub refused_settled : (profile : Profile) (mode : Mode) (file : Name) (T : Tree) (input : Bytes) (F : FileMap) → mode ≢ Input → is_openable file ≡ false → IsSettled profile (redir mode file T) no_names input F
+refused_settled profile Input file T input F writes bad = absurd (writes (λ _. Input))
+refused_settled profile Fresh file T input F writes bad = λ good. absurd (false≢true (sym bad ∙ good))
+refused_settled profile Over file T input F writes bad = λ good. absurd (false≢true (sym bad ∙ good))
 
 -- the same, from what the parts gave and what was told of them
-pub list_is_settled : (L R : Tree) (input old mid rest : Bytes) (F F1 : FileMap) (first second all one other : Bool) (soft then : List Name) → Gives (meaning L input F) old mid rest F1 → Tells (meaning L input F) one soft → Tells (meaning R rest F1) other then → IsTrue first ↔ IsSettled L no_names input F → IsTrue second ↔ IsSettled R no_names rest F1 → all ≡ ListHolds L R soft then first second one → IsTrue all ↔ IsSettled (list L R) no_names input F
-list_is_settled L R input old mid rest F F1 first second all one other soft then gives told later left right e =
-    let V = meaning L input F in
-    let right' = subst (λ G. IsTrue second ↔ IsSettled R no_names V.rest G) gives.files (subst (λ i. IsTrue second ↔ IsSettled R no_names i F1) gives.rest right) in
-    let later' = subst (λ G. Tells (meaning R V.rest G) other then) gives.files (subst (λ i. Tells (meaning R i F1) other then) gives.rest later) in
-    subst (λ b. IsTrue b ↔ IsSettled (list L R) no_names input F) (sym e)
-    (list_settled L R input F soft then first second one told.soft later'.soft told.loose left right')
+pub list_is_settled : (profile : Profile) (L R : Tree) (input old mid rest : Bytes) (F F1 : FileMap) (first second all one other : Bool) (soft then : List Name) → Gives (meaning profile L input F) old mid rest F1 → Tells (meaning profile L input F) one soft → Tells (meaning profile R rest F1) other then → IsTrue first ↔ IsSettled profile L no_names input F → IsTrue second ↔ IsSettled profile R no_names rest F1 → all ≡ ListHolds L R soft then first second one → IsTrue all ↔ IsSettled profile (list L R) no_names input F
+list_is_settled profile L R input old mid rest F F1 first second all one other soft then gives told later left right e =
+    let V = meaning profile L input F in
+    let right' = subst (λ G. IsTrue second ↔ IsSettled profile R no_names V.rest G) gives.files (subst (λ i. IsTrue second ↔ IsSettled profile R no_names i F1) gives.rest right) in
+    let later' = subst (λ G. Tells (meaning profile R V.rest G) other then) gives.files (subst (λ i. Tells (meaning profile R i F1) other then) gives.rest later) in
+    subst (λ b. IsTrue b ↔ IsSettled profile (list L R) no_names input F) (sym e)
+    (list_settled profile L R input F soft then first second one told.soft later'.soft told.loose left right')
 
-pub pipe_is_settled : (L R : Tree) (input middle rest unread : Bytes) (F F1 : FileMap) (cut first second all one other : Bool) (soft then : List Name) → Gives (meaning L input F) [] middle rest F1 → Tells (meaning L input F) one soft → unread ≡ (meaning R middle F1).rest → Tells (meaning R middle F1) other then → cut ≡ (not (is_empty unread) || other) → IsTrue first ↔ IsSettled L no_names input F → IsTrue second ↔ IsSettled R no_names middle F1 → all ≡ (first && second && are_apart L (with_lost cut soft L) R then) → IsTrue all ↔ IsSettled (pipe L R) no_names input F
-pipe_is_settled L R input middle rest unread F F1 cut first second all one other soft then gives told left' later c left right e =
-    let V = meaning L input F in
-    let right' = subst (λ G. IsTrue second ↔ IsSettled R no_names V.out G) gives.files (subst (λ i. IsTrue second ↔ IsSettled R no_names i F1) gives.out right) in
-    let later' = subst (λ G. Tells (meaning R V.out G) other then) gives.files (subst (λ i. Tells (meaning R i F1) other then) gives.out later) in
-    let end = subst (λ G. unread ≡ (meaning R V.out G).rest) gives.files (subst (λ i. unread ≡ (meaning R i F1).rest) gives.out left') in
-    let is : cut ≡ is_cut (meaning R V.out V.files) = c ∙ ap₂ (λ b lo. not (is_empty b) || lo) end later'.loose in
-    subst (λ b. IsTrue b ↔ IsSettled (pipe L R) no_names input F) (sym e)
-    (pipe_settled L R input F soft then first second cut told.soft later'.soft is left right')
+pub pipe_is_settled : (profile : Profile) (L R : Tree) (input middle rest unread : Bytes) (F F1 : FileMap) (cut first second all one other : Bool) (soft then : List Name) → Gives (meaning profile L input F) [] middle rest F1 → Tells (meaning profile L input F) one soft → unread ≡ (meaning profile R middle F1).rest → Tells (meaning profile R middle F1) other then → cut ≡ (not (is_empty unread) || other) → IsTrue first ↔ IsSettled profile L no_names input F → IsTrue second ↔ IsSettled profile R no_names middle F1 → all ≡ (first && second && are_apart L (with_lost cut soft L) R then) → IsTrue all ↔ IsSettled profile (pipe L R) no_names input F
+pipe_is_settled profile L R input middle rest unread F F1 cut first second all one other soft then gives told left' later c left right e =
+    let V = meaning profile L input F in
+    let right' = subst (λ G. IsTrue second ↔ IsSettled profile R no_names V.out G) gives.files (subst (λ i. IsTrue second ↔ IsSettled profile R no_names i F1) gives.out right) in
+    let later' = subst (λ G. Tells (meaning profile R V.out G) other then) gives.files (subst (λ i. Tells (meaning profile R i F1) other then) gives.out later) in
+    let end = subst (λ G. unread ≡ (meaning profile R V.out G).rest) gives.files (subst (λ i. unread ≡ (meaning profile R i F1).rest) gives.out left') in
+    let is : cut ≡ is_cut (meaning profile R V.out V.files) = c ∙ ap₂ (λ b lo. not (is_empty b) || lo) end later'.loose in
+    subst (λ b. IsTrue b ↔ IsSettled profile (pipe L R) no_names input F) (sym e)
+    (pipe_settled profile L R input F soft then first second cut told.soft later'.soft is left right')

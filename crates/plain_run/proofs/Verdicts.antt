@@ -12,6 +12,7 @@ use Rattle.conflict_check.specs.Names.{writes, uses_input}
 use Rattle.conflict_check.specs.Occurrences.{written}
 use Rattle.prog_parts.specs.Program.{is_empty}
 use Rattle.conflict_check.proofs.Listed.{writes_listed}
+use Rattle.script_load.specs.declared.profile.Profile.{Profile}
 use Rattle.sh_meaning.specs.Inputs.{found}
 use Rattle.sh_meaning.specs.Meaning.{meaning, opened, input_value, written_value}
 use Rattle.sh_meaning.specs.Value.{is_cut}
@@ -38,28 +39,28 @@ exchanged false false true = refl
 exchanged false false false = refl
 
 -- a command under > or >>
-pub into_tells : (mode : Mode) (name : Name) (T : Tree) (input : Bytes) (F F1 : FileMap) (loose loose' : Bool) (soft soft' : List Name) → mode ≢ Input → is_openable name ≡ true → F1 ≡ opened mode name F → Tells (meaning T input F1) loose soft → loose' ≡ loose → soft' ≡ soft → Tells (meaning (redir mode name T) input F) loose' soft'
-into_tells Input name T input F F1 loose loose' soft soft' writes good is told l s = absurd (writes (λ _. Input))
-into_tells Fresh name T input F F1 loose loose' soft soft' writes good is told l s =
-    let body = subst (λ G. Tells (meaning T input G) loose soft) is told in
-    subst (λ v. Tells v loose' soft') (sym (output_is (is_openable name) input F (written_value Fresh name F (meaning T input (opened Fresh name F))) good))
+pub into_tells : (profile : Profile) (mode : Mode) (name : Name) (T : Tree) (input : Bytes) (F F1 : FileMap) (loose loose' : Bool) (soft soft' : List Name) → mode ≢ Input → is_openable name ≡ true → F1 ≡ opened mode name F → Tells (meaning profile T input F1) loose soft → loose' ≡ loose → soft' ≡ soft → Tells (meaning profile (redir mode name T) input F) loose' soft'
+into_tells profile Input name T input F F1 loose loose' soft soft' writes good is told l s = absurd (writes (λ _. Input))
+into_tells profile Fresh name T input F F1 loose loose' soft soft' writes good is told l s =
+    let body = subst (λ G. Tells (meaning profile T input G) loose soft) is told in
+    subst (λ v. Tells v loose' soft') (sym (output_is (is_openable name) input F (written_value profile Fresh name F (meaning profile T input (opened Fresh name F))) good))
     (record { loose = l ∙ body.loose; soft = λ n. ap (λ names. among names n) s ∙ body.soft n })
-into_tells Over name T input F F1 loose loose' soft soft' writes good is told l s =
-    let body = subst (λ G. Tells (meaning T input G) loose soft) is told in
-    subst (λ v. Tells v loose' soft') (sym (output_is (is_openable name) input F (written_value Over name F (meaning T input (opened Over name F))) good))
+into_tells profile Over name T input F F1 loose loose' soft soft' writes good is told l s =
+    let body = subst (λ G. Tells (meaning profile T input G) loose soft) is told in
+    subst (λ v. Tells v loose' soft') (sym (output_is (is_openable name) input F (written_value profile Over name F (meaning profile T input (opened Over name F))) good))
     (record { loose = l ∙ body.loose; soft = λ n. ap (λ names. among names n) s ∙ body.soft n })
 
 -- a command under <
-pub from_tells : (name : Name) (T : Tree) (input bytes : Bytes) (F : FileMap) (loose loose' : Bool) (soft soft' : List Name) → found F name ≡ Some bytes → Tells (meaning T bytes F) loose soft → loose' ≡ false → soft' ≡ soft → Tells (meaning (redir Input name T) input F) loose' soft'
-from_tells name T input bytes F loose loose' soft soft' is body l s =
-    subst (λ o. Tells (input_value o input F (λ b. meaning T b F)) loose' soft') (sym is)
+pub from_tells : (profile : Profile) (name : Name) (T : Tree) (input bytes : Bytes) (F : FileMap) (loose loose' : Bool) (soft soft' : List Name) → found F name ≡ Some bytes → Tells (meaning profile T bytes F) loose soft → loose' ≡ false → soft' ≡ soft → Tells (meaning profile (redir Input name T) input F) loose' soft'
+from_tells profile name T input bytes F loose loose' soft soft' is body l s =
+    subst (λ o. Tells (input_value o input F (λ b. meaning profile T b F)) loose' soft') (sym is)
     (record { loose = l; soft = λ n. ap (λ names. among names n) s ∙ body.soft n })
 
 -- one command and then another
-pub list_tells : (L R : Tree) (input old mid rest : Bytes) (F F1 : FileMap) (first second both : Bool) (soft then all : List Name) → Gives (meaning L input F) old mid rest F1 → Tells (meaning L input F) first soft → Tells (meaning R rest F1) second then → both ≡ (first || second) → all ≡ soft ++ then → Tells (meaning (list L R) input F) both all
-list_tells L R input old mid rest F F1 first second both soft then all gives one other l s =
-    let same : meaning R rest F1 ≡ meaning R (meaning L input F).rest (meaning L input F).files =
-    ap (λ i. meaning R i F1) gives.rest ∙ ap (λ G. meaning R (meaning L input F).rest G) gives.files
+pub list_tells : (profile : Profile) (L R : Tree) (input old mid rest : Bytes) (F F1 : FileMap) (first second both : Bool) (soft then all : List Name) → Gives (meaning profile L input F) old mid rest F1 → Tells (meaning profile L input F) first soft → Tells (meaning profile R rest F1) second then → both ≡ (first || second) → all ≡ soft ++ then → Tells (meaning profile (list L R) input F) both all
+list_tells profile L R input old mid rest F F1 first second both soft then all gives one other l s =
+    let same : meaning profile R rest F1 ≡ meaning profile R (meaning profile L input F).rest (meaning profile L input F).files =
+    ap (λ i. meaning profile R i F1) gives.rest ∙ ap (λ G. meaning profile R (meaning profile L input F).rest G) gives.files
     in
     let next = subst (λ v. Tells v second then) same other in
     record {
@@ -68,12 +69,12 @@ list_tells L R input old mid rest F F1 first second both soft then all gives one
     }
 
 -- a pipe
-pub pipe_tells : (L R : Tree) (input middle rest left : Bytes) (F F1 : FileMap) (cut first second both : Bool) (soft then all : List Name) → Gives (meaning L input F) [] middle rest F1 → Tells (meaning L input F) first soft → left ≡ (meaning R middle F1).rest → Tells (meaning R middle F1) second then → cut ≡ (not (is_empty left) || second) → both ≡ (first || (cut && uses_input L)) → all ≡ with_lost cut soft L ++ then → Tells (meaning (pipe L R) input F) both all
-pipe_tells L R input middle rest left F F1 cut first second both soft then all gives one unread other c l s =
-    let same : meaning R middle F1 ≡ meaning R (meaning L input F).out (meaning L input F).files =
-    ap (λ i. meaning R i F1) gives.out ∙ ap (λ G. meaning R (meaning L input F).out G) gives.files
+pub pipe_tells : (profile : Profile) (L R : Tree) (input middle rest left : Bytes) (F F1 : FileMap) (cut first second both : Bool) (soft then all : List Name) → Gives (meaning profile L input F) [] middle rest F1 → Tells (meaning profile L input F) first soft → left ≡ (meaning profile R middle F1).rest → Tells (meaning profile R middle F1) second then → cut ≡ (not (is_empty left) || second) → both ≡ (first || (cut && uses_input L)) → all ≡ with_lost cut soft L ++ then → Tells (meaning profile (pipe L R) input F) both all
+pipe_tells profile L R input middle rest left F F1 cut first second both soft then all gives one unread other c l s =
+    let same : meaning profile R middle F1 ≡ meaning profile R (meaning profile L input F).out (meaning profile L input F).files =
+    ap (λ i. meaning profile R i F1) gives.out ∙ ap (λ G. meaning profile R (meaning profile L input F).out G) gives.files
     in
-    let W = meaning R (meaning L input F).out (meaning L input F).files in
+    let W = meaning profile R (meaning profile L input F).out (meaning profile L input F).files in
     let next : Tells W second then = subst (λ v. Tells v second then) same other in
     let is : cut ≡ is_cut W = c ∙ ap₂ (λ b lo. not (is_empty b) || lo) (unread ∙ ap (λ v. v.rest) same) next.loose in
     record {
@@ -81,5 +82,5 @@ pipe_tells L R input middle rest left F F1 cut first second both soft then all g
       soft = λ n. ap (λ names. among names n) s ∙ among_two (with_lost cut soft L) then n ∙ ap (λ b. b || among then n) (among_lost cut soft L n)
           ∙ exchanged (among soft n) (among then n) (cut && writes L n)
           ∙ ap₂ (λ a b. (a || b) || (cut && writes L n)) (one.soft n) (next.soft n)
-          ∙ ap (λ b. ((meaning L input F).soft n || W.soft n) || (b && writes L n)) is;
+          ∙ ap (λ b. ((meaning profile L input F).soft n || W.soft n) || (b && writes L n)) is;
     }

@@ -4,14 +4,14 @@ ghost use Rattle.sh_tree.specs.declared.tree.Mode.TheVariants.{Input};
 ghost use Rattle.mem_files.specs.Name.{is_openable};
 ghost use Rattle.mem_files.specs.Files.{files, with_file};
 ghost use Rattle.mem_files.specs.Listing.{max_size};
-ghost use Rattle.mem_files.specs.Overlay.{overlay};
 ghost use Rattle.sh_meaning.specs.Limits.{HasNoRoom};
-ghost use Rattle.sh_meaning.specs.Meaning.{opened};
+ghost use Rattle.sh_meaning.specs.Meaning.{opened, over_end};
 ghost use Rattle.plain_progs.specs.Gives.{IsDue};
 ghost use Rattle.plain_run.specs.Held.{held};
 
 use mem_files::{Files, FilesFault};
 use plain_progs::{PlainFault, give};
+use script_load::Profile;
 use sh_tree::Mode;
 use std::alloc::{AllocError, Allocator};
 
@@ -78,22 +78,45 @@ fn open_emptied<A: Allocator + Copy>(store: &mut Files<A>, name: &[u8]) -> Resul
     give(store, name, &[])
 }
 
-// Gives a file that was opened for writing what was written to it, over what it held.
+// What a file holds in the end that held these bytes when `>>` was opened on it, or none where `>` was:
+// under xv6's profile what was written over them, under the other the one and then the other.
+fn end_bytes<A: Allocator>(
+    profile: Profile,
+    mut held: Vec<u8, A>,
+    mut written: Vec<u8, A>,
+) -> Result<Vec<u8, A>, AllocError>
+    ensures { IfOk result (λ bytes. bytes.items ≡ over_end profile held.items written.items) }
+{
+    match profile {
+        Profile::Xv6 => {
+            if written.len() < held.len() {
+                written.extend_from_slice(&held.as_slice()[written.len()..])?;
+            }
+            Ok(written)
+        }
+        Profile::Append if held.is_empty() => Ok(written),
+        Profile::Append => {
+            held.extend_from_slice(written.as_slice())?;
+            Ok(held)
+        }
+    }
+}
+
+// Gives a file that was opened for writing what was written to it, over or behind what it held.
 pub fn close_output<A: Allocator + Copy>(
+    profile: Profile,
     store: &mut Files<A>,
     name: &[u8],
-    mut written: Vec<u8, A>,
-    held: &[u8],
+    held: Vec<u8, A>,
+    written: Vec<u8, A>,
 ) -> Result<(), PlainFault>
     requires openable { is_openable name.now ≡ true }
     requires present { files store.old name.now ≢ None }
-    ensures closed { OnOk result (files store.new ≡ with_file (files store.old) name.now (overlay written.items held.now)) }
-    ensures large { IfErr result (IsDue (max_size < length (overlay written.items held.now))) }
+    ensures closed { OnOk result (files store.new ≡ with_file (files store.old) name.now (over_end profile held.items written.items)) }
+    ensures large { IfErr result (IsDue (max_size < length (over_end profile held.items written.items))) }
 {
-    if written.len() < held.len() {
-        written.extend_from_slice(&held[written.len()..])?;
-    }
-    match store.put(name, written.as_slice()) {
+    let end = end_bytes(profile, held, written)?;
+    match store.put(name, end.as_slice()) {
         Ok(()) => Ok(()),
         Err(FilesFault::FullSize) => Err(PlainFault::TooLarge),
         Err(_) => Err(PlainFault::Memory),

@@ -1,6 +1,7 @@
-ghost use Rattle.std.specs.Prelude.{IsTrue, ◌≡◌, ◌↔◌, ◌||◌, not, map, ℕ, List, IfOk, IfErr, true, Contains};
+ghost use Rattle.std.specs.Prelude.{IsTrue, ◌≡◌, ◌≢◌, ◌↔◌, ◌||◌, not, map, ℕ, List, [], IfOk, IfErr, false, true, Contains};
 ghost use Rattle.std.specs.List.Sorted.{IsStrictlySortedBy};
-ghost use Rattle.sh_tree.specs.Tree.{tree_of};
+ghost use Rattle.sh_tree.specs.declared.tree.Mode.TheVariants.{Input};
+ghost use Rattle.sh_tree.specs.Tree.{list, pipe, redir, tree_of};
 ghost use Rattle.mem_files.specs.Files.{files};
 ghost use Rattle.mem_files.specs.Name.{name_cmp};
 ghost use Rattle.prog_parts.specs.NameSets.{no_names};
@@ -20,7 +21,7 @@ use crate::output::{close_output, held_bytes, open_output};
 use crate::verdict::Verdict;
 use mem_files::Files;
 use plain_progs::{PlainFault, find, run_program};
-use script_load::{Line, Script};
+use script_load::{Line, Profile, Script};
 use sh_lexer::Bytes;
 use sh_tree::{Cmd, Mode, Words};
 use std::alloc::Allocator;
@@ -32,7 +33,20 @@ struct Ran<'i, A: Allocator> {
     verdict: Verdict<A>,
 }
 
-impl<'i, A: Allocator> Ran<'i, A> {
+impl<'i, A: Allocator + Copy> Ran<'i, A> {
+    // Nothing was done.
+    fn nothing(alloc: A, input: &'i [u8]) -> Self
+        ensures rest { result.rest.now ≡ input.now }
+        ensures settled { result.verdict.is_settled ≡ true }
+        ensures loose { result.verdict.is_loose ≡ false }
+        ensures soft { result.verdict.soft.items ≡ [] }
+    {
+        Ran {
+            rest: input,
+            verdict: Verdict::firm(alloc),
+        }
+    }
+
     // Whether some of its input is left, or may be.
     fn is_cut(&self) -> bool
         ensures { result ≡ (not (is_empty self.now.rest.now) || self.now.verdict.is_loose) }
@@ -43,17 +57,19 @@ impl<'i, A: Allocator> Ran<'i, A> {
 
 // Adds a command's output, changes the files as it does, and returns what it leaves of the input, and
 // what of this may depend on the order in which processes run.
+#[cycle(tree)]
 fn run_tree<'i, A: Allocator + Copy, B: Allocator>(
     alloc: A,
+    profile: Profile,
     tree: &Cmd<B>,
     input: &'i [u8],
     store: &mut Files<A>,
     out: &mut Vec<u8, A>,
 ) -> Result<Ran<'i, A>, PlainFault>
-    ensures gives { IfOk result (λ ran. Gives (meaning (tree_of tree.now) input.now (files store.old)) out.old.items out.new.items ran.rest.now (files store.new)) }
-    ensures tells { IfOk result (λ ran. Tells (meaning (tree_of tree.now) input.now (files store.old)) ran.verdict.is_loose ran.verdict.soft.items) }
-    ensures settled { IfOk result (λ ran. IsTrue ran.verdict.is_settled ↔ IsSettled (tree_of tree.now) no_names input.now (files store.old)) }
-    ensures large { IfErr result (IsDue (Outgrows (tree_of tree.now) input.now (files store.old))) }
+    ensures gives { IfOk result (λ ran. Gives (meaning profile (tree_of tree.now) input.now (files store.old)) out.old.items out.new.items ran.rest.now (files store.new)) }
+    ensures tells { IfOk result (λ ran. Tells (meaning profile (tree_of tree.now) input.now (files store.old)) ran.verdict.is_loose ran.verdict.soft.items) }
+    ensures settled { IfOk result (λ ran. IsTrue ran.verdict.is_settled ↔ IsSettled profile (tree_of tree.now) no_names input.now (files store.old)) }
+    ensures large { IfErr result (IsDue (Outgrows profile (tree_of tree.now) input.now (files store.old))) }
 {
     match tree {
         Cmd::Exec(words) => Ok(Ran {
@@ -64,109 +80,164 @@ fn run_tree<'i, A: Allocator + Copy, B: Allocator>(
             mode: Mode::Input,
             name,
             body,
-        } => {
-            let name = name.as_slice();
-            let Some(bytes) = find(store, name) else {
-                return Ok(Ran {
-                    rest: input,
-                    verdict: Verdict::firm(alloc),
-                });
-            };
-            let bytes = Bytes::copy_of(alloc, bytes)?;
-            let ran = run_tree(alloc, body, bytes.as_slice(), store, out)?;
-            Ok(Ran {
-                rest: input,
-                verdict: ran.verdict.from_file(name),
-            })
-        }
+        } => run_from_file(alloc, profile, name.as_slice(), body, input, store, out),
         Cmd::Redir { mode, name, body } => {
-            let name = name.as_slice();
-            let held = held_bytes(alloc, *mode, store, name)?;
-            if !open_output(*mode, store, name)? {
-                return Ok(Ran {
-                    rest: input,
-                    verdict: Verdict::firm(alloc),
-                });
-            }
-            let mut written = Vec::new(alloc);
-            let ran = run_tree(alloc, body, input, store, &mut written)?;
-            close_output(store, name, written, held.as_slice())?;
-            Ok(Ran {
-                rest: ran.rest,
-                verdict: ran.verdict.into_file(name),
-            })
+            run_into_file(alloc, profile, *mode, name.as_slice(), body, input, store)
         }
-        Cmd::Pipe(left, right) => {
-            let mut middle = Vec::new(alloc);
-            let first = run_tree(alloc, left, input, store, &mut middle)?;
-            let second = run_tree(alloc, right, middle.as_slice(), store, out)?;
-            let is_cut = second.is_cut();
-            let verdict = Verdict::of_pipe(
-                alloc,
-                is_cut,
-                left,
-                first.verdict,
-                right,
-                second.verdict,
-            )?;
-            Ok(Ran {
-                rest: first.rest,
-                verdict,
-            })
-        }
-        Cmd::List(left, right) => {
-            let first = run_tree(alloc, left, input, store, out)?;
-            let second = run_tree(alloc, right, first.rest, store, out)?;
-            let verdict = Verdict::of_list(left, first.verdict, right, second.verdict)?;
-            Ok(Ran {
-                rest: second.rest,
-                verdict,
-            })
-        }
-        Cmd::Back(body) => run_tree(alloc, body, input, store, out),
+        Cmd::Pipe(left, right) => run_pipe(alloc, profile, left, right, input, store, out),
+        Cmd::List(left, right) => run_list(alloc, profile, left, right, input, store, out),
+        Cmd::Back(body) => run_tree(alloc, profile, body, input, store, out),
     }
+}
+
+// A command under `<`: on the bytes of the file; without a file nothing is done.
+#[cycle(tree)]
+fn run_from_file<'i, A: Allocator + Copy, B: Allocator>(
+    alloc: A,
+    profile: Profile,
+    name: &[u8],
+    body: &Cmd<B>,
+    input: &'i [u8],
+    store: &mut Files<A>,
+    out: &mut Vec<u8, A>,
+) -> Result<Ran<'i, A>, PlainFault>
+    ensures gives { IfOk result (λ ran. Gives (meaning profile (redir Input name.now (tree_of body.now)) input.now (files store.old)) out.old.items out.new.items ran.rest.now (files store.new)) }
+    ensures tells { IfOk result (λ ran. Tells (meaning profile (redir Input name.now (tree_of body.now)) input.now (files store.old)) ran.verdict.is_loose ran.verdict.soft.items) }
+    ensures settled { IfOk result (λ ran. IsTrue ran.verdict.is_settled ↔ IsSettled profile (redir Input name.now (tree_of body.now)) no_names input.now (files store.old)) }
+    ensures large { IfErr result (IsDue (Outgrows profile (redir Input name.now (tree_of body.now)) input.now (files store.old))) }
+{
+    let Some(bytes) = find(store, name) else {
+        return Ok(Ran::nothing(alloc, input));
+    };
+    let bytes = Bytes::copy_of(alloc, bytes)?;
+    let ran = run_tree(alloc, profile, body, bytes.as_slice(), store, out)?;
+    Ok(Ran {
+        rest: input,
+        verdict: ran.verdict.from_file(name),
+    })
+}
+
+// A command under `>` or `>>`: its output goes to the file; where that can't be opened nothing is done.
+#[cycle(tree)]
+fn run_into_file<'i, A: Allocator + Copy, B: Allocator>(
+    alloc: A,
+    profile: Profile,
+    mode: Mode,
+    name: &[u8],
+    body: &Cmd<B>,
+    input: &'i [u8],
+    store: &mut Files<A>,
+) -> Result<Ran<'i, A>, PlainFault>
+    requires { mode ≢ Input }
+    ensures gives { IfOk result (λ ran. (old : List ℕ) → Gives (meaning profile (redir mode name.now (tree_of body.now)) input.now (files store.old)) old old ran.rest.now (files store.new)) }
+    ensures tells { IfOk result (λ ran. Tells (meaning profile (redir mode name.now (tree_of body.now)) input.now (files store.old)) ran.verdict.is_loose ran.verdict.soft.items) }
+    ensures settled { IfOk result (λ ran. IsTrue ran.verdict.is_settled ↔ IsSettled profile (redir mode name.now (tree_of body.now)) no_names input.now (files store.old)) }
+    ensures large { IfErr result (IsDue (Outgrows profile (redir mode name.now (tree_of body.now)) input.now (files store.old))) }
+{
+    let held = held_bytes(alloc, mode, store, name)?;
+    if !open_output(mode, store, name)? {
+        return Ok(Ran::nothing(alloc, input));
+    }
+    let mut written = Vec::new(alloc);
+    let ran = run_tree(alloc, profile, body, input, store, &mut written)?;
+    close_output(profile, store, name, held, written)?;
+    Ok(Ran {
+        rest: ran.rest,
+        verdict: ran.verdict.into_file(name),
+    })
+}
+
+// A pipe: the left side to its end, and then the right side on its output.
+#[cycle(tree)]
+fn run_pipe<'i, A: Allocator + Copy, B: Allocator>(
+    alloc: A,
+    profile: Profile,
+    left: &Cmd<B>,
+    right: &Cmd<B>,
+    input: &'i [u8],
+    store: &mut Files<A>,
+    out: &mut Vec<u8, A>,
+) -> Result<Ran<'i, A>, PlainFault>
+    ensures gives { IfOk result (λ ran. Gives (meaning profile (pipe (tree_of left.now) (tree_of right.now)) input.now (files store.old)) out.old.items out.new.items ran.rest.now (files store.new)) }
+    ensures tells { IfOk result (λ ran. Tells (meaning profile (pipe (tree_of left.now) (tree_of right.now)) input.now (files store.old)) ran.verdict.is_loose ran.verdict.soft.items) }
+    ensures settled { IfOk result (λ ran. IsTrue ran.verdict.is_settled ↔ IsSettled profile (pipe (tree_of left.now) (tree_of right.now)) no_names input.now (files store.old)) }
+    ensures large { IfErr result (IsDue (Outgrows profile (pipe (tree_of left.now) (tree_of right.now)) input.now (files store.old))) }
+{
+    let mut middle = Vec::new(alloc);
+    let first = run_tree(alloc, profile, left, input, store, &mut middle)?;
+    let second = run_tree(alloc, profile, right, middle.as_slice(), store, out)?;
+    let is_cut = second.is_cut();
+    let verdict = Verdict::of_pipe(alloc, is_cut, left, first.verdict, right, second.verdict)?;
+    Ok(Ran {
+        rest: first.rest,
+        verdict,
+    })
+}
+
+// A list: the left side, and then the right side on what it left of the input.
+#[cycle(tree)]
+fn run_list<'i, A: Allocator + Copy, B: Allocator>(
+    alloc: A,
+    profile: Profile,
+    left: &Cmd<B>,
+    right: &Cmd<B>,
+    input: &'i [u8],
+    store: &mut Files<A>,
+    out: &mut Vec<u8, A>,
+) -> Result<Ran<'i, A>, PlainFault>
+    ensures gives { IfOk result (λ ran. Gives (meaning profile (list (tree_of left.now) (tree_of right.now)) input.now (files store.old)) out.old.items out.new.items ran.rest.now (files store.new)) }
+    ensures tells { IfOk result (λ ran. Tells (meaning profile (list (tree_of left.now) (tree_of right.now)) input.now (files store.old)) ran.verdict.is_loose ran.verdict.soft.items) }
+    ensures settled { IfOk result (λ ran. IsTrue ran.verdict.is_settled ↔ IsSettled profile (list (tree_of left.now) (tree_of right.now)) no_names input.now (files store.old)) }
+    ensures large { IfErr result (IsDue (Outgrows profile (list (tree_of left.now) (tree_of right.now)) input.now (files store.old))) }
+{
+    let first = run_tree(alloc, profile, left, input, store, out)?;
+    let second = run_tree(alloc, profile, right, first.rest, store, out)?;
+    let verdict = Verdict::of_list(left, first.verdict, right, second.verdict)?;
+    Ok(Ran {
+        rest: second.rest,
+        verdict,
+    })
 }
 
 // The same of a line.
 fn run_line<'i, A: Allocator + Copy, B: Allocator>(
     alloc: A,
+    profile: Profile,
     line: &Line<B>,
     input: &'i [u8],
     store: &mut Files<A>,
     out: &mut Vec<u8, A>,
 ) -> Result<Ran<'i, A>, PlainFault>
-    ensures gives { IfOk result (λ ran. Gives (meaning (line_tree (line_of line.now)) input.now (files store.old)) out.old.items out.new.items ran.rest.now (files store.new)) }
-    ensures tells { IfOk result (λ ran. Tells (meaning (line_tree (line_of line.now)) input.now (files store.old)) ran.verdict.is_loose ran.verdict.soft.items) }
-    ensures settled { IfOk result (λ ran. IsTrue ran.verdict.is_settled ↔ IsSettled (line_tree (line_of line.now)) no_names input.now (files store.old)) }
-    ensures large { IfErr result (IsDue (Outgrows (line_tree (line_of line.now)) input.now (files store.old))) }
+    ensures gives { IfOk result (λ ran. Gives (meaning profile (line_tree (line_of line.now)) input.now (files store.old)) out.old.items out.new.items ran.rest.now (files store.new)) }
+    ensures tells { IfOk result (λ ran. Tells (meaning profile (line_tree (line_of line.now)) input.now (files store.old)) ran.verdict.is_loose ran.verdict.soft.items) }
+    ensures settled { IfOk result (λ ran. IsTrue ran.verdict.is_settled ↔ IsSettled profile (line_tree (line_of line.now)) no_names input.now (files store.old)) }
+    ensures large { IfErr result (IsDue (Outgrows profile (line_tree (line_of line.now)) input.now (files store.old))) }
 {
     match line {
-        Line::Tree(tree) => run_tree(alloc, tree, input, store, out),
-        Line::Bad(..) | Line::Cd(_) => Ok(Ran {
-            rest: input,
-            verdict: Verdict::firm(alloc),
-        }),
+        Line::Tree(tree) => run_tree(alloc, profile, tree, input, store, out),
+        Line::Bad(..) | Line::Cd(_) => Ok(Ran::nothing(alloc, input)),
     }
 }
 
 // The same of lines that follow each other.
 fn run_lines<'i, A: Allocator + Copy, B: Allocator>(
     alloc: A,
+    profile: Profile,
     lines: &[Line<B>],
     input: &'i [u8],
     store: &mut Files<A>,
     out: &mut Vec<u8, A>,
 ) -> Result<Ran<'i, A>, PlainFault>
-    ensures gives { IfOk result (λ ran. Gives (script_meaning (map line_of lines.now) input.now (files store.old)) out.old.items out.new.items ran.rest.now (files store.new)) }
-    ensures tells { IfOk result (λ ran. Tells (script_meaning (map line_of lines.now) input.now (files store.old)) ran.verdict.is_loose ran.verdict.soft.items) }
-    ensures settled { IfOk result (λ ran. IsTrue ran.verdict.is_settled ↔ IsSettled (script_tree (map line_of lines.now)) no_names input.now (files store.old)) }
-    ensures large { IfErr result (IsDue (Outgrows (script_tree (map line_of lines.now)) input.now (files store.old))) }
+    ensures gives { IfOk result (λ ran. Gives (script_meaning profile (map line_of lines.now) input.now (files store.old)) out.old.items out.new.items ran.rest.now (files store.new)) }
+    ensures tells { IfOk result (λ ran. Tells (script_meaning profile (map line_of lines.now) input.now (files store.old)) ran.verdict.is_loose ran.verdict.soft.items) }
+    ensures settled { IfOk result (λ ran. IsTrue ran.verdict.is_settled ↔ IsSettled profile (script_tree (map line_of lines.now)) no_names input.now (files store.old)) }
+    ensures large { IfErr result (IsDue (Outgrows profile (script_tree (map line_of lines.now)) input.now (files store.old))) }
 {
     let mut rest = input;
     let mut verdict = Verdict::firm(alloc);
     let mut spans = None;
     for (i, line) in lines.iter().enumerate() {
-        let ran = run_line(alloc, line, rest, store, out)?;
+        let ran = run_line(alloc, profile, line, rest, store, out)?;
         rest = ran.rest;
         let is_met = is_met_beside(alloc, &mut spans, lines, i, ran.verdict.soft.as_slice())?;
         verdict = with_line(verdict, line, is_met, ran.verdict)?;
@@ -174,7 +245,7 @@ fn run_lines<'i, A: Allocator + Copy, B: Allocator>(
     Ok(Ran { rest, verdict })
 }
 
-/// Runs a script on this standard input and these files by its recursive meaning (own): each command
+/// Runs a script on this standard input and these files by its recursive meaning under its profile (own): each command
 /// on whole byte strings, a pipe's left side to its end before its right side, line after line. A
 /// command under `&` is run to its end in its place.
 ///
@@ -194,20 +265,27 @@ pub fn plain<A: Allocator + Copy, B: Allocator, C: Allocator>(
     stdin: &[u8],
     given: &Files<C>,
 ) -> Result<Plain<A>, PlainFault>
-    ensures out { IfOk result (λ p. p.out ≡ (script_meaning (lines_of script.now.lines) stdin.now (files given.now)).out) }
-    ensures rest { IfOk result (λ p. p.rest ≡ (script_meaning (lines_of script.now.lines) stdin.now (files given.now)).rest) }
-    ensures files { IfOk result (λ p. (name : List ℕ) → files p.files name ≡ (script_meaning (lines_of script.now.lines) stdin.now (files given.now)).files name) }
-    ensures settled { IfOk result (λ p. IsTrue p.settled ↔ IsSettledScript (lines_of script.now.lines) stdin.now (files given.now)) }
-    ensures soft { IfOk result (λ p. (name : List ℕ) → Contains p.soft name ↔ ((script_meaning (lines_of script.now.lines) stdin.now (files given.now)).soft name ≡ true)) }
+    ensures out { IfOk result (λ p. p.out ≡ (script_meaning script.now.profile (lines_of script.now.lines) stdin.now (files given.now)).out) }
+    ensures rest { IfOk result (λ p. p.rest ≡ (script_meaning script.now.profile (lines_of script.now.lines) stdin.now (files given.now)).rest) }
+    ensures files { IfOk result (λ p. (name : List ℕ) → files p.files name ≡ (script_meaning script.now.profile (lines_of script.now.lines) stdin.now (files given.now)).files name) }
+    ensures settled { IfOk result (λ p. IsTrue p.settled ↔ IsSettledScript script.now.profile (lines_of script.now.lines) stdin.now (files given.now)) }
+    ensures soft { IfOk result (λ p. (name : List ℕ) → Contains p.soft name ↔ ((script_meaning script.now.profile (lines_of script.now.lines) stdin.now (files given.now)).soft name ≡ true)) }
     ensures soft_order { IfOk result (λ p. IsStrictlySortedBy name_cmp p.soft) }
-    ensures large { IfErr result (IsDue (Outgrows (script_tree (lines_of script.now.lines)) stdin.now (files given.now))) }
+    ensures large { IfErr result (IsDue (Outgrows script.now.profile (script_tree (lines_of script.now.lines)) stdin.now (files given.now))) }
 {
     let mut store = match given.copy(alloc) {
         Ok(store) => store,
         Err(_) => return Err(PlainFault::Memory),
     };
     let mut out = Vec::new(alloc);
-    let ran = run_lines(alloc, script.lines.as_slice(), stdin, &mut store, &mut out)?;
+    let ran = run_lines(
+        alloc,
+        script.profile,
+        script.lines.as_slice(),
+        stdin,
+        &mut store,
+        &mut out,
+    )?;
     let settled = are_clear(script.lines.as_slice()) && ran.verdict.is_settled;
     Ok(Plain {
         out: Bytes::from_vec(out),

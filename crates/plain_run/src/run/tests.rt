@@ -1,7 +1,7 @@
 use super::*;
 use linked_list_allocator::LocalHeap;
 use mem_files::{FilesFault, MAX_FILES, MAX_SIZE};
-use script_load::load;
+use script_load::{Profile, load, load_with};
 use std::alloc::Global;
 use std::process::Abort;
 use std::test::Fail;
@@ -77,6 +77,69 @@ fn redirects(rt: HostRuntime) -> Result<(), Fail> {
         &[("f", b"".as_slice())],
     )?;
     expect(&rt, "(echo a > f) &", &[], "", &[("f", b"a\n".as_slice())])?;
+    Ok(())
+}
+
+// What `>>` means to a script is told by its profile: it writes over a file from its beginning, or at its
+// end.
+#[test]
+fn over_means_what_the_profile_says(rt: HostRuntime) -> Result<(), Fail> {
+    let alloc = rt.alloc();
+    let big = "0123456789ab\n".repeat(alloc, 100)?;
+    // the script, what f holds before, and under each profile the output and what f holds in the end
+    let rows = [
+        (
+            "echo hello > f; echo J >> f; cat f",
+            "",
+            ("J\nllo\n", "J\nllo\n"),
+            ("hello\nJ\n", "hello\nJ\n"),
+        ),
+        (
+            "(echo a; echo b) >> f",
+            "z\n",
+            ("", "a\nb\n"),
+            ("", "z\na\nb\n"),
+        ),
+        ("echo a >> g; cat g", "z", ("a\n", "z"), ("a\n", "z")),
+    ];
+    for (script, held, xv6, append) in rows {
+        for (profile, want) in [(Profile::Xv6, xv6), (Profile::Append, append)] {
+            let script = load_with(alloc, script.as_bytes(), profile)?;
+            let given = files_of(alloc, &[("f", held.as_bytes())])?;
+            let outcome = plain(alloc, &script, &[], &given)?;
+            assert_eq!(rt; outcome.out.as_slice(), want.0.as_bytes());
+            assert!(rt; outcome.files.get(b"f".as_slice()) == Some(want.1.as_bytes()));
+            assert!(rt; outcome.settled);
+        }
+    }
+    let counted = [
+        (Profile::Xv6, "100 100 1300 f\n"),
+        (Profile::Append, "200 200 2600 f\n"),
+    ];
+    for (profile, want) in counted {
+        let script = load_with(alloc, b"cat big >> f; wc f".as_slice(), profile)?;
+        let given = files_of(alloc, &[("big", big.as_bytes()), ("f", big.as_bytes())])?;
+        let outcome = plain(alloc, &script, &[], &given)?;
+        assert_eq!(rt; outcome.out.as_slice(), want.as_bytes());
+    }
+    Ok(())
+}
+
+#[test]
+fn a_file_that_is_appended_to_may_grow_too_large(rt: HostRuntime) -> Result<(), Fail> {
+    let alloc = rt.alloc();
+    let large = "x".repeat(alloc, MAX_SIZE)?;
+    let given = files_of(alloc, &[("a", large.as_bytes()), ("f", b"y".as_slice())])?;
+    let over = load_with(alloc, b"cat a >> f".as_slice(), Profile::Xv6)?;
+    let outcome = plain(alloc, &over, &[], &given)?;
+    assert!(rt; outcome.files.get(b"f".as_slice()) == Some(large.as_bytes()));
+    let append = load_with(alloc, b"cat a >> f".as_slice(), Profile::Append)?;
+    assert!(rt;
+        matches!(
+            plain(alloc, &append, &[], &given),
+            Err(PlainFault::TooLarge)
+        )
+    );
     Ok(())
 }
 

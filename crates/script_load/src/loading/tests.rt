@@ -7,6 +7,7 @@ fn keeps_bad_lines(rt: HostRuntime) -> Result<(), Fail> {
     let bytes = b"echo 1 2 3 4 5 6 7 8\necho 1 2 3 4 5 6 7 8 9\ncd x\n\nlast".as_slice();
     let script = load(rt.alloc(), bytes)?;
     let lines = script.lines.as_slice();
+    assert_eq!(rt; script.profile, Profile::Xv6);
     assert_eq!(rt; lines.len(), 5);
     assert!(rt; matches!(&lines[0], Line::Tree(_)));
     let Line::Bad(fault, text) = &lines[1] else {
@@ -67,8 +68,11 @@ fn refused_memory_is_told(rt: HostRuntime) -> Result<(), Fail> {
     let mut refused = 0;
     for blocks in 1..400 {
         let heap = LocalHeap::new(rt.alloc(), blocks * 16)?;
-        match load(&heap, bytes) {
-            Ok(script) => assert_eq!(rt; script.lines.as_slice().len(), 3),
+        match load_with(&heap, bytes, Profile::Append) {
+            Ok(script) => {
+                assert_eq!(rt; script.lines.as_slice().len(), 3);
+                assert_eq!(rt; script.profile, Profile::Append);
+            }
             Err(fault) => {
                 assert_eq!(rt; fault, LoadFault::Memory);
                 refused = blocks;

@@ -10,8 +10,8 @@ use Rattle.plain_run.proofs.run.run_lines.Given as goal
 -- the lines that are left complete what was done and told
 abbrev pub invariant-loop-i : goal.invariant-loop-i
 invariant-loop-i g l = record {
-  runs : IsRunTo (map line_of l.lines) l.fn.input (files l.fn.store) l.fn.out.items (map line_of (drop l.i l.lines)) l.rest (files l.store) l.out.items;
-  tells : IsToldTo (map line_of l.lines) l.fn.input (files l.fn.store) (map line_of (drop l.i l.lines)) l.rest (files l.store) l.verdict.is_loose l.verdict.soft.items;
+  runs : IsRunTo l.profile (map line_of l.lines) l.fn.input (files l.fn.store) l.fn.out.items (map line_of (drop l.i l.lines)) l.rest (files l.store) l.out.items;
+  tells : IsToldTo l.profile (map line_of l.lines) l.fn.input (files l.fn.store) (map line_of (drop l.i l.lines)) l.rest (files l.store) l.verdict.is_loose l.verdict.soft.items;
   told : IfSome l.spans (AreSpans l.lines);
-  settled : IsSettledTo (map line_of l.lines) l.fn.input (files l.fn.store) (all_names (take l.i l.lines)) (map line_of (drop l.i l.lines)) l.rest (files l.store) l.verdict.is_settled l.verdict.is_loose;
+  settled : IsSettledTo l.profile (map line_of l.lines) l.fn.input (files l.fn.store) (all_names (take l.i l.lines)) (map line_of (drop l.i l.lines)) l.rest (files l.store) l.verdict.is_settled l.verdict.is_loose;
 }

@@ -1,0 +1,127 @@
+-- Each node's value is made of what its parts gave, and each fault that a part told is due.
+use Rattle.std.proofs.Common.{◌≡◌, ◌<◌, ◌↔◌, IsTrue, true, ap, sym, ◌∙◌, subst, Ok, Some, ◌||◌, ◌&&◌, [], length}
+use Rattle.std.specs.Prelude.{option_copied}
+use Rattle.std.proofs.lemmas.Result.{err_from_is_err_and}
+use Rattle.sh_tree.specs.Tree.{tree_of}
+use Rattle.mem_files.specs.Name.{is_openable}
+use Rattle.mem_files.specs.Files.{files, with_file}
+use Rattle.mem_files.specs.Listing.{max_size}
+use Rattle.prog_parts.specs.NameSets.{no_names}
+use Rattle.sh_meaning.specs.Inputs.{found}
+use Rattle.sh_meaning.specs.Limits.{Outgrows}
+use Rattle.sh_meaning.specs.Meaning.{meaning, over_end}
+use Rattle.sh_meaning.specs.Settled.{IsSettled}
+use Rattle.plain_progs.specs.Gives.{Gives, IsDue}
+use Rattle.plain_run.specs.Tells.{Tells}
+use Rattle.plain_run.proofs.Settling.{into_settled, from_settled, list_is_settled, pipe_is_settled}
+use Rattle.plain_run.proofs.Steps.{due_right, due_later, list_gives, still_there, into_gives, due_body, due_end}
+use Rattle.plain_run.proofs.Verdicts.{into_tells, list_tells, pipe_tells}
+use Rattle.plain_run.proofs.run.+tree.Goals as goal
+
+pub run_from_file-returns-clause-settled : goal.run_from_file-returns-clause-settled
+run_from_file-returns-clause-settled g t c =
+    let T = tree_of c.args.body.now in
+    let is : found (files c.args.store.now) c.args.name.now ≡ Some c.as_slice.result.now =
+    sym c.find.ensures ∙ ap option_copied c.in-Some.is ∙ ap Some (sym (c.as_slice.ensures ∙ c.in_ok-bytes.ensures))
+    in
+    from_settled c.args.profile c.args.name.now T c.args.input.now c.as_slice.result.now (files c.args.store.now) c.in_ok-ran.ran.verdict.soft.items c.in_ok-ran.ran.verdict.is_settled c.from_file.result.is_settled is c.in_ok-ran.ensures.tells.soft c.in_ok-ran.ensures.settled c.from_file.ensures.settled
+
+pub run_into_file-returns-in_err-ran-clause-large : goal.run_into_file-returns-in_err-ran-clause-large
+run_into_file-returns-in_err-ran-clause-large g t c =
+    let p = err_from_is_err_and c.from_residual-in_err-ran.result c.from_residual-in_err-ran.ensures.1 in
+    let open' = c.in_ok-open_output.ensures.opened (ap Ok c.if-not-branch.false) in
+    let good : is_openable c.args.name.now ≡ true = sym c.in_ok-open_output.ensures.answer ∙ c.if-not-branch.false in
+    rw (p.1, p.2) (due_body c.args.profile c.args.mode c.args.name.now (tree_of c.args.body.now) c.args.input.now (files c.args.store.now) (files c.open_output.new.store) c.in_err-ran.field-0.0 c.requires good open' c.in_err-ran.ensures.large)
+
+pub run_into_file-close_output-requires-clause-present : goal.run_into_file-close_output-requires-clause-present
+run_into_file-close_output-requires-clause-present g t c =
+    let T = tree_of c.args.body.now in
+    let open' = c.in_ok-open_output.ensures.opened (ap Ok c.if-not-branch.false) in
+    let gives = subst (λ F. Gives (meaning c.args.profile T c.args.input.now F) [] c.run_tree.new.out.items c.in_ok-ran.ran.rest.now (files c.run_tree.new.store)) open'
+    (subst (λ none. Gives (meaning c.args.profile T c.args.input.now (files c.open_output.new.store)) none c.run_tree.new.out.items c.in_ok-ran.ran.rest.now (files c.run_tree.new.store)) c.new-written.ensures.items c.in_ok-ran.ensures.gives)
+    in
+    still_there c.args.profile c.args.mode c.args.name.now T c.args.input.now c.run_tree.new.out.items c.in_ok-ran.ran.rest.now (files c.args.store.now) (files c.run_tree.new.store) c.requires gives
+
+pub run_into_file-returns-in_err-close_output-clause-large : goal.run_into_file-returns-in_err-close_output-clause-large
+run_into_file-returns-in_err-close_output-clause-large g t c =
+    let T = tree_of c.args.body.now in
+    let p = err_from_is_err_and c.from_residual-in_err-close_output.result c.from_residual-in_err-close_output.ensures.1 in
+    let open' = c.in_ok-open_output.ensures.opened (ap Ok c.if-not-branch.false) in
+    let good : is_openable c.args.name.now ≡ true = sym c.in_ok-open_output.ensures.answer ∙ c.if-not-branch.false in
+    let gives = subst (λ F. Gives (meaning c.args.profile T c.args.input.now F) [] c.run_tree.new.out.items c.in_ok-ran.ran.rest.now (files c.run_tree.new.store)) open'
+    (subst (λ none. Gives (meaning c.args.profile T c.args.input.now (files c.open_output.new.store)) none c.run_tree.new.out.items c.in_ok-ran.ran.rest.now (files c.run_tree.new.store)) c.new-written.ensures.items c.in_ok-ran.ensures.gives)
+    in
+    let large = subst (λ h. IsDue (max_size < length (over_end c.args.profile h c.run_tree.new.out.items)) c.in_err-close_output.field-0.0) c.in_ok-held.ensures c.in_err-close_output.ensures.large in
+    rw (p.1, p.2) (due_end c.args.profile c.args.mode c.args.name.now T c.args.input.now c.run_tree.new.out.items c.in_ok-ran.ran.rest.now (files c.args.store.now) (files c.run_tree.new.store) c.in_err-close_output.field-0.0 c.requires good gives large)
+
+pub run_into_file-returns-clause-gives : goal.run_into_file-returns-clause-gives
+run_into_file-returns-clause-gives g t c =
+    let T = tree_of c.args.body.now in
+    let open' = c.in_ok-open_output.ensures.opened (ap Ok c.if-not-branch.false) in
+    let good : is_openable c.args.name.now ≡ true = sym c.in_ok-open_output.ensures.answer ∙ c.if-not-branch.false in
+    let gives = subst (λ F. Gives (meaning c.args.profile T c.args.input.now F) [] c.run_tree.new.out.items c.in_ok-ran.ran.rest.now (files c.run_tree.new.store)) open'
+    (subst (λ none. Gives (meaning c.args.profile T c.args.input.now (files c.open_output.new.store)) none c.run_tree.new.out.items c.in_ok-ran.ran.rest.now (files c.run_tree.new.store)) c.new-written.ensures.items c.in_ok-ran.ensures.gives)
+    in
+    let end = c.in_ok-close_output.ensures.closed ∙ ap (λ h. with_file (files c.run_tree.new.store) c.args.name.now (over_end c.args.profile h c.run_tree.new.out.items)) c.in_ok-held.ensures in
+    λ old. into_gives c.args.profile c.args.mode c.args.name.now T c.args.input.now old c.run_tree.new.out.items c.in_ok-ran.ran.rest.now (files c.args.store.now) (files c.run_tree.new.store) (files c.close_output.new.store) c.requires good gives end
+
+pub run_into_file-returns-clause-tells : goal.run_into_file-returns-clause-tells
+run_into_file-returns-clause-tells g t c =
+    let open' = c.in_ok-open_output.ensures.opened (ap Ok c.if-not-branch.false) in
+    let good : is_openable c.args.name.now ≡ true = sym c.in_ok-open_output.ensures.answer ∙ c.if-not-branch.false in
+    into_tells c.args.profile c.args.mode c.args.name.now (tree_of c.args.body.now) c.args.input.now (files c.args.store.now) (files c.open_output.new.store) c.in_ok-ran.ran.verdict.is_loose c.into_file.result.is_loose c.in_ok-ran.ran.verdict.soft.items c.into_file.result.soft.items c.requires good open' c.in_ok-ran.ensures.tells c.into_file.ensures.loose c.into_file.ensures.soft
+
+pub run_into_file-returns-clause-settled : goal.run_into_file-returns-clause-settled
+run_into_file-returns-clause-settled g t c =
+    let open' = c.in_ok-open_output.ensures.opened (ap Ok c.if-not-branch.false) in
+    let good : is_openable c.args.name.now ≡ true = sym c.in_ok-open_output.ensures.answer ∙ c.if-not-branch.false in
+    into_settled c.args.profile c.args.mode c.args.name.now (tree_of c.args.body.now) c.args.input.now (files c.args.store.now) (files c.open_output.new.store) c.in_ok-ran.ran.verdict.soft.items c.in_ok-ran.ran.verdict.is_settled c.into_file.result.is_settled c.requires good open' c.in_ok-ran.ensures.tells.soft c.in_ok-ran.ensures.settled c.into_file.ensures.settled
+
+pub run_list-returns-in_err-second-clause-large : goal.run_list-returns-in_err-second-clause-large
+run_list-returns-in_err-second-clause-large g t c =
+    let p = err_from_is_err_and c.from_residual-in_err-second.result c.from_residual-in_err-second.ensures.1 in
+    rw (p.1, p.2) (due_later c.args.profile (tree_of c.args.left.now) (tree_of c.args.right.now) c.args.input.now c.args.out.now.items c.run_tree.new.out.items c.in_ok-first.first.rest.now (files c.args.store.now) (files c.run_tree.new.store) c.in_err-second.field-0.0 c.in_ok-first.ensures.gives c.in_err-second.ensures.large)
+
+pub run_list-returns-clause-gives : goal.run_list-returns-clause-gives
+run_list-returns-clause-gives g t c =
+    list_gives c.args.profile (tree_of c.args.left.now) (tree_of c.args.right.now) c.args.input.now c.args.out.now.items c.run_tree.new.out.items c.run_tree-2.new.out.items c.in_ok-first.first.rest.now c.in_ok-second.second.rest.now (files c.args.store.now) (files c.run_tree.new.store) (files c.run_tree-2.new.store) c.in_ok-first.ensures.gives c.in_ok-second.ensures.gives
+
+pub run_list-returns-clause-tells : goal.run_list-returns-clause-tells
+run_list-returns-clause-tells g t c =
+    list_tells c.args.profile (tree_of c.args.left.now) (tree_of c.args.right.now) c.args.input.now c.args.out.now.items c.run_tree.new.out.items c.in_ok-first.first.rest.now (files c.args.store.now) (files c.run_tree.new.store) c.in_ok-first.first.verdict.is_loose c.in_ok-second.second.verdict.is_loose c.in_ok-verdict.verdict.is_loose c.in_ok-first.first.verdict.soft.items c.in_ok-second.second.verdict.soft.items c.in_ok-verdict.verdict.soft.items c.in_ok-first.ensures.gives c.in_ok-first.ensures.tells c.in_ok-second.ensures.tells c.in_ok-verdict.ensures.loose c.in_ok-verdict.ensures.soft
+
+pub run_list-returns-clause-settled : goal.run_list-returns-clause-settled
+run_list-returns-clause-settled g t c =
+    let V = c.in_ok-first.first.verdict in
+    let W = c.in_ok-second.second.verdict in
+    list_is_settled c.args.profile (tree_of c.args.left.now) (tree_of c.args.right.now) c.args.input.now c.args.out.now.items c.run_tree.new.out.items c.in_ok-first.first.rest.now (files c.args.store.now) (files c.run_tree.new.store) V.is_settled W.is_settled c.in_ok-verdict.verdict.is_settled V.is_loose W.is_loose V.soft.items W.soft.items c.in_ok-first.ensures.gives c.in_ok-first.ensures.tells c.in_ok-second.ensures.tells c.in_ok-first.ensures.settled c.in_ok-second.ensures.settled c.in_ok-verdict.ensures.settled
+
+pub run_pipe-returns-in_err-second-clause-large : goal.run_pipe-returns-in_err-second-clause-large
+run_pipe-returns-in_err-second-clause-large g t c =
+    let L = tree_of c.args.left.now in
+    let R = tree_of c.args.right.now in
+    let p = err_from_is_err_and c.from_residual-in_err-second.result c.from_residual-in_err-second.ensures.1 in
+    let first = subst (λ none. Gives (meaning c.args.profile L c.args.input.now (files c.args.store.now)) none c.run_tree.new.out.items c.in_ok-first.first.rest.now (files c.run_tree.new.store)) c.new-middle.ensures.items c.in_ok-first.ensures.gives in
+    let large = subst (λ m. IsDue (Outgrows c.args.profile R m (files c.run_tree.new.store)) c.in_err-second.field-0.0) c.as_slice.ensures.value c.in_err-second.ensures.large in
+    rw (p.1, p.2) (due_right c.args.profile L R c.args.input.now c.run_tree.new.out.items c.in_ok-first.first.rest.now (files c.args.store.now) (files c.run_tree.new.store) c.in_err-second.field-0.0 first large)
+
+pub run_pipe-returns-clause-tells : goal.run_pipe-returns-clause-tells
+run_pipe-returns-clause-tells g t c =
+    let L = tree_of c.args.left.now in
+    let R = tree_of c.args.right.now in
+    let first = subst (λ none. Gives (meaning c.args.profile L c.args.input.now (files c.args.store.now)) none c.run_tree.new.out.items c.in_ok-first.first.rest.now (files c.run_tree.new.store)) c.new-middle.ensures.items c.in_ok-first.ensures.gives in
+    let unread = subst (λ m. c.in_ok-second.second.rest.now ≡ (meaning c.args.profile R m (files c.run_tree.new.store)).rest) c.as_slice.ensures.value c.in_ok-second.ensures.gives.rest in
+    let told = subst (λ m. Tells (meaning c.args.profile R m (files c.run_tree.new.store)) c.in_ok-second.second.verdict.is_loose c.in_ok-second.second.verdict.soft.items) c.as_slice.ensures.value c.in_ok-second.ensures.tells in
+    pipe_tells c.args.profile L R c.args.input.now c.run_tree.new.out.items c.in_ok-first.first.rest.now c.in_ok-second.second.rest.now (files c.args.store.now) (files c.run_tree.new.store) c.is_cut-is_cut.result c.in_ok-first.first.verdict.is_loose c.in_ok-second.second.verdict.is_loose c.in_ok-verdict.verdict.is_loose c.in_ok-first.first.verdict.soft.items c.in_ok-second.second.verdict.soft.items c.in_ok-verdict.verdict.soft.items first c.in_ok-first.ensures.tells unread told c.is_cut-is_cut.ensures c.in_ok-verdict.ensures.loose c.in_ok-verdict.ensures.soft
+
+pub run_pipe-returns-clause-settled : goal.run_pipe-returns-clause-settled
+run_pipe-returns-clause-settled g t c =
+    let L = tree_of c.args.left.now in
+    let R = tree_of c.args.right.now in
+    let first = subst (λ none. Gives (meaning c.args.profile L c.args.input.now (files c.args.store.now)) none c.run_tree.new.out.items c.in_ok-first.first.rest.now (files c.run_tree.new.store)) c.new-middle.ensures.items c.in_ok-first.ensures.gives in
+    let unread = subst (λ m. c.in_ok-second.second.rest.now ≡ (meaning c.args.profile R m (files c.run_tree.new.store)).rest) c.as_slice.ensures.value c.in_ok-second.ensures.gives.rest in
+    let told = subst (λ m. Tells (meaning c.args.profile R m (files c.run_tree.new.store)) c.in_ok-second.second.verdict.is_loose c.in_ok-second.second.verdict.soft.items) c.as_slice.ensures.value c.in_ok-second.ensures.tells in
+    let right = subst (λ m. IsTrue c.in_ok-second.second.verdict.is_settled ↔ IsSettled c.args.profile R no_names m (files c.run_tree.new.store)) c.as_slice.ensures.value c.in_ok-second.ensures.settled in
+    let V = c.in_ok-first.first.verdict in
+    let W = c.in_ok-second.second.verdict in
+    pipe_is_settled c.args.profile L R c.args.input.now c.run_tree.new.out.items c.in_ok-first.first.rest.now c.in_ok-second.second.rest.now (files c.args.store.now) (files c.run_tree.new.store) c.is_cut-is_cut.result V.is_settled W.is_settled c.in_ok-verdict.verdict.is_settled V.is_loose W.is_loose V.soft.items W.soft.items first c.in_ok-first.ensures.tells unread told c.is_cut-is_cut.ensures c.in_ok-first.ensures.settled right c.in_ok-verdict.ensures.settled
