@@ -47,7 +47,8 @@ impl Name {
     }
 }
 
-/// How a file was opened (xv6's `O_RDONLY`, `O_WRONLY | O_CREATE | O_TRUNC` and `O_WRONLY | O_CREATE`).
+/// How a file was opened (xv6's `O_RDONLY`, `O_WRONLY | O_CREATE | O_TRUNC` and `O_WRONLY | O_CREATE`; the last is own:
+/// a file opened by `>>` in the profile in which `>>` appends).
 #[derive(Clone, Copy, Debug, PartialEq, Eq)]
 pub enum Mode {
     /// For reading.
@@ -56,6 +57,8 @@ pub enum Mode {
     Fresh,
     /// For writing, over the bytes that are there.
     Over,
+    /// For writing, where each write goes to the end of the file as it is then.
+    Append,
 }
 
 /// What an entry is open on (the `type` of xv6's `struct file`; the three standard streams in place of a console are

@@ -4,7 +4,8 @@ ghost use Rattle.std.specs.Prelude.{◌≡◌, ◌↔◌, IsTrue};
 
 use crate::Block;
 
-/// How a file is opened (xv6's `O_RDONLY`, `O_WRONLY | O_CREATE | O_TRUNC` and `O_WRONLY | O_CREATE`).
+/// How a file is opened (xv6's `O_RDONLY`, `O_WRONLY | O_CREATE | O_TRUNC` and `O_WRONLY | O_CREATE`; the last is own:
+/// the profile in which `>>` appends opens its file by it).
 #[derive(Clone, Copy, Debug, PartialEq, Eq)]
 pub enum Mode {
     /// For reading.
@@ -13,6 +14,8 @@ pub enum Mode {
     Fresh,
     /// For writing, over the bytes that are there.
     Over,
+    /// For writing, where each write goes to the end of the file as it is then.
+    Append,
 }
 
 /// A system call. Descriptors are numbers from 0.
