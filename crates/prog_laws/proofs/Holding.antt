@@ -33,7 +33,7 @@ use Rattle.prog_laws.proofs.Next.{Goes, turn_next}
 use Rattle.prog_laws.proofs.Waiting.{IsOwnCall, own_call}
 use Rattle.prog_laws.proofs.Shrinking.{opens_shrink, writes_shrink}
 
-neither : (a b : Bool) → a ≡ false → b ≡ false → (a || b) ≡ false
+pub neither : (a b : Bool) → a ≡ false → b ≡ false → (a || b) ≡ false
 neither true b e f = e
 neither false b e f = f
 
@@ -86,7 +86,7 @@ given_append (fd ∷ fds) more own name =
     ∙ sym (or_assoc (is_held (held own fd) name) (is_given fds own name) (is_given more own name))
     ∙ ap (λ (t : Bool). t || is_given more own name) (sym (given_cons (held own fd) name (place_in fds own name)))
 
-cut_given : (at : ℕ) (fds : List ℕ) (own : List OwnFile) (name : Name) → is_given fds own name ≡ (is_given (take at fds) own name || is_given (drop at fds) own name)
+pub cut_given : (at : ℕ) (fds : List ℕ) (own : List OwnFile) (name : Name) → is_given fds own name ≡ (is_given (take at fds) own name || is_given (drop at fds) own name)
 cut_given at fds own name = ap (λ (ds : List ℕ). is_given ds own name) (sym (take-append-drop at fds)) ∙ given_append (take at fds) (drop at fds) own name
 
 write_given : (fds : List ℕ) (fd : ℕ) (bytes : Bytes) (said : Answer (Unit {0})) (world : World) (name : Name) → is_given fds (after_write fd bytes said world).own name ≡ is_given fds world.own name
@@ -102,10 +102,10 @@ write_given fds (suc (suc (suc fd))) bytes (yields done) world name = go (held w
     go (Some f) = given_moved fds world.own f.fd (length bytes) name
 
 -- after a turn, no file of this name is open
-abbrev HoldsNone : Name → Turn → World → Type 0
+abbrev pub HoldsNone : Name → Turn → World → Type 0
 HoldsNone name turn world = holds turn.next world name ≡ false
 
-step_none : (name : Name) (step : Step) (filter : Filter) (source : Source) (world : World) → source_holds source world name ≡ false → HoldsNone name (turn_by step filter source) world
+pub step_none : (name : Name) (step : Step) (filter : Filter) (source : Source) (world : World) → source_holds source world name ≡ false → HoldsNone name (turn_by step filter source) world
 step_none name (reads most work) filter source world none = none
 step_none name (writes bytes work) filter source world none = none
 step_none name finishes filter standard world none = refl
@@ -125,15 +125,15 @@ head_none : (name : Name) (wrong : Bool) (arguments : List Bytes) (world : World
 head_none name true arguments world = refl
 head_none name false arguments world = filter_none name (heading (line_count arguments)) (head_files arguments) world
 
-echo_none : (name : Name) (arguments : List Bytes) (world : World) → HoldsNone name (echo_next arguments) world
+pub echo_none : (name : Name) (arguments : List Bytes) (world : World) → HoldsNone name (echo_next arguments) world
 echo_none name [] world = refl
 echo_none name (argument ∷ later) world = refl
 
-echo_end_none : (name : Name) (later : List Bytes) (world : World) → HoldsNone name (echo_end later) world
+pub echo_end_none : (name : Name) (later : List Bytes) (world : World) → HoldsNone name (echo_end later) world
 echo_end_none name [] world = refl
 echo_end_none name (argument ∷ later) world = refl
 
-tee_next_none : (name : Name) (fds : List ℕ) (names : List Name) (world : World) → is_given fds world.own name ≡ false → HoldsNone name (tee_opens_next fds names) world
+pub tee_next_none : (name : Name) (fds : List ℕ) (names : List Name) (world : World) → is_given fds world.own name ≡ false → HoldsNone name (tee_opens_next fds names) world
 tee_next_none name fds [] world none = none
 tee_next_none name fds (current ∷ later) world none = none
 
@@ -253,7 +253,7 @@ holds_none name told call reply world waits may ahead none = refl
 holds_none name ended call reply world waits may ahead none = refl
 
 -- only tee holds files to write, and it holds no others
-written_held : (state : State) (world : World) (name : Name) → holds state world name ≡ false → holds_to_write state world name ≡ false
+pub written_held : (state : State) (world : World) (name : Name) → holds state world name ≡ false → holds_to_write state world name ≡ false
 written_held (begins program arguments) world name none = refl
 written_held (echo_word later) world name none = refl
 written_held (echo_space later) world name none = refl
