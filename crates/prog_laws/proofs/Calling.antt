@@ -1,6 +1,6 @@
 -- What the call may be for whose reply a state waits.
 use Rattle.std.proofs.Common.{◌≡◌, ◌∙◌, ℕ, zero, suc, ◌+◌, ◌-◌, ◌<◌, ◌≤◌, Bool, true, false, List, [], ◌∷◌, length, take, drop, Option, Some, None, refl, sym, ap, subst, arith}
-use Rattle.std.specs.Prelude.{◌||◌, if◌then◌else◌, slice_index_or}
+use Rattle.std.specs.Prelude.{if◌then◌else◌, slice_index_or}
 use Rattle.std.specs.Str.{bytes_eq}
 use Rattle.std.specs.Option.{is_some}
 use Rattle.std.proofs.lemmas.List.{take_all, drop_more}
@@ -9,11 +9,10 @@ use Rattle.mem_files.specs.Files.{FileMap}
 use Rattle.conflict_check.specs.Names.{among}
 use Rattle.user_calls.specs.declared.block.TheConstants.{BLOCK_SIZE}
 use Rattle.user_calls.specs.declared.calls.Call.{Call}
-use Rattle.user_calls.specs.declared.calls.Call.TheVariants.{Read, Write}
+use Rattle.user_calls.specs.declared.calls.Call.TheVariants.{Read}
 use Rattle.script_load.specs.Inputs.{found}
 use Rattle.user_progs.specs.State.{Source, standard, file, Work, cat_reads, cat_writes, head_reads, head_writes, wc_reads, wc_writes, grep_reads, grep_writes, Tee, tee_opens, tee_reads, tee_writes, tee_gives, State, begins, echo_word, echo_space, opens, works, closes, tees, told, ended}
 use Rattle.user_progs.specs.Turn.{block, fd_of}
-use Rattle.prog_laws.specs.Ahead.{still_opens}
 use Rattle.prog_laws.specs.Alone.{OwnFile, World, held}
 use Rattle.prog_laws.specs.Given.{place_or, place_in, IsAt, AreAt}
 use Rattle.prog_laws.specs.Waits.{IsWrite, IsHeld, IsOpen, WorkWaits, TeeWaits, Waits}

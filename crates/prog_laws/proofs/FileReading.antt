@@ -1,6 +1,6 @@
 -- What a program reads of its files is less that it may still read of them; larger files are more to read.
-use Rattle.std.proofs.Common.{◌≡◌, ◌∙◌, ◌⊎◌, inl, inr, ℕ, zero, suc, ◌+◌, ◌-◌, ◌≤◌, ◌==◌, nat_lt, Bool, true, false, List, [], ◌∷◌, ◌++◌, length, drop, Option, Some, None, refl, sym, ap, subst, arith}
-use Rattle.std.specs.Prelude.{◌||◌, if◌then◌else◌, slice_index_or}
+use Rattle.std.proofs.Common.{◌≡◌, ◌∙◌, inl, inr, ℕ, zero, suc, ◌+◌, ◌-◌, ◌≤◌, ◌==◌, nat_lt, Bool, true, false, List, [], ◌∷◌, ◌++◌, length, drop, Option, Some, None, refl, sym, ap, subst, arith}
+use Rattle.std.specs.Prelude.{if◌then◌else◌, slice_index_or}
 use Rattle.std.specs.Str.{bytes_eq}
 use Rattle.std.proofs.lemmas.Bool.{eq-eqb}
 use Rattle.std.proofs.lemmas.List.{take_all, length-drop, length-append}
@@ -15,22 +15,20 @@ use Rattle.user_calls.specs.declared.calls.Mode.TheVariants.{Input}
 use Rattle.user_calls.specs.declared.calls.Call.{Call}
 use Rattle.user_calls.specs.declared.calls.Call.TheVariants.{Read, Write, OpenFile, Close}
 use Rattle.user_calls.specs.declared.calls.Reply.{Reply}
-use Rattle.user_calls.specs.declared.calls.Reply.TheVariants.{Done, Bytes as Bytes', Fd, Refused}
+use Rattle.user_calls.specs.declared.calls.Reply.TheVariants.{Done, Bytes as Bytes', Refused}
 use Rattle.script_load.specs.Inputs.{found}
 use Rattle.script_load.specs.Head.{line_count}
 use Rattle.user_progs.specs.State.{Filter, copying, heading, counting, searching, Source, standard, file, Work, Tee, tee_opens, tee_reads, tee_writes, tee_gives, State, begins, echo_word, echo_space, opens, works, closes, tees, told, ended}
-use Rattle.user_progs.specs.Turn.{Answer, yields, denies, strays, Step, reads, writes, finishes, fails, quits, bytes_in, fd_in, done_in, block, turn, turn_by, first_step, work_step, filter_of, name_of, fd_of, opened_by, closed_by, begun_by, opens_next, begins_filter, begins_head, begins_program, echo_next, echo_end, tee_waits, tee_opens_next, tee_cannot_open, tee_opened, tee_got, tee_gives_next, tee_wrote, tee_turn}
-use Rattle.prog_laws.specs.Alone.{OwnFile, World, is_to_read, held, moved_on, left_of_file, left_at, Takes, MayOpen, May, done_if, after_read, after_write, after_call}
+use Rattle.user_progs.specs.Turn.{Answer, yields, denies, strays, Step, reads, writes, finishes, fails, quits, bytes_in, fd_in, done_in, block, turn, turn_by, first_step, work_step, filter_of, name_of, fd_of, closed_by, begun_by, opens_next, begins_filter, begins_head, begins_program, echo_next, echo_end, tee_waits, tee_opens_next, tee_cannot_open, tee_opened, tee_got, tee_wrote, tee_turn}
+use Rattle.prog_laws.specs.Alone.{OwnFile, World, is_to_read, held, moved_on, left_of_file, left_at, Takes, MayOpen, May, done_if, after_read, after_call}
 use Rattle.prog_laws.specs.Waits.{IsOpen, WorkWaits, TeeWaits, Waits}
-use Rattle.prog_laws.specs.Exits.{bytes_told}
 use Rattle.prog_laws.specs.Frame.{is_held, depends_on}
 use Rattle.prog_laws.specs.FilesAhead.{Sizes, sizes, left_in_file, all_sizes, source_ahead, files_ahead, read_of_file, from_files}
-use Rattle.prog_laws.proofs.Work.{left_over}
 use Rattle.prog_laws.proofs.Keeps.{heard_read, found_short}
 use Rattle.prog_laws.proofs.Teeing.{new_file}
 use Rattle.prog_laws.proofs.Waiting.{IsOwnCall, own_call}
 use Rattle.prog_laws.proofs.Framing.{itself, or_left, or_right}
-use Rattle.prog_laws.proofs.Reading.{with_input, opened_input}
+use Rattle.prog_laws.proofs.Reading.{opened_input}
 
 -- where it goes on, of which so many bytes were read
 step_ahead : (step : Step) (filter : Filter) (source : Source) (own after : List OwnFile) (L : Sizes) (count : ℕ) → source_ahead source after L + count ≤ source_ahead source own L →

@@ -1,9 +1,9 @@
 -- A program that runs alone reads no more bytes than its program function, also where writes are refused.
-use Rattle.std.proofs.Common.{◌≡◌, ◌∙◌, ◌⊎◌, inl, inr, ℕ, zero, suc, ◌+◌, ◌-◌, ◌<◌, ◌≤◌, nat_lt, Bool, true, false, List, [], ◌∷◌, ◌++◌, length, drop, Option, Some, None, refl, sym, ap, subst, arith}
+use Rattle.std.proofs.Common.{◌≡◌, ◌∙◌, inl, inr, ℕ, zero, suc, ◌+◌, ◌-◌, ◌<◌, ◌≤◌, nat_lt, Bool, true, false, List, [], ◌∷◌, ◌++◌, length, drop, Option, Some, None, refl, sym, ap, subst, arith}
 use Rattle.std.specs.Prelude.{◌&&◌, if◌then◌else◌, slice_index_or}
 use Rattle.std.proofs.lemmas.Bool.{eq-eqb}
 use Rattle.std.proofs.lemmas.List.{length-append, length-drop}
-use Rattle.mem_files.specs.Name.{Name, Bytes, is_openable}
+use Rattle.mem_files.specs.Name.{Name, Bytes}
 use Rattle.mem_files.specs.Files.{FileMap, bytes_of}
 use Rattle.conflict_check.specs.declared.program.Program.{Program}
 use Rattle.conflict_check.specs.declared.program.Program.TheVariants.{Cat, Echo, Grep, Head, Tee as Tee', Wc}
@@ -18,14 +18,14 @@ use Rattle.script_load.specs.Grep.{with_ends, tested, grep_left}
 use Rattle.script_load.specs.Head.{first_lines, line_count}
 use Rattle.script_load.specs.Tee.{are_openable}
 use Rattle.user_progs.specs.State.{Filter, copying, heading, counting, searching, Source, standard, file, Work, cat_reads, cat_writes, head_reads, head_writes, wc_reads, wc_writes, grep_reads, grep_writes, Tee, tee_opens, tee_reads, tee_writes, tee_gives, State, begins, echo_word, echo_space, opens, works, closes, tees, told, ended}
-use Rattle.user_progs.specs.Turn.{Answer, yields, denies, strays, Step, reads, writes, finishes, fails, quits, bytes_in, fd_in, done_in, block, turn, turn_by, first_step, work_step, filter_of, name_of, fd_of, opened_by, closed_by, begun_by, opens_next, begins_filter, begins_head, begins_program, echo_next, echo_end, tee_waits, tee_opens_next, tee_got, tee_gives_next, tee_wrote, tee_turn, head_goes_on, grep_goes_on}
-use Rattle.prog_laws.specs.Alone.{OwnFile, World, can_open, held, left_of_file, left_at, Takes, MayOpen, May, may_write, done_if, opened_files, after_read, after_file_write, after_done_write, after_write, after_call}
+use Rattle.user_progs.specs.Turn.{Answer, yields, denies, strays, Step, reads, writes, finishes, fails, quits, bytes_in, done_in, block, turn, turn_by, first_step, work_step, filter_of, name_of, fd_of, opens_next, begins_filter, begins_head, begins_program, echo_next, echo_end, tee_waits, tee_opens_next, tee_got, tee_gives_next, tee_wrote, tee_turn, head_goes_on, grep_goes_on}
+use Rattle.prog_laws.specs.Alone.{OwnFile, World, can_open, held, left_of_file, left_at, Takes, MayOpen, May, may_write, done_if, after_read, after_file_write, after_done_write, after_write, after_call}
 use Rattle.prog_laws.specs.Still.{work_rest}
-use Rattle.prog_laws.specs.Waits.{BeginsShort, IsWrite, IsOpen, WorkWaits, TeeWaits, Waits}
+use Rattle.prog_laws.specs.Waits.{IsWrite, IsOpen, WorkWaits, TeeWaits, Waits}
 use Rattle.prog_laws.specs.Exits.{bytes_told, bytes_read}
-use Rattle.prog_laws.specs.Reads.{unread, taken, taken_of_found, taken_of_files, taken_of_inputs, bytes_of_function}
+use Rattle.prog_laws.specs.Reads.{taken, taken_of_found, taken_of_files, taken_of_inputs, bytes_of_function}
 use Rattle.prog_laws.specs.Runs.{Process, after_reply, MayOrRefuse, MayBeRefused}
-use Rattle.prog_laws.proofs.Work.{GoesOn, Kept, step_rest, left_over, begins_kept, cat_kept, head_kept, head_begins}
+use Rattle.prog_laws.proofs.Work.{GoesOn, step_rest, left_over, begins_kept, cat_kept, head_kept, head_begins}
 use Rattle.prog_laws.proofs.Counting.{wc_kept}
 use Rattle.prog_laws.proofs.Search.{grep_kept, buffer_kept}
 use Rattle.prog_laws.proofs.Keeps.{moved_left, heard_read, found_block, found_is, open_changes_nothing, short_name}
@@ -240,8 +240,8 @@ work_less (head_writes lines wanted) source call reply world waits ready may =
 work_less (wc_reads lines words count inside) source call reply world waits ready may =
     work_read (wc_reads lines words count inside) source call reply world 512 waits waits.3 ready may
     (λ bytes is.
-      let k = wc_kept lines words count inside (name_of source) 512 (left_at (fd_of source) world) bytes waits.0 waits.1 waits.2 (short_name source world ready) is in
-      (k.on, k.rest))
+    let k = wc_kept lines words count inside (name_of source) 512 (left_at (fd_of source) world) bytes waits.0 waits.1 waits.2 (short_name source world ready) is in
+    (k.on, k.rest))
 work_less wc_writes source call reply world waits ready may =
     work_wrote wc_writes source call reply world waits may (work_goes wc_writes source finishes world tt (omega arith))
 work_less (grep_reads pattern kept) source call reply world waits ready may =
@@ -380,8 +380,8 @@ tee_opened_less : (fds : List ℕ) (name : Name) (later : List Name) (reply : Re
 tee_opened_less fds name later reply world few may =
     by_open (λ t w. takes t.next w ≤ tee_takes (name ∷ later) world.input) fds name later world reply few (λ e. omega arith)
     (λ fd e high new.
-      let same : tee_takes (name ∷ later) world.input ≡ tee_takes later world.input = ap (λ (t : Bool). if t && are_openable later then length world.input else 0) e in
-      omega (arith, same, tee_next_takes (fds ++ fd ∷ []) later (with_new fd name world)))
+    let same : tee_takes (name ∷ later) world.input ≡ tee_takes later world.input = ap (λ (t : Bool). if t && are_openable later then length world.input else 0) e in
+    omega (arith, same, tee_next_takes (fds ++ fd ∷ []) later (with_new fd name world)))
     may
 
 open_told : (o : Option Bytes) (reply : Reply) (world : World) → MayOpen o reply world → bytes_told (bytes_in reply) ≡ 0

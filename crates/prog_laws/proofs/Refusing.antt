@@ -1,7 +1,7 @@
 -- A refused call changes nothing; after it the program waits on, and depends on no more files than before. A refused write is
 -- passed over or told.
-use Rattle.std.proofs.Common.{◌≡◌, ◌⊎◌, inl, inr, ℕ, zero, suc, ◌<◌, false, List, [], ◌∷◌, ◌++◌, refl, subst, arith}
-use Rattle.std.specs.Prelude.{◌||◌, codes}
+use Rattle.std.proofs.Common.{◌≡◌, inl, inr, ℕ, zero, suc, ◌<◌, false, List, [], ◌∷◌, ◌++◌, refl, arith}
+use Rattle.std.specs.Prelude.{codes}
 use Rattle.mem_files.specs.Name.{Name, Bytes}
 use Rattle.user_calls.specs.declared.calls.Call.{Call}
 use Rattle.user_calls.specs.declared.calls.Call.TheVariants.{Fork, Exec, Exit, Wait, MakePipe, Read, Write, OpenFile, Close, Dup}
@@ -10,7 +10,7 @@ use Rattle.user_progs.specs.State.{Source, Work, cat_reads, cat_writes, head_rea
 use Rattle.user_progs.specs.Turn.{denies, turn, work_step, name_of, filter_of, fd_of, name_of_program, tee_opens_next}
 use Rattle.prog_laws.specs.Ahead.{still_opens, still_writes}
 use Rattle.prog_laws.specs.Alone.{World, after_call, after_read}
-use Rattle.prog_laws.specs.Waits.{WorkWaits, TeeWaits, IsOpen, Waits}
+use Rattle.prog_laws.specs.Waits.{WorkWaits, TeeWaits, Waits}
 use Rattle.prog_laws.specs.Frame.{holds, holds_to_write, depends_on, may_change}
 use Rattle.prog_laws.specs.Fits.{Fits}
 use Rattle.prog_laws.specs.Refusals.{IsTold, PassesOrTells}

@@ -1,5 +1,5 @@
 -- Each turn writes no more bytes than one call moves, and holds no more.
-use Rattle.std.proofs.Common.{◌≡◌, ℕ, zero, suc, ◌+◌, ◌-◌, ◌≤◌, nat_lt, nat_le, Bool, true, false, List, [], ◌∷◌, ◌++◌, length, drop, Option, Some, None, sym, subst, arith}
+use Rattle.std.proofs.Common.{ℕ, zero, suc, ◌+◌, ◌-◌, ◌≤◌, nat_lt, nat_le, Bool, true, false, List, [], ◌∷◌, ◌++◌, length, drop, arith}
 use Rattle.std.specs.Prelude.{if◌then◌else◌, slice_index_or, codes}
 use Rattle.std.proofs.lemmas.List.{length-take}
 use Rattle.mem_files.specs.Name.{Name, Bytes}

@@ -2,7 +2,6 @@
 use Rattle.std.proofs.Common.{◌≡◌, ◌∙◌, ℕ, zero, suc, ◌+◌, ◌<◌, false, [], ◌∷◌, ◌++◌, length, drop, refl, sym, ap, arith}
 use Rattle.std.proofs.Math.Seq.{drop-append_seam}
 use Rattle.mem_files.specs.Name.{Name, Bytes}
-use Rattle.script_load.specs.Grep.{grep_left}
 use Rattle.script_load.specs.Head.{first_lines, after_lines}
 use Rattle.script_load.specs.Wc.{line_ends, words_after, capped}
 use Rattle.user_progs.specs.State.{Filter, copying, heading, counting, searching}

@@ -1,7 +1,7 @@
 -- Which call a program waits for, by its state and what it has before it.
 use Rattle.std.specs.Prelude.{◌≡◌, ℕ, zero, suc, ◌≤◌, Bool, true, false, Some}
 use Rattle.std.specs.Option.{is_some}
-use Rattle.mem_files.specs.Name.{Name, Bytes, is_openable}
+use Rattle.mem_files.specs.Name.{Name, is_openable}
 use Rattle.conflict_check.specs.Names.{Names}
 use Rattle.user_calls.specs.declared.block.TheConstants.{BLOCK_SIZE}
 use Rattle.user_calls.specs.declared.calls.Mode.{Mode}
