@@ -3,16 +3,16 @@ use Rattle.std.proofs.Common.{Bool, true, false, List, [], ◌∷◌, Some, refl
 use Rattle.std.specs.Prelude.{if◌then◌else◌}
 use Rattle.mem_files.specs.Name.{Name, Bytes}
 use Rattle.mem_files.specs.Files.{FileMap}
-use Rattle.conflict_check.specs.declared.program.Program.{Program}
-use Rattle.conflict_check.specs.declared.program.Program.TheVariants.{Cat, Echo, Grep, Head, Tee as Tee', Wc}
-use Rattle.conflict_check.specs.Program.{head_files, has_wrong_option}
-use Rattle.script_load.specs.Value.{Value, fixed}
-use Rattle.script_load.specs.Inputs.{filter_value}
-use Rattle.script_load.specs.Grep.{grep_out, grep_left}
-use Rattle.script_load.specs.Head.{first_lines, after_lines, line_count}
-use Rattle.script_load.specs.Wc.{wc_line}
-use Rattle.script_load.specs.Tee.{are_openable}
-use Rattle.script_load.specs.Programs.{program_value}
+use Rattle.prog_parts.specs.declared.program.Program.{Program}
+use Rattle.prog_parts.specs.declared.program.Program.TheVariants.{Cat, Echo, Grep, Head, Tee as Tee', Wc}
+use Rattle.prog_parts.specs.Head.{head_files, has_wrong_option}
+use Rattle.sh_meaning.specs.Value.{Value, fixed}
+use Rattle.sh_meaning.specs.Inputs.{filter_value}
+use Rattle.prog_parts.specs.Grep.{grep_out, grep_left}
+use Rattle.prog_parts.specs.Head.{first_lines, after_lines, line_count}
+use Rattle.prog_parts.specs.Wc.{wc_line}
+use Rattle.sh_meaning.specs.Tee.{are_openable}
+use Rattle.sh_meaning.specs.Programs.{program_value}
 use Rattle.user_progs.specs.State.{standard, file, tee_opens, tee_reads, tee_writes, tee_gives, State, begins, echo_word, echo_space, opens, works, closes, tees, told, ended}
 use Rattle.prog_laws.specs.Alone.{World}
 use Rattle.prog_laws.specs.Still.{still}

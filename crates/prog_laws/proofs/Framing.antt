@@ -7,18 +7,18 @@ use Rattle.std.specs.Option.{is_some}
 use Rattle.std.proofs.lemmas.Slice.Eq.{bytes_eq-Decides}
 use Rattle.mem_files.specs.Name.{Name, Bytes, is_openable}
 use Rattle.mem_files.specs.Files.{FileMap, with_file, bytes_of}
-use Rattle.conflict_check.specs.declared.program.Program.{Program}
-use Rattle.conflict_check.specs.declared.program.Program.TheVariants.{Cat, Echo, Grep, Head, Tee as Tee', Wc}
-use Rattle.conflict_check.specs.Program.{head_files, has_wrong_option}
-use Rattle.conflict_check.specs.Names.{Names, among}
+use Rattle.prog_parts.specs.declared.program.Program.{Program}
+use Rattle.prog_parts.specs.declared.program.Program.TheVariants.{Cat, Echo, Grep, Head, Tee as Tee', Wc}
+use Rattle.prog_parts.specs.Head.{head_files, has_wrong_option}
+use Rattle.prog_parts.specs.NameSets.{Names, among}
 use Rattle.user_calls.specs.declared.calls.Call.{Call}
-use Rattle.script_load.specs.Value.{fixed, nothing}
-use Rattle.script_load.specs.Inputs.{of_found, of_files, filter_value}
-use Rattle.script_load.specs.Grep.{grep_out, grep_left}
-use Rattle.script_load.specs.Head.{first_lines, after_lines, line_count}
-use Rattle.script_load.specs.Wc.{wc_line}
-use Rattle.script_load.specs.Tee.{filled, are_openable}
-use Rattle.script_load.specs.Programs.{program_value}
+use Rattle.sh_meaning.specs.Value.{fixed, nothing}
+use Rattle.sh_meaning.specs.Inputs.{of_found, of_files, filter_value}
+use Rattle.prog_parts.specs.Grep.{grep_out, grep_left}
+use Rattle.prog_parts.specs.Head.{first_lines, after_lines, line_count}
+use Rattle.prog_parts.specs.Wc.{wc_line}
+use Rattle.sh_meaning.specs.Tee.{filled, are_openable}
+use Rattle.sh_meaning.specs.Programs.{program_value}
 use Rattle.user_progs.specs.State.{Source, standard, file, Work, Tee, tee_opens, tee_reads, tee_writes, tee_gives, State, begins, echo_word, echo_space, opens, works, closes, tees, told, ended}
 use Rattle.user_progs.specs.Turn.{filter_of}
 use Rattle.prog_laws.specs.Alone.{OwnFile, World, is_to_read, held, left_of_file, left_at}

@@ -5,17 +5,18 @@ use Rattle.std.proofs.lemmas.Bool.{eqb-true}
 use Rattle.std.proofs.Math.Nat.{add-mul, mul-le-mul_right}
 use Rattle.mem_files.specs.Name.{Name, Bytes}
 use Rattle.mem_files.specs.Files.{FileMap}
-use Rattle.conflict_check.specs.declared.program.Program.{Program}
-use Rattle.conflict_check.specs.declared.program.Program.TheVariants.{Cat, Echo, Grep, Head, Tee as Tee', Wc}
-use Rattle.conflict_check.specs.Program.{program_uses_input, head_files, has_wrong_option, is_empty}
+use Rattle.prog_parts.specs.declared.program.Program.{Program}
+use Rattle.prog_parts.specs.declared.program.Program.TheVariants.{Cat, Echo, Grep, Head, Tee as Tee', Wc}
+use Rattle.prog_parts.specs.Program.{program_uses_input, is_empty}
+use Rattle.prog_parts.specs.Head.{head_files, has_wrong_option}
 use Rattle.user_calls.specs.declared.calls.Call.TheVariants.{Exit}
 use Rattle.user_calls.specs.declared.calls.Reply.{Reply}
-use Rattle.script_load.specs.Value.{fixed, nothing}
-use Rattle.script_load.specs.Inputs.{filter_value}
-use Rattle.script_load.specs.Head.{first_lines, after_lines, line_count}
-use Rattle.script_load.specs.Wc.{wc_line}
-use Rattle.script_load.specs.Tee.{are_openable, filled}
-use Rattle.script_load.specs.Programs.{program_value}
+use Rattle.sh_meaning.specs.Value.{fixed, nothing}
+use Rattle.sh_meaning.specs.Inputs.{filter_value}
+use Rattle.prog_parts.specs.Head.{first_lines, after_lines, line_count}
+use Rattle.prog_parts.specs.Wc.{wc_line}
+use Rattle.sh_meaning.specs.Tee.{are_openable, filled}
+use Rattle.sh_meaning.specs.Programs.{program_value}
 use Rattle.user_progs.specs.State.{Filter, copying, counting, heading, begins}
 use Rattle.prog_laws.specs.Waits.{BeginsShort}
 use Rattle.prog_laws.specs.Tame.{Among}

@@ -2,8 +2,8 @@
 use Rattle.std.proofs.Common.{◌≡◌, ◌∙◌, ℕ, zero, suc, ◌+◌, ◌<◌, false, [], ◌∷◌, ◌++◌, length, drop, refl, sym, ap, arith}
 use Rattle.std.proofs.Math.Seq.{drop-append_seam}
 use Rattle.mem_files.specs.Name.{Name, Bytes}
-use Rattle.script_load.specs.Head.{first_lines, after_lines}
-use Rattle.script_load.specs.Wc.{line_ends, words_after, capped}
+use Rattle.prog_parts.specs.Head.{first_lines, after_lines}
+use Rattle.prog_parts.specs.Wc.{line_ends, words_after, capped}
 use Rattle.user_progs.specs.State.{Filter, copying, heading, counting, searching}
 use Rattle.user_progs.specs.Turn.{yields, Step, reads, writes, finishes, fails, quits, counts_line, first_step, filter_of, head_goes_on, head_got, cat_got}
 use Rattle.prog_laws.specs.Alone.{Takes}

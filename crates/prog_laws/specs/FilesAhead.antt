@@ -2,7 +2,7 @@
 use Rattle.std.specs.Prelude.{ℕ, zero, suc, ◌+◌, ◌-◌, List, [], ◌∷◌, length, Option, Some, None}
 use Rattle.mem_files.specs.Name.{Name}
 use Rattle.mem_files.specs.Files.{FileMap, bytes_of}
-use Rattle.conflict_check.specs.Program.{file_words}
+use Rattle.prog_parts.specs.Program.{file_words}
 use Rattle.user_calls.specs.declared.calls.Call.{Call}
 use Rattle.user_calls.specs.declared.calls.Call.TheVariants.{Fork, Exec, Exit, Wait, MakePipe, Read, Write, OpenFile, Close, Dup}
 use Rattle.user_calls.specs.declared.calls.Reply.{Reply}

@@ -1,7 +1,7 @@
 -- A value that is the same whatever the order in which processes run.
 use Rattle.std.specs.Prelude.{◌≡◌, false}
 use Rattle.mem_files.specs.Name.{Name}
-use Rattle.script_load.specs.Value.{Value}
+use Rattle.sh_meaning.specs.Value.{Value}
 
 pub record IsFirm (value : Value) : Type 0 where
   pub loose : value.loose ≡ false

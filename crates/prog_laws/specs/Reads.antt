@@ -2,13 +2,13 @@
 use Rattle.std.specs.Prelude.{ℕ, ◌+◌, ◌-◌, List, [], ◌∷◌, length, Option, Some, None, if◌then◌else◌}
 use Rattle.mem_files.specs.Name.{Name, Bytes}
 use Rattle.mem_files.specs.Files.{FileMap}
-use Rattle.conflict_check.specs.declared.program.Program.{Program}
-use Rattle.conflict_check.specs.declared.program.Program.TheVariants.{Cat, Echo, Grep, Head, Tee, Wc}
-use Rattle.conflict_check.specs.Program.{head_files, has_wrong_option}
-use Rattle.script_load.specs.Inputs.{found}
-use Rattle.script_load.specs.Grep.{grep_left}
-use Rattle.script_load.specs.Head.{after_lines, line_count}
-use Rattle.script_load.specs.Tee.{are_openable}
+use Rattle.prog_parts.specs.declared.program.Program.{Program}
+use Rattle.prog_parts.specs.declared.program.Program.TheVariants.{Cat, Echo, Grep, Head, Tee, Wc}
+use Rattle.prog_parts.specs.Head.{head_files, has_wrong_option}
+use Rattle.sh_meaning.specs.Inputs.{found}
+use Rattle.prog_parts.specs.Grep.{grep_left}
+use Rattle.prog_parts.specs.Head.{after_lines, line_count}
+use Rattle.sh_meaning.specs.Tee.{are_openable}
 use Rattle.user_progs.specs.State.{Filter, copying, heading, counting, searching}
 
 -- what is left of an input that was worked on

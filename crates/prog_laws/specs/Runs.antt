@@ -2,12 +2,12 @@
 use Rattle.std.specs.Prelude.{◌≡◌, ◌⊎◌, ℕ, true, List, [], ◌∷◌, ◌++◌}
 use Rattle.mem_files.specs.Name.{Name, Bytes}
 use Rattle.mem_files.specs.Files.{FileMap}
-use Rattle.conflict_check.specs.declared.program.Program.{Program}
+use Rattle.prog_parts.specs.declared.program.Program.{Program}
 use Rattle.user_calls.specs.declared.calls.Call.{Call}
 use Rattle.user_calls.specs.declared.calls.Call.TheVariants.{Exec, Exit, Write}
 use Rattle.user_calls.specs.declared.calls.Reply.{Reply}
 use Rattle.user_calls.specs.declared.calls.Reply.TheVariants.{Refused}
-use Rattle.script_load.specs.Value.{Value}
+use Rattle.sh_meaning.specs.Value.{Value}
 use Rattle.user_progs.specs.State.{State, begins}
 use Rattle.user_progs.specs.Turn.{call_of, next_of}
 use Rattle.prog_laws.specs.Alone.{World, May, after_call, to_out}
