@@ -274,7 +274,7 @@ turn_goes most told reply wide = inl refl
 turn_goes most ended reply wide = inl refl
 
 -- over any replies
-exits_within : (most : ℕ) (replies : List Reply) (state : State) (count : ℕ) → width state ≤ most → calls_left state + bytes_read replies * most ≤ count → count ≤ length replies →
+pub exits_within : (most : ℕ) (replies : List Reply) (state : State) (count : ℕ) → width state ≤ most → calls_left state + bytes_read replies * most ≤ count → count ≤ length replies →
     Among Exit (take count (calls_on state replies))
 exits_within most [] state count wide enough long = absurd (omega (arith, enough, long, some_left state))
 exits_within most (reply ∷ replies) state zero wide enough long = absurd (omega (arith, enough, some_left state))

@@ -15,14 +15,14 @@ use Rattle.user_calls.specs.declared.calls.Call.TheVariants.{Write}
 use Rattle.user_calls.specs.declared.calls.Reply.{Reply}
 use Rattle.user_calls.specs.declared.calls.Mode.TheVariants.{Fresh}
 use Rattle.user_progs.specs.State.{Tee, tee_opens, tee_reads, tee_writes, tee_gives, State, tees}
-use Rattle.user_progs.specs.Turn.{Answer, yields, denies, strays, bytes_in, fd_in, done_in, turn, tee_waits, tee_opens_next, tee_got, tee_wrote, tee_turn}
-use Rattle.prog_laws.specs.Alone.{OwnFile, World, is_to_read, held, moved_on, is_writable, may_write, May, after_read, after_file_write, after_done_write, after_write, after_call}
+use Rattle.user_progs.specs.Turn.{Answer, yields, denies, strays, bytes_in, done_in, turn, tee_waits, tee_opens_next, tee_got, tee_wrote, tee_turn}
+use Rattle.prog_laws.specs.Alone.{OwnFile, World, held, moved_on, is_writable, may_write, May, after_read, after_file_write, after_done_write, after_write, after_call}
 use Rattle.prog_laws.specs.Given.{IsAt, AreAt}
 use Rattle.prog_laws.specs.Waits.{TeeWaits, Waits}
 use Rattle.prog_laws.specs.Fits.{IsWithin, AreWithin, outputs, Fits}
 use Rattle.prog_laws.proofs.Giving.{held_fd, held_moved, held_other}
 use Rattle.prog_laws.proofs.Teeing.{new_file, with_new, by_open}
-use Rattle.prog_laws.proofs.Next.{Goes, turn_next}
+use Rattle.prog_laws.proofs.Next.{turn_next}
 
 -- a write of it is done
 

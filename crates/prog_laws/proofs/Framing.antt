@@ -30,15 +30,15 @@ use Rattle.prog_laws.specs.Frame.{is_held, is_given, depends_on, may_change, onl
 abbrev Agree : Names → FileMap → FileMap → Type 0
 Agree names F G = (name : Name) → names name ≡ true → F name ≡ G name
 
-or_left : (a b : Bool) → a ≡ true → (a || b) ≡ true
+pub or_left : (a b : Bool) → a ≡ true → (a || b) ≡ true
 or_left true b e = refl
 or_left false b e = cc
 
-or_right : (a b : Bool) → b ≡ true → (a || b) ≡ true
+pub or_right : (a b : Bool) → b ≡ true → (a || b) ≡ true
 or_right true b e = refl
 or_right false b e = e
 
-itself : (name : Name) → bytes_eq name name ≡ true
+pub itself : (name : Name) → bytes_eq name name ≡ true
 itself name = (bytes_eq-Decides name name).1 refl
 
 of_files_same : (write : Name → Bytes → Bytes) (names : List Name) (F G : FileMap) → Agree (among names) F G → of_files write names F ≡ of_files write names G

@@ -1,6 +1,6 @@
 -- What a program holds open comes from the names that it may still open: after each reply it depends on no more files, and
 -- may change no more.
-use Rattle.std.proofs.Common.{◌≡◌, ◌∙◌, ◌⊎◌, inl, inr, ℕ, zero, suc, ◌+◌, ◌==◌, nat_lt, Bool, true, false, List, [], ◌∷◌, ◌++◌, length, take, drop, Option, Some, None, refl, sym, ap, subst, arith}
+use Rattle.std.proofs.Common.{◌≡◌, ◌∙◌, inl, inr, ℕ, zero, suc, ◌+◌, ◌==◌, nat_lt, Bool, true, false, List, [], ◌∷◌, ◌++◌, length, take, drop, Option, Some, None, refl, sym, ap, subst, arith}
 use Rattle.std.specs.Prelude.{◌||◌, slice_index_or, if◌then◌else◌}
 use Rattle.std.specs.Str.{bytes_eq}
 use Rattle.std.specs.Option.{is_some}
@@ -14,26 +14,26 @@ use Rattle.prog_parts.specs.NameSets.{among}
 use Rattle.user_calls.specs.declared.block.TheConstants.{BLOCK_SIZE}
 use Rattle.user_calls.specs.declared.calls.Mode.TheVariants.{Input, Fresh}
 use Rattle.user_calls.specs.declared.calls.Call.{Call}
-use Rattle.user_calls.specs.declared.calls.Call.TheVariants.{Read, Write, OpenFile}
+use Rattle.user_calls.specs.declared.calls.Call.TheVariants.{Write, OpenFile}
 use Rattle.user_calls.specs.declared.calls.Reply.{Reply}
 use Rattle.user_calls.specs.declared.calls.Reply.TheVariants.{Fd}
 use Rattle.prog_parts.specs.Head.{line_count}
-use Rattle.user_progs.specs.State.{Filter, copying, heading, counting, searching, Source, standard, file, Work, cat_reads, cat_writes, head_reads, head_writes, wc_reads, wc_writes, grep_reads, grep_writes, Tee, tee_opens, tee_reads, tee_writes, tee_gives, State, begins, echo_word, echo_space, opens, works, closes, tees, told, ended}
+use Rattle.user_progs.specs.State.{Filter, copying, heading, counting, searching, Source, standard, file, Tee, tee_opens, tee_reads, tee_writes, tee_gives, State, begins, echo_word, echo_space, opens, works, closes, tees, told, ended}
 use Rattle.user_progs.specs.Turn.{Answer, yields, denies, strays, Turn, Step, reads, writes, finishes, fails, quits, bytes_in, fd_in, done_in, begun_by, closed_by, turn, turn_by, first_step, work_step, filter_of, name_of, fd_of, block, opened_by, opens_next, begins_filter, begins_head, begins_program, echo_next, echo_end, tee_waits, tee_opens_next, tee_got, tee_gives_next, tee_wrote, tee_turn}
 use Rattle.prog_laws.specs.Ahead.{tee_opens_still, still_opens, still_writes}
 use Rattle.prog_laws.specs.Alone.{OwnFile, World, held, moved_on, MayOpen, May, can_open, after_read, after_file_write, after_write, after_call}
 use Rattle.prog_laws.specs.Given.{place_or, place_in, AreAt}
-use Rattle.prog_laws.specs.Waits.{IsWrite, WorkWaits, TeeWaits, Waits}
+use Rattle.prog_laws.specs.Waits.{TeeWaits, Waits}
 use Rattle.prog_laws.specs.Frame.{is_held, is_given, source_holds, tee_holds, holds, holds_to_write, depends_on, may_change}
 use Rattle.prog_laws.proofs.Giving.{opened_place, new_other}
 use Rattle.prog_laws.proofs.Teeing.{with_new, new_file, by_open}
 use Rattle.prog_laws.proofs.Keeps.{found_short}
 use Rattle.prog_laws.proofs.Framing.{not_left, not_right}
-use Rattle.prog_laws.proofs.Next.{Goes, turn_next}
+use Rattle.prog_laws.proofs.Next.{turn_next}
 use Rattle.prog_laws.proofs.Waiting.{IsOwnCall, own_call}
 use Rattle.prog_laws.proofs.Shrinking.{opens_shrink, writes_shrink}
 
-neither : (a b : Bool) → a ≡ false → b ≡ false → (a || b) ≡ false
+pub neither : (a b : Bool) → a ≡ false → b ≡ false → (a || b) ≡ false
 neither true b e f = e
 neither false b e f = f
 
@@ -86,7 +86,7 @@ given_append (fd ∷ fds) more own name =
     ∙ sym (or_assoc (is_held (held own fd) name) (is_given fds own name) (is_given more own name))
     ∙ ap (λ (t : Bool). t || is_given more own name) (sym (given_cons (held own fd) name (place_in fds own name)))
 
-cut_given : (at : ℕ) (fds : List ℕ) (own : List OwnFile) (name : Name) → is_given fds own name ≡ (is_given (take at fds) own name || is_given (drop at fds) own name)
+pub cut_given : (at : ℕ) (fds : List ℕ) (own : List OwnFile) (name : Name) → is_given fds own name ≡ (is_given (take at fds) own name || is_given (drop at fds) own name)
 cut_given at fds own name = ap (λ (ds : List ℕ). is_given ds own name) (sym (take-append-drop at fds)) ∙ given_append (take at fds) (drop at fds) own name
 
 write_given : (fds : List ℕ) (fd : ℕ) (bytes : Bytes) (said : Answer (Unit {0})) (world : World) (name : Name) → is_given fds (after_write fd bytes said world).own name ≡ is_given fds world.own name
@@ -102,10 +102,10 @@ write_given fds (suc (suc (suc fd))) bytes (yields done) world name = go (held w
     go (Some f) = given_moved fds world.own f.fd (length bytes) name
 
 -- after a turn, no file of this name is open
-abbrev HoldsNone : Name → Turn → World → Type 0
+abbrev pub HoldsNone : Name → Turn → World → Type 0
 HoldsNone name turn world = holds turn.next world name ≡ false
 
-step_none : (name : Name) (step : Step) (filter : Filter) (source : Source) (world : World) → source_holds source world name ≡ false → HoldsNone name (turn_by step filter source) world
+pub step_none : (name : Name) (step : Step) (filter : Filter) (source : Source) (world : World) → source_holds source world name ≡ false → HoldsNone name (turn_by step filter source) world
 step_none name (reads most work) filter source world none = none
 step_none name (writes bytes work) filter source world none = none
 step_none name finishes filter standard world none = refl
@@ -125,15 +125,15 @@ head_none : (name : Name) (wrong : Bool) (arguments : List Bytes) (world : World
 head_none name true arguments world = refl
 head_none name false arguments world = filter_none name (heading (line_count arguments)) (head_files arguments) world
 
-echo_none : (name : Name) (arguments : List Bytes) (world : World) → HoldsNone name (echo_next arguments) world
+pub echo_none : (name : Name) (arguments : List Bytes) (world : World) → HoldsNone name (echo_next arguments) world
 echo_none name [] world = refl
 echo_none name (argument ∷ later) world = refl
 
-echo_end_none : (name : Name) (later : List Bytes) (world : World) → HoldsNone name (echo_end later) world
+pub echo_end_none : (name : Name) (later : List Bytes) (world : World) → HoldsNone name (echo_end later) world
 echo_end_none name [] world = refl
 echo_end_none name (argument ∷ later) world = refl
 
-tee_next_none : (name : Name) (fds : List ℕ) (names : List Name) (world : World) → is_given fds world.own name ≡ false → HoldsNone name (tee_opens_next fds names) world
+pub tee_next_none : (name : Name) (fds : List ℕ) (names : List Name) (world : World) → is_given fds world.own name ≡ false → HoldsNone name (tee_opens_next fds names) world
 tee_next_none name fds [] world none = none
 tee_next_none name fds (current ∷ later) world none = none
 
@@ -253,7 +253,7 @@ holds_none name told call reply world waits may ahead none = refl
 holds_none name ended call reply world waits may ahead none = refl
 
 -- only tee holds files to write, and it holds no others
-written_held : (state : State) (world : World) (name : Name) → holds state world name ≡ false → holds_to_write state world name ≡ false
+pub written_held : (state : State) (world : World) (name : Name) → holds state world name ≡ false → holds_to_write state world name ≡ false
 written_held (begins program arguments) world name none = refl
 written_held (echo_word later) world name none = refl
 written_held (echo_space later) world name none = refl
@@ -274,10 +274,10 @@ writes_none name state call reply world waits may ahead none =
     (λ names. written_held (tee_opens_next [] names).next after name (tee_next_none name [] names after refl))
     state reply
     (λ tee e.
-      let waits_tee = subst (λ (s : State). Waits s call world) e waits in
-      let ahead_tee = subst (λ (s : State). still_writes s name ≡ false) e ahead in
-      let none_tee = subst (λ (s : State). holds_to_write s world name ≡ false) e none in
-      written_held (tee_turn tee reply).next after name (tee_none name tee call reply world waits_tee may ahead_tee none_tee))
+    let waits_tee = subst (λ (s : State). Waits s call world) e waits in
+    let ahead_tee = subst (λ (s : State). still_writes s name ≡ false) e ahead in
+    let none_tee = subst (λ (s : State). holds_to_write s world name ≡ false) e none in
+    written_held (tee_turn tee reply).next after name (tee_none name tee call reply world waits_tee may ahead_tee none_tee))
 
 pub depends_shrink : (state : State) (call : Call) (reply : Reply) (world : World) (name : Name) → Waits state call world → May call reply world → depends_on state world name ≡ false →
     depends_on (turn state reply).next (after_call call reply world) name ≡ false

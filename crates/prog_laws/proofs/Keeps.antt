@@ -30,7 +30,8 @@ use Rattle.user_progs.proofs.Blocks.{too_long}
 use Rattle.prog_laws.specs.Fits.{AreWithin, outputs, Fits}
 use Rattle.prog_laws.proofs.Fitting.{gives_done}
 use Rattle.prog_laws.proofs.Teeing.{tee_next_kept, tee_open_kept, tee_read_kept, gives_next_kept, gave}
-use Rattle.prog_laws.proofs.Work.{Kept, GoesOn, step_out, step_rest, begins_kept, cat_kept, head_kept, head_begins, unread}
+use Rattle.prog_laws.proofs.Work.{Kept, GoesOn, step_out, step_rest, begins_kept, cat_kept, head_kept, head_begins}
+use Rattle.prog_laws.specs.Reads.{unread}
 use Rattle.prog_laws.proofs.Counting.{wc_kept}
 use Rattle.prog_laws.proofs.Search.{buffer_kept, grep_kept}
 
@@ -60,7 +61,7 @@ on_file filter (fails message) fd name later world on = absurd on
 on_file filter quits fd name later world on = absurd on
 
 -- a read of a file of its own takes the bytes from it
-moved_left : (own : List OwnFile) (fd count : ℕ) (F : FileMap) → bytes_of (left_of_file (held (moved_on own fd count) fd) F) ≡ drop count (bytes_of (left_of_file (held own fd) F))
+pub moved_left : (own : List OwnFile) (fd count : ℕ) (F : FileMap) → bytes_of (left_of_file (held (moved_on own fd count) fd) F) ≡ drop count (bytes_of (left_of_file (held own fd) F))
 moved_left [] fd count F = sym (drop-nil count)
 moved_left (f ∷ later) fd count F = go (f.fd == fd) refl (moved_left later fd count F)
   where
@@ -122,7 +123,7 @@ write_kept work step (file fd name later) world kept =
 none_found : (F : FileMap) (name : Name) → is_openable name ≡ false → found F name ≡ None
 none_found F name e = ap (λ (t : Bool). if t then F name else None) e
 
-found_block : (F : FileMap) (name : Name) → found F (block name) ≡ found F name
+pub found_block : (F : FileMap) (name : Name) → found F (block name) ≡ found F name
 found_block F name = go (nat_le (length name) BLOCK_SIZE) refl
   where
     go : (fits : Bool) → nat_le (length name) BLOCK_SIZE ≡ fits → found F (block name) ≡ found F name
@@ -143,12 +144,12 @@ found_short F name bytes e = go (nat_le (length name) 14) refl
         let none : Some bytes ≡ None = sym e ∙ found_block F name ∙ none_found F name (too_long name long) in
         cc
 
-open_changes_nothing : (o : Option Bytes) (name : Name) (F : FileMap) → opened_files o name Input F ≡ F
+pub open_changes_nothing : (o : Option Bytes) (name : Name) (F : FileMap) → opened_files o name Input F ≡ F
 open_changes_nothing None name F = refl
 open_changes_nothing (Some bytes) name F = refl
 
 -- a file that is found has these bytes
-found_is : (F : FileMap) (name : Name) (bytes : Bytes) → found F name ≡ Some bytes → F name ≡ Some bytes
+pub found_is : (F : FileMap) (name : Name) (bytes : Bytes) → found F name ≡ Some bytes → F name ≡ Some bytes
 found_is F name bytes = go (is_openable name)
   where
     go : (can : Bool) → (if can then F name else None) ≡ Some bytes → F name ≡ Some bytes
@@ -236,7 +237,7 @@ echo_end_kept [] world = refl
 echo_end_kept (argument ∷ later) world = refl
 
 -- a name that was opened, or no name
-short_name : (source : Source) (world : World) → IsOpen source world → length (name_of source) ≤ 14
+pub short_name : (source : Source) (world : World) → IsOpen source world → length (name_of source) ≤ 14
 short_name standard world ready = omega arith
 short_name (file fd name later) world ready = ready.1
 

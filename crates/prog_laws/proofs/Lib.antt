@@ -14,4 +14,12 @@ pub mod Framing
 pub mod Exiting
 pub mod Unused
 pub mod Holding
+pub mod Refusing
+pub mod Elsewhere
+pub mod Calling
+pub mod Firm
+pub mod Small
+pub mod Reading
+pub mod FileReading
+pub mod Timely
 mod Worked

@@ -17,7 +17,7 @@ use Rattle.user_calls.specs.declared.calls.Reply.TheVariants.{Fd, Refused}
 use Rattle.sh_meaning.specs.Value.{Value, fixed, nothing}
 use Rattle.sh_meaning.specs.Tee.{filled, are_openable, tee_bytes, tee_value}
 use Rattle.user_progs.specs.State.{tee_gives, tees}
-use Rattle.user_progs.specs.Turn.{Turn, yields, denies, strays, fd_in, block, tee_waits, tee_opens_next, tee_cannot_open, tee_opened, tee_got, tee_gives_next}
+use Rattle.user_progs.specs.Turn.{Turn, yields, fd_in, block, tee_waits, tee_opens_next, tee_cannot_open, tee_opened, tee_got, tee_gives_next}
 use Rattle.prog_laws.specs.Alone.{OwnFile, World, held, moved_on, Takes, MayOpen, May, opened_files, after_read, after_done_write, after_call}
 use Rattle.prog_laws.specs.Given.{given, given_block, left_open, IsAt, AreAt, AreDistinct}
 use Rattle.prog_laws.specs.Still.{tee_still, after_bytes, left_of}

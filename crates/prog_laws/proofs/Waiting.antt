@@ -96,7 +96,7 @@ line_waits pattern line rest none whole again few = go (matches pattern line) re
         subst StepWaits (sym (at_other pattern line rest (line ++ 10 ∷ rest) none refl whole is))
         (again (omega (arith, few, length-append line (10 ∷ rest))))
 
-buffer_waits : (pattern buffer : Bytes) → length buffer ≤ 1023 → StepWaits (grep_goes_on pattern buffer)
+pub buffer_waits : (pattern buffer : Bytes) → length buffer ≤ 1023 → StepWaits (grep_goes_on pattern buffer)
 buffer_waits pattern buffer few = by_lines (BufferWaits pattern) (no_line_waits pattern) (line_waits pattern) (length buffer) buffer (omega arith) few
 
 grep_got_waits : (pattern kept bytes : Bytes) → length kept < 1023 → length bytes ≤ 1023 - length kept → StepWaits (grep_got pattern kept (yields bytes))
@@ -124,20 +124,20 @@ step_waits (grep_reads pattern kept) source call reply world waits ready may =
     subst (λ (r : Reply). StepWaits (grep_got pattern kept (bytes_in r))) (sym heard.1) (grep_got_waits pattern kept heard.0 waits.1 heard.2.few)
 step_waits (grep_writes pattern rest) source call reply world waits ready may = buffer_waits pattern rest waits.0
 
-abbrev TurnWaits : Turn → World → Type 0
+abbrev pub TurnWaits : Turn → World → Type 0
 TurnWaits turn world = Waits turn.next turn.call world
 
 exits_wait : (world : World) → TurnWaits exits world
 exits_wait world = refl
 
-tells_wait : (message : Bytes) (world : World) → TurnWaits (tells message) world
+pub tells_wait : (message : Bytes) (world : World) → TurnWaits (tells message) world
 tells_wait message world = (2, omega arith, omega arith, (block message, refl))
 
 held_some : (name : Name) (h : Option OwnFile) → IsHeld name h → is_some h ≡ true
 held_some name None is = absurd is
 held_some name (Some own) is = refl
 
-turn_waits : (step : Step) (filter : Filter) (source : Source) (world : World) → StepWaits step → IsOpen source world → TurnWaits (turn_by step filter source) world
+pub turn_waits : (step : Step) (filter : Filter) (source : Source) (world : World) → StepWaits step → IsOpen source world → TurnWaits (turn_by step filter source) world
 turn_waits (reads most work) filter source world waits ready = (waits (fd_of source), ready)
 turn_waits (writes bytes work) filter source world waits ready = (waits (fd_of source), ready)
 turn_waits finishes filter standard world waits ready = refl
@@ -157,11 +157,11 @@ head_waits : (wrong : Bool) (arguments : List Bytes) (world : World) → TurnWai
 head_waits true arguments world = tells_wait (codes "usage: head [-N] [file ...]\n") world
 head_waits false arguments world = filter_waits (heading (line_count arguments)) (head_files arguments) world
 
-echo_waits : (arguments : List Bytes) (world : World) → AreShort arguments → TurnWaits (echo_next arguments) world
+pub echo_waits : (arguments : List Bytes) (world : World) → AreShort arguments → TurnWaits (echo_next arguments) world
 echo_waits [] world short = refl
 echo_waits (argument ∷ later) world short = ((block argument, refl), short.1)
 
-echo_end_waits : (later : List Bytes) (world : World) → AreShort later → TurnWaits (echo_end later) world
+pub echo_end_waits : (later : List Bytes) (world : World) → AreShort later → TurnWaits (echo_end later) world
 echo_end_waits [] world short = (1, omega arith, omega arith, (_, refl))
 echo_end_waits (argument ∷ later) world short = ((_, refl), short)
 

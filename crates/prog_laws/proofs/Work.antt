@@ -2,13 +2,13 @@
 use Rattle.std.proofs.Common.{◌≡◌, ◌∙◌, ℕ, zero, suc, ◌+◌, ◌<◌, false, [], ◌∷◌, ◌++◌, length, drop, refl, sym, ap, arith}
 use Rattle.std.proofs.Math.Seq.{drop-append_seam}
 use Rattle.mem_files.specs.Name.{Name, Bytes}
-use Rattle.prog_parts.specs.Grep.{grep_left}
 use Rattle.prog_parts.specs.Head.{first_lines, after_lines}
 use Rattle.prog_parts.specs.Wc.{line_ends, words_after, capped}
 use Rattle.user_progs.specs.State.{Filter, copying, heading, counting, searching}
 use Rattle.user_progs.specs.Turn.{yields, Step, reads, writes, finishes, fails, quits, counts_line, first_step, filter_of, head_goes_on, head_got, cat_got}
 use Rattle.prog_laws.specs.Alone.{Takes}
 use Rattle.prog_laws.specs.Still.{of_input, work_out, work_rest}
+use Rattle.prog_laws.specs.Reads.{unread}
 
 -- what a step still writes of the bytes that are left, and what it leaves of them
 abbrev pub step_out : Step → Name → Bytes → Bytes
@@ -47,13 +47,6 @@ left_over most left bytes is =
 pub head_begins : (lines wanted : ℕ) (name : Name) (left : Bytes) → Kept (heading lines) (head_goes_on lines wanted) name (first_lines wanted left) (after_lines wanted left) left
 head_begins lines zero name left = record { on = tt; out = refl; rest = refl }
 head_begins lines (suc wanted) name left = record { on = refl; out = refl; rest = refl }
-
--- what is left of an input that was worked on
-abbrev pub unread : Filter → Bytes → Bytes
-unread copying left = []
-unread (heading lines) left = after_lines lines left
-unread counting left = []
-unread (searching pattern) left = grep_left left
 
 -- the first step on an input
 pub begins_kept : (filter : Filter) (name : Name) (left : Bytes) → Kept filter (first_step filter) name (of_input filter name left) (unread filter left) left

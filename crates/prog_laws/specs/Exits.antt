@@ -22,9 +22,12 @@ abbrev pub bytes_read : List Reply → ℕ
 bytes_read [] = 0
 bytes_read (reply ∷ replies) = bytes_told (bytes_in reply) + bytes_read replies
 
--- (n + 4) * (W + 1), where the replies hold n bytes and the program has W words: its name and these arguments
+-- (n + 4) * (W + 1), where n bytes are read and the program has W words: its name and these arguments
+abbrev pub calls_for : ℕ → List Bytes → ℕ
+calls_for n arguments = (n + 4) * (length arguments + 2)
+
 abbrev pub most_calls : List Bytes → List Reply → ℕ
-most_calls arguments replies = (bytes_read replies + 4) * (length arguments + 2)
+most_calls arguments replies = calls_for (bytes_read replies) arguments
 
 -- the calls that are still made at most, where no more bytes are read
 

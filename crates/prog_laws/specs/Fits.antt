@@ -1,6 +1,5 @@
 -- Where the files that a program writes go on: within their bytes or at their end, so that no write of it leaves a gap.
 use Rattle.std.specs.Prelude.{ℕ, ◌≤◌, List, [], ◌∷◌, length, Option, Some, None}
-use Rattle.mem_files.specs.Name.{Bytes}
 use Rattle.mem_files.specs.Files.{FileMap, bytes_of}
 use Rattle.user_progs.specs.State.{Tee, tee_opens, tee_reads, tee_writes, tee_gives, State, begins, echo_word, echo_space, opens, works, closes, tees, told, ended}
 use Rattle.prog_laws.specs.Alone.{OwnFile, World, held}

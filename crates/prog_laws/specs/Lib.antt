@@ -1,9 +1,15 @@
 pub mod Ahead
 pub mod Alone
+pub mod Blocks
+pub mod Calls
 pub mod Exits
+pub mod FilesAhead
+pub mod Firm
 pub mod Fits
 pub mod Frame
 pub mod Given
+pub mod Reads
+pub mod Refusals
 pub mod Runs
 pub mod Still
 pub mod Tame

@@ -1,11 +1,12 @@
 -- A program that is given replies one after the other.
-use Rattle.std.specs.Prelude.{◌≡◌, true, List, [], ◌∷◌, ◌++◌}
+use Rattle.std.specs.Prelude.{◌≡◌, ◌⊎◌, ℕ, true, List, [], ◌∷◌, ◌++◌}
 use Rattle.mem_files.specs.Name.{Name, Bytes}
 use Rattle.mem_files.specs.Files.{FileMap}
 use Rattle.prog_parts.specs.declared.program.Program.{Program}
 use Rattle.user_calls.specs.declared.calls.Call.{Call}
-use Rattle.user_calls.specs.declared.calls.Call.TheVariants.{Exec, Exit}
+use Rattle.user_calls.specs.declared.calls.Call.TheVariants.{Exec, Exit, Write}
 use Rattle.user_calls.specs.declared.calls.Reply.{Reply}
+use Rattle.user_calls.specs.declared.calls.Reply.TheVariants.{Refused}
 use Rattle.sh_meaning.specs.Value.{Value}
 use Rattle.user_progs.specs.State.{State, begins}
 use Rattle.user_progs.specs.Turn.{call_of, next_of}
@@ -44,6 +45,14 @@ after_replies process (reply ∷ replies) = after_replies (after_reply process r
 abbrev pub MayBe : Process → List Reply → Type 0
 MayBe process [] = Unit {0}
 MayBe process (reply ∷ replies) = May process.call reply process.world × MayBe (after_reply process reply) replies
+
+-- so it may, where writes may be refused too, as in a pipe that nobody reads
+abbrev pub MayOrRefuse : Call → Reply → World → Type 0
+MayOrRefuse call reply world = May call reply world ⊎ ((fd : ℕ) × (bytes : Bytes) × (call ≡ Write fd bytes) × (reply ≡ Refused))
+
+abbrev pub MayBeRefused : Process → List Reply → Type 0
+MayBeRefused process [] = Unit {0}
+MayBeRefused process (reply ∷ replies) = MayOrRefuse process.call reply process.world × MayBeRefused (after_reply process reply) replies
 
 -- what a process wrote so far begins what is written in all, and once it calls Exit, it has written all of it, left
 -- what is left and made the files that are made

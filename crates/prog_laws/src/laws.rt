@@ -1,24 +1,34 @@
 //! Laws of the programs: each function's contract is the law, and its body is empty.
 
-ghost use Rattle.std.specs.Prelude.{◌≡◌, ℕ, ◌+◌, ◌≤◌, true, false, List, [], length, Some, take, drop};
+ghost use Rattle.std.specs.Prelude.{◌≡◌, ◌⊎◌, ℕ, ◌+◌, ◌-◌, ◌*◌, ◌<◌, ◌≤◌, true, false, List, [], length, Some, take, drop};
+ghost use Rattle.std.specs.Option.{is_some};
 ghost use Rattle.mem_files.specs.Name.{Name, Bytes};
 ghost use Rattle.mem_files.specs.Files.{FileMap};
 ghost use Rattle.prog_parts.specs.declared.program.Program.{Program};
 ghost use Rattle.user_calls.specs.declared.calls.Call.{Call};
-ghost use Rattle.user_calls.specs.declared.calls.Call.TheVariants.{Exit};
+ghost use Rattle.user_calls.specs.declared.block.TheConstants.{BLOCK_SIZE};
+ghost use Rattle.user_calls.specs.declared.calls.Call.TheVariants.{Exit, Write};
 ghost use Rattle.user_calls.specs.declared.calls.Reply.{Reply};
+ghost use Rattle.user_calls.specs.declared.calls.Reply.TheVariants.{Refused};
 ghost use Rattle.sh_meaning.specs.Programs.{program_value};
 ghost use Rattle.user_progs.specs.State.{State, begins};
-ghost use Rattle.user_progs.specs.Turn.{Turn, turn, call_of, next_of};
+ghost use Rattle.prog_parts.specs.Program.{program_uses_input};
+ghost use Rattle.user_progs.specs.Turn.{Turn, turn, call_of, next_of, bytes_in};
 ghost use Rattle.prog_laws.specs.Ahead.{still_opens, still_writes, still_uses};
 ghost use Rattle.prog_laws.specs.Alone.{World, May, after_call, to_out};
 ghost use Rattle.prog_laws.specs.Still.{still, left_of, after_bytes};
 ghost use Rattle.prog_laws.specs.Waits.{Waits, BeginsShort};
 ghost use Rattle.prog_laws.specs.Fits.{Fits};
-ghost use Rattle.prog_laws.specs.Frame.{depends_on, may_change, only_changed};
+ghost use Rattle.prog_laws.specs.Frame.{depends_on, holds_to_write, may_change, only_changed};
+ghost use Rattle.prog_laws.specs.Refusals.{IsTold, PassesOrTells};
+ghost use Rattle.prog_laws.specs.Calls.{MayCall};
+ghost use Rattle.prog_laws.specs.Firm.{IsFirm};
+ghost use Rattle.prog_laws.specs.Blocks.{WritesBlock, HoldsBlock};
+ghost use Rattle.prog_laws.specs.Reads.{bytes_of_function};
+ghost use Rattle.prog_laws.specs.FilesAhead.{Sizes, sizes, files_ahead, from_files};
 ghost use Rattle.prog_laws.specs.Tame.{Among, AreTame};
-ghost use Rattle.prog_laws.specs.Exits.{calls_on, most_calls};
-ghost use Rattle.prog_laws.specs.Runs.{first_process, after_replies, MayBe, Comes};
+ghost use Rattle.prog_laws.specs.Exits.{calls_on, bytes_told, bytes_read, calls_for, most_calls, calls_left, width};
+ghost use Rattle.prog_laws.specs.Runs.{first_process, after_replies, MayBe, MayBeRefused, Comes};
 
 /// A program that runs alone, whatever its reads give and how much at a time: what it wrote so far begins what the
 /// program function writes, and once it calls `Exit`, its output, the input left and the files are the function's.
@@ -61,6 +71,100 @@ pub fn a_program_makes_no_other_calls()
 pub fn a_program_exits_in_time()
     ensures { (program : Program) (arguments : List Bytes) (replies : List Reply) → most_calls arguments replies ≤ length replies
         → Among Exit (take (most_calls arguments replies) (calls_on (begins program arguments) replies)) }
+{}
+
+/// A program that runs alone, whose writes may be refused too: its reads give no more bytes than its program function reads
+/// of its inputs, so that `Exit` is among its first (n + 4) * (W + 1) calls, n the bytes that the function reads. Of standard
+/// input these are what the function doesn't leave: so `head -1` exits in time, however long its input is.
+pub fn a_program_alone_exits_in_time()
+    ensures reads { (program : Program) (arguments : List Bytes) (input : Bytes) (F : FileMap) (replies : List Reply) → BeginsShort program arguments
+        → MayBeRefused (first_process program arguments input F) replies
+        → bytes_read replies ≤ bytes_of_function program arguments input F }
+    ensures exits { (program : Program) (arguments : List Bytes) (input : Bytes) (F : FileMap) (replies : List Reply) → BeginsShort program arguments
+        → MayBeRefused (first_process program arguments input F) replies
+        → calls_for (bytes_of_function program arguments input F) arguments ≤ length replies
+        → Among Exit (take (calls_for (bytes_of_function program arguments input F) arguments) (calls_on (begins program arguments) replies)) }
+    ensures input { (program : Program) (arguments : List Bytes) (input : Bytes) (F : FileMap) → program_uses_input program arguments ≡ true
+        → bytes_of_function program arguments input F ≡ length input - length (program_value (Some program) arguments input F).rest }
+{}
+
+/// What the bound on calls comes from, for the end of every run: a turn calls `Exit`, or a state follows that makes fewer
+/// calls still than the one before, where each byte that was read pays for as many calls as the widest state asks.
+pub fn each_turn_makes_one_call_fewer()
+    ensures turn { (most : ℕ) (state : State) (reply : Reply) → width state ≤ most
+        → (call_of state reply ≡ Exit)
+        ⊎ ((calls_left (next_of state reply) < calls_left state + bytes_told (bytes_in reply) * most) × (width (next_of state reply) ≤ most)) }
+    ensures some { (state : State) → 1 ≤ calls_left state }
+{}
+
+/// How many bytes of files a program may still read falls with each that it reads, for the end of every run; it is no more
+/// after a call that is refused, and no less where the files that the program depends on are larger.
+pub fn what_it_reads_of_files_was_ahead()
+    ensures call { (state : State) (call : Call) (reply : Reply) (world : World) → Waits state call world → May call reply world
+        → from_files call reply + files_ahead (next_of state reply) (after_call call reply world).own (sizes (after_call call reply world).files)
+        ≤ files_ahead state world.own (sizes world.files) }
+    ensures refused { (state : State) (world : World) (L : Sizes) → files_ahead (next_of state Refused) world.own L ≤ files_ahead state world.own L }
+    ensures larger { (state : State) (world : World) (L M : Sizes) → ((name : Name) → depends_on state world name ≡ true → L name ≤ M name)
+        → files_ahead state world.own L ≤ files_ahead state world.own M }
+{}
+
+/// No call of a program writes more bytes than a call moves, and `tee` holds no more, if no reply gives more.
+pub fn a_call_writes_a_block_at_most()
+    ensures writes { (state : State) (reply : Reply) → HoldsBlock state → bytes_told (bytes_in reply) ≤ BLOCK_SIZE → WritesBlock (call_of state reply) }
+    ensures holds { (state : State) (reply : Reply) → HoldsBlock state → bytes_told (bytes_in reply) ≤ BLOCK_SIZE → HoldsBlock (next_of state reply) }
+{}
+
+/// A call that is refused changes nothing, whatever the reason, as a full table or a pipe that nobody reads: the program waits
+/// on then, for the reply to the call that it makes of that, and depends on no more files than before and may change no more.
+pub fn a_refused_call_changes_nothing()
+    ensures same { (call : Call) (world : World) → after_call call Refused world ≡ world }
+    ensures waits { (state : State) (call : Call) (world : World) → Waits state call world → Waits (next_of state Refused) (call_of state Refused) world }
+    ensures fits { (state : State) (world : World) → Fits (next_of state Refused) world }
+    ensures depends { (state : State) (world : World) (name : Name) → depends_on state world name ≡ false → depends_on (next_of state Refused) world name ≡ false }
+    ensures changes { (state : State) (world : World) (name : Name) → may_change state world name ≡ false → may_change (next_of state Refused) world name ≡ false }
+{}
+
+/// A program whose write is refused goes on as if it had been done, or tells of it and exits; and always tells, where the
+/// write was to a file of its own. So what it still writes after a refused write is the same, or a message.
+pub fn a_refused_write_is_passed_over_or_told()
+    ensures any { (state : State) (fd : ℕ) (bytes : Bytes) (world : World) → Waits state (Write fd bytes) world → PassesOrTells state }
+    ensures own { (state : State) (fd : ℕ) (bytes : Bytes) (world : World) → Waits state (Write fd bytes) world → 2 < fd → IsTold (turn state Refused) }
+{}
+
+/// What call a program waits for, by its state and its open files: what the machine that runs a command must answer.
+pub fn what_a_program_waits_for()
+    ensures { (state : State) (call : Call) (world : World) → Waits state call world → MayCall call state world }
+{}
+
+/// A program that waits goes on to wait over another input and among other files, as those that other commands leave: as long
+/// as the files that it holds open to write are there, as they are; so, where files agree on what it depends on.
+pub fn a_program_waits_elsewhere_too()
+    ensures there { (state : State) (call : Call) (world : World) (name : Name) → Waits state call world → holds_to_write state world name ≡ true
+        → is_some (world.files name) ≡ true }
+    ensures waits { (state : State) (call : Call) (world : World) (input : Bytes) (G : FileMap) → Waits state call world
+        → ((name : Name) → holds_to_write state world name ≡ true → is_some (G name) ≡ true)
+        → Waits state call (record world { input = input; files = G }) }
+    ensures agree { (state : State) (call : Call) (world : World) (input : Bytes) (G : FileMap) → Waits state call world
+        → ((name : Name) → depends_on state world name ≡ true → world.files name ≡ G name)
+        → Waits state call (record world { input = input; files = G }) }
+    ensures fits { (state : State) (world : World) (input : Bytes) (G : FileMap) → Fits state world
+        → ((name : Name) → holds_to_write state world name ≡ true → world.files name ≡ G name)
+        → Fits state (record world { input = input; files = G }) }
+{}
+
+/// Which files a program depends on, and which it may change, is told by its state and its open files, and not by what the
+/// input and the files hold; and what it may change it depends on.
+pub fn open_files_tell_what_it_depends_on()
+    ensures depends { (state : State) (world : World) (input : Bytes) (G : FileMap) (name : Name)
+        → depends_on state (record world { input = input; files = G }) name ≡ depends_on state world name }
+    ensures changes { (state : State) (world : World) (input : Bytes) (G : FileMap) (name : Name)
+        → may_change state (record world { input = input; files = G }) name ≡ may_change state world name }
+    ensures within { (state : State) (world : World) (name : Name) → depends_on state world name ≡ false → may_change state world name ≡ false }
+{}
+
+/// What is left of a program depends on no order in which processes run: none of what it leaves unread, and no file.
+pub fn what_is_left_depends_on_no_order()
+    ensures { (state : State) (world : World) → IsFirm (still state world) }
 {}
 
 /// Whatever a program is answered, the names that it may still open and those that it may still open for writing only

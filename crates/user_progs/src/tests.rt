@@ -168,3 +168,137 @@ fn tee_copies_to_each_file(rt: HostRuntime) -> Result<(), Fail> {
     assert!(rt; matches!(tee.run(&bytes("")), Call::Exit));
     Ok(())
 }
+
+// What a program's calls are answered.
+#[derive(Clone, Copy)]
+enum Said {
+    Start,
+    Done,
+    Text(&'static str),
+    Fd,
+    Refused,
+}
+
+fn reply(said: Said) -> Reply {
+    match said {
+        Said::Start => Reply::Start,
+        Said::Done => Reply::Done,
+        Said::Text(text) => bytes(text),
+        Said::Fd => Reply::Fd(3),
+        Said::Refused => Reply::Refused,
+    }
+}
+
+// The call that a program makes on the last of these replies, and the one that it makes after that, whatever it is
+// answered.
+fn last_calls(
+    rt: &impl AllocGlobal,
+    texts: &[&str],
+    answers: &[Said],
+) -> Result<(Call, Call), Fail> {
+    let words = words(rt, texts)?;
+    let mut program = lookup(words.as_slice()).ok_or("the program is known")?;
+    let mut call = Call::Fork;
+    for said in answers {
+        call = program.run(&reply(*said));
+    }
+    Ok((call, program.run(&Reply::Refused)))
+}
+
+use Said::{Done, Fd, Refused, Start, Text};
+
+const TOLD: [(&[&str], &[Said], &str); 16] = [
+    (
+        &["cat", "none"],
+        &[Done, Refused],
+        "cat: cannot open none\n",
+    ),
+    (&["wc", "none"], &[Done, Refused], "wc: cannot open none\n"),
+    (
+        &["grep", "x", "none"],
+        &[Done, Refused],
+        "grep: cannot open none\n",
+    ),
+    (
+        &["head", "-1", "none"],
+        &[Done, Refused],
+        "head: cannot open none\n",
+    ),
+    (
+        &["tee", "f", "none"],
+        &[Done, Fd, Refused],
+        "tee: cannot open none\n",
+    ),
+    (&["cat"], &[Done, Refused], "cat: read error\n"),
+    (
+        &["cat", "f"],
+        &[Done, Fd, Text("a"), Done, Refused],
+        "cat: read error\n",
+    ),
+    (&["wc"], &[Done, Refused], "wc: read error\n"),
+    (&["head"], &[Done, Refused], "head: read error\n"),
+    (&["tee"], &[Done, Refused], "tee: read error\n"),
+    (&["cat"], &[Done, Text("a"), Refused], "cat: write error\n"),
+    (
+        &["head"],
+        &[Done, Text("a"), Refused],
+        "head: write error\n",
+    ),
+    (&["tee"], &[Done, Text("a"), Refused], "tee: write error\n"),
+    (
+        &["tee", "f"],
+        &[Done, Fd, Text("a"), Done, Refused],
+        "tee: write error\n",
+    ),
+    (&["grep"], &[Done], "usage: grep pattern [file ...]\n"),
+    (
+        &["head", "-", "f"],
+        &[Done],
+        "usage: head [-N] [file ...]\n",
+    ),
+];
+
+#[test]
+fn tells_of_refusals_and_wrong_use(rt: HostRuntime) -> Result<(), Fail> {
+    for (texts, answers, message) in TOLD {
+        let (call, next) = last_calls(&rt, texts, answers)?;
+        let told = writes(&call, 2, message) && matches!(next, Call::Exit);
+        assert!(rt; told, "at {message}");
+    }
+    Ok(())
+}
+
+// Each last reply is one that the call can't get.
+const STRAYS: [(&[&str], &[Said]); 12] = [
+    (&["cat"], &[Start]),
+    (&["cat"], &[Done, Done]),
+    (&["wc"], &[Done, Done]),
+    (&["head"], &[Done, Done]),
+    (&["tee"], &[Done, Done]),
+    (&["grep", "x"], &[Done, Done]),
+    (&["wc", "f"], &[Done, Done]),
+    (&["tee", "f"], &[Done, Text("a")]),
+    (&["cat"], &[Done, Text("a"), Fd]),
+    (&["head"], &[Done, Text("a"), Fd]),
+    (&["tee"], &[Done, Text("a"), Fd]),
+    (&["cat", "f", "g"], &[Done, Fd, Text(""), Refused]),
+];
+
+#[test]
+fn exits_on_a_reply_that_its_call_cannot_get(rt: HostRuntime) -> Result<(), Fail> {
+    for (texts, answers) in STRAYS {
+        let (call, _) = last_calls(&rt, texts, answers)?;
+        assert!(rt; matches!(call, Call::Exit), "at {texts:?}");
+    }
+    Ok(())
+}
+
+#[test]
+fn grep_goes_on_after_a_refused_read(rt: HostRuntime) -> Result<(), Fail> {
+    let texts = ["grep", "x", "f", "g"];
+    let (call, _) = last_calls(&rt, &texts, &[Done, Fd, Refused])?;
+    assert!(rt; matches!(call, Call::Close(3)));
+    let (call, _) = last_calls(&rt, &texts, &[Done, Fd, Refused, Done])?;
+    assert!(rt; opens(&call, "g", Mode::Input));
+    Ok(())
+}

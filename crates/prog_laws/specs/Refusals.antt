@@ -1,0 +1,14 @@
+-- What a refused call leads to.
+use Rattle.std.specs.Prelude.{◌≡◌, ◌⊎◌}
+use Rattle.mem_files.specs.Name.{Bytes}
+use Rattle.user_calls.specs.declared.calls.Reply.TheVariants.{Done, Refused}
+use Rattle.user_progs.specs.State.{State}
+use Rattle.user_progs.specs.Turn.{Turn, tells, turn}
+
+-- the program writes a message to descriptor 2, after which it exits
+abbrev pub IsTold : Turn → Type 0
+IsTold turn = (message : Bytes) × (turn ≡ tells message)
+
+-- a refused write is passed over, as if it had been done, or told
+abbrev pub PassesOrTells : State → Type 0
+PassesOrTells state = (turn state Refused ≡ turn state Done) ⊎ IsTold (turn state Refused)
