@@ -5,7 +5,7 @@ use Rattle.mem_files.specs.Name.{Name, Bytes, is_openable}
 use Rattle.mem_files.specs.Files.{FileMap, with_file, bytes_of}
 use Rattle.mem_files.specs.Overlay.{written}
 use Rattle.user_calls.specs.declared.calls.Mode.{Mode}
-use Rattle.user_calls.specs.declared.calls.Mode.TheVariants.{Input, Fresh, Over}
+use Rattle.user_calls.specs.declared.calls.Mode.TheVariants.{Input, Fresh, Over, Append}
 use Rattle.user_calls.specs.declared.calls.Call.{Call}
 use Rattle.user_calls.specs.declared.calls.Call.TheVariants.{Fork, Exec, Exit, Wait, MakePipe, Read, Write, OpenFile, Close, Dup}
 use Rattle.user_calls.specs.declared.calls.Reply.{Reply}
@@ -48,6 +48,7 @@ abbrev pub is_to_read : Mode → Bool
 is_to_read Input = true
 is_to_read Fresh = false
 is_to_read Over = false
+is_to_read Append = false
 
 -- the bytes of an open file from where it goes on, if it can be read
 abbrev pub left_of_file : Option OwnFile → FileMap → Option Bytes
@@ -79,11 +80,13 @@ pub record Takes (most : ℕ) (left bytes : Bytes) : Type 0 where
 abbrev pub IsNew : ℕ → World → Type 0
 IsNew fd world = (2 < fd) × (held world.own fd ≡ None)
 
--- an open is granted where a name can be opened in that mode: for reading where there is a file, and else always
+-- an open is granted where a name can be opened in that mode: for reading where there is a file, and for writing
+-- always; no program opens a file to append, and alone it is not granted that
 abbrev pub can_open : Name → Mode → FileMap → Option Bytes
 can_open name Input F = found F name
 can_open name Fresh F = if is_openable name then Some [] else None
 can_open name Over F = if is_openable name then Some (bytes_of (F name)) else None
+can_open name Append F = None
 
 abbrev pub MayOpen : Option Bytes → Reply → World → Type 0
 MayOpen None reply world = reply ≡ Refused
@@ -147,6 +150,7 @@ opened_files None name mode F = F
 opened_files (Some bytes) name Input F = F
 opened_files (Some bytes) name Fresh F = with_file F name bytes
 opened_files (Some bytes) name Over F = with_file F name bytes
+opened_files (Some bytes) name Append F = F
 
 abbrev pub after_open : Name → Mode → Answer ℕ → World → World
 after_open name mode (yields fd) world = record world {

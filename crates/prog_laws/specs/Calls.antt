@@ -5,7 +5,7 @@ use Rattle.mem_files.specs.Name.{Name, is_openable}
 use Rattle.prog_parts.specs.NameSets.{Names}
 use Rattle.user_calls.specs.declared.block.TheConstants.{BLOCK_SIZE}
 use Rattle.user_calls.specs.declared.calls.Mode.{Mode}
-use Rattle.user_calls.specs.declared.calls.Mode.TheVariants.{Input, Fresh, Over}
+use Rattle.user_calls.specs.declared.calls.Mode.TheVariants.{Input, Fresh, Over, Append}
 use Rattle.user_calls.specs.declared.calls.Call.{Call}
 use Rattle.user_calls.specs.declared.calls.Call.TheVariants.{Fork, Exec, Exit, Wait, MakePipe, Read, Write, OpenFile, Close, Dup}
 use Rattle.user_progs.specs.State.{State}
@@ -37,6 +37,7 @@ abbrev pub MayOpenFile : Mode → Name → State → Type 0
 MayOpenFile Input name state = is_openable name ≡ true → still_opens state name ≡ true
 MayOpenFile Fresh name state = is_openable name ≡ true → still_writes state name ≡ true
 MayOpenFile Over name state = ⊥
+MayOpenFile Append name state = ⊥
 
 abbrev pub MayCall : Call → State → World → Type 0
 MayCall Fork state world = ⊥
