@@ -3,6 +3,7 @@ ghost use Rattle.conflict_check.specs.Names.{among};
 ghost use Rattle.xvsh.specs.Listing.{soft_mark, file_text, list_text};
 
 use mem_files::Files;
+use mem_files::laws::are_files;
 use sh_lexer::Bytes;
 use std::alloc::{AllocError, Global};
 
@@ -46,7 +47,7 @@ fn file_at(files: &Files<Global>, place: usize) -> (&[u8], &[u8])
     requires { place < length files.now }
     ensures { slice_get files.now place ≡ Some (result.0.now, result.1.now) }
 {
-    let _ = files.count();
+    are_files(files);
     let Some(name) = files.name_at(place) else {
         return (&[], &[]);
     };
