@@ -11,6 +11,8 @@ mod grep;
 mod head;
 pub mod laws;
 mod prog;
+#[cfg(test)]
+mod refusals;
 mod state;
 mod tee;
 #[cfg(test)]
