@@ -1,9 +1,9 @@
 -- What a run of something did, and which faults are due.
 use Rattle.std.specs.Prelude.{◌≡◌, ◌++◌, false, List}
-use Rattle.conflict_check.specs.Names.{among}
+use Rattle.prog_parts.specs.NameSets.{among}
 use Rattle.mem_files.specs.Name.{Name, Bytes}
 use Rattle.mem_files.specs.Files.{FileMap}
-use Rattle.script_load.specs.Value.{Value}
+use Rattle.sh_meaning.specs.Value.{Value}
 use Rattle.plain_progs.specs.declared.fault.PlainFault.{PlainFault}
 use Rattle.plain_progs.specs.declared.fault.PlainFault.TheVariants.{TooLarge, Memory}
 

@@ -1,6 +1,6 @@
 //! The lines of `grep` (`user/grep.c`).
 ghost use Rattle.std.specs.Prelude.{◌≡◌, ◌++◌, OnOk, IfOk, drop};
-ghost use Rattle.script_load.specs.Grep.{grep_out, grep_left, untested};
+ghost use Rattle.prog_parts.specs.Grep.{grep_out, grep_left, untested};
 ghost use Rattle.plain_progs.specs.Gives.{Extends};
 
 use crate::filter::Filter;

@@ -1,5 +1,5 @@
 ghost use Rattle.std.specs.Prelude.{◌≡◌, ◌++◌, ◌<◌, OnOk, IfOk, slice_get, Some, length};
-ghost use Rattle.conflict_check.specs.Names.{among};
+ghost use Rattle.prog_parts.specs.NameSets.{among};
 ghost use Rattle.xvsh.specs.Listing.{soft_mark, file_text, list_text};
 
 use mem_files::Files;

@@ -1,6 +1,6 @@
 use Rattle.std.proofs.Common.{◌∙◌, sym, ap, refl, ◌++◌, ◌∷◌, []}
 use Rattle.prog_parts.proofs.Ended.{on_match, on_other, on_line, at_end, out_none, untested_none, out_stop, untested_stop}
-use Rattle.script_load.specs.Grep.{grep_out, untested}
+use Rattle.prog_parts.specs.Grep.{grep_out, untested}
 use Rattle.plain_progs.proofs.Extending.{extends_more}
 use Rattle.plain_progs.proofs.grep.grep_lines.Goals as goal
 

@@ -1,5 +1,5 @@
 use Rattle.std.proofs.Common.{◌≡◌, ◌++◌, length}
-use Rattle.script_load.specs.Grep.{grep_out, untested}
+use Rattle.prog_parts.specs.Grep.{grep_out, untested}
 use Rattle.plain_progs.specs.Gives.{Extends}
 use Rattle.plain_progs.proofs.grep.grep_lines.Given as goal
 

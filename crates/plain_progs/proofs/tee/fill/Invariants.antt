@@ -1,7 +1,7 @@
 use Rattle.std.proofs.Common.{◌≡◌, drop}
 use Rattle.mem_files.specs.Files.{files}
-use Rattle.script_load.specs.Limits.{FillOutgrows}
-use Rattle.script_load.specs.Tee.{filled}
+use Rattle.sh_meaning.specs.Limits.{FillOutgrows}
+use Rattle.sh_meaning.specs.Tee.{filled}
 use Rattle.plain_progs.specs.Gives.{SameBeside}
 use Rattle.plain_progs.proofs.tee.fill.Given as goal
 
