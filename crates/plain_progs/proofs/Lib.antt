@@ -1,3 +1,4 @@
+pub mod Extending
 pub mod Filling
 pub mod Full
 pub mod Prefixes

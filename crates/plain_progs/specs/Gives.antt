@@ -1,6 +1,7 @@
 -- What a run of something did, and which faults are due.
-use Rattle.std.specs.Prelude.{◌≡◌, ◌++◌}
-use Rattle.mem_files.specs.Name.{Bytes}
+use Rattle.std.specs.Prelude.{◌≡◌, ◌++◌, false, List}
+use Rattle.prog_parts.specs.NameSets.{among}
+use Rattle.mem_files.specs.Name.{Name, Bytes}
 use Rattle.mem_files.specs.Files.{FileMap}
 use Rattle.sh_meaning.specs.Value.{Value}
 use Rattle.plain_progs.specs.declared.fault.PlainFault.{PlainFault}
@@ -16,3 +17,12 @@ pub record Gives (value : Value) (old new left : Bytes) (F : FileMap) : Type 0 w
 abbrev pub IsDue : Type 0 → PlainFault → Type 0
 IsDue Large TooLarge = Large
 IsDue Large Memory = Unit {0}
+
+-- what was there stays, and at most bytes at its end are new
+pub record Extends (old new : Bytes) : Type 0 where
+  pub added : Bytes
+  pub is : new ≡ old ++ added
+
+-- of names that aren't among these, each holds what it held
+abbrev pub SameBeside : List Name → FileMap → FileMap → Type 0
+SameBeside names old new = (name : Name) → among names name ≡ false → new name ≡ old name

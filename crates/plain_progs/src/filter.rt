@@ -2,7 +2,7 @@
 ghost use Rattle.std.specs.Prelude.{◌≡◌, ◌++◌, [], List, ℕ, OnOk, IfOk};
 ghost use Rattle.mem_files.specs.Files.{files};
 ghost use Rattle.sh_meaning.specs.Inputs.{filter_value, of_files};
-ghost use Rattle.plain_progs.specs.Gives.{Gives};
+ghost use Rattle.plain_progs.specs.Gives.{Gives, Extends};
 
 use crate::store::find;
 use mem_files::Files;
@@ -25,7 +25,8 @@ pub trait Filter {
         out: &mut Vec<u8, A>,
     ) -> Result<&'i [u8], AllocError>
         ensures out { OnOk result (out.new.items ≡ out.old.items ++ written self.now name.now input.now) }
-        ensures left { IfOk result (λ rest. rest.now ≡ left self.now input.now) };
+        ensures left { IfOk result (λ rest. rest.now ≡ left self.now input.now) }
+        ensures kept { Extends out.old.items out.new.items };
 }
 
 // Works on the files in order, up to and without the first that is not found.
@@ -36,7 +37,8 @@ fn run_on_files<P: Filter, A: Allocator + Copy, B: Allocator>(
     store: &Files<A>,
     out: &mut Vec<u8, A>,
 ) -> Result<(), AllocError>
-    ensures { OnOk result (out.new.items ≡ out.old.items ++ of_files (P.written program.now) names.now (files store.now)) }
+    ensures out { OnOk result (out.new.items ≡ out.old.items ++ of_files (P.written program.now) names.now (files store.now)) }
+    ensures kept { Extends out.old.items out.new.items }
 {
     for name in names {
         let name = name.as_slice();
@@ -57,7 +59,8 @@ pub fn run_filter<'i, P: Filter, A: Allocator + Copy, B: Allocator>(
     store: &Files<A>,
     out: &mut Vec<u8, A>,
 ) -> Result<&'i [u8], AllocError>
-    ensures { IfOk result (λ rest. Gives (filter_value (P.written program.now) (P.left program.now) names.now input.now (files store.now)) out.old.items out.new.items rest.now (files store.now)) }
+    ensures gives { IfOk result (λ rest. Gives (filter_value (P.written program.now) (P.left program.now) names.now input.now (files store.now)) out.old.items out.new.items rest.now (files store.now)) }
+    ensures kept { Extends out.old.items out.new.items }
 {
     if names.is_empty() {
         return program.work(alloc, &[], input, out);

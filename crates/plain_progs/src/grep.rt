@@ -1,6 +1,7 @@
 //! The lines of `grep` (`user/grep.c`).
 ghost use Rattle.std.specs.Prelude.{◌≡◌, ◌++◌, OnOk, IfOk, drop};
 ghost use Rattle.prog_parts.specs.Grep.{grep_out, grep_left, untested};
+ghost use Rattle.plain_progs.specs.Gives.{Extends};
 
 use crate::filter::Filter;
 use grep_match::is_match;
@@ -15,6 +16,7 @@ fn grep_lines<'i, A: Allocator>(
 ) -> Result<&'i [u8], AllocError>
     ensures out { OnOk result (out.new.items ≡ out.old.items ++ grep_out pattern.now input.now) }
     ensures rest { IfOk result (λ rest. rest.now ≡ untested input.now) }
+    ensures kept { Extends out.old.items out.new.items }
 {
     let mut rest = input;
     while let Some((line, after)) = split_line(rest) {

@@ -2,7 +2,7 @@ ghost use Rattle.std.specs.Prelude.{◌≡◌, ◌++◌, OnOk, IfOk, IfErr};
 ghost use Rattle.mem_files.specs.Files.{files};
 ghost use Rattle.sh_meaning.specs.Limits.{WordsOutgrow};
 ghost use Rattle.sh_meaning.specs.Programs.{echo_out, grep_value, head_value, words_value};
-ghost use Rattle.plain_progs.specs.Gives.{Gives, IsDue};
+ghost use Rattle.plain_progs.specs.Gives.{Gives, IsDue, Extends, SameBeside};
 
 use crate::fault::PlainFault;
 use crate::filter::{Cat, run_filter};
@@ -20,7 +20,8 @@ fn echo<A: Allocator, B: Allocator>(
     arguments: &[Bytes<B>],
     out: &mut Vec<u8, A>,
 ) -> Result<(), AllocError>
-    ensures { OnOk result (out.new.items ≡ out.old.items ++ echo_out arguments.now) }
+    ensures out { OnOk result (out.new.items ≡ out.old.items ++ echo_out arguments.now) }
+    ensures kept { Extends out.old.items out.new.items }
 {
     for (i, argument) in arguments.iter().enumerate() {
         out.extend_from_slice(argument.as_slice())?;
@@ -37,7 +38,8 @@ fn grep<'i, A: Allocator + Copy, B: Allocator>(
     store: &Files<A>,
     out: &mut Vec<u8, A>,
 ) -> Result<&'i [u8], AllocError>
-    ensures { IfOk result (λ rest. Gives (grep_value arguments.now input.now (files store.now)) out.old.items out.new.items rest.now (files store.now)) }
+    ensures gives { IfOk result (λ rest. Gives (grep_value arguments.now input.now (files store.now)) out.old.items out.new.items rest.now (files store.now)) }
+    ensures kept { Extends out.old.items out.new.items }
 {
     let Some((pattern, names)) = arguments.split_first() else {
         return Ok(input);
@@ -56,7 +58,8 @@ fn head<'i, A: Allocator + Copy, B: Allocator>(
     store: &Files<A>,
     out: &mut Vec<u8, A>,
 ) -> Result<&'i [u8], AllocError>
-    ensures { IfOk result (λ rest. Gives (head_value arguments.now input.now (files store.now)) out.old.items out.new.items rest.now (files store.now)) }
+    ensures gives { IfOk result (λ rest. Gives (head_value arguments.now input.now (files store.now)) out.old.items out.new.items rest.now (files store.now)) }
+    ensures kept { Extends out.old.items out.new.items }
 {
     match head_request(arguments) {
         Some((count, names)) => run_filter(alloc, &Head { count }, names, input, store, out),
@@ -68,7 +71,8 @@ fn head<'i, A: Allocator + Copy, B: Allocator>(
 /// does, and gives what it leaves of its input. The first word names the program, one of `cat echo grep
 /// head tee wc`; without words, and under any other name, nothing is done (own: the meaning of a command
 /// as a function of whole inputs). `TooLarge` where a file would have more than 274,432 bytes, or a
-/// 201st would be made; `Memory` where an allocation was refused.
+/// 201st would be made; `Memory` where an allocation was refused. After a fault the output is still there,
+/// with some of what the command writes behind it or nothing, and the files that no word names are as they were.
 pub fn run_program<'i, A: Allocator + Copy, B: Allocator>(
     alloc: A,
     words: &[Bytes<B>],
@@ -78,6 +82,8 @@ pub fn run_program<'i, A: Allocator + Copy, B: Allocator>(
 ) -> Result<&'i [u8], PlainFault>
     ensures gives { IfOk result (λ rest. Gives (words_value words.now input.now (files store.old)) out.old.items out.new.items rest.now (files store.new)) }
     ensures large { IfErr result (IsDue (WordsOutgrow words.now input.now (files store.old))) }
+    ensures kept { Extends out.old.items out.new.items }
+    ensures others { SameBeside words.now (files store.old) (files store.new) }
 {
     let Some((name, arguments)) = words.split_first() else {
         return Ok(input);

@@ -1,5 +1,5 @@
 //! The files of a run, as programs read and fill them.
-ghost use Rattle.std.specs.Prelude.{◌≡◌, ◌<◌, true, false, Ok, option_copied, length, IfOk, IfErr, ◌⊎◌};
+ghost use Rattle.std.specs.Prelude.{◌≡◌, ◌<◌, true, false, Ok, option_copied, length, IfOk, IfErr, OnErr, ◌⊎◌};
 ghost use Rattle.mem_files.specs.Name.{is_openable};
 ghost use Rattle.mem_files.specs.Files.{files, with_file};
 ghost use Rattle.mem_files.specs.Listing.{max_size};
@@ -8,6 +8,7 @@ ghost use Rattle.sh_meaning.specs.Inputs.{found};
 ghost use Rattle.plain_progs.specs.Gives.{IsDue};
 
 use crate::fault::PlainFault;
+use mem_files::laws::{are_files, only_openable_names};
 use mem_files::{Files, FilesFault};
 use std::alloc::Allocator;
 
@@ -16,13 +17,13 @@ use std::alloc::Allocator;
 pub fn find<'s, A: Allocator>(store: &'s Files<A>, name: &[u8]) -> Option<&'s [u8]>
     ensures { option_copied result ≡ found (files store.now) name.now }
 {
-    let _ = store.count();
+    only_openable_names(store);
     store.get(name)
 }
 
 /// Makes the file of this name hold exactly these bytes, whether it was there or not; false where the
 /// name can't be opened, and then nothing changes. `TooLarge` where there are more than 274,432 bytes,
-/// or it would be the 201st file; `Memory` where an allocation was refused (own).
+/// or it would be the 201st file; `Memory` where an allocation was refused (own). A fault changes nothing.
 pub fn give<A: Allocator + Copy>(
     store: &mut Files<A>,
     name: &[u8],
@@ -31,10 +32,11 @@ pub fn give<A: Allocator + Copy>(
     ensures answer { IfOk result (λ is_given. is_given ≡ is_openable name.now) }
     ensures given { result ≡ Ok true → files store.new ≡ with_file (files store.old) name.now bytes.now }
     ensures refused { result ≡ Ok false → store.new ≡ store.old }
+    ensures same { OnErr result (store.new ≡ store.old) }
     ensures openable { IfErr result (IsDue (is_openable name.now ≡ true)) }
     ensures large { IfErr result (IsDue (HasNoRoom (files store.old) name.now ⊎ (max_size < length bytes.now))) }
 {
-    let _ = store.count();
+    are_files(store);
     match store.put(name, bytes) {
         Ok(()) => Ok(true),
         Err(FilesFault::BadName) => Ok(false),

@@ -3,7 +3,7 @@ ghost use Rattle.std.specs.Prelude.{◌≡◌, ◌++◌, OnOk, IfOk, IfErr, [], 
 ghost use Rattle.mem_files.specs.Files.{files};
 ghost use Rattle.sh_meaning.specs.Limits.{FillOutgrows};
 ghost use Rattle.sh_meaning.specs.Tee.{filled, tee_bytes, tee_value, are_openable as openable};
-ghost use Rattle.plain_progs.specs.Gives.{Gives, IsDue};
+ghost use Rattle.plain_progs.specs.Gives.{Gives, IsDue, Extends, SameBeside};
 
 use crate::fault::PlainFault;
 use crate::store::give;
@@ -25,6 +25,7 @@ fn fill<A: Allocator + Copy, B: Allocator>(
 ) -> Result<(), PlainFault>
     ensures files { OnOk result (files store.new ≡ filled names.now bytes.now (files store.old)) }
     ensures large { IfErr result (IsDue (FillOutgrows names.now bytes.now (files store.old))) }
+    ensures others { SameBeside names.now (files store.old) (files store.new) }
 {
     for name in names {
         if !give(store, name.as_slice(), bytes)? {
@@ -43,6 +44,8 @@ pub fn tee<'i, A: Allocator + Copy, B: Allocator>(
 ) -> Result<&'i [u8], PlainFault>
     ensures gives { IfOk result (λ rest. Gives (tee_value names.now input.now (files store.old)) out.old.items out.new.items rest.now (files store.new)) }
     ensures large { IfErr result (IsDue (FillOutgrows names.now (tee_bytes names.now input.now) (files store.old))) }
+    ensures kept { Extends out.old.items out.new.items }
+    ensures others { SameBeside names.now (files store.old) (files store.new) }
 {
     if !are_openable(names) {
         fill(names, &[], store)?;

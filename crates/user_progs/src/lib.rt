@@ -10,6 +10,8 @@ mod filter;
 mod grep;
 mod head;
 mod prog;
+#[cfg(test)]
+mod refusals;
 mod state;
 mod tee;
 #[cfg(test)]

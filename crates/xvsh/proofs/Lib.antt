@@ -1,3 +1,4 @@
+pub mod Ending
 pub mod Names
 pub mod Places
 pub mod Putting

@@ -1,5 +1,6 @@
 pub mod Check
 pub mod Drive
+pub mod Ends
 pub mod Listing
 pub mod Path
 pub mod Reading

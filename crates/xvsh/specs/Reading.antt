@@ -1,5 +1,5 @@
 -- What is read at the paths of the command line, after what the host tells of them.
-use Rattle.std.specs.Prelude.{◌≡◌, ℕ, ◌<◌, false, List, [], ◌∷◌, ◌++◌, Option, None, IfSome, if◌then◌else◌, length, codes}
+use Rattle.std.specs.Prelude.{◌≡◌, ℕ, ◌<◌, true, false, List, [], ◌∷◌, ◌++◌, Option, None, IfSome, if◌then◌else◌, length, codes}
 use Rattle.std.specs.Borrow.{Bor}
 use Rattle.std.specs.Str.{bytes_eq}
 use Rattle.mem_files.specs.Name.{Name, Bytes, is_openable}
@@ -40,7 +40,7 @@ IsFileFault file given path (TooLong at) = (at.now ≡ path) × IfSome (file pat
 IsFileFault file given path (LineTooLong n) = ⊥
 IsFileFault file given path (ByteZero n) = ⊥
 IsFileFault file given path (BadName at) = (at.now ≡ path) × ((name : Name) × IsNameOf path name × (is_openable name ≡ false))
-IsFileFault file given path TooManyFiles = (name : Name) × IsNameOf path name × IsFullFor given name
+IsFileFault file given path TooManyFiles = (name : Name) × IsNameOf path name × (is_openable name ≡ true) × IsFullFor given name
 IsFileFault file given path TooLarge = ⊥
 IsFileFault file given path Memory = Unit {0}
 IsFileFault file given path Unwritten = ⊥

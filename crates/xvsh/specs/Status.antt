@@ -1,6 +1,8 @@
--- Faults, and the statuses with which the program ends.
-use Rattle.std.specs.Prelude.{ℕ, List}
+-- Faults, what is told of them, and the statuses with which the program ends.
+use Rattle.std.specs.Prelude.{ℕ, List, [], ◌∷◌, ◌++◌, codes}
 use Rattle.std.specs.Borrow.{Bor}
+use Rattle.std.specs.Fmt.{decimal}
+use Rattle.mem_files.specs.Name.{Bytes}
 use Rattle.mem_files.specs.declared.fault.FilesFault.{FilesFault}
 use Rattle.mem_files.specs.declared.fault.FilesFault.TheVariants.{BadName as files_name, Missing as files_missing, FullFiles as files_full, FullSize as files_size, Memory as files_memory, Gap as files_gap}
 use Rattle.script_load.specs.declared.fault.LoadFault.{LoadFault}
@@ -23,6 +25,22 @@ status_of TooManyFiles = 1
 status_of TooLarge = 4
 status_of Memory = 4
 status_of Unwritten = 1
+
+-- what a fault is, in words
+abbrev pub fault_words : Fault → Bytes
+fault_words (Unreadable path) = codes "cannot read " ++ path.now
+fault_words (TooLong path) = path.now ++ codes " is too long"
+fault_words (LineTooLong n) = codes "line " ++ (decimal n ++ codes " is too long")
+fault_words (ByteZero n) = codes "line " ++ (decimal n ++ codes " holds a zero byte")
+fault_words (BadName path) = codes "bad file name " ++ path.now
+fault_words TooManyFiles = codes "too many files"
+fault_words TooLarge = codes "too large"
+fault_words Memory = codes "no memory"
+fault_words Unwritten = codes "cannot write"
+
+-- its line on standard error
+abbrev pub fault_told : Fault → Bytes
+fault_told fault = codes "xvsh: " ++ (fault_words fault ++ 10 ∷ [])
 
 abbrev pub of_host : Bor (List ℕ) → HostFault → Fault
 of_host path host_unreadable = Unreadable path

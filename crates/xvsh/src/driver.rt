@@ -1,9 +1,10 @@
-ghost use Rattle.std.specs.Prelude.{◌≡◌, ◌≢◌, ◌↔◌, ℕ, List, [], OnOk, IfOk, IfErr, IsTrue};
+ghost use Rattle.std.specs.Prelude.{◌≡◌, ◌≢◌, ◌↔◌, ℕ, List, [], codes, OnOk, IfOk, IfErr, IsTrue, false, Option};
 ghost use Rattle.std.specs.Io.KnownBytes.{Appends};
 ghost use Rattle.script_load.specs.Line.{lines_of};
 ghost use Rattle.xvsh.specs.Check.{AreTold, AreHarmless};
 ghost use Rattle.xvsh.specs.Drive.{WritesMeaning, RanCheck, IsTellFault, IsCheckFault, verdict_text};
-ghost use Rattle.xvsh.specs.Status.{status_of};
+ghost use Rattle.xvsh.specs.Ends.{Ends, Request, plain, check, Tells};
+ghost use Rattle.xvsh.specs.Status.{status_of, fault_told};
 
 use crate::checking::check;
 use crate::fault::Fault;
@@ -50,7 +51,7 @@ fn run_check<'a, H: Host, W: Write>(
 }
 
 // What is told of the verdict.
-fn verdict_line(is_settled: bool) -> &'static str
+fn verdict(is_settled: bool) -> &'static str
     ensures { result.now ≡ verdict_text is_settled }
 {
     if is_settled {
@@ -60,74 +61,130 @@ fn verdict_line(is_settled: bool) -> &'static str
     }
 }
 
-// Tells whether the script is settled, and gives the status of a run.
-fn tell_verdict<E: Write>(is_settled: bool, err: &mut E) -> u8
-    ensures { result ≡ 0 }
+// Writes a text, and gives this status, or that of a failed write.
+fn tell_text<W: Write>(text: &str, status: u8, to: &mut W) -> u8
+    ensures { Tells text.now status result (W.contents to.old) (W.contents to.new) }
 {
-    let _ = err.write_all(verdict_line(is_settled).as_bytes());
-    0
-}
-
-// Tells a fault in one line, and gives its status.
-fn tell<E: Write>(fault: Fault<'_>, err: &mut E) -> u8
-    ensures { result ≡ status_of fault.entry }
-{
-    if !fault.is_unwritten() {
-        let _ = writeln!(err, "xvsh: {fault}");
+    match to.write_all(text.as_bytes()) {
+        Ok(()) => status,
+        Err(_) => Fault::Unwritten.status(),
     }
-    fault.status()
 }
 
-// Runs the command that the words name, and gives its status.
-fn run_command<'a, H: Host, W: Write, E: Write>(
+// Tells a fault in one line, but for an output that took no more, and gives its status.
+fn tell<E: Write>(fault: Fault<'_>, err: &mut E) -> u8
+    ensures { Tells (fault_told fault.entry) (status_of fault.entry) result (E.contents err.old) (E.contents err.new) }
+{
+    if fault.is_unwritten() {
+        return fault.status();
+    }
+    match writeln!(err, "xvsh: {fault}") {
+        Ok(()) => fault.status(),
+        Err(_) => Fault::Unwritten.status(),
+    }
+}
+
+// Runs a script, tells whether it is settled or why it wasn't run, and gives the status.
+fn end_plain<'a, H: Host, W: Write, E: Write>(
     alloc: Global,
-    matches: &'a ArgMatches,
+    host: &mut H,
+    script: &'a str,
+    paths: &[&'a str],
+    lists_files: bool,
+    out: &mut W,
+    err: &mut E,
+) -> u8
+    ensures ends { Ends (H.input host.old) (H.file host.old) (W.contents out.old) (W.contents out.new)
+        (E.contents err.old) (E.contents err.new) (plain script.now paths.now lists_files) result }
+    ensures nothing_written { result ≢ 0 → result ≢ 1 → out.new ≡ out.old }
+{
+    match run_plain(alloc, host, script, paths, lists_files, out) {
+        Ok(is_settled) => tell_text(verdict(is_settled), 0, err),
+        Err(fault) => tell(fault, err),
+    }
+}
+
+// Checks a script, tells why where it can't, and gives the status.
+fn end_check<H: Host, W: Write, E: Write>(
+    alloc: Global,
+    host: &mut H,
+    script: &str,
+    out: &mut W,
+    err: &mut E,
+) -> u8
+    ensures ends { Ends (H.input host.old) (H.file host.old) (W.contents out.old) (W.contents out.new)
+        (E.contents err.old) (E.contents err.new) (check script.now) result }
+    ensures nothing_written { result ≢ 0 → result ≢ 1 → result ≢ 3 → out.new ≡ out.old }
+{
+    match run_check(alloc, host, script, out) {
+        Ok(is_harmless) => { if is_harmless { 0 } else { 3 } }
+        Err(fault) => tell(fault, err),
+    }
+}
+
+// Does what the command asks for that the words name, and gives its status.
+fn end_command<'a, H: Host, W: Write, E: Write>(
+    alloc: Global,
+    matches: &ArgMatches<'a>,
     host: &mut H,
     out: &mut W,
     err: &mut E,
-) -> Result<u8, Fault<'a>>
-    ensures refusal { IfErr result (λ fault. fault ≢ Fault.Unwritten → out.new ≡ out.old) }
-    ensures status { IfOk result (λ status. status ≢ 0 → status ≢ 3 → out.new ≡ out.old) }
+) -> u8
+    ensures ends { (request : Request) × Ends (H.input host.old) (H.file host.old) (W.contents out.old) (W.contents out.new)
+        (E.contents err.old) (E.contents err.new) request result }
+    ensures nothing_written { result ≢ 0 → result ≢ 1 → result ≢ 3 → out.new ≡ out.old }
 {
-    if let Some(plain) = matches.subcommand_matches("plain") {
-        let script = plain.get_str("script").unwrap_or(STDIN);
-        let paths = plain.get_strs("paths").unwrap_or(&[]);
-        let is_settled = run_plain(alloc, host, script, paths, plain.get_flag("files"), out)?;
-        return Ok(tell_verdict(is_settled, err));
+    if let Some(words) = matches.subcommand_matches("plain") {
+        let script: &'a str = words.get_str("script").unwrap_or(STDIN);
+        let paths = words.get_strs("paths").unwrap_or(&[]);
+        let lists_files = words.get_flag("files");
+        end_plain(alloc, host, script, paths, lists_files, out, err)
+    } else if let Some(words) = matches.subcommand_matches("check") {
+        let script: &'a str = words.get_str("script").unwrap_or(STDIN);
+        end_check(alloc, host, script, out, err)
+    } else {
+        2
     }
-    if let Some(check) = matches.subcommand_matches("check") {
-        let script = check.get_str("script").unwrap_or(STDIN);
-        let is_harmless = run_check(alloc, host, script, out)?;
-        return Ok(if is_harmless { 0 } else { 3 });
+}
+
+// Tells why there is no command: the words ask for help, which is written to standard output, or are no
+// command line.
+fn end_error<W: Write, E: Write>(alloc: Global, error: &clap::Error, out: &mut W, err: &mut E) -> u8
+    ensures ends { (input : Option (List ℕ)) (file : List ℕ → Option (List ℕ)) → (request : Request) × Ends input file
+        (W.contents out.old) (W.contents out.new) (E.contents err.old) (E.contents err.new) request result }
+    ensures nothing_written { result ≢ 0 → result ≢ 1 → out.new ≡ out.old }
+{
+    if error.kind() == ErrorKind::OutOfMemory {
+        return tell(Fault::Memory, err);
     }
-    Ok(2)
+    let Ok(text) = format!(in alloc; "{error}") else {
+        return tell(Fault::Memory, err);
+    };
+    if error.use_stderr() {
+        tell_text(text.as_str(), 2, err)
+    } else {
+        tell_text(text.as_str(), 0, out)
+    }
 }
 
 // Does what the words ask for.
-fn run_words<H: Host, W: Write, E: Write>(
+fn end_words<H: Host, W: Write, E: Write>(
     alloc: Global,
     words: &[String],
     host: &mut H,
     out: &mut W,
     err: &mut E,
 ) -> u8
+    ensures ends { (request : Request) × Ends (H.input host.old) (H.file host.old) (W.contents out.old) (W.contents out.new)
+        (E.contents err.old) (E.contents err.new) request result }
     ensures nothing_written { result ≢ 0 → result ≢ 1 → result ≢ 3 → out.new ≡ out.old }
 {
     let Ok(command) = command_line(alloc) else {
         return tell(Fault::Memory, err);
     };
-    let matches = match command.try_get_matches_from(words) {
-        Ok(matches) => matches,
-        Err(error) if error.kind() == ErrorKind::OutOfMemory => return tell(Fault::Memory, err),
-        Err(error) if error.use_stderr() => {
-            let _ = write!(err, "{error}");
-            return 2;
-        }
-        Err(error) => return if write!(out, "{error}").is_ok() { 0 } else { 1 },
-    };
-    match run_command(alloc, &matches, host, out, err) {
-        Ok(status) => status,
-        Err(fault) => tell(fault, err),
+    match command.try_get_matches_from(words) {
+        Ok(matches) => end_command(alloc, &matches, host, out, err),
+        Err(error) => end_error(alloc, &error, out, err),
     }
 }
 
@@ -149,7 +206,7 @@ fn run_words<H: Host, W: Write, E: Write>(
 /// A fault goes to `err` as one line, and then nothing of the script was written: 1 for what can't be
 /// read or is refused, 2 for words that are no command line, 3 where
 /// `check` told of a clash or a `&`, 4 for a run that is too large or wants
-/// memory. `--help` goes to `out`. Where `out` fails, the status is 1 and nothing more is written.
+/// memory. `--help` goes to `out`. Where `out` or `err` fails, the status is 1 and nothing more is written.
 pub fn drive<H: Host, W: Write, E: Write>(
     alloc: Global,
     words: Vec<String>,
@@ -158,14 +215,16 @@ pub fn drive<H: Host, W: Write, E: Write>(
     err: &mut E,
 ) -> u8
     ensures meaning { words.items ≡ [] → result ≡ 0 → WritesMeaning (H.input host.old) (W.contents out.old) (W.contents out.new) }
+    ensures no_words { words.items ≡ [] → Ends (H.input host.old) (H.file host.old) (W.contents out.old) (W.contents out.new)
+        (E.contents err.old) (E.contents err.new) (plain (codes "-") [] false) result }
+    ensures ends { (request : Request) × Ends (H.input host.old) (H.file host.old) (W.contents out.old) (W.contents out.new)
+        (E.contents err.old) (E.contents err.new) request result }
     ensures nothing_written { result ≢ 0 → result ≢ 1 → result ≢ 3 → out.new ≡ out.old }
 {
-    if !words.is_empty() {
-        return run_words(alloc, words.as_slice(), host, out, err);
-    }
-    match run_plain(alloc, host, STDIN, &[], false, out) {
-        Ok(is_settled) => tell_verdict(is_settled, err),
-        Err(fault) => tell(fault, err),
+    if words.is_empty() {
+        end_plain(alloc, host, STDIN, &[], false, out, err)
+    } else {
+        end_words(alloc, words.as_slice(), host, out, err)
     }
 }
 

@@ -6,35 +6,26 @@ use mem_files::FilesFault;
 use plain_run::PlainFault;
 use script_load::LoadFault;
 use std::alloc::AllocError;
-use thiserror::Error;
+use std::fmt;
 
 /// Why the program fails. Each is told as one line on standard error after `xvsh: `, but for
 /// `Unwritten`, after which nothing more is written. A path is told as it was given, and `-` stands
 /// for standard input.
-#[derive(Clone, Copy, Debug, Error)]
+#[derive(Clone, Copy, Debug)]
 pub enum Fault<'a> {
-    #[error("cannot read {0}")]
     Unreadable(&'a str),
     /// A script or a standard input of more than 1,048,576 bytes, or a file of more than 274,432.
-    #[error("{0} is too long")]
     TooLong(&'a str),
     /// This line of the script, counted from 1.
-    #[error("line {0} is too long")]
     LineTooLong(usize),
     /// This line of the script, counted from 1.
-    #[error("line {0} holds a zero byte")]
     ByteZero(usize),
-    #[error("bad file name {0}")]
     BadName(&'a str),
-    #[error("too many files")]
     TooManyFiles,
     /// The script would make a file too large, or one too many.
-    #[error("too large")]
     TooLarge,
-    #[error("no memory")]
     Memory,
-    /// Standard output took no more.
-    #[error("cannot write")]
+    /// Standard output, or standard error, took no more.
     Unwritten,
 }
 
@@ -82,6 +73,27 @@ impl<'a> Fault<'a> {
             FilesFault::FullFiles => Fault::TooManyFiles,
             FilesFault::FullSize => Fault::TooLong(path),
             FilesFault::Missing | FilesFault::Memory | FilesFault::Gap => Fault::Memory,
+        }
+    }
+}
+
+impl fmt::Display for Fault<'_> {
+    ghost use Rattle.std.specs.Prelude.{Some};
+    ghost use Rattle.xvsh.specs.Status.{fault_words};
+
+    ghost output = { λ fault. Some (fault_words fault) };
+
+    fn fmt<W: fmt::Write>(&self, f: &mut fmt::Formatter<W>) -> fmt::Result {
+        match *self {
+            Fault::Unreadable(path) => write!(f, "cannot read {path}"),
+            Fault::TooLong(path) => write!(f, "{path} is too long"),
+            Fault::LineTooLong(n) => write!(f, "line {n} is too long"),
+            Fault::ByteZero(n) => write!(f, "line {n} holds a zero byte"),
+            Fault::BadName(path) => write!(f, "bad file name {path}"),
+            Fault::TooManyFiles => f.write_str("too many files"),
+            Fault::TooLarge => f.write_str("too large"),
+            Fault::Memory => f.write_str("no memory"),
+            Fault::Unwritten => f.write_str("cannot write"),
         }
     }
 }

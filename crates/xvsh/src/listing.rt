@@ -4,6 +4,7 @@ ghost use Rattle.xvsh.specs.Listing.{soft_mark, file_text, list_text};
 
 use mem_files::Files;
 use prog_parts::is_among;
+use mem_files::laws::are_files;
 use sh_lexer::Bytes;
 use std::alloc::{AllocError, Global};
 
@@ -40,7 +41,7 @@ fn file_at(files: &Files<Global>, place: usize) -> (&[u8], &[u8])
     requires { place < length files.now }
     ensures { slice_get files.now place ≡ Some (result.0.now, result.1.now) }
 {
-    let _ = files.count();
+    are_files(files);
     let Some(name) = files.name_at(place) else {
         return (&[], &[]);
     };

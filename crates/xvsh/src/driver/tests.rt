@@ -144,10 +144,16 @@ fn expect<H: Host>(
 fn runs_scripts(rt: HostRuntime) -> Result<(), Fail> {
     let long = "x".repeat(rt.alloc(), 511)?;
     let longer = "x".repeat(rt.alloc(), 512)?;
+    let mut nested = "(".repeat(rt.alloc(), 255)?;
+    for _ in 0..255 {
+        nested.push(')')?;
+    }
     let rows = [
         ("echo hello\n", (0, "hello\n", "settled\n")),
         ("", (0, "", "settled\n")),
         (";;", (0, "", "settled\n")),
+        ("()", (0, "", "settled\n")),
+        (nested.as_str(), (0, "", "settled\n")),
         ("echo a b;foo\ncd x\necho c", (0, "a b\nc\n", "settled\n")),
         (
             "echo 1 2 3 4 5 6 7 8\necho 1 2 3 4 5 6 7 8 9\n",
@@ -265,9 +271,77 @@ fn takes_two_hundred_files(rt: HostRuntime) -> Result<(), Fail> {
     }
     let want = (0, "", "settled\n");
     expect(&rt, words.as_str(), &mut Anything, want)?;
-    words.push_str(" f200")?;
-    let want = (1, "", "xvsh: too many files\n");
-    expect(&rt, words.as_str(), &mut Anything, want)?;
+    for (path, fault) in [
+        (" f200", "xvsh: too many files\n"),
+        (
+            " d/aaaaaaaaaaaaaaa",
+            "xvsh: bad file name d/aaaaaaaaaaaaaaa\n",
+        ),
+    ] {
+        let mut more = words.clone()?;
+        more.push_str(path)?;
+        expect(&rt, more.as_str(), &mut Anything, (1, "", fault))?;
+    }
+    Ok(())
+}
+
+// A script of standard input that makes a file too large: each line of `cat` makes one eight times as
+// long as the last.
+#[test]
+fn tells_a_limit_without_words(rt: HostRuntime) -> Result<(), Fail> {
+    let mut script = String::from_str(rt.alloc(), "echo ")?;
+    for _ in 0..500 {
+        script.push('x')?;
+    }
+    script.push_str(" > a\n")?;
+    for (from, to) in [("a", "b"), ("b", "c"), ("c", "d"), ("d", "e")] {
+        script.push_str("cat")?;
+        for _ in 0..8 {
+            script.push(' ')?;
+            script.push_str(from)?;
+        }
+        script.push_str(" > ")?;
+        script.push_str(to)?;
+        script.push('\n')?;
+    }
+    let mut host = Memory {
+        input: script.as_bytes(),
+        files: &[],
+    };
+    let want = (4, "", "xvsh: too large\n");
+    expect(&rt, "", &mut host, want)?;
+    expect(&rt, "plain -", &mut host, want)?;
+    Ok(())
+}
+
+// A host that has no memory for what it reads.
+#[derive(Drop)]
+struct Full;
+
+impl Host for Full {
+    ghost input = { λ _. None };
+
+    ghost file = { λ _ _. None };
+
+    fn read_input(&mut self, _alloc: Global, _limit: usize) -> Result<Vec<u8>, HostFault> {
+        Err(HostFault::Memory)
+    }
+
+    fn read_path(
+        &mut self,
+        _alloc: Global,
+        _path: &str,
+        _limit: usize,
+    ) -> Result<Vec<u8>, HostFault> {
+        Err(HostFault::Memory)
+    }
+}
+
+#[test]
+fn tells_want_of_memory(rt: HostRuntime) -> Result<(), Fail> {
+    for words in ["", "plain -", "plain s f", "check s", "check -"] {
+        expect(&rt, words, &mut Full, (4, "", "xvsh: no memory\n"))?;
+    }
     Ok(())
 }
 
@@ -320,20 +394,39 @@ fn ends_where_its_output_fails(rt: HostRuntime) -> Result<(), Fail> {
     Ok(())
 }
 
-// A fault is told by the status, also where its line can't be written.
+// Whatever was to be told on standard error, the status is 1 where it can't be, and standard output
+// holds what was written before.
 #[test]
-fn needs_no_standard_error(rt: HostRuntime) -> Result<(), Fail> {
-    let mut out = Vec::new(rt.alloc());
-    let mut err = Failing { calls: 2 };
-    let status = drive(
-        rt.alloc(),
-        Vec::new(rt.alloc()),
-        &mut Broken,
-        &mut out,
-        &mut err,
-    );
-    assert_eq!(rt; status, 1);
-    assert!(rt; out.is_empty());
+fn ends_where_standard_error_fails(rt: HostRuntime) -> Result<(), Fail> {
+    let rows = [
+        ("", "echo abc", "abc\n"),
+        ("plain -", "echo a &", "a\n"),
+        ("plain -", "a\0", ""),
+        ("plain", "", ""),
+        ("check none", "", ""),
+    ];
+    for (line, script, written) in rows {
+        for calls in 0..4 {
+            let mut host = Memory {
+                input: script.as_bytes(),
+                files: &[],
+            };
+            let mut out = Vec::new(rt.alloc());
+            let mut err = Failing { calls };
+            let words = words_of(rt.alloc(), line)?;
+            let status = drive(rt.alloc(), words, &mut host, &mut out, &mut err);
+            assert_eq!(rt; status, 1, "at {line}");
+            assert_eq!(rt; out.as_slice(), written.as_bytes());
+        }
+    }
+    for words in ["", "check s"] {
+        let mut out = Vec::new(rt.alloc());
+        let mut err = Failing { calls: 0 };
+        let words = words_of(rt.alloc(), words)?;
+        let status = drive(rt.alloc(), words, &mut Full, &mut out, &mut err);
+        assert_eq!(rt; status, 1);
+        assert!(rt; out.is_empty());
+    }
     Ok(())
 }
 
@@ -354,6 +447,10 @@ fn runs_all_programs(rt: HostRuntime) -> Result<(), Fail> {
         ("tee", b"echo a | tee x y".as_slice()),
         ("input", b"head -1\nwc".as_slice()),
         ("none", b"foo\ncd x\n(echo a > f) &".as_slice()),
+        (
+            "enclosing",
+            b"(echo aaa; echo b > f; echo c) > f".as_slice(),
+        ),
         ("in/big", big.as_bytes()),
         ("in/p", b"b\naab\naabc\ncb\n".as_slice()),
     ];
@@ -380,6 +477,8 @@ fn runs_all_programs(rt: HostRuntime) -> Result<(), Fail> {
     }
     let want = (0, "-- f 2\na\n\n", "not settled\n");
     expect(&rt, "plain --files none", &mut host, want)?;
+    let want = (0, "-- f 6\naaa\nc\n\n", "not settled\n");
+    expect(&rt, "plain --files enclosing", &mut host, want)?;
     Ok(())
 }
 
@@ -399,6 +498,10 @@ fn checks_scripts(rt: HostRuntime) -> Result<(), Fail> {
             (3, "2 background\n2 clash PipeSides n\n"),
         ),
         ("cat f > g | tee f g", (3, "1 clash PipeSides g\n")),
+        (
+            "(echo aaa; echo b > f; echo c) > f",
+            (3, "1 clash Enclosing f\n"),
+        ),
         (
             "cat >\n(\necho 1 2 3 4 5 6 7 8 9\necho (a)",
             (
@@ -461,6 +564,8 @@ fn tests_lines_that_fit(rt: HostRuntime) -> Result<(), Fail> {
     expect_on_file(&rt, "grep x w", after.as_str(), "x\n")?;
     expect_on_file(&rt, "grep x w", "x\nx", "x\n")?;
     expect_on_file(&rt, "grep a w", "a\nx\0\na\n", "a\n")?;
+    expect_on_file(&rt, "cat w | grep x", fits.as_str(), fits.as_str())?;
+    expect_on_file(&rt, "cat w | grep x", long.as_str(), "")?;
     Ok(())
 }
 

@@ -1,6 +1,6 @@
-use Rattle.xvsh.proofs.Ran.{writes_meaning}
+use Rattle.xvsh.proofs.Ending.{run_writes_meaning}
 use Rattle.xvsh.proofs.driver.drive.Goals as goal
 
-pub returns-in-Ok-clause-meaning : goal.returns-in-Ok-clause-meaning
-returns-in-Ok-clause-meaning g c no_words done =
-    writes_meaning (g.H.Host.input c.args.host.now) (g.H.Host.file c.args.host.now) c.in-Ok.is_settled (g.W.Write.contents c.args.out.now) (g.W.Write.contents c.run_plain.new.out) c.in-Ok.ensures.ran
+pub returns-then-is_empty-clause-meaning : goal.returns-then-is_empty-clause-meaning
+returns-then-is_empty-clause-meaning g c no_words done =
+    run_writes_meaning (g.H.Host.input c.args.host.now) (g.H.Host.file c.args.host.now) (g.W.Write.contents c.args.out.now) (g.W.Write.contents c.end_plain.new.out) (g.E.Write.contents c.args.err.now) (g.E.Write.contents c.end_plain.new.err) c.end_plain.result c.end_plain.ensures.ends done

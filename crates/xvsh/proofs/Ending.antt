@@ -1,0 +1,115 @@
+-- With what a run and a check end, of what they gave and what was told of it.
+use Rattle.std.proofs.Common.{◌≡◌, ◌≢◌, ℕ, Bool, true, false, List, [], codes, Option, Some, None, ◌⊎◌, inl, inr, refl, sym, ◌∙◌, ap, subst}
+use Rattle.std.specs.Borrow.{Bor}
+use Rattle.std.specs.Io.KnownBytes.{Appends, Keeps}
+use Rattle.std.proofs.lemmas.List.{append-nil}
+use Rattle.mem_files.specs.Name.{Bytes}
+use Rattle.xvsh.specs.declared.fault.Fault.{Fault}
+use Rattle.xvsh.specs.declared.fault.Fault.TheVariants.{Unreadable, TooLong, LineTooLong, ByteZero, BadName, TooManyFiles, TooLarge, Memory, Unwritten}
+use Rattle.xvsh.specs.Drive.{RanCheck, IsCheckFault, WritesMeaning, verdict_text}
+use Rattle.xvsh.specs.Ends.{Request, plain, check, misuse, help, Tells, Ends, ran, no_run, harmless, harmful, no_check, helped, misused, no_memory, unwritten}
+use Rattle.xvsh.specs.Path.{Path}
+use Rattle.xvsh.specs.Running.{RanPlain, IsPlainFault}
+use Rattle.xvsh.specs.Status.{status_of, fault_told}
+use Rattle.xvsh.proofs.Ran.{writes_meaning}
+
+-- what is known stays where nothing changes
+pub keeps_same : (known : Option Bytes) → Keeps known known
+keeps_same None = tt
+keeps_same (Some bytes) = refl
+
+pub keeps_equal : (old new : Option Bytes) → new ≡ old → Keeps old new
+keeps_equal old new same = subst (Keeps old) (sym same) (keeps_same old)
+
+-- of a fault that is not told nothing was to be written
+unwritten_or : (fault : Fault) → (fault ≡ Unwritten) ⊎ (fault ≢ Unwritten)
+unwritten_or (Unreadable path) = inr (λ is. cc)
+unwritten_or (TooLong path) = inr (λ is. cc)
+unwritten_or (LineTooLong n) = inr (λ is. cc)
+unwritten_or (ByteZero n) = inr (λ is. cc)
+unwritten_or (BadName path) = inr (λ is. cc)
+unwritten_or TooManyFiles = inr (λ is. cc)
+unwritten_or TooLarge = inr (λ is. cc)
+unwritten_or Memory = inr (λ is. cc)
+unwritten_or Unwritten = inl (λ _. Unwritten)
+
+-- no status of a fault is 0
+some_status : (fault : Fault) → status_of fault ≢ 0
+some_status (Unreadable path) is = cc
+some_status (TooLong path) is = cc
+some_status (LineTooLong n) is = cc
+some_status (ByteZero n) is = cc
+some_status (BadName path) is = cc
+some_status TooManyFiles is = cc
+some_status TooLarge is = cc
+some_status Memory is = cc
+some_status Unwritten is = cc
+
+-- what is known grows by nothing
+pub appends_none : (known : Option Bytes) → Appends known known []
+appends_none None = tt
+appends_none (Some bytes) = sym (append-nil bytes)
+
+module _ (input : Option Bytes) (file : Path → Option Bytes) (out out' err err' : Option Bytes) where
+  one : (request : Request) (status : ℕ) → status ≡ 1 → Ends input file out out' err err' request status
+  one request status is = subst (Ends input file out out' err err' request) (sym is) (unwritten {request = request})
+
+  pub ended_run : (script : Path) (paths : List (Bor Path)) (lists is_settled : Bool) (status : ℕ) → RanPlain input file script paths lists is_settled out out' → Tells (verdict_text is_settled) 0 status err err' → Ends input file out out' err err' (plain script paths lists) status
+  ended_run script paths lists is_settled status gave (inl told) = subst (Ends input file out out' err err' (plain script paths lists)) (sym told.0) (ran is_settled gave told.1)
+  ended_run script paths lists is_settled status gave (inr untold) = one (plain script paths lists) status untold
+
+  pub refused_run : (script : Path) (paths : List (Bor Path)) (lists : Bool) (fault : Fault) (status : ℕ) → IsPlainFault input file script paths fault → (fault ≢ Unwritten → out' ≡ out) → Tells (fault_told fault) (status_of fault) status err err' → Ends input file out out' err err' (plain script paths lists) status
+  refused_run script paths lists fault status due stays (inr untold) = one (plain script paths lists) status untold
+  refused_run script paths lists fault status due stays (inl told) = elim (unwritten_or fault) [
+    | inl is ↦ one (plain script paths lists) status (told.0 ∙ ap status_of is)
+    | inr other ↦ subst (Ends input file out out' err err' (plain script paths lists)) (sym told.0) (no_run fault due (keeps_equal out out' (stays other)) told.1)
+  ]
+
+  pub found_harmless : (script : Path) (is_harmless : Bool) → is_harmless ≡ true → RanCheck input file script is_harmless out out' → err' ≡ err → Ends input file out out' err err' (check script) 0
+  found_harmless script is_harmless is gave same =
+      harmless (subst (λ b. RanCheck input file script b out out') is gave) (keeps_equal err err' same)
+
+  pub found_harmful : (script : Path) (is_harmless : Bool) → is_harmless ≡ false → RanCheck input file script is_harmless out out' → err' ≡ err → Ends input file out out' err err' (check script) 3
+  found_harmful script is_harmless is gave same =
+      harmful (subst (λ b. RanCheck input file script b out out') is gave) (keeps_equal err err' same)
+
+  pub refused_check : (script : Path) (fault : Fault) (status : ℕ) → IsCheckFault input file script fault → (fault ≢ Unwritten → out' ≡ out) → Tells (fault_told fault) (status_of fault) status err err' → Ends input file out out' err err' (check script) status
+  refused_check script fault status due stays (inr untold) = one (check script) status untold
+  refused_check script fault status due stays (inl told) = elim (unwritten_or fault) [
+    | inl is ↦ one (check script) status (told.0 ∙ ap status_of is)
+    | inr other ↦ subst (Ends input file out out' err err' (check script)) (sym told.0) (no_check fault due (keeps_equal out out' (stays other)) told.1)
+  ]
+
+  -- there was no memory for the words
+  pub no_words : (status : ℕ) → out' ≡ out → Tells (fault_told Memory) (status_of Memory) status err err' → (request : Request) × Ends input file out out' err err' request status
+  no_words status same (inr untold) = (misuse, one misuse status untold)
+  no_words status same (inl told) = (misuse, subst (Ends input file out out' err err' misuse) (sym told.0) (no_memory (keeps_equal out out' same) told.1))
+
+  -- what is wrong with the words was told
+  pub told_misuse : (text : Bytes) (status : ℕ) → out' ≡ out → Tells text 2 status err err' → (request : Request) × Ends input file out out' err err' request status
+  told_misuse text status same (inr untold) = (misuse, one misuse status untold)
+  told_misuse text status same (inl told) = (misuse, subst (Ends input file out out' err err' misuse) (sym told.0) (misused text (keeps_equal out out' same) told.1))
+
+  -- help was written
+  pub told_help : (text : Bytes) (status : ℕ) → err' ≡ err → Tells text 0 status out out' → (request : Request) × Ends input file out out' err err' request status
+  told_help text status same (inr untold) = (help, one help status untold)
+  told_help text status same (inl told) = (help, subst (Ends input file out out' err err' help) (sym told.0) (helped text told.1 (keeps_equal err err' same)))
+
+  -- without words status 0 comes of a run alone, whose output is the meaning's
+  meaning_of : (request : Request) (status : ℕ) → Ends input file out out' err err' request status → request ≡ plain (codes "-") [] false → status ≡ 0 → WritesMeaning input out out'
+  meaning_of request status (ran {script = script} {paths = paths} {lists = lists} is_settled gave told) is zero =
+      let own : script ≡ codes "-" = cc in
+      let none : paths ≡ [] = cc in
+      let unlisted : lists ≡ false = cc in
+      writes_meaning input file is_settled out out' (subst (λ l. RanPlain input file (codes "-") [] l is_settled out out') unlisted (subst (λ ps. RanPlain input file (codes "-") ps lists is_settled out out') none (subst (λ s. RanPlain input file s paths lists is_settled out out') own gave)))
+  meaning_of request status (no_run fault due keeps told) is zero = absurd (some_status fault zero)
+  meaning_of request status (harmless gave keeps) is zero = cc
+  meaning_of request status (harmful gave keeps) is zero = cc
+  meaning_of request status (no_check fault due keeps told) is zero = cc
+  meaning_of request status (helped text wrote keeps) is zero = cc
+  meaning_of request status (misused text keeps told) is zero = cc
+  meaning_of request status (no_memory keeps told) is zero = cc
+  meaning_of request status unwritten is zero = cc
+
+  pub run_writes_meaning : (status : ℕ) → Ends input file out out' err err' (plain (codes "-") [] false) status → status ≡ 0 → WritesMeaning input out out'
+  run_writes_meaning status ends zero = meaning_of (plain (codes "-") [] false) status ends refl zero
