@@ -3,6 +3,8 @@ use Rattle.std.proofs.Common.{◌≡◌, ◌≢◌, ℕ, Bool, true, false, List
 use Rattle.std.specs.Borrow.{Bor}
 use Rattle.std.specs.Io.KnownBytes.{Appends, Keeps}
 use Rattle.std.proofs.lemmas.List.{append-nil}
+use Rattle.script_load.specs.declared.profile.Profile.{Profile}
+use Rattle.script_load.specs.declared.profile.Profile.TheVariants.{Xv6}
 use Rattle.mem_files.specs.Name.{Bytes}
 use Rattle.xvsh.specs.declared.fault.Fault.{Fault}
 use Rattle.xvsh.specs.declared.fault.Fault.TheVariants.{Unreadable, TooLong, LineTooLong, ByteZero, BadName, TooManyFiles, TooLarge, Memory, Unwritten}
@@ -54,15 +56,15 @@ module _ (input : Option Bytes) (file : Path → Option Bytes) (out out' err err
   one : (request : Request) (status : ℕ) → status ≡ 1 → Ends input file out out' err err' request status
   one request status is = subst (Ends input file out out' err err' request) (sym is) (unwritten {request = request})
 
-  pub ended_run : (script : Path) (paths : List (Bor Path)) (lists is_settled : Bool) (status : ℕ) → RanPlain input file script paths lists is_settled out out' → Tells (verdict_text is_settled) 0 status err err' → Ends input file out out' err err' (plain script paths lists) status
-  ended_run script paths lists is_settled status gave (inl told) = subst (Ends input file out out' err err' (plain script paths lists)) (sym told.0) (ran is_settled gave told.1)
-  ended_run script paths lists is_settled status gave (inr untold) = one (plain script paths lists) status untold
+  pub ended_run : (profile : Profile) (script : Path) (paths : List (Bor Path)) (lists is_settled : Bool) (status : ℕ) → RanPlain input file profile script paths lists is_settled out out' → Tells (verdict_text is_settled) 0 status err err' → Ends input file out out' err err' (plain profile script paths lists) status
+  ended_run profile script paths lists is_settled status gave (inl told) = subst (Ends input file out out' err err' (plain profile script paths lists)) (sym told.0) (ran is_settled gave told.1)
+  ended_run profile script paths lists is_settled status gave (inr untold) = one (plain profile script paths lists) status untold
 
-  pub refused_run : (script : Path) (paths : List (Bor Path)) (lists : Bool) (fault : Fault) (status : ℕ) → IsPlainFault input file script paths fault → (fault ≢ Unwritten → out' ≡ out) → Tells (fault_told fault) (status_of fault) status err err' → Ends input file out out' err err' (plain script paths lists) status
-  refused_run script paths lists fault status due stays (inr untold) = one (plain script paths lists) status untold
-  refused_run script paths lists fault status due stays (inl told) = elim (unwritten_or fault) [
-    | inl is ↦ one (plain script paths lists) status (told.0 ∙ ap status_of is)
-    | inr other ↦ subst (Ends input file out out' err err' (plain script paths lists)) (sym told.0) (no_run fault due (keeps_equal out out' (stays other)) told.1)
+  pub refused_run : (profile : Profile) (script : Path) (paths : List (Bor Path)) (lists : Bool) (fault : Fault) (status : ℕ) → IsPlainFault input file profile script paths fault → (fault ≢ Unwritten → out' ≡ out) → Tells (fault_told fault) (status_of fault) status err err' → Ends input file out out' err err' (plain profile script paths lists) status
+  refused_run profile script paths lists fault status due stays (inr untold) = one (plain profile script paths lists) status untold
+  refused_run profile script paths lists fault status due stays (inl told) = elim (unwritten_or fault) [
+    | inl is ↦ one (plain profile script paths lists) status (told.0 ∙ ap status_of is)
+    | inr other ↦ subst (Ends input file out out' err err' (plain profile script paths lists)) (sym told.0) (no_run fault due (keeps_equal out out' (stays other)) told.1)
   ]
 
   pub found_harmless : (script : Path) (is_harmless : Bool) → is_harmless ≡ true → RanCheck input file script is_harmless out out' → err' ≡ err → Ends input file out out' err err' (check script) 0
@@ -96,12 +98,13 @@ module _ (input : Option Bytes) (file : Path → Option Bytes) (out out' err err
   told_help text status same (inl told) = (help, subst (Ends input file out out' err err' help) (sym told.0) (helped text told.1 (keeps_equal err err' same)))
 
   -- without words status 0 comes of a run alone, whose output is the meaning's
-  meaning_of : (request : Request) (status : ℕ) → Ends input file out out' err err' request status → request ≡ plain (codes "-") [] false → status ≡ 0 → WritesMeaning input out out'
-  meaning_of request status (ran {script = script} {paths = paths} {lists = lists} is_settled gave told) is zero =
+  meaning_of : (request : Request) (status : ℕ) → Ends input file out out' err err' request status → request ≡ plain Xv6 (codes "-") [] false → status ≡ 0 → WritesMeaning input out out'
+  meaning_of request status (ran {profile = profile} {script = script} {paths = paths} {lists = lists} is_settled gave told) is zero =
+      let xv6 : profile ≡ Xv6 = cc in
       let own : script ≡ codes "-" = cc in
       let none : paths ≡ [] = cc in
       let unlisted : lists ≡ false = cc in
-      writes_meaning input file is_settled out out' (subst (λ l. RanPlain input file (codes "-") [] l is_settled out out') unlisted (subst (λ ps. RanPlain input file (codes "-") ps lists is_settled out out') none (subst (λ s. RanPlain input file s paths lists is_settled out out') own gave)))
+      writes_meaning input file is_settled out out' (subst (λ l. RanPlain input file Xv6 (codes "-") [] l is_settled out out') unlisted (subst (λ ps. RanPlain input file Xv6 (codes "-") ps lists is_settled out out') none (subst (λ s. RanPlain input file Xv6 s paths lists is_settled out out') own (subst (λ p. RanPlain input file p script paths lists is_settled out out') xv6 gave))))
   meaning_of request status (no_run fault due keeps told) is zero = absurd (some_status fault zero)
   meaning_of request status (harmless gave keeps) is zero = cc
   meaning_of request status (harmful gave keeps) is zero = cc
@@ -111,5 +114,5 @@ module _ (input : Option Bytes) (file : Path → Option Bytes) (out out' err err
   meaning_of request status (no_memory keeps told) is zero = cc
   meaning_of request status unwritten is zero = cc
 
-  pub run_writes_meaning : (status : ℕ) → Ends input file out out' err err' (plain (codes "-") [] false) status → status ≡ 0 → WritesMeaning input out out'
-  run_writes_meaning status ends zero = meaning_of (plain (codes "-") [] false) status ends refl zero
+  pub run_writes_meaning : (status : ℕ) → Ends input file out out' err err' (plain Xv6 (codes "-") [] false) status → status ≡ 0 → WritesMeaning input out out'
+  run_writes_meaning status ends zero = meaning_of (plain Xv6 (codes "-") [] false) status ends refl zero

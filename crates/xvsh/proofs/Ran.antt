@@ -7,6 +7,8 @@ use Rattle.mem_files.specs.Name.{Name, Bytes}
 use Rattle.mem_files.specs.Files.{files}
 use Rattle.script_load.specs.declared.fault.LoadFault.{LoadFault}
 use Rattle.script_load.specs.declared.fault.LoadFault.TheVariants.{LineTooLong, ByteZero, Memory}
+use Rattle.script_load.specs.declared.profile.Profile.{Profile}
+use Rattle.script_load.specs.declared.profile.Profile.TheVariants.{Xv6}
 use Rattle.script_load.specs.Line.{ScriptLine}
 use Rattle.sh_meaning.specs.Meaning.{script_meaning}
 use Rattle.script_load.specs.Script.{IsScript, HasLoadFault}
@@ -34,11 +36,11 @@ module _ (input : Option Bytes) (file : Path → Option Bytes) (script : Path) w
   pub own_input : (stdin : Bytes) → script ≢ codes "-" → Agree input stdin → IsInputOf input file script stdin
   own_input stdin other own = (λ is. absurd (other is), λ _. own)
 
-  pub ran_plain : (paths : List (Bor Path)) (lists : Bool) (old new : Option (List ℕ)) (lines : List ScriptLine) (given : List (Name × Bytes)) (stdin : Bytes) (result : Result Bool Fault) →
+  pub ran_plain : (profile : Profile) (paths : List (Bor Path)) (lists : Bool) (old new : Option (List ℕ)) (lines : List ScriptLine) (given : List (Name × Bytes)) (stdin : Bytes) (result : Result Bool Fault) →
       AreLinesAt input file script lines → ArePut file paths given → IsInputOf input file script stdin →
-      IfOk result (λ is. IsTrue is ↔ IsSettledScript lines stdin (files given)) → OnOk result (WritesRun lists (script_meaning lines stdin (files given)) old new) →
-      IfOk result (λ is. RanPlain input file script paths lists is old new)
-  ran_plain paths lists old new lines given stdin (Ok is) loaded put own settled writes = record {
+      IfOk result (λ is. IsTrue is ↔ IsSettledScript profile lines stdin (files given)) → OnOk result (WritesRun lists (script_meaning profile lines stdin (files given)) old new) →
+      IfOk result (λ is. RanPlain input file profile script paths lists is old new)
+  ran_plain profile paths lists old new lines given stdin (Ok is) loaded put own settled writes = record {
     lines = lines;
     loaded = loaded;
     given = given;
@@ -48,7 +50,7 @@ module _ (input : Option Bytes) (file : Path → Option Bytes) (script : Path) w
     writes = writes;
     settled = settled;
   }
-  ran_plain paths lists old new lines given stdin (Err fault) loaded put own settled writes = tt
+  ran_plain profile paths lists old new lines given stdin (Err fault) loaded put own settled writes = tt
 
 cons_at_end≢nil : (before : List (Bor Path)) (path : Bor Path) → before ++ path ∷ [] ≢ []
 cons_at_end≢nil [] path is = cc
@@ -60,12 +62,12 @@ no_file_given file paths given none none_put = refl
 no_file_given file paths given none (one_put {paths = before} path name bytes put is own) = absurd (cons_at_end≢nil before path none)
 
 -- a run of the script of standard input on no files writes the meaning of what the host tells of it
-pub writes_meaning : (input : Option Bytes) (file : Path → Option Bytes) (is_settled : Bool) (old new : Option (List ℕ)) → RanPlain input file (codes "-") [] false is_settled old new → WritesMeaning input old new
+pub writes_meaning : (input : Option Bytes) (file : Path → Option Bytes) (is_settled : Bool) (old new : Option (List ℕ)) → RanPlain input file Xv6 (codes "-") [] false is_settled old new → WritesMeaning input old new
 writes_meaning None file is_settled old new ran = tt
 writes_meaning (Some told) file is_settled old new ran =
     let stdin : ran.stdin ≡ [] = ran.own.0 refl in
     let none : ran.given ≡ [] = no_file_given file [] ran.given refl ran.put in (
       ran.lines,
       subst (λ b. IsScript b ran.lines) ran.loaded.own ran.loaded.cut,
-      subst (λ given. Appends old new (script_meaning ran.lines [] (files given)).out) none (subst (λ s. Appends old new (script_meaning ran.lines s (files ran.given)).out) stdin ran.writes),
+      subst (λ given. Appends old new (script_meaning Xv6 ran.lines [] (files given)).out) none (subst (λ s. Appends old new (script_meaning Xv6 ran.lines s (files ran.given)).out) stdin ran.writes),
     )

@@ -3,6 +3,7 @@ use Rattle.std.specs.Prelude.{◌↔◌, ℕ, Bool, true, false, IsTrue, List, [
 use Rattle.std.specs.Io.KnownBytes.{Appends}
 use Rattle.mem_files.specs.Name.{Bytes}
 use Rattle.mem_files.specs.Files.{no_files}
+use Rattle.script_load.specs.declared.profile.Profile.TheVariants.{Xv6}
 use Rattle.script_load.specs.Line.{ScriptLine}
 use Rattle.sh_meaning.specs.Meaning.{script_meaning}
 use Rattle.script_load.specs.Script.{IsScript}
@@ -12,11 +13,11 @@ use Rattle.xvsh.specs.Running.{AreLinesAt, IsScriptAtFault}
 use Rattle.xvsh.specs.declared.fault.Fault.{Fault}
 use Rattle.xvsh.specs.declared.fault.Fault.TheVariants.{Unreadable, TooLong, LineTooLong, ByteZero, BadName, TooManyFiles, TooLarge, Memory, Unwritten}
 
--- where the host tells its input and the writer what it holds, the output of the input's script on an
--- empty standard input and no files is added to the writer, and nothing else
+-- where the host tells its input and the writer what it holds, the output of the input's script under
+-- xv6's profile, on an empty standard input and no files, is added to the writer, and nothing else
 abbrev pub WritesMeaning : Option (List ℕ) → Option (List ℕ) → Option (List ℕ) → Type 0
 WritesMeaning told old new =
-    IfSome told (λ bytes. (lines : List ScriptLine) × IsScript bytes lines × Appends old new (script_meaning lines [] no_files).out)
+    IfSome told (λ bytes. (lines : List ScriptLine) × IsScript bytes lines × Appends old new (script_meaning Xv6 lines [] no_files).out)
 
 -- what is told of the verdict
 abbrev pub verdict_text : Bool → Bytes

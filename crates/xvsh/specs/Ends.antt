@@ -3,6 +3,8 @@ use Rattle.std.specs.Prelude.{◌≡◌, ℕ, Bool, true, false, List, Option, �
 use Rattle.std.specs.Borrow.{Bor}
 use Rattle.std.specs.Io.KnownBytes.{Appends, Keeps}
 use Rattle.mem_files.specs.Name.{Bytes}
+use Rattle.script_load.specs.declared.profile.Profile.{Profile}
+use Rattle.script_load.specs.declared.profile.Profile.TheVariants.{Xv6, Append}
 use Rattle.xvsh.specs.declared.fault.Fault.{Fault}
 use Rattle.xvsh.specs.declared.fault.Fault.TheVariants.{Memory}
 use Rattle.xvsh.specs.Drive.{RanCheck, IsCheckFault, verdict_text}
@@ -10,10 +12,15 @@ use Rattle.xvsh.specs.Path.{Path}
 use Rattle.xvsh.specs.Running.{RanPlain, IsPlainFault}
 use Rattle.xvsh.specs.Status.{status_of, fault_told}
 
--- what the words of the command line ask for: a run of the script at a path, on the files at these
--- paths, which are listed or not; a check of the script at a path; the help; or nothing that there is
+-- what >> means, by whether `--append` is given
+abbrev pub profile_of : Bool → Profile
+profile_of true = Append
+profile_of false = Xv6
+
+-- what the words of the command line ask for: a run of the script at a path under a profile, on the files
+-- at these paths, which are listed or not; a check of the script at a path; the help; or nothing that there is
 pub data Request : Type 0 where
-  plain : Path → List (Bor Path) → Bool → Request
+  plain : Profile → Path → List (Bor Path) → Bool → Request
   check : Path → Request
   help : Request
   misuse : Request
@@ -27,9 +34,9 @@ Tells text status result err err' = ((result ≡ status) × Appends err err' tex
 module _ (input : Option Bytes) (file : Path → Option Bytes) (out out' err err' : Option Bytes) where
   pub data Ends : Request → ℕ → Type 0 where
     -- the script ran, and whether it is settled is told
-    ran : {script : Path} {paths : List (Bor Path)} {lists : Bool} (is_settled : Bool) → RanPlain input file script paths lists is_settled out out' → Appends err err' (verdict_text is_settled) → Ends (plain script paths lists) 0
+    ran : {profile : Profile} {script : Path} {paths : List (Bor Path)} {lists : Bool} (is_settled : Bool) → RanPlain input file profile script paths lists is_settled out out' → Appends err err' (verdict_text is_settled) → Ends (plain profile script paths lists) 0
     -- it didn't: a fault is due, nothing was written, and the fault is told
-    no_run : {script : Path} {paths : List (Bor Path)} {lists : Bool} (fault : Fault) → IsPlainFault input file script paths fault → Keeps out out' → Appends err err' (fault_told fault) → Ends (plain script paths lists) (status_of fault)
+    no_run : {profile : Profile} {script : Path} {paths : List (Bor Path)} {lists : Bool} (fault : Fault) → IsPlainFault input file profile script paths fault → Keeps out out' → Appends err err' (fault_told fault) → Ends (plain profile script paths lists) (status_of fault)
     -- the script was checked, and holds no `&` and no clash, or some
     harmless : {script : Path} → RanCheck input file script true out out' → Keeps err err' → Ends (check script) 0
     harmful : {script : Path} → RanCheck input file script false out out' → Keeps err err' → Ends (check script) 3

@@ -6,6 +6,7 @@ use Rattle.mem_files.specs.Name.{Name, Bytes}
 use Rattle.mem_files.specs.Files.{FileMap, files}
 use Rattle.mem_files.specs.Listing.{AreFiles}
 use Rattle.script_load.specs.declared.fault.LoadFault.TheVariants.{LineTooLong as load_long, ByteZero as load_zero, Memory as load_memory}
+use Rattle.script_load.specs.declared.profile.Profile.{Profile}
 use Rattle.script_load.specs.Line.{ScriptLine}
 use Rattle.sh_meaning.specs.Limits.{Outgrows}
 use Rattle.sh_meaning.specs.Meaning.{script_tree, script_meaning}
@@ -25,16 +26,16 @@ WritesRun true value old new =
     (list : List (Name × Bytes)) × AreFiles list × ((name : Name) → files list name ≡ value.files name) × Appends old new (value.out ++ list_text value.soft list)
 
 -- a fault of the run of a script: only where its meaning passes a limit is it too large
-abbrev pub IsRunFault : List ScriptLine → Bytes → FileMap → Fault → Type 0
-IsRunFault lines input F TooLarge = Outgrows (script_tree lines) input F
-IsRunFault lines input F Memory = Unit {0}
-IsRunFault lines input F Unwritten = Unit {0}
-IsRunFault lines input F (Unreadable path) = ⊥
-IsRunFault lines input F (TooLong path) = ⊥
-IsRunFault lines input F (LineTooLong n) = ⊥
-IsRunFault lines input F (ByteZero n) = ⊥
-IsRunFault lines input F (BadName path) = ⊥
-IsRunFault lines input F TooManyFiles = ⊥
+abbrev pub IsRunFault : Profile → List ScriptLine → Bytes → FileMap → Fault → Type 0
+IsRunFault profile lines input F TooLarge = Outgrows profile (script_tree lines) input F
+IsRunFault profile lines input F Memory = Unit {0}
+IsRunFault profile lines input F Unwritten = Unit {0}
+IsRunFault profile lines input F (Unreadable path) = ⊥
+IsRunFault profile lines input F (TooLong path) = ⊥
+IsRunFault profile lines input F (LineTooLong n) = ⊥
+IsRunFault profile lines input F (ByteZero n) = ⊥
+IsRunFault profile lines input F (BadName path) = ⊥
+IsRunFault profile lines input F TooManyFiles = ⊥
 
 -- bytes are refused as a script
 abbrev pub IsScriptFault : Bytes → Fault → Type 0
@@ -65,21 +66,21 @@ module _ (input : Option Bytes) (file : Path → Option Bytes) where
   abbrev pub IsInputOf : Path → Bytes → Type 0
   IsInputOf script stdin = (script ≡ codes "-" → stdin ≡ []) × (script ≢ codes "-" → Agree input stdin)
 
-  -- the script at a path was run on the files at these paths
-  pub record RanPlain (script : Path) (paths : List (Bor Path)) (lists is_settled : Bool) (old new : Option (List ℕ)) : Type 0 where
+  -- the script at a path was run under a profile on the files at these paths
+  pub record RanPlain (profile : Profile) (script : Path) (paths : List (Bor Path)) (lists is_settled : Bool) (old new : Option (List ℕ)) : Type 0 where
     pub lines : List ScriptLine
     pub loaded : AreLinesAt script lines
     pub given : List (Name × Bytes)
     pub put : ArePut file paths given
     pub stdin : Bytes
     pub own : IsInputOf script stdin
-    pub writes : WritesRun lists (script_meaning lines stdin (files given)) old new
-    pub settled : IsTrue is_settled ↔ IsSettledScript lines stdin (files given)
+    pub writes : WritesRun lists (script_meaning profile lines stdin (files given)) old new
+    pub settled : IsTrue is_settled ↔ IsSettledScript profile lines stdin (files given)
 
   -- why it wasn't: there is no script, one of the files can't be had, or standard input, or the run failed,
   -- each where those before were had
-  pub data IsPlainFault (script : Path) (paths : List (Bor Path)) : Fault → Type 0 where
-    no_script : {fault : Fault} → IsScriptAtFault script fault → IsPlainFault script paths fault
-    no_file : {fault : Fault} (lines : List ScriptLine) → AreLinesAt script lines → IsFilesFault file paths fault → IsPlainFault script paths fault
-    no_input : {fault : Fault} (lines : List ScriptLine) (given : List (Name × Bytes)) → AreLinesAt script lines → ArePut file paths given → script ≢ codes "-" → IsReadFault input (codes "-") fault → IsPlainFault script paths fault
-    no_run : {fault : Fault} (lines : List ScriptLine) (given : List (Name × Bytes)) (stdin : Bytes) → AreLinesAt script lines → ArePut file paths given → IsInputOf script stdin → IsRunFault lines stdin (files given) fault → IsPlainFault script paths fault
+  pub data IsPlainFault (profile : Profile) (script : Path) (paths : List (Bor Path)) : Fault → Type 0 where
+    no_script : {fault : Fault} → IsScriptAtFault script fault → IsPlainFault profile script paths fault
+    no_file : {fault : Fault} (lines : List ScriptLine) → AreLinesAt script lines → IsFilesFault file paths fault → IsPlainFault profile script paths fault
+    no_input : {fault : Fault} (lines : List ScriptLine) (given : List (Name × Bytes)) → AreLinesAt script lines → ArePut file paths given → script ≢ codes "-" → IsReadFault input (codes "-") fault → IsPlainFault profile script paths fault
+    no_run : {fault : Fault} (lines : List ScriptLine) (given : List (Name × Bytes)) (stdin : Bytes) → AreLinesAt script lines → ArePut file paths given → IsInputOf script stdin → IsRunFault profile lines stdin (files given) fault → IsPlainFault profile script paths fault

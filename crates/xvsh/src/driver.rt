@@ -3,7 +3,7 @@ ghost use Rattle.std.specs.Io.KnownBytes.{Appends};
 ghost use Rattle.script_load.specs.Line.{lines_of};
 ghost use Rattle.xvsh.specs.Check.{AreTold, AreHarmless};
 ghost use Rattle.xvsh.specs.Drive.{WritesMeaning, RanCheck, IsTellFault, IsCheckFault, verdict_text};
-ghost use Rattle.xvsh.specs.Ends.{Ends, Request, plain, check, Tells};
+ghost use Rattle.xvsh.specs.Ends.{Ends, Request, plain, check, profile_of, Tells};
 ghost use Rattle.xvsh.specs.Status.{status_of, fault_told};
 
 use crate::checking::check;
@@ -13,7 +13,7 @@ use crate::running::{STDIN, read, run_plain, write};
 use crate::words::command_line;
 use clap::ArgMatches;
 use clap::error::ErrorKind;
-use script_load::{Script, load};
+use script_load::{Profile, Script, load};
 use std::alloc::Global;
 use std::io::Write;
 
@@ -84,10 +84,22 @@ fn tell<E: Write>(fault: Fault<'_>, err: &mut E) -> u8
     }
 }
 
+// What `>>` means, by whether `--append` is given.
+fn profile_of(appends: bool) -> Profile
+    ensures { result ≡ profile_of appends }
+{
+    if appends {
+        Profile::Append
+    } else {
+        Profile::Xv6
+    }
+}
+
 // Runs a script, tells whether it is settled or why it wasn't run, and gives the status.
 fn end_plain<'a, H: Host, W: Write, E: Write>(
     alloc: Global,
     host: &mut H,
+    profile: Profile,
     script: &'a str,
     paths: &[&'a str],
     lists_files: bool,
@@ -95,10 +107,10 @@ fn end_plain<'a, H: Host, W: Write, E: Write>(
     err: &mut E,
 ) -> u8
     ensures ends { Ends (H.input host.old) (H.file host.old) (W.contents out.old) (W.contents out.new)
-        (E.contents err.old) (E.contents err.new) (plain script.now paths.now lists_files) result }
+        (E.contents err.old) (E.contents err.new) (plain profile script.now paths.now lists_files) result }
     ensures nothing_written { result ≢ 0 → result ≢ 1 → out.new ≡ out.old }
 {
-    match run_plain(alloc, host, script, paths, lists_files, out) {
+    match run_plain(alloc, host, profile, script, paths, lists_files, out) {
         Ok(is_settled) => tell_text(verdict(is_settled), 0, err),
         Err(fault) => tell(fault, err),
     }
@@ -138,7 +150,8 @@ fn end_command<'a, H: Host, W: Write, E: Write>(
         let script: &'a str = words.get_str("script").unwrap_or(STDIN);
         let paths = words.get_strs("paths").unwrap_or(&[]);
         let lists_files = words.get_flag("files");
-        end_plain(alloc, host, script, paths, lists_files, out, err)
+        let profile = profile_of(words.get_flag("append"));
+        end_plain(alloc, host, profile, script, paths, lists_files, out, err)
     } else if let Some(words) = matches.subcommand_matches("check") {
         let script: &'a str = words.get_str("script").unwrap_or(STDIN);
         end_check(alloc, host, script, out, err)
@@ -191,10 +204,11 @@ fn end_words<H: Host, W: Write, E: Write>(
 /// Runs the program on these words, its own name not among them, and returns the status with which
 /// it ends.
 ///
-/// `plain [--files] SCRIPT [FILE]..` reads the script, loads it, reads the files in order, each
+/// `plain [--append] [--files] SCRIPT [FILE]..` reads the script, loads it, reads the files in order, each
 /// before the next, and then standard input, runs the script, and writes its output and, with
 /// `--files`, all files, the soft ones marked. SCRIPT `-` is standard input, and the script's own input is then empty.
-/// Without words it is `plain -`. A script and a standard input have at most 1,048,576 bytes, and a
+/// With `--append` `>>` appends, and else it writes over a file from its beginning, as in xv6. Without
+/// words it is `plain -`. A script and a standard input have at most 1,048,576 bytes, and a
 /// file at most 274,432.
 ///
 /// After a run `settled` or `not settled` goes to `err`: whether no schedule can change what the script
@@ -216,13 +230,13 @@ pub fn drive<H: Host, W: Write, E: Write>(
 ) -> u8
     ensures meaning { words.items ≡ [] → result ≡ 0 → WritesMeaning (H.input host.old) (W.contents out.old) (W.contents out.new) }
     ensures no_words { words.items ≡ [] → Ends (H.input host.old) (H.file host.old) (W.contents out.old) (W.contents out.new)
-        (E.contents err.old) (E.contents err.new) (plain (codes "-") [] false) result }
+        (E.contents err.old) (E.contents err.new) (plain Profile.Xv6 (codes "-") [] false) result }
     ensures ends { (request : Request) × Ends (H.input host.old) (H.file host.old) (W.contents out.old) (W.contents out.new)
         (E.contents err.old) (E.contents err.new) request result }
     ensures nothing_written { result ≢ 0 → result ≢ 1 → result ≢ 3 → out.new ≡ out.old }
 {
     if words.is_empty() {
-        end_plain(alloc, host, STDIN, &[], false, out, err)
+        end_plain(alloc, host, Profile::Xv6, STDIN, &[], false, out, err)
     } else {
         end_words(alloc, words.as_slice(), host, out, err)
     }

@@ -3,8 +3,8 @@ ghost use Rattle.prog_parts.specs.NameSets.{among};
 ghost use Rattle.xvsh.specs.Listing.{soft_mark, file_text, list_text};
 
 use mem_files::Files;
-use prog_parts::is_among;
 use mem_files::laws::are_files;
+use prog_parts::is_among;
 use sh_lexer::Bytes;
 use std::alloc::{AllocError, Global};
 

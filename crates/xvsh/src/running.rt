@@ -17,7 +17,7 @@ use mem_files::laws::are_files;
 use mem_files::{Files, MAX_SIZE};
 use memchr::memrchr;
 use plain_run::plain;
-use script_load::{Script, load};
+use script_load::{Profile, Script, load_with};
 use std::alloc::Global;
 use std::io::Write;
 
@@ -116,10 +116,10 @@ fn run_script<'a, W: Write>(
     lists_files: bool,
     out: &mut W,
 ) -> Result<bool, Fault<'a>>
-    ensures settled { IfOk result (λ is. IsTrue is ↔ IsSettledScript (lines_of script.now.lines) stdin.now (files given.now)) }
-    ensures meaning { OnOk result (WritesRun lists_files (script_meaning (lines_of script.now.lines) stdin.now (files given.now)) (W.contents out.old) (W.contents out.new)) }
+    ensures settled { IfOk result (λ is. IsTrue is ↔ IsSettledScript script.now.profile (lines_of script.now.lines) stdin.now (files given.now)) }
+    ensures meaning { OnOk result (WritesRun lists_files (script_meaning script.now.profile (lines_of script.now.lines) stdin.now (files given.now)) (W.contents out.old) (W.contents out.new)) }
     ensures refusal { IfErr result (λ fault. fault ≢ Fault.Unwritten → out.new ≡ out.old) }
-    ensures run { IfErr result (IsRunFault (lines_of script.now.lines) stdin.now (files given.now)) }
+    ensures run { IfErr result (IsRunFault script.now.profile (lines_of script.now.lines) stdin.now (files given.now)) }
 {
     let outcome = plain(alloc, script, stdin, given)?;
     are_files(&outcome.files);
@@ -134,22 +134,23 @@ fn run_script<'a, W: Write>(
 }
 
 /// `plain`: reads the script, the files in order, and standard input unless that is the script, runs the
-/// script, and writes its output and then, if asked, all files. Returns whether the script is settled.
+/// script under this profile, and writes its output and then, if asked, all files. Returns whether the script is settled.
 /// A fault comes before anything is written, but for `Unwritten`.
 pub fn run_plain<'a, H: Host, W: Write>(
     alloc: Global,
     host: &mut H,
+    profile: Profile,
     script: &'a str,
     paths: &[&'a str],
     lists_files: bool,
     out: &mut W,
 ) -> Result<bool, Fault<'a>>
-    ensures ran { IfOk result (λ is. RanPlain (H.input host.old) (H.file host.old) script.now paths.now lists_files is (W.contents out.old) (W.contents out.new)) }
-    ensures fault { IfErr result (IsPlainFault (H.input host.old) (H.file host.old) script.now paths.now) }
+    ensures ran { IfOk result (λ is. RanPlain (H.input host.old) (H.file host.old) profile script.now paths.now lists_files is (W.contents out.old) (W.contents out.new)) }
+    ensures fault { IfErr result (IsPlainFault (H.input host.old) (H.file host.old) profile script.now paths.now) }
     ensures refusal { IfErr result (λ fault. fault ≢ Fault.Unwritten → out.new ≡ out.old) }
 {
     let bytes = read(alloc, host, script)?;
-    let loaded = load(alloc, bytes.as_slice())?;
+    let loaded = load_with(alloc, bytes.as_slice(), profile)?;
     let given = read_files(alloc, host, paths)?;
     let stdin = if script == STDIN {
         Vec::new(alloc)

@@ -11,7 +11,7 @@ Without any words xvsh reads a script from standard input, as `xvsh plain -` doe
 A script is lines of at most 511 bytes. A line is commands joined by `|` (the left side's output is
 the right side's input) and `;` (one after the other); `( )` groups, `&` after a command doesn't wait
 for it, `< FILE`, `> FILE` and `>> FILE` take and put input and output. `>` empties the file, and
-`>>` writes over it from its begin, as xv6 does. A command has at most nine words. There are no
+`>>` writes over it from its beginning, as xv6 does, or with `--append` at its end. A command has at most nine words. There are no
 quotes, variables, patterns or comments. A line that is no command does nothing.
 
 Programs, which work on their input where no FILE is given:
@@ -51,6 +51,10 @@ fn plain_command<'a>(alloc: Global) -> Result<Command<'a>, AllocError> {
             "Write all files after the output: `-- NAME LENGTH`, `soft` if it is soft, the bytes, a line's end",
         )
         .action(ArgAction::SetTrue);
+    let appends = Arg::new(alloc, "append")
+        .long("append")
+        .help("`>>` writes at a file's end; without it, from its beginning, as xv6 does")
+        .action(ArgAction::SetTrue);
     let script = Arg::new(alloc, "script")
         .value_name("SCRIPT")
         .help("The script's path; `-` is standard input, and the script's own input is then empty")
@@ -63,6 +67,7 @@ fn plain_command<'a>(alloc: Global) -> Result<Command<'a>, AllocError> {
         .action(ArgAction::Append);
     Command::new(alloc, "plain")
         .about(PLAIN_ABOUT)
+        .arg(appends)?
         .arg(lists_files)?
         .arg(script)?
         .arg(paths)

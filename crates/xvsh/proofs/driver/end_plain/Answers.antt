@@ -5,8 +5,8 @@ use Rattle.xvsh.proofs.driver.end_plain.Goals as goal
 
 pub returns-in-Ok-clause-ends : goal.returns-in-Ok-clause-ends
 returns-in-Ok-clause-ends g c =
-    ended_run (g.H.Host.input c.args.host.now) (g.H.Host.file c.args.host.now) (g.W.Write.contents c.args.out.now) (g.W.Write.contents c.run_plain.new.out) (g.E.Write.contents c.args.err.now) (g.E.Write.contents c.tell_text.new.to) c.args.script.now c.args.paths.now c.args.lists_files c.in-Ok.is_settled c.tell_text.result c.in-Ok.ensures.ran (subst (λ text. Tells text 0 c.tell_text.result (g.E.Write.contents c.args.err.now) (g.E.Write.contents c.tell_text.new.to)) c.verdict.ensures c.tell_text.ensures)
+    ended_run (g.H.Host.input c.args.host.now) (g.H.Host.file c.args.host.now) (g.W.Write.contents c.args.out.now) (g.W.Write.contents c.run_plain.new.out) (g.E.Write.contents c.args.err.now) (g.E.Write.contents c.tell_text.new.to) c.args.profile c.args.script.now c.args.paths.now c.args.lists_files c.in-Ok.is_settled c.tell_text.result c.in-Ok.ensures.ran (subst (λ text. Tells text 0 c.tell_text.result (g.E.Write.contents c.args.err.now) (g.E.Write.contents c.tell_text.new.to)) c.verdict.ensures c.tell_text.ensures)
 
 pub returns-in-Err-clause-ends : goal.returns-in-Err-clause-ends
 returns-in-Err-clause-ends g c =
-    refused_run (g.H.Host.input c.args.host.now) (g.H.Host.file c.args.host.now) (g.W.Write.contents c.args.out.now) (g.W.Write.contents c.run_plain.new.out) (g.E.Write.contents c.args.err.now) (g.E.Write.contents c.tell.new.err) c.args.script.now c.args.paths.now c.args.lists_files c.in-Err.fault c.tell.result c.in-Err.ensures.fault (λ other. ap g.W.Write.contents (c.in-Err.ensures.refusal other)) c.tell.ensures
+    refused_run (g.H.Host.input c.args.host.now) (g.H.Host.file c.args.host.now) (g.W.Write.contents c.args.out.now) (g.W.Write.contents c.run_plain.new.out) (g.E.Write.contents c.args.err.now) (g.E.Write.contents c.tell.new.err) c.args.profile c.args.script.now c.args.paths.now c.args.lists_files c.in-Err.fault c.tell.result c.in-Err.ensures.fault (λ other. ap g.W.Write.contents (c.in-Err.ensures.refusal other)) c.tell.ensures

@@ -1,4 +1,5 @@
-use Rattle.std.proofs.Common.{◌≡◌, ◌≢◌, false, true, codes, sym, ◌∙◌, ap, subst}
+use Rattle.std.proofs.Common.{◌≡◌, ◌≢◌, false, true, codes, IsTrue, sym, ◌∙◌, ap, subst}
+use Rattle.std.specs.Prelude.{◌↔◌, IfErr, IfOk, OnOk}
 use Rattle.std.specs.Str.{bytes_eq}
 use Rattle.std.proofs.lemmas.Bool.{false≢true}
 use Rattle.std.proofs.lemmas.Result.{err_from_is_err_and, IfErr-weaker}
@@ -6,8 +7,10 @@ use Rattle.std.proofs.lemmas.Slice.Eq.{bytes_eq-Decides}
 use Rattle.mem_files.specs.Files.{files}
 use Rattle.script_load.specs.Line.{lines_of}
 use Rattle.script_load.specs.Script.{HasLoadFault}
+use Rattle.sh_meaning.specs.Meaning.{script_meaning}
+use Rattle.sh_meaning.specs.Settled.{IsSettledScript}
 use Rattle.xvsh.specs.Reading.{Agree, IsReadFault, IsFilesFault, ArePut}
-use Rattle.xvsh.specs.Running.{unread_script, bad_script, no_script, no_file, no_input, no_run, IsRunFault, IsInputOf}
+use Rattle.xvsh.specs.Running.{unread_script, bad_script, no_script, no_file, no_input, no_run, IsRunFault, IsInputOf, WritesRun}
 use Rattle.xvsh.proofs.Ran.{load_fault, lines_at, none_left, own_input, ran_plain}
 use Rattle.xvsh.proofs.running.run_plain.Given.{Over}
 use Rattle.xvsh.proofs.running.run_plain.Goals.{then-eq, else-eq+in_ok-stdin}
@@ -63,16 +66,23 @@ returns-clause-ran g c =
     let input = g.H.Host.input c.args.host.now in
     let file = g.H.Host.file c.args.host.now in
     let lines = lines_of c.in_ok-loaded.loaded.lines in
+    let given = files c.in_ok-given.given in
+    let stdin = c.as_slice-2.result.now in
+    let out = g.W.Write.contents c.args.out.now in
+    let out' = g.W.Write.contents c.run_script.new.out in
     let loaded = lines_at input file c.args.script.now c.in_ok-bytes.bytes.items c.as_slice.result.now lines c.in_ok-bytes.ensures.bytes c.as_slice.ensures.value c.in_ok-loaded.ensures.script in
     let put = subst (λ f. ArePut f c.args.paths.now c.in_ok-given.given) c.read.ensures.files_stay c.in_ok-given.ensures.put in
-    let own = input_of g c in
-    ran_plain input file c.args.script.now c.args.paths.now c.args.lists_files (g.W.Write.contents c.args.out.now) (g.W.Write.contents c.run_script.new.out) lines c.in_ok-given.given c.as_slice-2.result.now c.run_script.result loaded put own c.run_script.ensures.settled c.run_script.ensures.meaning
+    ran_plain input file c.args.script.now c.args.profile c.args.paths.now c.args.lists_files out out' lines c.in_ok-given.given stdin c.run_script.result loaded put (input_of g c)
+    (subst (λ profile. IfOk c.run_script.result (λ is. IsTrue is ↔ IsSettledScript profile lines stdin given)) c.in_ok-loaded.ensures.profile c.run_script.ensures.settled)
+    (subst (λ profile. OnOk c.run_script.result (WritesRun c.args.lists_files (script_meaning profile lines stdin given) out out')) c.in_ok-loaded.ensures.profile c.run_script.ensures.meaning)
 
 pub returns-clause-fault : goal.returns-clause-fault
 returns-clause-fault g c =
     let input = g.H.Host.input c.args.host.now in
     let file = g.H.Host.file c.args.host.now in
     let lines = lines_of c.in_ok-loaded.loaded.lines in
+    let stdin = c.as_slice-2.result.now in
     let loaded = lines_at input file c.args.script.now c.in_ok-bytes.bytes.items c.as_slice.result.now lines c.in_ok-bytes.ensures.bytes c.as_slice.ensures.value c.in_ok-loaded.ensures.script in
     let put = subst (λ f. ArePut f c.args.paths.now c.in_ok-given.given) c.read.ensures.files_stay c.in_ok-given.ensures.put in
-    IfErr-weaker c.run_script.result (IsRunFault lines c.as_slice-2.result.now (files c.in_ok-given.given)) _ (λ fault due. no_run lines c.in_ok-given.given c.as_slice-2.result.now loaded put (input_of g c) due) c.run_script.ensures.run
+    IfErr-weaker c.run_script.result (IsRunFault c.args.profile lines stdin (files c.in_ok-given.given)) _ (λ fault due. no_run lines c.in_ok-given.given stdin loaded put (input_of g c) due)
+    (subst (λ profile. IfErr c.run_script.result (IsRunFault profile lines stdin (files c.in_ok-given.given))) c.in_ok-loaded.ensures.profile c.run_script.ensures.run)

@@ -10,7 +10,7 @@ use Rattle.xvsh.proofs.running.run_script.Goals as goal
 
 pub returns-clause-meaning : goal.returns-clause-meaning
 returns-clause-meaning g c =
-    let value = script_meaning (lines_of c.args.script.now.lines) c.args.stdin.now (files c.args.given.now) in
+    let value = script_meaning c.args.script.now.profile (lines_of c.args.script.now.lines) c.args.stdin.now (files c.args.given.now) in
     let plain = c.in_ok-outcome.ensures in
     let old = g.W.Write.contents c.args.out.now in
     let mid = g.W.Write.contents c.write.new.out in
