@@ -5,17 +5,17 @@ use Rattle.std.proofs.lemmas.Bool.{eq-eqb}
 use Rattle.std.proofs.lemmas.List.{length-append}
 use Rattle.mem_files.specs.Name.{Name, Bytes}
 use Rattle.mem_files.specs.Files.{FileMap, bytes_of}
-use Rattle.conflict_check.specs.declared.program.Program.{Program}
-use Rattle.conflict_check.specs.declared.program.Program.TheVariants.{Cat, Echo, Grep, Head, Tee as Tee', Wc}
-use Rattle.conflict_check.specs.Program.{head_files, has_wrong_option}
+use Rattle.prog_parts.specs.declared.program.Program.{Program}
+use Rattle.prog_parts.specs.declared.program.Program.TheVariants.{Cat, Echo, Grep, Head, Tee as Tee', Wc}
+use Rattle.prog_parts.specs.Head.{head_files, has_wrong_option}
 use Rattle.user_calls.specs.declared.calls.Mode.TheVariants.{Input, Fresh}
 use Rattle.user_calls.specs.declared.calls.Call.{Call}
 use Rattle.user_calls.specs.declared.calls.Call.TheVariants.{Read, Write, OpenFile, Close}
 use Rattle.user_calls.specs.declared.calls.Reply.{Reply}
 use Rattle.user_calls.specs.declared.calls.Reply.TheVariants.{Done, Fd, Refused}
-use Rattle.script_load.specs.Inputs.{found}
-use Rattle.script_load.specs.Head.{line_count}
-use Rattle.script_load.specs.Tee.{are_openable}
+use Rattle.sh_meaning.specs.Inputs.{found}
+use Rattle.prog_parts.specs.Head.{line_count}
+use Rattle.sh_meaning.specs.Tee.{are_openable}
 use Rattle.user_progs.specs.State.{Filter, copying, heading, counting, searching, standard, file, Tee, tee_opens, tee_reads, tee_writes, tee_gives, State, begins, echo_word, echo_space, opens, works, closes, tees, told, ended}
 use Rattle.user_progs.specs.Turn.{Answer, yields, denies, strays, bytes_in, done_in, block, turn, turn_by, first_step, opens_next, begins_filter, begins_head, begins_program, echo_next, echo_end, tee_waits, tee_opens_next, tee_got, tee_gives_next, tee_wrote, tee_turn}
 use Rattle.prog_laws.specs.Alone.{OwnFile, World, can_open, held, left_of_file, left_at, Takes, MayOpen, May, may_write, done_if, after_read, after_file_write, after_done_write, after_write, after_call}

@@ -8,9 +8,9 @@ use Rattle.user_calls.specs.declared.calls.Call.{Call}
 use Rattle.user_calls.specs.declared.calls.Call.TheVariants.{Read, Write}
 use Rattle.user_calls.specs.declared.calls.Reply.{Reply}
 use Rattle.user_calls.specs.declared.calls.Reply.TheVariants.{Done, Bytes as Bytes', Refused}
-use Rattle.script_load.specs.Grep.{with_ends, tested, grep_left}
-use Rattle.script_load.specs.Head.{first_lines}
-use Rattle.script_load.specs.Tee.{are_openable}
+use Rattle.prog_parts.specs.Grep.{with_ends, tested, grep_left}
+use Rattle.prog_parts.specs.Head.{first_lines}
+use Rattle.sh_meaning.specs.Tee.{are_openable}
 use Rattle.user_progs.specs.State.{Filter, heading, searching, Source, standard, file, Work, cat_reads, cat_writes, head_reads, head_writes, wc_reads, wc_writes, grep_reads, grep_writes, Tee, tee_opens, tee_reads, tee_writes, tee_gives, State, begins, echo_word, echo_space, opens, works, closes, tees, told, ended}
 use Rattle.user_progs.specs.Turn.{yields, Step, reads, writes, finishes, fails, quits, bytes_in, turn, turn_by, work_step, filter_of, name_of, fd_of, head_goes_on, grep_goes_on}
 use Rattle.prog_laws.specs.Alone.{World, left_at, Takes, May, after_read, after_call}
