@@ -19,7 +19,9 @@ pub mod Elsewhere
 pub mod Calling
 pub mod Firm
 pub mod Small
+pub mod Taking
 pub mod Reading
 pub mod FileReading
 pub mod Timely
+pub mod Unrefused
 mod Worked

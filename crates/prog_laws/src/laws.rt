@@ -15,7 +15,7 @@ ghost use Rattle.user_progs.specs.State.{State, begins};
 ghost use Rattle.prog_parts.specs.Program.{program_uses_input};
 ghost use Rattle.user_progs.specs.Turn.{Turn, turn, call_of, next_of, bytes_in};
 ghost use Rattle.prog_laws.specs.Ahead.{still_opens, still_writes, still_uses};
-ghost use Rattle.prog_laws.specs.Alone.{World, May, after_call, to_out};
+ghost use Rattle.prog_laws.specs.Alone.{World, may_write, May, after_call, to_out};
 ghost use Rattle.prog_laws.specs.Still.{still, left_of, after_bytes};
 ghost use Rattle.prog_laws.specs.Waits.{Waits, BeginsShort};
 ghost use Rattle.prog_laws.specs.Fits.{Fits};
@@ -112,6 +112,12 @@ pub fn what_it_reads_of_files_was_ahead()
 pub fn a_call_writes_a_block_at_most()
     ensures writes { (state : State) (reply : Reply) → HoldsBlock state → bytes_told (bytes_in reply) ≤ BLOCK_SIZE → WritesBlock (call_of state reply) }
     ensures holds { (state : State) (reply : Reply) → HoldsBlock state → bytes_told (bytes_in reply) ≤ BLOCK_SIZE → HoldsBlock (next_of state reply) }
+{}
+
+/// No write of a program that runs alone is refused: it writes to descriptors 1 and 2, and to files that it opened to write and
+/// that go on within their bytes or at their end, so that none leaves a gap.
+pub fn no_write_of_a_program_alone_is_refused()
+    ensures { (state : State) (fd : ℕ) (bytes : Bytes) (world : World) → Waits state (Write fd bytes) world → Fits state world → may_write fd world ≡ true }
 {}
 
 /// A call that is refused changes nothing, whatever the reason, as a full table or a pipe that nobody reads: the program waits
