@@ -2,12 +2,12 @@
 
 use thiserror::Error;
 
-/// Why a call on descriptors or on open-file entries was refused.
+/// Why a call on descriptors or on open-file entries was refused, numbered from 1.
 #[derive(Clone, Copy, Debug, PartialEq, Eq, Error)]
 pub enum FdFault {
     /// The descriptor isn't open, or there is none of that number.
     #[error("bad descriptor")]
-    BadFd,
+    BadFd = 1,
     /// No descriptor of the process is free.
     #[error("no free descriptor")]
     FullFds,

@@ -1,12 +1,12 @@
 use std::alloc::{AllocError, AllocFailed};
 use thiserror::Error;
 
-/// Why a script has no outcome. The faults are numbered from 1 in this order.
+/// Why a script has no outcome, numbered from 1.
 #[derive(Clone, Copy, Debug, PartialEq, Eq, Error)]
 pub enum PlainFault {
     /// On the way of the meaning a file would have more than 274,432 bytes, or a 201st would be made.
     #[error("too large")]
-    TooLarge,
+    TooLarge = 1,
     /// An allocation was refused.
     #[error("no memory")]
     Memory,

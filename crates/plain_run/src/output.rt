@@ -9,6 +9,7 @@ ghost use Rattle.sh_meaning.specs.Meaning.{opened, over_end};
 ghost use Rattle.plain_progs.specs.Gives.{IsDue};
 ghost use Rattle.plain_run.specs.Held.{held};
 
+use mem_files::laws::are_files;
 use mem_files::{Files, FilesFault};
 use plain_progs::{PlainFault, give};
 use script_load::Profile;
@@ -58,7 +59,7 @@ fn open_kept<A: Allocator + Copy>(store: &mut Files<A>, name: &[u8]) -> Result<b
     ensures openable { IfErr result (IsDue (is_openable name.now ≡ true)) }
     ensures full { IfErr result (IsDue (HasNoRoom (files store.old) name.now)) }
 {
-    let _ = store.count();
+    are_files(store);
     match store.create(name) {
         Ok(()) => Ok(true),
         Err(FilesFault::BadName) => Ok(false),

@@ -4,16 +4,17 @@ use Rattle.std.specs.Prelude.{All, map}
 use Rattle.std.specs.List.{AllZip, list_all}
 use Rattle.std.proofs.Math.Seq.{split_at}
 use Rattle.std.proofs.lemmas.List.{get_or-map, length-map, length-take-le}
+use Rattle.std.proofs.lemmas.Bool.{and_from}
 use Rattle.std.proofs.lemmas.List.Folds.{list_all_more}
 use Rattle.sh_tree.proofs.FewWords.{few_words}
-use Rattle.sh_tree.proofs.ShortTree.{and_both, short_tree}
+use Rattle.sh_tree.proofs.ShortTree.{short_tree}
 use Rattle.prog_parts.proofs.Cuts.{all_tail}
 use Rattle.script_load.specs.Limits.{are_small, is_small_line, IsFirstLarge}
 use Rattle.script_load.specs.Line.{ScriptLine, command, bad, cd}
 use Rattle.script_load.specs.Script.{IsFine, IsLineOf, IsScript}
 
 small_one : (text : List ℕ) (line : ScriptLine) → IsLineOf text line → IsFine text → is_small_line line ≡ true
-small_one text (command tree) is fine = and_both _ _ (short_tree text tree fine.0 is.1) (few_words text tree is.1)
+small_one text (command tree) is fine = and_from _ _ (short_tree text tree fine.0 is.1) (few_words text tree is.1)
 small_one text (bad fault whole) is fine = le-leb (length whole) 511 (omega (arith, ap length is.3, fine.0))
 small_one text (cd rest) is fine = le-leb (length rest) 511 (omega (arith, ap length is, fine.0))
 
@@ -22,7 +23,7 @@ small_each [] [] each fine = refl
 small_each [] (line ∷ lines) each fine = absurd each
 small_each (text ∷ texts) [] each fine = absurd each
 small_each (text ∷ texts) (line ∷ lines) each fine =
-    and_both (is_small_line line) (are_small lines) (small_one text line each.0 (fine 0 text (omega arith)))
+    and_from (is_small_line line) (are_small lines) (small_one text line each.0 (fine 0 text (omega arith)))
     (small_each texts lines each.1 (all_tail IsFine text texts fine))
 
 pub script_small : (bytes : List ℕ) (lines : List ScriptLine) → IsScript bytes lines → are_small lines ≡ true
@@ -36,7 +37,7 @@ at f xs i x inside is = get_or-map f xs i x (f x) inside ∙ ap f (sym is)
 pub small_more : {X : Type 0} (f : X → ScriptLine) (xs : List X) (i : ℕ) (x : X) → i < length xs → x ≡ get_or xs i x → are_small (take i (map f xs)) ≡ true → is_small_line (f x) ≡ true → are_small (take (i + 1) (map f xs)) ≡ true
 small_more f xs i x inside is before small =
     list_all_more is_small_line (map f xs) i (f x) (omega (arith, inside, length-map xs f))
-    ∙ and_both (are_small (take i (map f xs))) (is_small_line (get_or (map f xs) i (f x))) before (ap is_small_line (at f xs i x inside is) ∙ small)
+    ∙ and_from (are_small (take i (map f xs))) (is_small_line (get_or (map f xs) i (f x))) before (ap is_small_line (at f xs i x inside is) ∙ small)
 
 -- the line at i is the first that is not
 pub first_large : {X : Type 0} (f : X → ScriptLine) (xs : List X) (i : ℕ) (x : X) → i < length xs → x ≡ get_or xs i x → are_small (take i (map f xs)) ≡ true → is_small_line (f x) ≡ false → IsFirstLarge (map f xs) (i + 1)

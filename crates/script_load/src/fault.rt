@@ -1,17 +1,16 @@
 use std::alloc::{AllocError, AllocFailed};
 use thiserror::Error;
 
-/// Why a script is refused, and in which of its lines, counted from 1. The faults are numbered from
-/// 1 in this order.
+/// Why a script is refused, and in which of its lines, counted from 1.
 #[derive(Clone, Copy, Debug, PartialEq, Eq, Error)]
 pub enum LoadFault {
-    /// The line has more than 511 bytes before its LF.
+    /// Fault 1: the line has more than 511 bytes before its LF.
     #[error("line {0} is too long")]
     LineTooLong(usize),
-    /// The line holds a byte 0.
+    /// Fault 2: the line holds a byte 0.
     #[error("line {0} holds a zero byte")]
     ByteZero(usize),
-    /// An allocation was refused.
+    /// Fault 3: an allocation was refused.
     #[error("no memory")]
     Memory,
 }

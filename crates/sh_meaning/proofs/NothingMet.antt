@@ -2,6 +2,7 @@
 use Rattle.std.proofs.Common.{◌≡◌, Bool, true, false, Option, Some, None, refl, sym, ◌∙◌, ap}
 use Rattle.std.specs.Prelude.{◌&&◌, IfSome}
 use Rattle.std.specs.Str.{bytes_eq}
+use Rattle.std.proofs.lemmas.Bool.{or_from, or_left, or_parts, or_right}
 use Rattle.sh_tree.specs.declared.tree.Mode.{Mode}
 use Rattle.sh_tree.specs.declared.tree.Mode.TheVariants.{Input, Fresh, Over}
 use Rattle.sh_tree.specs.Tree.{Tree, exec, redir, pipe, list, back}
@@ -14,7 +15,7 @@ use Rattle.sh_meaning.specs.Inputs.{found}
 use Rattle.sh_meaning.specs.Meaning.{input_value, output_value, opened, written_value, meaning}
 use Rattle.sh_meaning.specs.Settled.{AreNoneOf, with_name, IsSettled}
 use Rattle.sh_meaning.specs.Value.{Value, nothing, seq_value, pipe_value, is_cut}
-use Rattle.sh_meaning.proofs.Bools.{and_if_left, and_if_right, apart, neither, not_right, or_left, or_right}
+use Rattle.sh_meaning.proofs.Bools.{and_if_left, and_if_right, apart}
 use Rattle.sh_meaning.proofs.Fixed.{fixed_words}
 
 -- nothing is met, and what is soft is named nowhere outside
@@ -28,19 +29,19 @@ of_nothing outside input F = record { met = λ n. refl; soft = λ n e. refl }
 of_seq : (outside firsts seconds : Names) (uses : Bool) (v w : Value) → MeetsNothing (both seconds outside) v → MeetsNothing (both firsts outside) w → (v.loose ≡ true → uses ≡ false) → MeetsNothing outside (seq_value seconds uses v w)
 of_seq outside firsts seconds uses v w g h unused = record {
   met = λ n.
-      neither _ (v.loose && uses)
-      (neither _ (v.soft n && seconds n) (neither (v.met n) (w.met n) (g.met n) (h.met n)) (and_if_right (v.soft n) (seconds n) (λ e. g.soft n (or_left (seconds n) (outside n) e))))
+      or_from _ (v.loose && uses)
+      (or_from _ (v.soft n && seconds n) (or_from (v.met n) (w.met n) (g.met n) (h.met n)) (and_if_right (v.soft n) (seconds n) (λ e. g.soft n (or_left (seconds n) (outside n) e))))
       (and_if_left v.loose uses unused);
-  soft = λ n e. neither (v.soft n) (w.soft n) (g.soft n (or_right (seconds n) (outside n) e)) (h.soft n (or_right (firsts n) (outside n) e));
+  soft = λ n e. or_from (v.soft n) (w.soft n) (g.soft n (or_right (seconds n) (outside n) e)) (h.soft n (or_right (firsts n) (outside n) e));
 }
 
 of_pipe : (outside lefts rights written : Names) (uses : Bool) (v w : Value) → MeetsNothing (both rights outside) v → MeetsNothing (both lefts outside) w → (is_cut w ≡ true → AreNoneOf written (both rights outside)) → MeetsNothing outside (pipe_value written uses v w)
 of_pipe outside lefts rights written uses v w g h own = record {
-  met = λ n. neither (v.met n) (w.met n) (g.met n) (h.met n);
+  met = λ n. or_from (v.met n) (w.met n) (g.met n) (h.met n);
   soft = λ n e.
-      neither _ (is_cut w && written n)
-      (neither (v.soft n) (w.soft n) (g.soft n (or_right (rights n) (outside n) e)) (h.soft n (or_right (lefts n) (outside n) e)))
-      (and_if_left (is_cut w) (written n) (λ c. apart (written n) (outside n) (λ x. not_right (rights n) (outside n) (own c n x)) e));
+      or_from _ (is_cut w && written n)
+      (or_from (v.soft n) (w.soft n) (g.soft n (or_right (rights n) (outside n) e)) (h.soft n (or_right (lefts n) (outside n) e)))
+      (and_if_left (is_cut w) (written n) (λ c. apart (written n) (outside n) (λ x. (or_parts (rights n) (outside n) (own c n x)).1) e));
 }
 
 -- a body that was run under a redirection to or from a file of this name

@@ -10,8 +10,6 @@ mod filter;
 mod grep;
 mod head;
 mod prog;
-#[cfg(test)]
-mod refusals;
 mod state;
 mod tee;
 #[cfg(test)]

@@ -302,3 +302,13 @@ fn grep_goes_on_after_a_refused_read(rt: HostRuntime) -> Result<(), Fail> {
     assert!(rt; opens(&call, "g", Mode::Input));
     Ok(())
 }
+
+// What wc and grep write is not asked after (`user/wc.c`, `user/grep.c`).
+#[test]
+fn wc_and_grep_go_on_after_a_refused_write(rt: HostRuntime) -> Result<(), Fail> {
+    let (call, next) = last_calls(&rt, &["wc"], &[Done, Text("")])?;
+    assert!(rt; matches!(call, Call::Write(1, _)) && matches!(next, Call::Exit));
+    let (call, next) = last_calls(&rt, &["grep", "a"], &[Done, Text("a\n")])?;
+    assert!(rt; writes(&call, 1, "a\n") && reads(&next, 0, 1023));
+    Ok(())
+}

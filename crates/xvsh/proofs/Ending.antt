@@ -9,7 +9,7 @@ use Rattle.mem_files.specs.Name.{Bytes}
 use Rattle.xvsh.specs.declared.fault.Fault.{Fault}
 use Rattle.xvsh.specs.declared.fault.Fault.TheVariants.{Unreadable, TooLong, LineTooLong, ByteZero, BadName, TooManyFiles, TooLarge, Memory, Unwritten}
 use Rattle.xvsh.specs.Drive.{RanCheck, IsCheckFault, WritesMeaning, verdict_text}
-use Rattle.xvsh.specs.Ends.{Request, plain, check, misuse, help, Tells, Ends, ran, no_run, harmless, harmful, no_check, helped, misused, no_memory, unwritten}
+use Rattle.xvsh.specs.Ends.{Request, asks_run, asks_check, misuse, help, Tells, Ends, ran, no_run, harmless, harmful, no_check, helped, misused, no_memory, unwritten}
 use Rattle.xvsh.specs.Path.{Path}
 use Rattle.xvsh.specs.Running.{RanPlain, IsPlainFault}
 use Rattle.xvsh.specs.Status.{status_of, fault_told}
@@ -56,30 +56,30 @@ module _ (input : Option Bytes) (file : Path → Option Bytes) (out out' err err
   one : (request : Request) (status : ℕ) → status ≡ 1 → Ends input file out out' err err' request status
   one request status is = subst (Ends input file out out' err err' request) (sym is) (unwritten {request = request})
 
-  pub ended_run : (profile : Profile) (script : Path) (paths : List (Bor Path)) (lists is_settled : Bool) (status : ℕ) → RanPlain input file profile script paths lists is_settled out out' → Tells (verdict_text is_settled) 0 status err err' → Ends input file out out' err err' (plain profile script paths lists) status
-  ended_run profile script paths lists is_settled status gave (inl told) = subst (Ends input file out out' err err' (plain profile script paths lists)) (sym told.0) (ran is_settled gave told.1)
-  ended_run profile script paths lists is_settled status gave (inr untold) = one (plain profile script paths lists) status untold
+  pub ended_run : (profile : Profile) (script : Path) (paths : List (Bor Path)) (lists is_settled : Bool) (status : ℕ) → RanPlain input file profile script paths lists is_settled out out' → Tells (verdict_text is_settled) 0 status err err' → Ends input file out out' err err' (asks_run profile script paths lists) status
+  ended_run profile script paths lists is_settled status gave (inl told) = subst (Ends input file out out' err err' (asks_run profile script paths lists)) (sym told.0) (ran is_settled gave told.1)
+  ended_run profile script paths lists is_settled status gave (inr untold) = one (asks_run profile script paths lists) status untold
 
-  pub refused_run : (profile : Profile) (script : Path) (paths : List (Bor Path)) (lists : Bool) (fault : Fault) (status : ℕ) → IsPlainFault input file profile script paths fault → (fault ≢ Unwritten → out' ≡ out) → Tells (fault_told fault) (status_of fault) status err err' → Ends input file out out' err err' (plain profile script paths lists) status
-  refused_run profile script paths lists fault status due stays (inr untold) = one (plain profile script paths lists) status untold
+  pub refused_run : (profile : Profile) (script : Path) (paths : List (Bor Path)) (lists : Bool) (fault : Fault) (status : ℕ) → IsPlainFault input file profile script paths fault → (fault ≢ Unwritten → out' ≡ out) → Tells (fault_told fault) (status_of fault) status err err' → Ends input file out out' err err' (asks_run profile script paths lists) status
+  refused_run profile script paths lists fault status due stays (inr untold) = one (asks_run profile script paths lists) status untold
   refused_run profile script paths lists fault status due stays (inl told) = elim (unwritten_or fault) [
-    | inl is ↦ one (plain profile script paths lists) status (told.0 ∙ ap status_of is)
-    | inr other ↦ subst (Ends input file out out' err err' (plain profile script paths lists)) (sym told.0) (no_run fault due (keeps_equal out out' (stays other)) told.1)
+    | inl is ↦ one (asks_run profile script paths lists) status (told.0 ∙ ap status_of is)
+    | inr other ↦ subst (Ends input file out out' err err' (asks_run profile script paths lists)) (sym told.0) (no_run fault due (keeps_equal out out' (stays other)) told.1)
   ]
 
-  pub found_harmless : (script : Path) (is_harmless : Bool) → is_harmless ≡ true → RanCheck input file script is_harmless out out' → err' ≡ err → Ends input file out out' err err' (check script) 0
+  pub found_harmless : (script : Path) (is_harmless : Bool) → is_harmless ≡ true → RanCheck input file script is_harmless out out' → err' ≡ err → Ends input file out out' err err' (asks_check script) 0
   found_harmless script is_harmless is gave same =
       harmless (subst (λ b. RanCheck input file script b out out') is gave) (keeps_equal err err' same)
 
-  pub found_harmful : (script : Path) (is_harmless : Bool) → is_harmless ≡ false → RanCheck input file script is_harmless out out' → err' ≡ err → Ends input file out out' err err' (check script) 3
+  pub found_harmful : (script : Path) (is_harmless : Bool) → is_harmless ≡ false → RanCheck input file script is_harmless out out' → err' ≡ err → Ends input file out out' err err' (asks_check script) 3
   found_harmful script is_harmless is gave same =
       harmful (subst (λ b. RanCheck input file script b out out') is gave) (keeps_equal err err' same)
 
-  pub refused_check : (script : Path) (fault : Fault) (status : ℕ) → IsCheckFault input file script fault → (fault ≢ Unwritten → out' ≡ out) → Tells (fault_told fault) (status_of fault) status err err' → Ends input file out out' err err' (check script) status
-  refused_check script fault status due stays (inr untold) = one (check script) status untold
+  pub refused_check : (script : Path) (fault : Fault) (status : ℕ) → IsCheckFault input file script fault → (fault ≢ Unwritten → out' ≡ out) → Tells (fault_told fault) (status_of fault) status err err' → Ends input file out out' err err' (asks_check script) status
+  refused_check script fault status due stays (inr untold) = one (asks_check script) status untold
   refused_check script fault status due stays (inl told) = elim (unwritten_or fault) [
-    | inl is ↦ one (check script) status (told.0 ∙ ap status_of is)
-    | inr other ↦ subst (Ends input file out out' err err' (check script)) (sym told.0) (no_check fault due (keeps_equal out out' (stays other)) told.1)
+    | inl is ↦ one (asks_check script) status (told.0 ∙ ap status_of is)
+    | inr other ↦ subst (Ends input file out out' err err' (asks_check script)) (sym told.0) (no_check fault due (keeps_equal out out' (stays other)) told.1)
   ]
 
   -- there was no memory for the words
@@ -98,7 +98,7 @@ module _ (input : Option Bytes) (file : Path → Option Bytes) (out out' err err
   told_help text status same (inl told) = (help, subst (Ends input file out out' err err' help) (sym told.0) (helped text told.1 (keeps_equal err err' same)))
 
   -- without words status 0 comes of a run alone, whose output is the meaning's
-  meaning_of : (request : Request) (status : ℕ) → Ends input file out out' err err' request status → request ≡ plain Xv6 (codes "-") [] false → status ≡ 0 → WritesMeaning input out out'
+  meaning_of : (request : Request) (status : ℕ) → Ends input file out out' err err' request status → request ≡ asks_run Xv6 (codes "-") [] false → status ≡ 0 → WritesMeaning input out out'
   meaning_of request status (ran {profile = profile} {script = script} {paths = paths} {lists = lists} is_settled gave told) is zero =
       let xv6 : profile ≡ Xv6 = cc in
       let own : script ≡ codes "-" = cc in
@@ -114,5 +114,5 @@ module _ (input : Option Bytes) (file : Path → Option Bytes) (out out' err err
   meaning_of request status (no_memory keeps told) is zero = cc
   meaning_of request status unwritten is zero = cc
 
-  pub run_writes_meaning : (status : ℕ) → Ends input file out out' err err' (plain Xv6 (codes "-") [] false) status → status ≡ 0 → WritesMeaning input out out'
-  run_writes_meaning status ends zero = meaning_of (plain Xv6 (codes "-") [] false) status ends refl zero
+  pub run_writes_meaning : (status : ℕ) → Ends input file out out' err err' (asks_run Xv6 (codes "-") [] false) status → status ≡ 0 → WritesMeaning input out out'
+  run_writes_meaning status ends zero = meaning_of (asks_run Xv6 (codes "-") [] false) status ends refl zero

@@ -20,8 +20,8 @@ profile_of false = Xv6
 -- what the words of the command line ask for: a run of the script at a path under a profile, on the files
 -- at these paths, which are listed or not; a check of the script at a path; the help; or nothing that there is
 pub data Request : Type 0 where
-  plain : Profile → Path → List (Bor Path) → Bool → Request
-  check : Path → Request
+  asks_run : Profile → Path → List (Bor Path) → Bool → Request
+  asks_check : Path → Request
   help : Request
   misuse : Request
 
@@ -34,14 +34,14 @@ Tells text status result err err' = ((result ≡ status) × Appends err err' tex
 module _ (input : Option Bytes) (file : Path → Option Bytes) (out out' err err' : Option Bytes) where
   pub data Ends : Request → ℕ → Type 0 where
     -- the script ran, and whether it is settled is told
-    ran : {profile : Profile} {script : Path} {paths : List (Bor Path)} {lists : Bool} (is_settled : Bool) → RanPlain input file profile script paths lists is_settled out out' → Appends err err' (verdict_text is_settled) → Ends (plain profile script paths lists) 0
+    ran : {profile : Profile} {script : Path} {paths : List (Bor Path)} {lists : Bool} (is_settled : Bool) → RanPlain input file profile script paths lists is_settled out out' → Appends err err' (verdict_text is_settled) → Ends (asks_run profile script paths lists) 0
     -- it didn't: a fault is due, nothing was written, and the fault is told
-    no_run : {profile : Profile} {script : Path} {paths : List (Bor Path)} {lists : Bool} (fault : Fault) → IsPlainFault input file profile script paths fault → Keeps out out' → Appends err err' (fault_told fault) → Ends (plain profile script paths lists) (status_of fault)
+    no_run : {profile : Profile} {script : Path} {paths : List (Bor Path)} {lists : Bool} (fault : Fault) → IsPlainFault input file profile script paths fault → Keeps out out' → Appends err err' (fault_told fault) → Ends (asks_run profile script paths lists) (status_of fault)
     -- the script was checked, and holds no `&` and no clash, or some
-    harmless : {script : Path} → RanCheck input file script true out out' → Keeps err err' → Ends (check script) 0
-    harmful : {script : Path} → RanCheck input file script false out out' → Keeps err err' → Ends (check script) 3
+    harmless : {script : Path} → RanCheck input file script true out out' → Keeps err err' → Ends (asks_check script) 0
+    harmful : {script : Path} → RanCheck input file script false out out' → Keeps err err' → Ends (asks_check script) 3
     -- it wasn't, in the same way
-    no_check : {script : Path} (fault : Fault) → IsCheckFault input file script fault → Keeps out out' → Appends err err' (fault_told fault) → Ends (check script) (status_of fault)
+    no_check : {script : Path} (fault : Fault) → IsCheckFault input file script fault → Keeps out out' → Appends err err' (fault_told fault) → Ends (asks_check script) (status_of fault)
     -- some text was written, of words that are no command line on standard error
     helped : (text : Bytes) → Appends out out' text → Keeps err err' → Ends help 0
     misused : (text : Bytes) → Keeps out out' → Appends err err' text → Ends misuse 2

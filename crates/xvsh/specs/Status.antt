@@ -47,7 +47,7 @@ of_host path host_unreadable = Unreadable path
 of_host path host_long = TooLong path
 of_host path host_memory = Memory
 
--- of the two that adding a file never meets nothing is told
+-- two that adding a file never meets stand here as want of memory
 abbrev pub of_files : Bor (List ℕ) → FilesFault → Fault
 of_files path files_name = BadName path
 of_files path files_missing = Memory

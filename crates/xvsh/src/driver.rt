@@ -3,7 +3,7 @@ ghost use Rattle.std.specs.Io.KnownBytes.{Appends};
 ghost use Rattle.script_load.specs.Line.{lines_of};
 ghost use Rattle.xvsh.specs.Check.{AreTold, AreHarmless};
 ghost use Rattle.xvsh.specs.Drive.{WritesMeaning, RanCheck, IsTellFault, IsCheckFault, verdict_text};
-ghost use Rattle.xvsh.specs.Ends.{Ends, Request, plain, check, profile_of, Tells};
+ghost use Rattle.xvsh.specs.Ends.{Ends, Request, asks_run, asks_check, profile_of, Tells};
 ghost use Rattle.xvsh.specs.Status.{status_of, fault_told};
 
 use crate::checking::check;
@@ -107,7 +107,7 @@ fn end_plain<'a, H: Host, W: Write, E: Write>(
     err: &mut E,
 ) -> u8
     ensures ends { Ends (H.input host.old) (H.file host.old) (W.contents out.old) (W.contents out.new)
-        (E.contents err.old) (E.contents err.new) (plain profile script.now paths.now lists_files) result }
+        (E.contents err.old) (E.contents err.new) (asks_run profile script.now paths.now lists_files) result }
     ensures nothing_written { result ≢ 0 → result ≢ 1 → out.new ≡ out.old }
 {
     match run_plain(alloc, host, profile, script, paths, lists_files, out) {
@@ -125,7 +125,7 @@ fn end_check<H: Host, W: Write, E: Write>(
     err: &mut E,
 ) -> u8
     ensures ends { Ends (H.input host.old) (H.file host.old) (W.contents out.old) (W.contents out.new)
-        (E.contents err.old) (E.contents err.new) (check script.now) result }
+        (E.contents err.old) (E.contents err.new) (asks_check script.now) result }
     ensures nothing_written { result ≢ 0 → result ≢ 1 → result ≢ 3 → out.new ≡ out.old }
 {
     match run_check(alloc, host, script, out) {
@@ -211,8 +211,8 @@ fn end_words<H: Host, W: Write, E: Write>(
 /// words it is `plain -`. A script and a standard input have at most 1,048,576 bytes, and a
 /// file at most 274,432.
 ///
-/// After a run `settled` or `not settled` goes to `err`: whether no schedule can change what the script
-/// prints and leaves in its files, soft ones aside.
+/// After a run `settled` or `not settled` goes to `err`: whether the script is settled, that is, whether
+/// its commands keep out of each other's way.
 ///
 /// `check SCRIPT` reads and loads the script, runs nothing, and writes the faults, the `&` and the
 /// first clash of each line.
@@ -230,7 +230,7 @@ pub fn drive<H: Host, W: Write, E: Write>(
 ) -> u8
     ensures meaning { words.items ≡ [] → result ≡ 0 → WritesMeaning (H.input host.old) (W.contents out.old) (W.contents out.new) }
     ensures no_words { words.items ≡ [] → Ends (H.input host.old) (H.file host.old) (W.contents out.old) (W.contents out.new)
-        (E.contents err.old) (E.contents err.new) (plain Profile.Xv6 (codes "-") [] false) result }
+        (E.contents err.old) (E.contents err.new) (asks_run Profile.Xv6 (codes "-") [] false) result }
     ensures ends { (request : Request) × Ends (H.input host.old) (H.file host.old) (W.contents out.old) (W.contents out.new)
         (E.contents err.old) (E.contents err.new) request result }
     ensures nothing_written { result ≢ 0 → result ≢ 1 → result ≢ 3 → out.new ≡ out.old }

@@ -3,12 +3,12 @@ ghost use Rattle.std.specs.Prelude.{◌≡◌, ◌<◌, ◌≤◌, Err, None, Op
 use std::alloc::Global;
 use thiserror::Error;
 
-/// Why the host gives no bytes. The faults are numbered from 1 in this order.
+/// Why the host gives no bytes, numbered from 1.
 #[derive(Clone, Copy, Debug, PartialEq, Eq, Error)]
 pub enum HostFault {
     /// A file can't be opened, or a read failed.
     #[error("unreadable")]
-    Unreadable,
+    Unreadable = 1,
     /// There are more bytes than the limit.
     #[error("too long")]
     TooLong,

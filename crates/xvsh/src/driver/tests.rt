@@ -179,6 +179,47 @@ fn runs_scripts(rt: HostRuntime) -> Result<(), Fail> {
     Ok(())
 }
 
+// `>>` writes over a file from its beginning, or with `--append` at its end; `check` knows no profile.
+#[test]
+fn appends_where_it_is_asked_to(rt: HostRuntime) -> Result<(), Fail> {
+    let big = "0123456789ab\n".repeat(rt.alloc(), 100)?;
+    let large = "x".repeat(rt.alloc(), 274_432)?;
+    let files = [
+        ("s", b"echo hello > f; echo J >> f; cat f".as_slice()),
+        ("two", b"(echo a; echo b) >> f".as_slice()),
+        ("f", b"z\n".as_slice()),
+        ("twice", b"cat big >> g; wc g".as_slice()),
+        ("big", big.as_bytes()),
+        ("g", big.as_bytes()),
+        ("grow", b"cat a >> f".as_slice()),
+        ("a", large.as_bytes()),
+    ];
+    let rows = [
+        ("plain s", (0, "J\nllo\n", "settled\n")),
+        ("plain --append s", (0, "hello\nJ\n", "settled\n")),
+        ("plain --files two f", (0, "-- f 4\na\nb\n\n", "settled\n")),
+        (
+            "plain --append --files two f",
+            (0, "-- f 6\nz\na\nb\n\n", "settled\n"),
+        ),
+        ("plain twice big g", (0, "100 100 1300 g\n", "settled\n")),
+        (
+            "plain --append twice big g",
+            (0, "200 200 2600 g\n", "settled\n"),
+        ),
+        ("plain grow a f", (0, "", "settled\n")),
+        ("plain --append grow a f", (4, "", "xvsh: too large\n")),
+    ];
+    for (words, want) in rows {
+        let mut host = Memory {
+            input: b"".as_slice(),
+            files: &files,
+        };
+        expect(&rt, words, &mut host, want)?;
+    }
+    Ok(())
+}
+
 #[test]
 fn takes_and_lists_files(rt: HostRuntime) -> Result<(), Fail> {
     let files = [
