@@ -19,7 +19,7 @@ use Rattle.sh_meaning.specs.Inputs.{found}
 use Rattle.sh_meaning.specs.Meaning.{meaning, opened, input_value, output_value, written_value}
 use Rattle.sh_meaning.specs.Settled.{AreNoneOf, with_name, IsSettled}
 use Rattle.sh_meaning.specs.Value.{Value, is_cut}
-use Rattle.sh_meaning.proofs.Fixed.{fixed_words}
+use Rattle.sh_meaning.proofs.Firm.{firm_words}
 use Rattle.plain_progs.specs.Gives.{Gives}
 use Rattle.plain_run.specs.Tells.{Tells, are_apart, with_lost}
 use Rattle.plain_run.proofs.Verdicts.{among_lost}
@@ -41,7 +41,7 @@ output_none false input F done O each name is = absurd (false≢true is)
 
 -- no soft name of a settled command is outside
 pub soft_inside : (profile : Profile) (T : Tree) (O : Names) (input : Bytes) (F : FileMap) → IsSettled profile T O input F → AreNoneOf (meaning profile T input F).soft O
-soft_inside profile (exec words) O input F settled name is = absurd (false≢true (sym ((fixed_words words input F).soft name) ∙ is))
+soft_inside profile (exec words) O input F settled name is = absurd (false≢true (sym ((firm_words words input F).soft name) ∙ is))
 soft_inside profile (redir Input file body) O input F settled name is =
     input_none (found F file) input F (λ bytes. meaning profile body bytes F) (λ bytes. IsSettled profile body (with_name file O) bytes F) O settled
     (λ bytes inner other soft. (or_parts (bytes_eq other file) (O other) (soft_inside profile body (with_name file O) bytes F inner other soft)).1) name is

@@ -4,7 +4,6 @@ pub mod Blocks
 pub mod Calls
 pub mod Exits
 pub mod FilesAhead
-pub mod Firm
 pub mod Fits
 pub mod Frame
 pub mod Given

@@ -22,7 +22,7 @@ ghost use Rattle.prog_laws.specs.Fits.{Fits};
 ghost use Rattle.prog_laws.specs.Frame.{depends_on, holds_to_write, may_change, only_changed};
 ghost use Rattle.prog_laws.specs.Refusals.{IsTold, PassesOrTells};
 ghost use Rattle.prog_laws.specs.Calls.{MayCall};
-ghost use Rattle.prog_laws.specs.Firm.{IsFirm};
+ghost use Rattle.sh_meaning.specs.Firm.{IsFirm};
 ghost use Rattle.prog_laws.specs.Blocks.{WritesBlock, HoldsBlock};
 ghost use Rattle.prog_laws.specs.Reads.{bytes_of_function};
 ghost use Rattle.prog_laws.specs.FilesAhead.{Sizes, sizes, files_ahead, from_files};

@@ -1,4 +1,4 @@
 pub mod Bools
-pub mod Fixed
+pub mod Firm
 pub mod NothingMet
 pub mod OneMeaning

@@ -16,7 +16,7 @@ use Rattle.sh_meaning.specs.Meaning.{input_value, output_value, opened, written_
 use Rattle.sh_meaning.specs.Settled.{AreNoneOf, with_name, IsSettled}
 use Rattle.sh_meaning.specs.Value.{Value, nothing, seq_value, pipe_value, is_cut}
 use Rattle.sh_meaning.proofs.Bools.{and_if_left, and_if_right, apart}
-use Rattle.sh_meaning.proofs.Fixed.{fixed_words}
+use Rattle.sh_meaning.proofs.Firm.{firm_words}
 
 -- nothing is met, and what is soft is named nowhere outside
 pub record MeetsNothing (outside : Names) (v : Value) : Type 0 where
@@ -63,7 +63,7 @@ of_output profile outside mode file input F v body = go (is_openable file) body
     go true body = of_body outside file v _ refl refl (body refl)
 
 pub meets_nothing : (profile : Profile) (tree : Tree) (outside : Names) (input : Bytes) (F : FileMap) → IsSettled profile tree outside input F → MeetsNothing outside (meaning profile tree input F)
-meets_nothing profile (exec words) outside input F settled = let f = fixed_words words input F in record { met = f.met; soft = λ n e. f.soft n }
+meets_nothing profile (exec words) outside input F settled = let f = firm_words words input F in record { met = f.met; soft = λ n e. f.soft n }
 meets_nothing profile (back body) outside input F settled = meets_nothing profile body outside input F settled
 meets_nothing profile (redir Input file body) outside input F settled =
     of_input outside file (found F file) input F (λ bytes. meaning profile body bytes F) (λ bytes. IsSettled profile body (with_name file outside) bytes F)

@@ -1,3 +1,4 @@
+pub mod Firm
 pub mod Inputs
 pub mod Limits
 pub mod Meaning

@@ -7,6 +7,7 @@ ghost use Rattle.sh_tree.specs.Tree.{Tree};
 ghost use Rattle.script_load.specs.declared.profile.Profile.{Profile};
 ghost use Rattle.script_load.specs.declared.profile.Profile.TheVariants.{Xv6, Append};
 ghost use Rattle.script_load.specs.Line.{ScriptLine};
+ghost use Rattle.sh_meaning.specs.Firm.{IsFirm};
 ghost use Rattle.sh_meaning.specs.Meaning.{meaning, script_meaning, script_tree};
 ghost use Rattle.sh_meaning.specs.Over.{has_over};
 ghost use Rattle.sh_meaning.specs.Programs.{words_value};
@@ -14,10 +15,8 @@ ghost use Rattle.sh_meaning.specs.Settled.{IsSettled, IsSettledScript};
 
 /// What a simple command gives doesn't depend on the order in which processes run: it leaves nothing
 /// loose, has no soft names and meets none.
-pub fn a_simple_command_is_fixed()
-    ensures loose { (words : List Bytes) (input : Bytes) (F : FileMap) → (words_value words input F).loose ≡ false }
-    ensures soft { (words : List Bytes) (input : Bytes) (F : FileMap) (name : Name) → (words_value words input F).soft name ≡ false }
-    ensures met { (words : List Bytes) (input : Bytes) (F : FileMap) (name : Name) → (words_value words input F).met name ≡ false }
+pub fn a_simple_command_is_firm()
+    ensures { (words : List Bytes) (input : Bytes) (F : FileMap) → IsFirm (words_value words input F) }
 {}
 
 /// In a settled tree no command meets a soft file or a loose input, and no name outside it is soft.

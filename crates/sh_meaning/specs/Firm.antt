@@ -1,4 +1,4 @@
--- A value that is the same whatever the order in which processes run.
+-- A value of which nothing depends on the order in which processes run.
 use Rattle.std.specs.Prelude.{◌≡◌, false}
 use Rattle.mem_files.specs.Name.{Name}
 use Rattle.sh_meaning.specs.Value.{Value}
