@@ -8,19 +8,19 @@ use Rattle.std.proofs.lemmas.Bool.Decides.{nat_tests}
 use Rattle.std.proofs.Math.Seq.{drop-nil}
 use Rattle.mem_files.specs.Name.{Name, Bytes, is_openable}
 use Rattle.mem_files.specs.Files.{FileMap, bytes_of}
-use Rattle.conflict_check.specs.declared.program.Program.{Program}
-use Rattle.conflict_check.specs.declared.program.Program.TheVariants.{Cat, Echo, Grep, Head, Tee as Tee', Wc}
-use Rattle.conflict_check.specs.Program.{head_files, has_wrong_option}
+use Rattle.prog_parts.specs.declared.program.Program.{Program}
+use Rattle.prog_parts.specs.declared.program.Program.TheVariants.{Cat, Echo, Grep, Head, Tee as Tee', Wc}
+use Rattle.prog_parts.specs.Head.{head_files, has_wrong_option}
 use Rattle.user_calls.specs.declared.block.TheConstants.{BLOCK_SIZE}
 use Rattle.user_calls.specs.declared.calls.Mode.TheVariants.{Input}
 use Rattle.user_calls.specs.declared.calls.Call.{Call}
 use Rattle.user_calls.specs.declared.calls.Call.TheVariants.{Exec, Read, Write, OpenFile, Close}
 use Rattle.user_calls.specs.declared.calls.Reply.{Reply}
 use Rattle.user_calls.specs.declared.calls.Reply.TheVariants.{Done, Bytes as Bytes', Fd}
-use Rattle.script_load.specs.Value.{Value, fixed, nothing}
-use Rattle.script_load.specs.Inputs.{found, of_found, of_files, filter_value}
-use Rattle.script_load.specs.Head.{first_lines, after_lines, line_count}
-use Rattle.script_load.specs.Programs.{echo_out, program_value}
+use Rattle.sh_meaning.specs.Value.{Value, fixed, nothing}
+use Rattle.sh_meaning.specs.Inputs.{found, of_found, of_files, filter_value}
+use Rattle.prog_parts.specs.Head.{first_lines, after_lines, line_count}
+use Rattle.sh_meaning.specs.Programs.{echo_out, program_value}
 use Rattle.user_progs.specs.State.{Filter, copying, heading, counting, searching, Source, standard, file, Work, cat_reads, cat_writes, head_reads, head_writes, wc_reads, wc_writes, grep_reads, grep_writes, Tee, tee_opens, tee_reads, tee_writes, tee_gives, State, begins, echo_word, echo_space, opens, works, closes, tees, told, ended}
 use Rattle.user_progs.specs.Turn.{Turn, yields, Step, reads, writes, finishes, fails, quits, turn, turn_by, first_step, work_step, filter_of, fd_of, block, opens_next, begins_filter, begins_head, begins_program, name_of, echo_next, echo_end}
 use Rattle.prog_laws.specs.Alone.{OwnFile, World, is_to_read, can_open, held, moved_on, left_of_file, readable, left_at, Takes, MayRead, MayOpen, may_write, done_if, May, opened_files, after_read, after_call, to_out}

@@ -3,7 +3,7 @@
 use Rattle.std.proofs.Common.{◌≡◌, [], ◌∷◌, List, Some, refl, arith}
 use Rattle.std.specs.Prelude.{codes}
 use Rattle.mem_files.specs.Files.{FileMap, no_files, with_file}
-use Rattle.conflict_check.specs.declared.program.Program.TheVariants.{Cat, Grep, Head, Tee}
+use Rattle.prog_parts.specs.declared.program.Program.TheVariants.{Cat, Grep, Head, Tee}
 use Rattle.user_calls.specs.declared.calls.Call.TheVariants.{Exit}
 use Rattle.user_calls.specs.declared.calls.Reply.{Reply}
 use Rattle.user_calls.specs.declared.calls.Reply.TheVariants.{Done, Bytes, Fd}

@@ -2,7 +2,7 @@
 use Rattle.std.specs.Prelude.{◌≡◌, ℕ, zero, suc, ◌≤◌, Bool, true, false, Some}
 use Rattle.std.specs.Option.{is_some}
 use Rattle.mem_files.specs.Name.{Name, is_openable}
-use Rattle.conflict_check.specs.Names.{Names}
+use Rattle.prog_parts.specs.NameSets.{Names}
 use Rattle.user_calls.specs.declared.block.TheConstants.{BLOCK_SIZE}
 use Rattle.user_calls.specs.declared.calls.Mode.{Mode}
 use Rattle.user_calls.specs.declared.calls.Mode.TheVariants.{Input, Fresh, Over}

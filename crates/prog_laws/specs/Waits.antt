@@ -2,14 +2,14 @@
 use Rattle.std.specs.Prelude.{◌≡◌, ℕ, ◌+◌, ◌-◌, ◌<◌, ◌≤◌, true, List, [], ◌∷◌, length, take, drop, slice_index_or, Option, Some, None}
 use Rattle.std.specs.Option.{is_some}
 use Rattle.mem_files.specs.Name.{Name, Bytes}
-use Rattle.conflict_check.specs.declared.program.Program.{Program}
-use Rattle.conflict_check.specs.declared.program.Program.TheVariants.{Cat, Echo, Grep, Head, Tee as Tee', Wc}
+use Rattle.prog_parts.specs.declared.program.Program.{Program}
+use Rattle.prog_parts.specs.declared.program.Program.TheVariants.{Cat, Echo, Grep, Head, Tee as Tee', Wc}
 use Rattle.user_calls.specs.declared.block.TheConstants.{BLOCK_SIZE}
 use Rattle.user_calls.specs.declared.calls.Mode.TheVariants.{Input, Fresh}
 use Rattle.user_calls.specs.declared.calls.Call.{Call}
 use Rattle.user_calls.specs.declared.calls.Call.TheVariants.{Exec, Exit, Read, Write, OpenFile, Close}
-use Rattle.script_load.specs.Grep.{tested}
-use Rattle.script_load.specs.Wc.{capped}
+use Rattle.prog_parts.specs.Grep.{tested}
+use Rattle.prog_parts.specs.Wc.{capped}
 use Rattle.user_progs.specs.State.{Source, standard, file, Work, cat_reads, cat_writes, head_reads, head_writes, wc_reads, wc_writes, grep_reads, grep_writes, Tee, tee_opens, tee_reads, tee_writes, tee_gives, State, begins, echo_word, echo_space, opens, works, closes, tees, told, ended}
 use Rattle.user_progs.specs.Turn.{fd_of, block}
 use Rattle.prog_laws.specs.Alone.{OwnFile, World, is_to_read, held}

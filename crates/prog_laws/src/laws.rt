@@ -4,15 +4,15 @@ ghost use Rattle.std.specs.Prelude.{◌≡◌, ◌⊎◌, ℕ, ◌+◌, ◌-◌,
 ghost use Rattle.std.specs.Option.{is_some};
 ghost use Rattle.mem_files.specs.Name.{Name, Bytes};
 ghost use Rattle.mem_files.specs.Files.{FileMap};
-ghost use Rattle.conflict_check.specs.declared.program.Program.{Program};
+ghost use Rattle.prog_parts.specs.declared.program.Program.{Program};
 ghost use Rattle.user_calls.specs.declared.calls.Call.{Call};
 ghost use Rattle.user_calls.specs.declared.block.TheConstants.{BLOCK_SIZE};
 ghost use Rattle.user_calls.specs.declared.calls.Call.TheVariants.{Exit, Write};
 ghost use Rattle.user_calls.specs.declared.calls.Reply.{Reply};
 ghost use Rattle.user_calls.specs.declared.calls.Reply.TheVariants.{Refused};
-ghost use Rattle.script_load.specs.Programs.{program_value};
+ghost use Rattle.sh_meaning.specs.Programs.{program_value};
 ghost use Rattle.user_progs.specs.State.{State, begins};
-ghost use Rattle.conflict_check.specs.Program.{program_uses_input};
+ghost use Rattle.prog_parts.specs.Program.{program_uses_input};
 ghost use Rattle.user_progs.specs.Turn.{Turn, turn, call_of, next_of, bytes_in};
 ghost use Rattle.prog_laws.specs.Ahead.{still_opens, still_writes, still_uses};
 ghost use Rattle.prog_laws.specs.Alone.{World, may_write, May, after_call, to_out};
