@@ -15,9 +15,9 @@ use Rattle.user_progs.specs.State.{Source, standard, file, Work, cat_reads, cat_
 use Rattle.user_progs.specs.Turn.{block, fd_of}
 use Rattle.prog_laws.specs.Alone.{OwnFile, World, held}
 use Rattle.prog_laws.specs.Given.{place_or, place_in, IsAt, AreAt}
-use Rattle.prog_laws.specs.Waits.{IsWrite, IsHeld, IsOpen, WorkWaits, TeeWaits, Waits}
+use Rattle.prog_laws.specs.Waits.{IsWrite, IsOpenToRead, IsOpen, WorkWaits, TeeWaits, Waits}
 use Rattle.prog_laws.specs.Frame.{is_held, is_given, depends_on, may_change}
-use Rattle.prog_laws.specs.Calls.{IsOwn, MayRead, MayWrite, MayCall}
+use Rattle.prog_laws.specs.Calls.{IsOwn, ReadsOpen, WritesOpen, MayCall}
 use Rattle.prog_laws.proofs.Keeps.{found_short}
 use Rattle.prog_laws.proofs.Framing.{itself, or_left, or_right}
 use Rattle.prog_laws.proofs.Elsewhere.{given_here}
@@ -33,12 +33,12 @@ opens_first : (name : Name) (later : List Name) → is_openable (block name) ≡
 opens_first name later e = ap (λ (n : Name). among (name ∷ later) n) (short_block name e) ∙ or_left (bytes_eq name name) (among later name) (itself name)
 
 -- a read of an input
-reads_source : (work : Work) (source : Source) (world : World) → IsOpen source world → MayRead (fd_of source) (works work source) world
+reads_source : (work : Work) (source : Source) (world : World) → IsOpen source world → ReadsOpen (fd_of source) (works work source) world
 reads_source work standard world is = refl
 reads_source work (file zero name later) world is = absurd (omega (arith, is.0))
 reads_source work (file (suc fd) name later) world is = go (held world.own (suc fd)) refl is.2
   where
-    go : (h : Option OwnFile) → held world.own (suc fd) ≡ h → IsHeld name h → IsOwn (suc fd) true (depends_on (works work (file (suc fd) name later)) world) world
+    go : (h : Option OwnFile) → held world.own (suc fd) ≡ h → IsOpenToRead name h → IsOwn (suc fd) true (depends_on (works work (file (suc fd) name later)) world) world
     go None e held_so = absurd held_so
     go (Some own) e held_so =
         record {
@@ -65,14 +65,14 @@ work_calls (grep_reads pattern kept) source call world (none, few, is) ready = r
 work_calls (grep_writes pattern rest) source call world waits ready = writes_call _ call world waits.1
 
 -- a write to a file of its own
-writes_own : (fd : ℕ) (state : State) (world : World) → 2 < fd → IsOwn fd false (may_change state world) world → MayWrite fd state world
+writes_own : (fd : ℕ) (state : State) (world : World) → 2 < fd → IsOwn fd false (may_change state world) world → WritesOpen fd state world
 writes_own zero state world high own = absurd (omega (arith, high))
 writes_own (suc zero) state world high own = tt
 writes_own (suc (suc zero)) state world high own = tt
 writes_own (suc (suc (suc fd))) state world high own = own
 
 given_to : (fds : List ℕ) (k place : ℕ) (bytes : Bytes) (world : World) → k < length fds → AreAt place (drop k fds) world.own world.files →
-    MayWrite (slice_index_or fds k 0) (tees (tee_gives fds k bytes)) world
+    WritesOpen (slice_index_or fds k 0) (tees (tee_gives fds k bytes)) world
 given_to fds k place bytes world inside stands = go (held world.own fd) refl at.1
   where
     fd : ℕ
@@ -84,7 +84,7 @@ given_to fds k place bytes world inside stands = go (held world.own fd) refl at.
     at : AreAt place (fd ∷ drop (k + 1) fds) world.own world.files
     at = subst (λ (ds : List ℕ). AreAt place ds world.own world.files) cut stands
 
-    go : (h : Option OwnFile) → held world.own fd ≡ h → IsAt place h world.files → MayWrite fd (tees (tee_gives fds k bytes)) world
+    go : (h : Option OwnFile) → held world.own fd ≡ h → IsAt place h world.files → WritesOpen fd (tees (tee_gives fds k bytes)) world
     go None e is = absurd is
     go (Some own) e is =
         writes_own fd (tees (tee_gives fds k bytes)) world at.0
@@ -106,7 +106,7 @@ tee_calls (tee_writes fds bytes) call world (is, distinct, at) = subst (λ (c : 
 tee_calls (tee_gives fds k bytes) call world (is, inside, distinct, (place, had, stands)) =
     subst (λ (c : Call). MayCall c (tees (tee_gives fds k bytes)) world) (sym is) (given_to fds k place bytes world inside stands)
 
-told_writes : (fd : ℕ) (world : World) → 0 < fd → fd < 3 → MayWrite fd told world
+told_writes : (fd : ℕ) (world : World) → 0 < fd → fd < 3 → WritesOpen fd told world
 told_writes zero world some low = absurd (omega (arith, some))
 told_writes (suc zero) world some low = tt
 told_writes (suc (suc zero)) world some low = tt

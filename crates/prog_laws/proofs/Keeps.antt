@@ -25,7 +25,7 @@ use Rattle.user_progs.specs.State.{Filter, copying, heading, counting, searching
 use Rattle.user_progs.specs.Turn.{Turn, yields, Step, reads, writes, finishes, fails, quits, turn, turn_by, first_step, work_step, filter_of, fd_of, block, opens_next, begins_filter, begins_head, begins_program, name_of, echo_next, echo_end}
 use Rattle.prog_laws.specs.Alone.{OwnFile, World, is_to_read, can_open, held, moved_on, left_of_file, readable, left_at, Takes, MayRead, MayOpen, may_write, done_if, May, opened_files, after_read, after_call, to_out}
 use Rattle.prog_laws.specs.Still.{of_input, work_out, work_rest, work_still, echo_rest, still, after_bytes, left_of}
-use Rattle.prog_laws.specs.Waits.{AreShort, BeginsShort, IsWrite, IsHeld, IsOpen, WorkWaits, TeeWaits, Waits}
+use Rattle.prog_laws.specs.Waits.{AreShort, BeginsShort, IsWrite, IsOpenToRead, IsOpen, WorkWaits, TeeWaits, Waits}
 use Rattle.user_progs.proofs.Blocks.{too_long}
 use Rattle.prog_laws.specs.Fits.{AreWithin, outputs, Fits}
 use Rattle.prog_laws.proofs.Fitting.{gives_done}
@@ -82,7 +82,7 @@ can_read standard world ready = refl
 can_read (file zero name later) world ready = absurd (omega (arith, ready.0))
 can_read (file (suc fd) name later) world ready = go (held world.own (suc fd)) ready.2
   where
-    go : (h : Option OwnFile) → IsHeld name h → left_of_file h world.files ≡ Some (bytes_of (left_of_file h world.files))
+    go : (h : Option OwnFile) → IsOpenToRead name h → left_of_file h world.files ≡ Some (bytes_of (left_of_file h world.files))
     go None is = absurd is
     go (Some f) is =
         let bytes = drop f.at (bytes_of (world.files f.name)) in

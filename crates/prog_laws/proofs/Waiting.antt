@@ -29,7 +29,7 @@ use Rattle.prog_parts.specs.Head.{line_count}
 use Rattle.user_progs.specs.State.{Filter, copying, heading, counting, searching, Source, standard, file, Work, cat_reads, cat_writes, head_reads, head_writes, wc_reads, wc_writes, grep_reads, grep_writes, Tee, tee_opens, tee_reads, tee_writes, tee_gives, State, begins, echo_word, echo_space, opens, works, closes, tees, told, ended}
 use Rattle.user_progs.specs.Turn.{Answer, yields, denies, strays, Turn, Step, reads, writes, finishes, fails, quits, exits, tells, name_of_program, bytes_in, fd_in, done_in, turn, turn_by, first_step, work_step, filter_of, fd_of, block, opened_by, closed_by, begun_by, opens_next, begins_filter, begins_head, begins_program, echo_next, echo_end, cat_got, cat_wrote, head_got, head_goes_on, head_wrote, wc_got, grep_got, grep_goes_on, grep_lines, name_of, tee_opened, tee_turn}
 use Rattle.prog_laws.specs.Alone.{OwnFile, World, held, moved_on, MayOpen, may_write, done_if, May, can_open, after_read, after_write, after_call}
-use Rattle.prog_laws.specs.Waits.{AreShort, BeginsShort, IsWrite, IsHeld, IsOpen, WorkWaits, TeeWaits, Waits}
+use Rattle.prog_laws.specs.Waits.{AreShort, BeginsShort, IsWrite, IsOpenToRead, IsOpen, WorkWaits, TeeWaits, Waits}
 
 -- the work waits for the reply to the call that this step makes
 abbrev pub StepWaits : Step → Type 0
@@ -133,7 +133,7 @@ exits_wait world = refl
 pub tells_wait : (message : Bytes) (world : World) → TurnWaits (tells message) world
 tells_wait message world = (2, omega arith, omega arith, (block message, refl))
 
-held_some : (name : Name) (h : Option OwnFile) → IsHeld name h → is_some h ≡ true
+held_some : (name : Name) (h : Option OwnFile) → IsOpenToRead name h → is_some h ≡ true
 held_some name None is = absurd is
 held_some name (Some own) is = refl
 
@@ -189,7 +189,7 @@ opened_open : (fd : ℕ) (name : Name) (later : List Name) (world : World) (byte
     IsOpen (file fd name later) (after_call (OpenFile (block name) Input) (Fd fd) world)
 opened_open fd name later world bytes e high =
     let short = found_short world.files name bytes e in
-    (high, short, subst (IsHeld name) (sym (ap (λ (t : Bool). if t then Some (new_file fd (block name) Input) else held world.own fd) (eq-eqb fd fd refl))) (take_all BLOCK_SIZE name (omega (arith, short)), refl))
+    (high, short, subst (IsOpenToRead name) (sym (ap (λ (t : Bool). if t then Some (new_file fd (block name) Input) else held world.own fd) (eq-eqb fd fd refl))) (take_all BLOCK_SIZE name (omega (arith, short)), refl))
 
 opened_waits : (filter : Filter) (name : Name) (later : List Name) (o : Option Bytes) (reply : Reply) (world : World) → can_open (block name) Input world.files ≡ o → MayOpen o reply world →
     TurnWaits (opened_by filter name later (fd_in reply)) (after_call (OpenFile (block name) Input) reply world)
@@ -214,20 +214,20 @@ own_call (grep_reads pattern kept) fd call waits = inl (_, waits.2)
 own_call (grep_writes pattern rest) fd call waits = inr waits.1
 
 -- a read or a write of the work leaves its input open
-moved_held : (name : Name) (own : List OwnFile) (fd count other : ℕ) → IsHeld name (held own other) → IsHeld name (held (moved_on own fd count) other)
+moved_held : (name : Name) (own : List OwnFile) (fd count other : ℕ) → IsOpenToRead name (held own other) → IsOpenToRead name (held (moved_on own fd count) other)
 moved_held name [] fd count other is = is
 moved_held name (f ∷ own) fd count other is = go (f.fd == fd) (moved_held name own fd count other)
   where
-    here : (t : Bool) → IsHeld name (if t then Some f else held own other) → IsHeld name (if t then Some (record f { at = f.at + count }) else held own other)
+    here : (t : Bool) → IsOpenToRead name (if t then Some f else held own other) → IsOpenToRead name (if t then Some (record f { at = f.at + count }) else held own other)
     here true is = is
     here false is = is
 
-    behind : (t : Bool) → IsHeld name (if t then Some f else held own other) → (IsHeld name (held own other) → IsHeld name (held (moved_on own fd count) other)) →
-        IsHeld name (if t then Some f else held (moved_on own fd count) other)
+    behind : (t : Bool) → IsOpenToRead name (if t then Some f else held own other) → (IsOpenToRead name (held own other) → IsOpenToRead name (held (moved_on own fd count) other)) →
+        IsOpenToRead name (if t then Some f else held (moved_on own fd count) other)
     behind true is ih = is
     behind false is ih = ih is
 
-    go : (moves : Bool) → (IsHeld name (held own other) → IsHeld name (held (moved_on own fd count) other)) → IsHeld name (held (if moves then record f { at = f.at + count } ∷ own else f ∷ moved_on own fd count) other)
+    go : (moves : Bool) → (IsOpenToRead name (held own other) → IsOpenToRead name (held (moved_on own fd count) other)) → IsOpenToRead name (held (if moves then record f { at = f.at + count } ∷ own else f ∷ moved_on own fd count) other)
     go true ih = here (f.fd == other) is
     go false ih = behind (f.fd == other) is ih
 

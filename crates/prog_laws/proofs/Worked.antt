@@ -1,11 +1,13 @@
--- A run of tee over a file that is named twice: the replies are allowed, and what comes of them computes.
+-- A run of tee over a file that is named twice: the replies are allowed, and what comes of them computes. And how many bytes
+-- some programs read.
 use Rattle.std.proofs.Common.{◌≡◌, [], ◌∷◌, List, Some, refl, arith}
 use Rattle.std.specs.Prelude.{codes}
-use Rattle.mem_files.specs.Files.{no_files}
-use Rattle.prog_parts.specs.declared.program.Program.TheVariants.{Tee}
+use Rattle.mem_files.specs.Files.{FileMap, no_files, with_file}
+use Rattle.prog_parts.specs.declared.program.Program.TheVariants.{Cat, Grep, Head, Tee}
 use Rattle.user_calls.specs.declared.calls.Call.TheVariants.{Exit}
 use Rattle.user_calls.specs.declared.calls.Reply.{Reply}
 use Rattle.user_calls.specs.declared.calls.Reply.TheVariants.{Done, Bytes, Fd}
+use Rattle.prog_laws.specs.Reads.{bytes_of_function}
 use Rattle.prog_laws.specs.Runs.{Process, first_process, after_replies, MayBe}
 
 abbrev first : Process
@@ -62,3 +64,17 @@ out = refl
 
 in_file : last.world.files (codes "x") ≡ Some (codes "ab")
 in_file = refl
+
+-- of its input head reads the first line, and grep all
+of_head : bytes_of_function Head (codes "-1" ∷ []) (codes "a\nbcd\n") no_files ≡ 2
+of_head = refl
+
+of_grep : bytes_of_function Grep (codes "x" ∷ []) (codes "ax\nb") no_files ≡ 4
+of_grep = refl
+
+-- of files those up to the first that is missing, and no input
+abbrev files : FileMap
+files = with_file (with_file no_files (codes "f") (codes "abc")) (codes "g") (codes "defg")
+
+of_cat : bytes_of_function Cat (codes "f" ∷ codes "none" ∷ codes "g" ∷ []) (codes "input") files ≡ 3
+of_cat = refl

@@ -21,23 +21,23 @@ pub record IsOwn (fd : ℕ) (reads : Bool) (names : Names) (world : World) : Typ
   pub named : names own.name ≡ true
 
 -- it reads standard input, if it still uses it, or a file of its own
-abbrev pub MayRead : ℕ → State → World → Type 0
-MayRead zero state world = still_uses state ≡ true
-MayRead (suc fd) state world = IsOwn (suc fd) true (depends_on state world) world
+abbrev pub ReadsOpen : ℕ → State → World → Type 0
+ReadsOpen zero state world = still_uses state ≡ true
+ReadsOpen (suc fd) state world = IsOwn (suc fd) true (depends_on state world) world
 
 -- it writes to descriptor 1, to 2, or to a file of its own that it may change
-abbrev pub MayWrite : ℕ → State → World → Type 0
-MayWrite zero state world = ⊥
-MayWrite (suc zero) state world = Unit {0}
-MayWrite (suc (suc zero)) state world = Unit {0}
-MayWrite (suc (suc (suc fd))) state world = IsOwn (suc (suc (suc fd))) false (may_change state world) world
+abbrev pub WritesOpen : ℕ → State → World → Type 0
+WritesOpen zero state world = ⊥
+WritesOpen (suc zero) state world = Unit {0}
+WritesOpen (suc (suc zero)) state world = Unit {0}
+WritesOpen (suc (suc (suc fd))) state world = IsOwn (suc (suc (suc fd))) false (may_change state world) world
 
 -- it opens a file that it still opens in this mode; a name that can't be opened may have been cut to a block
-abbrev pub MayOpenFile : Mode → Name → State → Type 0
-MayOpenFile Input name state = is_openable name ≡ true → still_opens state name ≡ true
-MayOpenFile Fresh name state = is_openable name ≡ true → still_writes state name ≡ true
-MayOpenFile Over name state = ⊥
-MayOpenFile Append name state = ⊥
+abbrev pub OpensAhead : Mode → Name → State → Type 0
+OpensAhead Input name state = is_openable name ≡ true → still_opens state name ≡ true
+OpensAhead Fresh name state = is_openable name ≡ true → still_writes state name ≡ true
+OpensAhead Over name state = ⊥
+OpensAhead Append name state = ⊥
 
 abbrev pub MayCall : Call → State → World → Type 0
 MayCall Fork state world = ⊥
@@ -45,8 +45,8 @@ MayCall (Exec is_known) state world = is_known ≡ true
 MayCall Exit state world = Unit {0}
 MayCall Wait state world = ⊥
 MayCall MakePipe state world = ⊥
-MayCall (Read fd most) state world = (1 ≤ most) × (most ≤ BLOCK_SIZE) × MayRead fd state world
-MayCall (Write fd bytes) state world = MayWrite fd state world
-MayCall (OpenFile name mode) state world = MayOpenFile mode name state
+MayCall (Read fd most) state world = (1 ≤ most) × (most ≤ BLOCK_SIZE) × ReadsOpen fd state world
+MayCall (Write fd bytes) state world = WritesOpen fd state world
+MayCall (OpenFile name mode) state world = OpensAhead mode name state
 MayCall (Close fd) state world = is_some (held world.own fd) ≡ true
 MayCall (Dup fd) state world = ⊥

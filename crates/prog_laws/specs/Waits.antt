@@ -25,14 +25,14 @@ abbrev pub IsWrite : ℕ → Call → Type 0
 IsWrite fd call = (bytes : Bytes) × (call ≡ Write fd bytes)
 
 -- a file of this name is open, and can be read
-abbrev pub IsHeld : Name → Option OwnFile → Type 0
-IsHeld name None = ⊥
-IsHeld name (Some own) = (own.name ≡ name) × (is_to_read own.mode ≡ true)
+abbrev pub IsOpenToRead : Name → Option OwnFile → Type 0
+IsOpenToRead name None = ⊥
+IsOpenToRead name (Some own) = (own.name ≡ name) × (is_to_read own.mode ≡ true)
 
 -- a file of the program's own is open at a descriptor above 2, and a name that can be opened is short
 abbrev pub IsOpen : Source → World → Type 0
 IsOpen standard world = Unit {0}
-IsOpen (file fd name later) world = (2 < fd) × (length name ≤ 14) × IsHeld name (held world.own fd)
+IsOpen (file fd name later) world = (2 < fd) × (length name ≤ 14) × IsOpenToRead name (held world.own fd)
 
 abbrev pub WorkWaits : Work → ℕ → Call → Type 0
 WorkWaits cat_reads fd call = call ≡ Read fd 512

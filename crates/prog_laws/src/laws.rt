@@ -44,7 +44,7 @@ pub fn a_program_alone_does_what_its_function_says()
 
 /// What is left of a program: of one that was found, all that its function says; and each reply that a program alone
 /// may be given leaves what the next call writes and what follows it. After each it waits for the reply to its call,
-/// with its files open where it left them.
+/// with its files open where it left them, and those that it writes no further than at their ends.
 pub fn each_call_keeps_what_is_left()
     ensures begins { (program : Program) (arguments : List Bytes) (world : World)
         → still (begins program arguments) world ≡ program_value (Some program) arguments world.input world.files }
@@ -58,9 +58,9 @@ pub fn each_call_keeps_what_is_left()
         → left_of turn put world ≡ after_bytes (take more (drop put (to_out turn.call))) (left_of turn (put + more) world) }
 {}
 
-/// Whatever a program is answered, from the first reply on: it reads standard input, if it uses it, and what it opened;
-/// writes to 1, to 2 and to what it opened; opens its file words, `tee` for writing and the others for reading; closes
-/// what it opened; and else only exits.
+/// Whatever a program is answered, from the first reply on: it reads standard input, if it uses it, and what it opened and
+/// did not close; writes to 1, to 2 and to such a file; opens its file words, `tee` for writing and the others for reading;
+/// closes what it opened; and else only exits.
 pub fn a_program_makes_no_other_calls()
     ensures { (program : Program) (arguments : List Bytes) (first : Reply) (replies : List Reply)
         → AreTame program arguments (next_of (begins program arguments) first) (call_of (begins program arguments) first) [] replies }
