@@ -117,9 +117,6 @@ pub fn close_output<A: Allocator + Copy>(
     ensures large { IfErr result (IsDue (max_size < length (over_end profile held.items written.items))) }
 {
     let end = end_bytes(profile, held, written)?;
-    match store.put(name, end.as_slice()) {
-        Ok(()) => Ok(()),
-        Err(FilesFault::FullSize) => Err(PlainFault::TooLarge),
-        Err(_) => Err(PlainFault::Memory),
-    }
+    let _is_given = give(store, name, end.as_slice())?;
+    Ok(())
 }
