@@ -28,6 +28,20 @@ fn add_fault_line(
     text.extend_from_slice(end.as_bytes())
 }
 
+// The number, the name and the place of a fault.
+fn parts_of(fault: ParseFault) -> (usize, &'static [u8], usize)
+    ensures { (number : ℕ) → fault_text number fault ≡ fault_line number result.0 result.1.now result.2 }
+{
+    match fault {
+        ParseFault::MissingFile(at) => (1, b"MissingFile".as_slice(), at),
+        ParseFault::MissingParen(at) => (2, b"MissingParen".as_slice(), at),
+        ParseFault::TooManyWords(at) => (3, b"TooManyWords".as_slice(), at),
+        ParseFault::Unexpected(at) => (4, b"Unexpected".as_slice(), at),
+        ParseFault::Leftover(at) => (5, b"Leftover".as_slice(), at),
+        ParseFault::Memory => (6, b"Memory".as_slice(), 0),
+    }
+}
+
 fn add_fault(
     alloc: Global,
     number: usize,
@@ -36,49 +50,8 @@ fn add_fault(
 ) -> Result<(), AllocError>
     ensures { OnOk result (text.new.items ≡ text.old.items ++ fault_text number fault) }
 {
-    match fault {
-        ParseFault::MissingFile(at) => add_fault_line(
-            alloc,
-            number,
-            1,
-            b"MissingFile".as_slice(),
-            at,
-            text,
-        ),
-        ParseFault::MissingParen(at) => add_fault_line(
-            alloc,
-            number,
-            2,
-            b"MissingParen".as_slice(),
-            at,
-            text,
-        ),
-        ParseFault::TooManyWords(at) => add_fault_line(
-            alloc,
-            number,
-            3,
-            b"TooManyWords".as_slice(),
-            at,
-            text,
-        ),
-        ParseFault::Unexpected(at) => add_fault_line(
-            alloc,
-            number,
-            4,
-            b"Unexpected".as_slice(),
-            at,
-            text,
-        ),
-        ParseFault::Leftover(at) => add_fault_line(
-            alloc,
-            number,
-            5,
-            b"Leftover".as_slice(),
-            at,
-            text,
-        ),
-        ParseFault::Memory => add_fault_line(alloc, number, 6, b"Memory".as_slice(), 0, text),
-    }
+    let (kind, name, at) = parts_of(fault);
+    add_fault_line(alloc, number, kind, name, at, text)
 }
 
 // Adds `N background` and LF where it is so.

@@ -1,0 +1,35 @@
+use crate::driver::drive;
+use crate::system::System;
+use std::env;
+use std::io::{self, ErrorKind, Write};
+use std::process::ExitCode;
+use std::rt::{Env, Files};
+
+// The words after the program's own name.
+fn words_of(rt: &(impl Env + AllocGlobal)) -> io::Result<Vec<String>> {
+    Ok(env::args(rt)?.skip(1).collect(rt.alloc())?)
+}
+
+/// Runs the program on the words, the input and the files of the system, with this as its standard
+/// error, and gives the status with which it ends.
+pub fn run<R, E>(rt: &R, err: &mut E) -> io::Result<ExitCode>
+where
+    R: Env + AllocGlobal + Input + Files + Print,
+    E: Write,
+{
+    let words = match words_of(rt) {
+        Ok(words) => words,
+        Err(error) if error.kind() == ErrorKind::InvalidData => {
+            writeln!(err, "xvsh: a word of the command line is not text in UTF-8")?;
+            return Ok(ExitCode::from(2));
+        }
+        Err(_) => {
+            writeln!(err, "xvsh: no memory")?;
+            return Ok(ExitCode::from(4));
+        }
+    };
+    let mut host = System::new(rt);
+    let mut out = io::writer(rt);
+    let status = drive(rt.alloc(), words, &mut host, &mut out, err);
+    Ok(ExitCode::from(status))
+}
