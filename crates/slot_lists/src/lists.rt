@@ -1,0 +1,119 @@
+ghost use Rattle.std.specs.Prelude.{◌≡◌, ℕ, ◌<◌, length, slice_index};
+
+use std::marker::Model;
+
+/// How many slots there are.
+pub const SLOTS: usize = 64;
+
+/// How many lists there are.
+pub const LISTS: usize = 72;
+
+// A node for each slot, and one for each list, which stands before its first slot and after its last.
+const NODES: usize = 136;
+
+/// Lists of slots, each slot in one of them at most. Contracts see which slots each list has, in order.
+#[derive(Drop)]
+pub struct SlotLists {
+    next: [usize; NODES],
+    prev: [usize; NODES],
+    // The list that a slot stands in, or `LISTS`.
+    owner: [usize; SLOTS],
+}
+
+impl Model for SlotLists {
+    ghost use Rattle.std.specs.Prelude.{ℕ, List};
+    ghost use Rattle.slot_lists.specs.Links.{AreLists, all_lists};
+
+    ghost Value = { List (List ℕ) };
+
+    ghost view = { λ l. all_lists l.next };
+
+    ghost invariant = { λ l. AreLists l.next l.prev l.owner };
+}
+
+impl SlotLists {
+    ghost use Rattle.std.specs.Prelude.{◌≡◌, ◌≢◌, ℕ, ◌<◌, [], ◌∷◌, ◌++◌, true, false, IfSome, IfNone, slice_get};
+    ghost use Rattle.slot_lists.specs.Links.{has, slots_of, without};
+
+    /// No list has a slot.
+    pub fn new() -> Self
+        ensures { (list : ℕ) → list < LISTS → slots_of result list ≡ [] }
+    {
+        SlotLists {
+            next: own_nodes(),
+            prev: own_nodes(),
+            owner: no_owners(),
+        }
+    }
+
+    /// The slot, which stands in no list, is then the last of this one.
+    pub fn push(&mut self, list: usize, slot: usize)
+        requires list { list < LISTS }
+        requires slot { slot < SLOTS }
+        requires free { (other : ℕ) → other < LISTS → has (slots_of self.old other) slot ≡ false }
+        ensures here { slots_of self.new list ≡ slots_of self.old list ++ slot ∷ [] }
+        ensures others { (other : ℕ) → other ≢ list → other < LISTS → slots_of self.new other ≡ slots_of self.old other }
+    {
+        let end = SLOTS + list;
+        let last = self.prev[end];
+        self.next[last] = slot;
+        self.next[slot] = end;
+        self.prev[end] = slot;
+        self.prev[slot] = last;
+        self.owner[slot] = list;
+    }
+
+    /// The slot is then in no list; the others stay where they are.
+    pub fn remove(&mut self, slot: usize)
+        requires { slot < SLOTS }
+        ensures { (list : ℕ) → list < LISTS → slots_of self.new list ≡ without slot (slots_of self.old list) }
+    {
+        if self.owner[slot] < LISTS {
+            let last = self.prev[slot];
+            let next = self.next[slot];
+            self.next[last] = next;
+            self.prev[next] = last;
+            self.owner[slot] = LISTS;
+        }
+    }
+
+    /// The first slot of the list.
+    pub fn first(&self, list: usize) -> Option<usize>
+        requires { list < LISTS }
+        ensures { result ≡ slice_get (slots_of self.now list) 0 }
+    {
+        let node = self.next[SLOTS + list];
+        if node < SLOTS { Some(node) } else { None }
+    }
+
+    /// The list that the slot stands in.
+    pub fn list_with(&self, slot: usize) -> Option<usize>
+        requires { slot < SLOTS }
+        ensures within { IfSome result (λ list. list < LISTS) }
+        ensures some { IfSome result (λ list. has (slots_of self.now list) slot ≡ true) }
+        ensures none { IfNone result ((list : ℕ) → list < LISTS → has (slots_of self.now list) slot ≡ false) }
+    {
+        let list = self.owner[slot];
+        if list < LISTS { Some(list) } else { None }
+    }
+}
+
+// Each node is its own.
+fn own_nodes() -> [usize; NODES]
+    ensures all { length result ≡ NODES }
+    ensures own { (i : ℕ) → i < NODES → slice_index result i ≡ i }
+{
+    let mut nodes = [0; NODES];
+    for i in 0..NODES {
+        nodes[i] = i;
+    }
+    nodes
+}
+
+// No slot stands in a list.
+fn no_owners() -> [usize; SLOTS]
+    ensures all { length result ≡ SLOTS }
+    ensures none { (i : ℕ) → i < SLOTS → slice_index result i ≡ LISTS }
+{
+    [LISTS; SLOTS]
+}
