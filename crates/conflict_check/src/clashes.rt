@@ -96,9 +96,10 @@ fn first_shared<'t, A: Allocator>(
         }
         Cmd::Redir { name, body, .. } => {
             if is_shared(left, right, name.as_slice()) {
-                return Some(name.as_slice());
+                Some(name.as_slice())
+            } else {
+                first_shared(body, left, right)
             }
-            first_shared(body, left, right)
         }
         Cmd::Pipe(first, second) | Cmd::List(first, second) => {
             match first_shared(first, left, right) {
@@ -148,18 +149,20 @@ pub fn clash<A: Allocator>(tree: &Cmd<A>) -> Option<Clash<'_>>
             let name = name.as_slice();
             if is_touched(*mode, name, body) {
                 let kind = ClashKind::Enclosing;
-                return Some(Clash { name, kind });
+                Some(Clash { name, kind })
+            } else {
+                clash(body)
             }
-            clash(body)
         }
         Cmd::Pipe(left, right) => {
             if let Some(name) = pipe_clash(left, right) {
                 let kind = ClashKind::PipeSides;
-                return Some(Clash { name, kind });
-            }
-            match clash(left) {
-                Some(found) => Some(found),
-                None => clash(right),
+                Some(Clash { name, kind })
+            } else {
+                match clash(left) {
+                    Some(found) => Some(found),
+                    None => clash(right),
+                }
             }
         }
         Cmd::List(left, right) => match clash(left) {

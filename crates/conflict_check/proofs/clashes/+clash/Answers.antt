@@ -18,9 +18,9 @@ pub returns-else-is_touched-clause-some : goal.returns-else-is_touched-clause-so
 returns-else-is_touched-clause-some g t c =
     let file = c.as_slice-name.result.now in
     let mode = c.in-Redir.mode in
-    let body = tree_of c.deref-in-Redir.result.now in
-    let whole = ap tree_of c.in-Redir.is ∙ ap (λ n. redir mode n (tree_of c.in-Redir.body.value)) (sym c.as_slice-name.ensures) ∙ ap (λ b. redir mode file (tree_of b)) (sym c.deref-in-Redir.ensures) in
-    let bodies = ap tree_of (c.deref.ensures ∙ sym c.deref-in-Redir.ensures) in
+    let body = tree_of c.deref-else-is_touched.result.now in
+    let whole = ap tree_of c.in-Redir.is ∙ ap (λ n. redir mode n (tree_of c.in-Redir.body.value)) (sym c.as_slice-name.ensures) ∙ ap (λ b. redir mode file (tree_of b)) (sym c.deref-else-is_touched.ensures) in
+    let bodies = ap tree_of (c.deref.ensures ∙ sym c.deref-else-is_touched.ensures) in
     let not : is_touched mode file body ≡ false = ap (is_touched mode file) (sym bodies) ∙ sym c.is_touched.ensures ∙ c.if-is_touched.false in
     subst (λ tree. IfSome c.clash.result (λ found. IsFirstClash tree found.kind found.name.now)) (sym whole)
     (IfSome_then c.clash.result {P = λ found. IsFirstClash body found.kind found.name.now} {Q = λ found. IsFirstClash (redir mode file body) found.kind found.name.now} c.clash.ensures.some
@@ -41,10 +41,10 @@ returns-in-Some-clause-some g t c =
 
 pub returns-in-Some-clash-clause-some : goal.returns-in-Some-clash-clause-some
 returns-in-Some-clash-clause-some g t c =
-    let left = tree_of c.deref-in-Pipe-3.result.now in
+    let left = tree_of c.deref-in_default.result.now in
     let right = tree_of c.deref-in-Pipe-2.result.now in
-    let whole = ap tree_of c.in-Pipe.is ∙ ap₂ (λ l r. pipe (tree_of l) (tree_of r)) (sym c.deref-in-Pipe-3.ensures) (sym c.deref-in-Pipe-2.ensures) in
-    let lefts = ap tree_of (c.deref-in-Pipe.ensures ∙ sym c.deref-in-Pipe-3.ensures) in
+    let whole = ap tree_of c.in-Pipe.is ∙ ap₂ (λ l r. pipe (tree_of l) (tree_of r)) (sym c.deref-in_default.ensures) (sym c.deref-in-Pipe-2.ensures) in
+    let lefts = ap tree_of (c.deref-in-Pipe.ensures ∙ sym c.deref-in_default.ensures) in
     let apart : AreApart left right = subst (λ l. AreApart l right) lefts c.in_default.ensures.none in
     let found = c.in-Some-clash.found in
     subst (λ tree. IsFirstClash tree found.kind found.name.now) (sym whole) (left_of_pipe apart c.in-Some-clash.ensures.some)
@@ -54,7 +54,7 @@ returns-in-None-clause-some g t c =
     let left = tree_of c.deref-in-Pipe.result.now in
     let right = tree_of c.deref-in-None.result.now in
     let whole = ap tree_of c.in-Pipe.is ∙ ap₂ (λ l r. pipe (tree_of l) (tree_of r)) (sym c.deref-in-Pipe.ensures) (sym c.deref-in-None.ensures) in
-    let lefts = ap tree_of (c.deref-in-Pipe-3.ensures ∙ sym c.deref-in-Pipe.ensures) in
+    let lefts = ap tree_of (c.deref-in_default.ensures ∙ sym c.deref-in-Pipe.ensures) in
     let rights = ap tree_of (c.deref-in-Pipe-2.ensures ∙ sym c.deref-in-None.ensures) in
     let apart : AreApart left right = subst (λ r. AreApart left r) rights c.in_default.ensures.none in
     let clear : IsClear left = subst IsClear lefts (c.in-None.ensures.none.0 refl) in
