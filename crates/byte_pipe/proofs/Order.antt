@@ -28,7 +28,7 @@ told_by_length reader r xs true e =
 told_by_length reader r xs false e = told_by_reader reader r xs
 
 -- the answer to a put tells what was appended
-pub told_is_appended : (p : PipeState) (xs : List ℕ) → told_put (put_answer p xs) xs ≡ appended p xs
+told_is_appended : (p : PipeState) (xs : List ℕ) → told_put (put_answer p xs) xs ≡ appended p xs
 told_is_appended p xs = told_by_length p.reader (room p) xs (length xs == 0) refl
 
 empty_by_writer : (writer : Bool) (buffer : List ℕ) → told_taken (if writer then Empty else End) buffer ≡ []
@@ -56,7 +56,7 @@ told_and_left : (p : PipeState) (buffer : List ℕ) → told_taken (take_answer 
 told_and_left p buffer = told_by_held p.writer p.bytes buffer (length p.bytes == 0) refl
 
 -- one call
-pub one_call : (p : PipeState) (c : PipeCall) → taken_by p c ++ (after_call p c).bytes ≡ p.bytes ++ put_by p c
+one_call : (p : PipeState) (c : PipeCall) → taken_by p c ++ (after_call p c).bytes ≡ p.bytes ++ put_by p c
 one_call p (puts xs) = ap (λ (ys : List ℕ). p.bytes ++ ys) (sym (told_is_appended p xs))
 one_call p (takes buffer) = told_and_left p buffer ∙ sym (append-nil p.bytes)
 one_call p closes_read = sym (append-nil p.bytes)

@@ -11,7 +11,7 @@ few_appended true r xs = omega (arith, length-take r xs)
 few_appended false r xs = omega arith
 
 -- one call
-pub call_stays_within : (p : PipeState) (c : PipeCall) → length p.bytes ≤ PIPE_SIZE → length (after_call p c).bytes ≤ PIPE_SIZE
+call_stays_within : (p : PipeState) (c : PipeCall) → length p.bytes ≤ PIPE_SIZE → length (after_call p c).bytes ≤ PIPE_SIZE
 call_stays_within p (puts xs) within = omega (arith, length-append p.bytes (appended p xs), few_appended p.reader (room p) xs)
 call_stays_within p (takes buffer) within = omega (arith, length-drop (length buffer) p.bytes)
 call_stays_within p closes_read within = within

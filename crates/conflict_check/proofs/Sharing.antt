@@ -60,7 +60,7 @@ some_passes test (word ∷ words) some = go (test word) refl (λ h. some_passes 
     go false e rest = let p = rest (ap (λ b. b || list_any test words) (sym e) ∙ some) in record { name = p.name; is = or_second (bytes_eq p.name word) (among words p.name) p.is; passes = p.passes }
 
 -- a name that one side writes and the other names clashes
-pub shared_by_left : (left right : Tree) (name : List ℕ) → writes left name ≡ true → names right name ≡ true → shared left right name ≡ true
+shared_by_left : (left right : Tree) (name : List ℕ) → writes left name ≡ true → names right name ≡ true → shared left right name ≡ true
 shared_by_left left right name w n = or_first (writes left name && names right name) (reads left name && writes right name) (ap₂ ◌&&◌ w n)
 
 pub shared_by_right : (left right : Tree) (name : List ℕ) → writes right name ≡ true → names left name ≡ true → shared left right name ≡ true
@@ -113,7 +113,7 @@ first_found test (word ∷ words) name e = go (test word) refl (λ h. first_foun
         record { before = word ∷ first.before; after = first.after; split = ap (λ ws. word ∷ ws) first.split; passes = first.passes; earlier = All-cons (λ other. test other ≡ false) word first.before t first.earlier }
 
 -- a name that passes isn't missed
-pub not_missed : (test : List ℕ → Bool) (words : List (List ℕ)) (name : List ℕ) → among words name ≡ true → test name ≡ true → find test words ≡ None → ⊥
+not_missed : (test : List ℕ → Bool) (words : List (List ℕ)) (name : List ℕ) → among words name ≡ true → test name ≡ true → find test words ≡ None → ⊥
 not_missed test [] name is passes e = never (sym is)
 not_missed test (word ∷ words) name is passes e = go (test word) refl (λ h k. not_missed test words name h passes k)
   where

@@ -27,9 +27,6 @@ with_byte b cut = (b ∷ cut.0, cut.1)
 abbrev pub fits_cut : Item → List Item → List ℕ × List ℕ → Bool
 fits_cut item items cut = fits item cut.0 && (lets_follow item cut.1 && can_fit items cut.1)
 
-pub one_at_end : (c : ℕ) (items : List Item) → can_fit (One c ∷ items) [] ≡ false
-one_at_end c items = refl
-
 pub one_goes_on : (c : ℕ) (items : List Item) (b : ℕ) (text : List ℕ) → can_fit (One c ∷ items) (b ∷ text) ≡ (stands_for c b && can_fit items text)
 one_goes_on c items b [] = or-false (stands_for c b && can_fit items [])
 one_goes_on c items b (next ∷ text) =

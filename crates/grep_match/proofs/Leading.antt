@@ -75,7 +75,7 @@ none_leads is_mark holds fails (false ∷ later) (b ∷ text) long =
     none_leads is_mark holds fails later text (omega (arith, long)) ∙ ap (λ z. z || list_any is_mark (take (suc (length text)) later)) (sym fails)
 
 -- every place is marked
-pub all_lead : (items : List Item) (text : List ℕ) → leads (replicate (suc (length text)) true) items text ≡ can_fit_somewhere items text
+all_lead : (items : List Item) (text : List ℕ) → leads (replicate (suc (length text)) true) items text ≡ can_fit_somewhere items text
 all_lead items [] = sym (or-false (can_fit items []))
 all_lead items (b ∷ text) =
     ap (λ z. can_fit items (b ∷ text) || z)
@@ -86,7 +86,7 @@ none_lead items [] = refl
 none_lead items (b ∷ text) = none_lead items text
 
 -- the first place alone is marked
-pub first_leads : (items : List Item) (text : List ℕ) → leads (true ∷ replicate (length text) false) items text ≡ can_fit items text
+first_leads : (items : List Item) (text : List ℕ) → leads (true ∷ replicate (length text) false) items text ≡ can_fit items text
 first_leads items [] = refl
 first_leads items (b ∷ text) = ap (λ z. can_fit items (b ∷ text) || z) (none_lead items text) ∙ or-false (can_fit items (b ∷ text))
 

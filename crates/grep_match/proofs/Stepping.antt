@@ -61,7 +61,7 @@ by_end true false x a z = ap (λ s. s || z) (or-false a)
 by_end true true x a z = ap (λ s. s || z) (or-false a)
 
 -- a search comes through, or goes on behind the byte
-pub through_or_on : (b : ℕ) (text : List ℕ) (items : List Item) (states : List Bool) (reached arrived : Bool) → length items < length states → (comes_through (Some b) reached states items || alive (moved (Some b) reached arrived states items) items text) ≡ ((reached && can_fit items (b ∷ text) || alive states items (b ∷ text)) || arrived && can_fit items text)
+through_or_on : (b : ℕ) (text : List ℕ) (items : List Item) (states : List Bool) (reached arrived : Bool) → length items < length states → (comes_through (Some b) reached states items || alive (moved (Some b) reached arrived states items) items text) ≡ ((reached && can_fit items (b ∷ text) || alive states items (b ∷ text)) || arrived && can_fit items text)
 through_or_on b text items [] reached arrived long = absurd (omega (arith, long))
 through_or_on b text [] (here ∷ later) reached arrived long = done here reached arrived
 through_or_on b text (One c ∷ items) (here ∷ later) reached arrived long =
@@ -126,7 +126,7 @@ comes_to_end (End ∷ items) (here ∷ later) reached long =
     ∙ ap (λ x. (here && x || alive later items []) || reached && x) (sym (end_at_end items))
 
 -- a pattern has at least as many bytes as items
-pub few_items : (pattern : List ℕ) → length (items_of pattern) ≤ length pattern
+few_items : (pattern : List ℕ) → length (items_of pattern) ≤ length pattern
 few_items [] = omega arith
 few_items (c ∷ []) = omega arith
 few_items (c ∷ next ∷ rest) = go (next == 42) (few_items rest) (few_items (next ∷ rest))

@@ -15,7 +15,7 @@ pub at_name : (F : Name → Option Bytes) (name : Name) (bytes : Bytes) → with
 at_name F name bytes = ap (λ b. cond b (Some bytes) (F name)) ((bytes_eq-Decides name name).1 refl)
 
 -- a file of a name that can be opened
-pub openable_file : (list : List (Name × Bytes)) (name : Name) (bytes : Bytes) → AreFiles list → files list name ≡ Some bytes → is_openable name ≡ true
+openable_file : (list : List (Name × Bytes)) (name : Name) (bytes : Bytes) → AreFiles list → files list name ≡ Some bytes → is_openable name ≡ true
 openable_file list name bytes kept is =
     elim (is_openable name) as (λ b. is_openable name ≡ b → b ≡ true) [
       | true ↦ λ _. refl
@@ -45,12 +45,12 @@ AreFiles-with_entry list name bytes kept good size room = record {
 }
 
 -- one more file, of a new name
-pub AreFiles-added : (list : List (Name × Bytes)) (name : Name) (bytes : Bytes) → AreFiles list → is_openable name ≡ true → length bytes ≤ max_size → files list name ≡ None → length list < max_files → AreFiles (with_entry list name bytes)
+AreFiles-added : (list : List (Name × Bytes)) (name : Name) (bytes : Bytes) → AreFiles list → is_openable name ≡ true → length bytes ≤ max_size → files list name ≡ None → length list < max_files → AreFiles (with_entry list name bytes)
 AreFiles-added list name bytes kept good size new room =
     AreFiles-with_entry list name bytes kept good size (subst (λ (o : Option Bytes). cond (is_some o) (length list) (length list + 1) ≤ max_files) (sym new) (omega arith))
 
 -- other bytes for a file that is there
-pub AreFiles-changed : (list : List (Name × Bytes)) (name : Name) (old bytes : Bytes) → AreFiles list → files list name ≡ Some old → length bytes ≤ max_size → AreFiles (with_entry list name bytes)
+AreFiles-changed : (list : List (Name × Bytes)) (name : Name) (old bytes : Bytes) → AreFiles list → files list name ≡ Some old → length bytes ≤ max_size → AreFiles (with_entry list name bytes)
 AreFiles-changed list name old bytes kept is size =
     AreFiles-with_entry list name bytes kept (openable_file list name old kept is) size (subst (λ (o : Option Bytes). cond (is_some o) (length list) (length list + 1) ≤ max_files) (sym is) kept.few)
 

@@ -172,7 +172,7 @@ put_here (f ∷ fs) name bytes d h e =
     ] refl h e
 
 -- bytes given to the file that stands at the place of its name
-pub with_entry_here : (list : List File) (name : Name) (bytes : Bytes) (at : ℕ) (d : File) → StandsAt list name at → set list at ((get_or list at d).0, bytes) ≡ with_entry list name bytes
+with_entry_here : (list : List File) (name : Name) (bytes : Bytes) (at : ℕ) (d : File) → StandsAt list name at → set list at ((get_or list at d).0, bytes) ≡ with_entry list name bytes
 with_entry_here list name bytes at d s =
     ap (λ n. set list at (n, bytes)) (s.named d) ∙ ap (λ k. set list k (name, bytes)) s.here
     ∙ sym (put_here list name bytes d (subst (λ k. k < length list) s.here s.within) (ap (λ k. (get_or list k d).0) (sym s.here) ∙ s.named d))
@@ -187,7 +187,7 @@ put_gap (f ∷ fs) name bytes none =
     ] none
 
 -- a new file, put in at the place of its name
-pub with_entry_gap : (list : List File) (name : Name) (bytes : Bytes) → files list name ≡ None → insert list (place list name) (name, bytes) ≡ with_entry list name bytes
+with_entry_gap : (list : List File) (name : Name) (bytes : Bytes) → files list name ≡ None → insert list (place list name) (name, bytes) ≡ with_entry list name bytes
 with_entry_gap list name bytes none = sym (put_gap list name bytes (sym (files_find list name) ∙ none))
 
 holds : (list : List File) (name : Name) (bytes : Bytes) → IsTrue (is_sorted name_cmp list) → Holds list (with_entry list name bytes) name bytes

@@ -111,12 +111,6 @@ clear_more whole line lines so_far (back', clear) = (
   λ rest. so_far.1 (or_from (has_back (line_tree line)) (has_back (script_tree lines)) back' rest.0, (clear, rest.1)),
 )
 
-pub clear_first : (line : ScriptLine) (lines : List ScriptLine) → AreClearLines (line ∷ lines) → (has_back (line_tree line) ≡ false) × IsClear (line_tree line)
-clear_first line lines (b, c) = ((or_parts (has_back (line_tree line)) (has_back (script_tree lines)) b).0, c.0)
-
-pub clear_end : (lines : List ScriptLine) → lines ≡ [] → AreClearLines lines
-clear_end lines none = subst AreClearLines (sym none) (refl, tt)
-
 pub clear_and_settled : (B C S : Type 0) (settled clear inner : Bool) → clear ≡ true → settled ≡ inner → IsTrue clear ↔ (B × C) → IsTrue inner ↔ S → IsTrue settled ↔ (B × C × S)
 clear_and_settled B C S settled clear inner is e first second =
     (λ holds. let p = first.0 is in (p.0, p.1, second.0 (sym e ∙ holds)), λ all. e ∙ second.1 all.2)

@@ -151,7 +151,7 @@ abbrev ListHolds : Tree → Tree → List Name → List Name → Bool → Bool �
 ListHolds L R soft then first second loose = first && second && are_apart L soft R then && not (loose && uses_input R)
 
 -- a list is settled where both sides are, no soft name of one is a name of the other, and the right one doesn't use a loose input
-pub list_settled : (profile : Profile) (L R : Tree) (input : Bytes) (F : FileMap) (soft then : List Name) (first second loose : Bool) → (let V = meaning profile L input F in let W = meaning profile R V.rest V.files in ((name : Name) → among soft name ≡ V.soft name) → ((name : Name) → among then name ≡ W.soft name) → loose ≡ V.loose → IsTrue first ↔ IsSettled profile L no_names input F → IsTrue second ↔ IsSettled profile R no_names V.rest V.files → IsTrue (ListHolds L R soft then first second loose) ↔ IsSettled profile (list L R) no_names input F)
+list_settled : (profile : Profile) (L R : Tree) (input : Bytes) (F : FileMap) (soft then : List Name) (first second loose : Bool) → (let V = meaning profile L input F in let W = meaning profile R V.rest V.files in ((name : Name) → among soft name ≡ V.soft name) → ((name : Name) → among then name ≡ W.soft name) → loose ≡ V.loose → IsTrue first ↔ IsSettled profile L no_names input F → IsTrue second ↔ IsSettled profile R no_names V.rest V.files → IsTrue (ListHolds L R soft then first second loose) ↔ IsSettled profile (list L R) no_names input F)
 list_settled profile L R input F soft then first second loose one other l left right =
     let V = meaning profile L input F in
     let W = meaning profile R V.rest V.files in (
@@ -177,7 +177,7 @@ list_settled profile L R input F soft then first second loose one other l left r
     )
 
 -- a pipe: the same, and where it is cut no name that its left side writes is one of its right side
-pub pipe_settled : (profile : Profile) (L R : Tree) (input : Bytes) (F : FileMap) (soft then : List Name) (first second cut : Bool) → (let V = meaning profile L input F in let W = meaning profile R V.out V.files in ((name : Name) → among soft name ≡ V.soft name) → ((name : Name) → among then name ≡ W.soft name) → cut ≡ is_cut W → IsTrue first ↔ IsSettled profile L no_names input F → IsTrue second ↔ IsSettled profile R no_names V.out V.files → IsTrue (first && second && are_apart L (with_lost cut soft L) R then) ↔ IsSettled profile (pipe L R) no_names input F)
+pipe_settled : (profile : Profile) (L R : Tree) (input : Bytes) (F : FileMap) (soft then : List Name) (first second cut : Bool) → (let V = meaning profile L input F in let W = meaning profile R V.out V.files in ((name : Name) → among soft name ≡ V.soft name) → ((name : Name) → among then name ≡ W.soft name) → cut ≡ is_cut W → IsTrue first ↔ IsSettled profile L no_names input F → IsTrue second ↔ IsSettled profile R no_names V.out V.files → IsTrue (first && second && are_apart L (with_lost cut soft L) R then) ↔ IsSettled profile (pipe L R) no_names input F)
 pipe_settled profile L R input F soft then first second cut one other c left right =
     let V = meaning profile L input F in
     let W = meaning profile R V.out V.files in
@@ -218,7 +218,7 @@ name_apart file words soft same none = go (among words file) refl where
   go false e = refl
 
 -- a body is settled beside the name of its redirection where that is none of its soft names
-pub body_settled : (profile : Profile) (file : Name) (T : Tree) (input : Bytes) (F : FileMap) (soft : List Name) (inner : Bool) → ((name : Name) → among soft name ≡ (meaning profile T input F).soft name) → IsTrue inner ↔ IsSettled profile T no_names input F → IsTrue (inner && not (among soft file)) ↔ IsSettled profile T (with_name file no_names) input F
+body_settled : (profile : Profile) (file : Name) (T : Tree) (input : Bytes) (F : FileMap) (soft : List Name) (inner : Bool) → ((name : Name) → among soft name ≡ (meaning profile T input F).soft name) → IsTrue inner ↔ IsSettled profile T no_names input F → IsTrue (inner && not (among soft file)) ↔ IsSettled profile T (with_name file no_names) input F
 body_settled profile file T input F soft inner same body = (
   λ holds.
       let p = and_parts inner (not (among soft file)) holds in
@@ -236,9 +236,6 @@ from_settled profile file T input bytes F soft inner all is same body e =
     subst (λ b. IsTrue b ↔ IsSettled profile (redir Input file T) no_names input F) (sym e)
     (if_found (found F file) bytes (λ b. IsSettled profile T (with_name file no_names) b F) (inner && not (among soft file)) is (body_settled profile file T bytes F soft inner same body))
 
-pub missing_settled : (profile : Profile) (file : Name) (T : Tree) (input : Bytes) (F : FileMap) → found F file ≡ None → IsSettled profile (redir Input file T) no_names input F
-missing_settled profile file T input F is = subst (λ o. IfSome o (λ b. IsSettled profile T (with_name file no_names) b F)) (sym is) tt
-
 pub into_settled : (profile : Profile) (mode : Mode) (file : Name) (T : Tree) (input : Bytes) (F F1 : FileMap) (soft : List Name) (inner all : Bool) → mode ≢ Input → is_openable file ≡ true → F1 ≡ opened mode file F → ((name : Name) → among soft name ≡ (meaning profile T input F1).soft name) → IsTrue inner ↔ IsSettled profile T no_names input F1 → all ≡ (inner && not (among soft file)) → IsTrue all ↔ IsSettled profile (redir mode file T) no_names input F
 into_settled profile Input file T input F F1 soft inner all writes good is same body e = absurd (writes (λ _. Input))
 into_settled profile Fresh file T input F F1 soft inner all writes good is same body e =
@@ -251,11 +248,6 @@ into_settled profile Over file T input F F1 soft inner all writes good is same b
       λ holds _. subst (λ G. IsSettled profile T (with_name file no_names) input G) is (whole.0 (sym e ∙ holds)),
       λ settled. e ∙ whole.1 (subst (λ G. IsSettled profile T (with_name file no_names) input G) (sym is) (settled good)),
     )
-
-pub refused_settled : (profile : Profile) (mode : Mode) (file : Name) (T : Tree) (input : Bytes) (F : FileMap) → mode ≢ Input → is_openable file ≡ false → IsSettled profile (redir mode file T) no_names input F
-refused_settled profile Input file T input F writes bad = absurd (writes (λ _. Input))
-refused_settled profile Fresh file T input F writes bad = λ good. absurd (false≢true (sym bad ∙ good))
-refused_settled profile Over file T input F writes bad = λ good. absurd (false≢true (sym bad ∙ good))
 
 -- the same, from what the parts gave and what was told of them
 pub list_is_settled : (profile : Profile) (L R : Tree) (input old mid rest : Bytes) (F F1 : FileMap) (first second all one other : Bool) (soft then : List Name) → Gives (meaning profile L input F) old mid rest F1 → Tells (meaning profile L input F) one soft → Tells (meaning profile R rest F1) other then → IsTrue first ↔ IsSettled profile L no_names input F → IsTrue second ↔ IsSettled profile R no_names rest F1 → all ≡ ListHolds L R soft then first second one → IsTrue all ↔ IsSettled profile (list L R) no_names input F

@@ -47,14 +47,6 @@ due_later profile L R input old mid rest F F1 fault gives due =
     due_more (Outgrows profile R rest F1) (Outgrows profile (list L R) input F) fault
     (λ h. inr (subst (λ o. Outgrows profile R o (meaning profile L input F).files) gives.rest (subst (λ G. Outgrows profile R rest G) gives.files h))) due
 
-pub pipe_gives : (profile : Profile) (L R : Tree) (input middle old new rest left : Bytes) (F F1 F2 : FileMap) → Gives (meaning profile L input F) [] middle rest F1 → Gives (meaning profile R middle F1) old new left F2 → Gives (meaning profile (pipe L R) input F) old new rest F2
-pipe_gives profile L R input middle old new rest left F F1 F2 first second =
-    let same : meaning profile R middle F1 ≡ meaning profile R (meaning profile L input F).out (meaning profile L input F).files =
-    ap (λ i. meaning profile R i F1) first.out ∙ ap (λ G. meaning profile R (meaning profile L input F).out G) first.files
-    in
-    let then = subst (λ v. Gives v old new left F2) same second in
-    record { out = then.out; rest = first.rest; files = then.files }
-
 pub list_gives : (profile : Profile) (L R : Tree) (input old mid new rest left : Bytes) (F F1 F2 : FileMap) → Gives (meaning profile L input F) old mid rest F1 → Gives (meaning profile R rest F1) mid new left F2 → Gives (meaning profile (list L R) input F) old new left F2
 list_gives profile L R input old mid new rest left F F1 F2 first second =
     let same : meaning profile R rest F1 ≡ meaning profile R (meaning profile L input F).rest (meaning profile L input F).files =

@@ -50,12 +50,6 @@ into_tells profile Over name T input F F1 loose loose' soft soft' writes good is
     subst (λ v. Tells v loose' soft') (sym (output_is (is_openable name) input F (written_value profile Over name F (meaning profile T input (opened Over name F))) good))
     (record { loose = l ∙ body.loose; soft = λ n. ap (λ names. among names n) s ∙ body.soft n })
 
--- a command under <
-pub from_tells : (profile : Profile) (name : Name) (T : Tree) (input bytes : Bytes) (F : FileMap) (loose loose' : Bool) (soft soft' : List Name) → found F name ≡ Some bytes → Tells (meaning profile T bytes F) loose soft → loose' ≡ false → soft' ≡ soft → Tells (meaning profile (redir Input name T) input F) loose' soft'
-from_tells profile name T input bytes F loose loose' soft soft' is body l s =
-    subst (λ o. Tells (input_value o input F (λ b. meaning profile T b F)) loose' soft') (sym is)
-    (record { loose = l; soft = λ n. ap (λ names. among names n) s ∙ body.soft n })
-
 -- one command and then another
 pub list_tells : (profile : Profile) (L R : Tree) (input old mid rest : Bytes) (F F1 : FileMap) (first second both : Bool) (soft then all : List Name) → Gives (meaning profile L input F) old mid rest F1 → Tells (meaning profile L input F) first soft → Tells (meaning profile R rest F1) second then → both ≡ (first || second) → all ≡ soft ++ then → Tells (meaning profile (list L R) input F) both all
 list_tells profile L R input old mid rest F F1 first second both soft then all gives one other l s =

@@ -50,7 +50,7 @@ chosen true g h x y k gx hy = gx
 chosen false g h x y k gx hy = hy
 
 -- a slot after the exit by the same slot after the burial
-pub after_burial : {S : Type 0} (t : Table S) (pid k : ℕ) (x : Slot S) → at (buried t pid) k ≡ x → at (exited t pid) k ≡ woken_by_exit t pid x
+after_burial : {S : Type 0} (t : Table S) (pid k : ℕ) (x : Slot S) → at (buried t pid) k ≡ x → at (exited t pid) k ≡ woken_by_exit t pid x
 after_burial t pid k x is =
     let parent = parent_of (at t pid) in
     let gone = all_woken (Children parent) (buried t pid) in

@@ -19,12 +19,12 @@ tally_is true c is = ap tally is
 tally_is false c is = ap tally is
 
 -- one slot is written
-pub set_counts : {S : Type 0} (test : Slot S → Bool) (t : Table S) (pid : ℕ) (y : Slot S) (before after : Bool) → pid < length t → test (at t pid) ≡ before → test y ≡ after → count_by test (set t pid y) + tally before ≡ count_by test t + tally after
+set_counts : {S : Type 0} (test : Slot S → Bool) (t : Table S) (pid : ℕ) (y : Slot S) (before after : Bool) → pid < length t → test (at t pid) ≡ before → test y ≡ after → count_by test (set t pid y) + tally before ≡ count_by test t + tally after
 set_counts test t pid y before after within was now =
     omega (arith, sum_by-set (λ x. cond {A = ℕ} (test x) 1 0) t pid y None within, tally_is (test (at t pid)) before was, tally_is (test y) after now)
 
 -- a slot with a process stands in the table
-pub used_within : {S : Type 0} (t : Table S) (pid : ℕ) (p : Process S) → at t pid ≡ Some p → pid < length t
+used_within : {S : Type 0} (t : Table S) (pid : ℕ) (p : Process S) → at t pid ≡ Some p → pid < length t
 used_within [] pid p is = absurd (let no : ⊥ = cc in no)
 used_within (x ∷ t) zero p is = omega arith
 used_within (x ∷ t) (suc pid) p is = omega (arith, used_within t pid p is)
@@ -34,7 +34,7 @@ pub status_counts : {S : Type 0} (test : Status → Bool) (t : Table S) (pid : �
 status_counts test t pid p y s is now = set_counts (has_status test) t pid y (test p.status) (test s) (used_within t pid p is) (ap (has_status test) is) now
 
 -- every slot is written so that the test says the same
-pub map_counts : {S : Type 0} (test : Slot S → Bool) (f : Slot S → Slot S) → ((x : Slot S) → test (f x) ≡ test x) → (t : Table S) → count_by test (map f t) ≡ count_by test t
+map_counts : {S : Type 0} (test : Slot S → Bool) (f : Slot S → Slot S) → ((x : Slot S) → test (f x) ≡ test x) → (t : Table S) → count_by test (map f t) ≡ count_by test t
 map_counts test f same [] = refl
 map_counts test f same (x ∷ t) =
     omega (arith, sum_by-cons (λ y. cond {A = ℕ} (test y) 1 0) (f x) (map f t), sum_by-cons (λ y. cond {A = ℕ} (test y) 1 0) x t, map_counts test f same t, ap (λ (b : Bool). cond {A = ℕ} b 1 0) (same x))
@@ -82,7 +82,7 @@ by_channel test true s same = same refl
 by_channel test false s same = refl
 
 -- a test that tells Runnable from Asleep nowhere
-pub woken_status_same : (test : Status → Bool) → ((c : Channel) → test Runnable ≡ test (Asleep c)) → (channel : Channel) (s : Status) → test (woken_status channel s) ≡ test s
+woken_status_same : (test : Status → Bool) → ((c : Channel) → test Runnable ≡ test (Asleep c)) → (channel : Channel) (s : Status) → test (woken_status channel s) ≡ test s
 woken_status_same test same channel Runnable = refl
 woken_status_same test same channel (Running h) = refl
 woken_status_same test same channel (Asleep c) = by_channel test (same_channel channel c) (Asleep c) (λ _. same c)
@@ -151,7 +151,7 @@ if_counts test channel same true t = same t
 if_counts test channel same false t = refl
 
 -- what no wake-up changes is after an exit what it is after the burial
-pub exit_as_buried : {S : Type 0} (test : Slot S → Bool) → ((channel : Channel) (t : Table S) → count_by test (all_woken channel t) ≡ count_by test t) → (t : Table S) (pid : ℕ) → count_by test (exited t pid) ≡ count_by test (buried t pid)
+exit_as_buried : {S : Type 0} (test : Slot S → Bool) → ((channel : Channel) (t : Table S) → count_by test (all_woken channel t) ≡ count_by test t) → (t : Table S) (pid : ℕ) → count_by test (exited t pid) ≡ count_by test (buried t pid)
 exit_as_buried test same t pid =
     let parent = parent_of (at t pid) in
     if_counts test (Children 0) (same (Children 0)) (is_some (zombie_child t pid)) (all_woken (Children parent) (buried t pid)) ∙ same (Children parent) (buried t pid)
@@ -178,7 +178,7 @@ mapped_within f (x ∷ t) zero p is = omega arith
 mapped_within f (x ∷ t) (suc pid) p is = omega (arith, mapped_within f t pid p is)
 
 -- the process that exits counts as a zombie, and no longer as what it was
-pub buried_counts : {S : Type 0} (test : Status → Bool) (t : Table S) (pid : ℕ) (p : Process S) → at t pid ≡ Some p → count_by (has_status test) (buried t pid) + tally (test p.status) ≡ count_by (has_status test) t + tally (test Zombie)
+buried_counts : {S : Type 0} (test : Status → Bool) (t : Table S) (pid : ℕ) (p : Process S) → at t pid ≡ Some p → count_by (has_status test) (buried t pid) + tally (test p.status) ≡ count_by (has_status test) t + tally (test Zombie)
 buried_counts test t pid p is =
     let there : at (map (given pid) t) pid ≡ given pid (Some p) = mapped (given pid) refl t pid ∙ ap (given pid) is in
     omega (

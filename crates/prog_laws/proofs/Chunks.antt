@@ -31,7 +31,7 @@ whole_kept p reply waits fits may =
     ∙ ap (λ (v : Value). after_bytes (p.out ++ to_out p.call) v) (sym (call_kept p.state p.call reply p.world waits fits may))
 
 -- over any replies
-pub whole_along : (p : Process) (replies : List Reply) → Waits p.state p.call p.world → Fits p.state p.world → MayBe p replies →
+whole_along : (p : Process) (replies : List Reply) → Waits p.state p.call p.world → Fits p.state p.world → MayBe p replies →
     (whole (after_replies p replies) ≡ whole p) × Waits (after_replies p replies).state (after_replies p replies).call (after_replies p replies).world
 whole_along p [] waits fits may = (refl, waits)
 whole_along p (reply ∷ replies) waits fits may =

@@ -77,7 +77,7 @@ moved_left (f ∷ later) fd count F = go (f.fd == fd) refl (moved_left later fd 
     go false e ih = ap (λ (t : Bool). bytes_of (left_of_file (if t then Some f else held (moved_on later fd count) fd) F)) e ∙ ih
 
 -- an input that is open can be read
-pub can_read : (source : Source) (world : World) → IsOpen source world → readable (fd_of source) world ≡ Some (left_at (fd_of source) world)
+can_read : (source : Source) (world : World) → IsOpen source world → readable (fd_of source) world ≡ Some (left_at (fd_of source) world)
 can_read standard world ready = refl
 can_read (file zero name later) world ready = absurd (omega (arith, ready.0))
 can_read (file (suc fd) name later) world ready = go (held world.own (suc fd)) ready.2

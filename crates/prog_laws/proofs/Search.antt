@@ -63,7 +63,7 @@ not_whole : (line : Bytes) → 1023 ≤ length line → is_whole line ≡ false
 not_whole line long = grind (arith, nat_tests)
 
 -- nothing of it is ever tested
-pub full_buffer : (bytes left : Bytes) → tested bytes ≡ [] → 1023 ≤ length bytes → tested (bytes ++ left) ≡ []
+full_buffer : (bytes left : Bytes) → tested bytes ≡ [] → 1023 ≤ length bytes → tested (bytes ++ left) ≡ []
 full_buffer bytes left nothing full = go (first_cut bytes)
   where
     long : HasNoLf bytes → Cut (bytes ++ left) → tested (bytes ++ left) ≡ []

@@ -29,7 +29,7 @@ no_lf_whole (a ∷ l) r (b ∷ m) no_m same =
     no_lf_whole l r m (all_tail (λ b. b ≢ 10) b m no_m) tails
 
 -- the first line is one
-pub one_first_line : (bytes l m r s : List ℕ) → IsFirstLine bytes l r → IsFirstLine bytes m s → (l ≡ m) × (r ≡ s)
+one_first_line : (bytes l m r s : List ℕ) → IsFirstLine bytes l r → IsFirstLine bytes m s → (l ≡ m) × (r ≡ s)
 one_first_line bytes l m r s (no_l, inl p) (no_m, inl q) = no_lf_split l m r s no_l no_m (sym p ∙ q)
 one_first_line bytes l m r s (no_l, inl p) (no_m, inr q) = absurd (no_lf_whole l r m no_m (sym p ∙ q.0))
 one_first_line bytes l m r s (no_l, inr p) (no_m, inl q) = absurd (no_lf_whole m s l no_l (sym q ∙ p.0))

@@ -15,15 +15,6 @@ pub record IsCheckedTo (bytes rest : List ℕ) (number : ℕ) : Type 0 where
   pub count : number ≡ length before + 1
   pub shorter : number + length rest ≤ length bytes + 1
 
-pub checked_none : (bytes : List ℕ) → IsCheckedTo bytes bytes 1
-checked_none bytes = record {
-  before = [];
-  completes = λ later cut. cut;
-  fine = λ k d inside. absurd (omega arith);
-  count = refl;
-  shorter = omega arith;
-}
-
 pub checked_one : (bytes rest line after : List ℕ) (number : ℕ) → IsCheckedTo bytes rest number → IsFirstLine rest line after → IsFine line → IsCheckedTo bytes after (number + 1)
 checked_one bytes rest line after number checked first fine =
     let shorter = first_line_shorter rest line after first in
@@ -40,7 +31,7 @@ checked_all bytes rest number checked none =
     (checked.before, subst (AreLines bytes) (append-nil checked.before) (checked.completes [] none), checked.fine)
 
 -- every text is cut into lines
-pub cuts_after : (bytes rest line after : List ℕ) (number : ℕ) (Reason : List ℕ → Type 0) → IsCheckedTo bytes rest number → IsFirstLine rest line after → (later : List (List ℕ)) → AreLines after later → Reason line → IsFirstFaulty bytes number Reason
+cuts_after : (bytes rest line after : List ℕ) (number : ℕ) (Reason : List ℕ → Type 0) → IsCheckedTo bytes rest number → IsFirstLine rest line after → (later : List (List ℕ)) → AreLines after later → Reason line → IsFirstFaulty bytes number Reason
 cuts_after bytes rest line after number Reason checked first later cut reason = record {
   before = checked.before;
   line = line;

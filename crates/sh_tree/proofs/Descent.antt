@@ -281,9 +281,6 @@ simple_begins line ts at other = record {
   ready = record { tokens = at.ready.tokens; accepted = begin_simple at.depth (lexemes line ts) (λ us h. no_left line ts us other h) at.ready.accepted };
 }
 
-pub simple_parts : (line : List ℕ) (ts : List Token) → MayBeginSimple line ts → IsInParts line ts
-simple_parts line ts at = record { depth = at.depth; state = Simple 9; inside = refl; ready = at.ready }
-
 -- it has no more words than it may have
 few_parts : {ts us : List Lexeme} {ws : List (List ℕ)} {rs : List (Mode × List ℕ)} (d n : ℕ) → AreParts ts us ws rs → IsAccepted d (Simple n) ts → length ws ≤ n
 few_parts d n parts_end a = omega arith

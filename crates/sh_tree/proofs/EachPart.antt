@@ -52,7 +52,7 @@ abbrev pub GoesOn : ℕ → List Lexeme → Type 0
 GoesOn d ts = (e : State) × (is_in_parts e ≡ true) × IsAccepted d e ts
 
 -- after a word
-pub after_word : (d : ℕ) (s : State) (w : List ℕ) (ts : List Lexeme) → is_in_parts s ≡ true → IsAccepted d s (word w ∷ ts) → GoesOn d ts
+after_word : (d : ℕ) (s : State) (w : List ℕ) (ts : List Lexeme) → is_in_parts s ≡ true → IsAccepted d s (word w ∷ ts) → GoesOn d ts
 after_word d (Simple zero) w ts inside a = absurd (none_not_some a.taken)
 after_word d (Simple (suc n)) w ts inside a = (Simple n, refl, record { last = a.last; taken = a.taken; ends = a.ends })
 after_word d Closed w ts inside a = absurd (none_not_some a.taken)
@@ -99,7 +99,7 @@ closed_target d (left ∷ ts) a = absurd (none_not_some a.taken)
 closed_target d (right ∷ ts) a = absurd (none_not_some a.taken)
 
 -- after the sign of a redirection comes its name
-pub after_sign : (d : ℕ) (s : State) {k : Lexeme} {m : Mode} (ts : List Lexeme) → IsMode k m → is_in_parts s ≡ true → IsAccepted d s (k ∷ ts) → Targets d ts
+after_sign : (d : ℕ) (s : State) {k : Lexeme} {m : Mode} (ts : List Lexeme) → IsMode k m → is_in_parts s ≡ true → IsAccepted d s (k ∷ ts) → Targets d ts
 after_sign d (Simple n) ts reads inside a = simple_target d n ts (record { last = a.last; taken = a.taken; ends = a.ends })
 after_sign d (Simple n) ts writes inside a = simple_target d n ts (record { last = a.last; taken = a.taken; ends = a.ends })
 after_sign d (Simple n) ts writes_over inside a = simple_target d n ts (record { last = a.last; taken = a.taken; ends = a.ends })
@@ -115,7 +115,7 @@ same_mode : {m n : Mode} → Some m ≡ Some n → m ≡ n
 same_mode h = cc
 
 -- the kinds that are signs of redirections
-pub sign_mode : (k : Kind) (text : List ℕ) (m : Mode) → mode_of k ≡ Some m → IsMode (lexeme_by k text) m
+sign_mode : (k : Kind) (text : List ℕ) (m : Mode) → mode_of k ≡ Some m → IsMode (lexeme_by k text) m
 sign_mode Less text m is = subst (IsMode (lexeme_by Less text)) (same_mode is) reads
 sign_mode More text m is = subst (IsMode (lexeme_by More text)) (same_mode is) writes
 sign_mode MoreMore text m is = subst (IsMode (lexeme_by MoreMore text)) (same_mode is) writes_over
@@ -140,7 +140,7 @@ reads_word line ts t after text split is cut at =
     )
 
 -- the name that comes after the sign of a redirection
-pub name_next : (line : List ℕ) (ts : List Token) (t : Token) (after : List Token) (m : Mode) → ts ≡ t ∷ after → mode_of t.kind ≡ Some m → IsInParts line ts → (d : ℕ) × Targets d (lexemes line after)
+name_next : (line : List ℕ) (ts : List Token) (t : Token) (after : List Token) (m : Mode) → ts ≡ t ∷ after → mode_of t.kind ≡ Some m → IsInParts line ts → (d : ℕ) × Targets d (lexemes line after)
 name_next line ts t after m split is at =
     let read = lexemes-split line ts t after split in
     (at.depth, after_sign at.depth at.state (lexemes line after) (sign_mode t.kind (slice_range line t.first t.past) m is) at.inside (subst (IsAccepted at.depth at.state) read at.ready.accepted))

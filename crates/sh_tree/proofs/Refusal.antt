@@ -179,7 +179,7 @@ told d ClosedTarget next at = (refl, λ h. cc)
 told d Backed next at = told_by_depth d at
 
 -- one lexeme more
-pub run-snoc : (before : List Lexeme) (d : ℕ) (s : State) (t : Lexeme) → run 0 Begin before ≡ at_place d s → run 0 Begin (before ++ t ∷ []) ≡ step d s t
+run-snoc : (before : List Lexeme) (d : ℕ) (s : State) (t : Lexeme) → run 0 Begin before ≡ at_place d s → run 0 Begin (before ++ t ∷ []) ≡ step d s t
 run-snoc before d s t taken = run-append 0 Begin before (t ∷ []) ∙ ap (option_and_then (λ p. run p.depth p.state (t ∷ []))) taken ∙ whole (step d s t)
   where
     whole : (o : Option Place) → option_and_then (λ p. run p.depth p.state []) o ≡ o
@@ -187,7 +187,7 @@ run-snoc before d s t taken = run-append 0 Begin before (t ∷ []) ∙ ap (optio
     whole (Some p) = refl
 
 -- a token has no place
-pub stops_at_token : (line : List ℕ) (before : List Token) (t : Token) (after : List Token) (d : ℕ) (s : State) → run 0 Begin (lexemes line before) ≡ at_place d s → step d s (lexeme_of line t) ≡ None → StopsAt line (before ++ t ∷ after) (refusal d s (Some t.kind) t.first)
+stops_at_token : (line : List ℕ) (before : List Token) (t : Token) (after : List Token) (d : ℕ) (s : State) → run 0 Begin (lexemes line before) ≡ at_place d s → step d s (lexeme_of line t) ≡ None → StopsAt line (before ++ t ∷ after) (refusal d s (Some t.kind) t.first)
 stops_at_token line before t after d s taken none =
     let stuck : run 0 Begin (lexemes line before ++ lexeme_of line t ∷ []) ≡ None = run-snoc (lexemes line before) d s (lexeme_of line t) taken ∙ none in
     record {

@@ -26,7 +26,7 @@ pub too_long : (name : Name) → 14 < length name → is_openable name ≡ false
 too_long name long = grind (arith, nat_tests)
 
 -- a piece that ends in a space
-pub spaced : (ds rest : List ℕ) → (ds ++ 32 ∷ []) ++ rest ≡ ds ++ 32 ∷ rest
+spaced : (ds rest : List ℕ) → (ds ++ 32 ∷ []) ++ rest ≡ ds ++ 32 ∷ rest
 spaced ds rest = append_assoc ds (32 ∷ []) rest
 
 -- three counts, each with a space, a name and LF

@@ -24,11 +24,6 @@ at_place list i name o kept inside is found =
     let own : name ≡ e.0 = cc in
     (e.1, here ∙ ap (λ n. Some (n, e.1)) (sym own), found ∙ ap (files list) own ∙ listed_found list i e kept here)
 
--- some file is at each place
-pub no_place : (list : List (Name × Bytes)) (i : ℕ) (d : Name × Bytes) → i < length list → None ≡ option_map (λ e. e.0) (slice_get list i) → ⊥
-no_place list i d inside none =
-    let some : None ≡ Some (get_or list i d).0 = none ∙ ap (option_map (λ e. e.0)) (slice_get-get_or list i d inside) in cc
-
 -- one file more
 pub one_file : (soft : Names) (list : List (Name × Bytes)) (i : ℕ) (name bytes text new whole : Bytes) (marked : Bool) → marked ≡ soft name → i < length list → slice_get list i ≡ Some (name, bytes) → new ≡ text ++ file_text marked name bytes → text ++ list_text soft (drop i list) ≡ whole → new ++ list_text soft (drop (i + 1) list) ≡ whole
 one_file soft list i name bytes text new whole marked marks inside is added so_far =
