@@ -1,0 +1,4 @@
+pub mod End
+pub mod State
+pub mod Turn
+pub mod View
