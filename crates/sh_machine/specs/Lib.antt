@@ -1,3 +1,4 @@
+pub mod CallsOn
 pub mod End
 pub mod State
 pub mod Turn

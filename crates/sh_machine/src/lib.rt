@@ -18,6 +18,7 @@
 //! and its reply is ignored. A reply that has no case here ends the process (own). Init calls Wait for ever.
 #![tactic(auto)]
 
+pub mod laws;
 mod message;
 mod naming;
 mod rest;
