@@ -1,0 +1,5 @@
+pub mod CallsOn
+pub mod End
+pub mod State
+pub mod Turn
+pub mod View

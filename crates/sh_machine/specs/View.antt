@@ -1,0 +1,58 @@
+-- The states of users over a borrowed script, as plain data.
+use Rattle.std.specs.Prelude.{List, map}
+use Rattle.sh_tree.specs.Tree.{tree_of}
+use Rattle.script_load.specs.Line.{ScriptLine, line_of}
+use Rattle.user_progs.specs.View.{state_of}
+use Rattle.sh_machine.specs.declared.rest.Rest.{Rest}
+use Rattle.sh_machine.specs.declared.state.Parent.{Parent as Parent'}
+use Rattle.sh_machine.specs.declared.state.Parent.TheVariants.{Makes, ForksWriter, ForksReader, ClosesReader, ClosesWriter, WaitsFirst, WaitsSecond}
+use Rattle.sh_machine.specs.declared.state.At.{At}
+use Rattle.sh_machine.specs.declared.state.At.TheVariants.{Top, Unknown, ClosesOld, OpensFile, ForksLeft, WaitsLeft, Pipes, Side as Side', ForksBack, Told, Ended}
+use Rattle.sh_machine.specs.declared.state.Next.{Next as Next'}
+use Rattle.sh_machine.specs.declared.state.Next.TheVariants.{Stays, Becomes}
+use Rattle.sh_machine.specs.declared.state.Turn.{Turn as Turn'}
+use Rattle.sh_machine.specs.declared.user.User.{User as User'}
+use Rattle.sh_machine.specs.declared.user.Kind.{Kind}
+use Rattle.sh_machine.specs.declared.user.Kind.TheVariants.{Init, Shell as Shell', Program}
+use Rattle.sh_machine.specs.State.{Parent, makes, forks_writer, forks_reader, closes_reader, closes_writer, waits_first, waits_second, Shell, top, unknown, closes_old, opens_file, forks_left, waits_left, pipes, side, forks_back, told, ended, User, init, shell, program}
+use Rattle.sh_machine.specs.Turn.{Next, stays, becomes, Turn}
+
+abbrev pub rest_of : {A N g : _} → Rest A N g → List ScriptLine
+rest_of rest = map line_of rest.lines.now
+
+abbrev pub parent_of : {A : _} → Parent' A → Parent
+parent_of (Makes left right) = makes (tree_of left.now) (tree_of right.now)
+parent_of (ForksWriter left right reader writer) = forks_writer (tree_of left.now) (tree_of right.now) reader writer
+parent_of (ForksReader right reader writer) = forks_reader (tree_of right.now) reader writer
+parent_of (ClosesReader writer) = closes_reader writer
+parent_of ClosesWriter = closes_writer
+parent_of WaitsFirst = waits_first
+parent_of WaitsSecond = waits_second
+
+abbrev pub shell_of : {A N g : _} → At A N g → Shell
+shell_of (Top phase rest) = top phase (rest_of rest)
+shell_of (Unknown name) = unknown name.now
+shell_of (ClosesOld mode name body) = closes_old mode name.now (tree_of body.now)
+shell_of (OpensFile name body) = opens_file name.now (tree_of body.now)
+shell_of (ForksLeft left right) = forks_left (tree_of left.now) (tree_of right.now)
+shell_of (WaitsLeft right) = waits_left (tree_of right.now)
+shell_of (Pipes parent) = pipes (parent_of parent)
+shell_of (Side' at tree) = side at (tree_of tree.now)
+shell_of (ForksBack body) = forks_back (tree_of body.now)
+shell_of Told = told
+shell_of Ended = ended
+
+abbrev pub next_state : {A N g : _} → Next' A N g → Next
+next_state (Stays at) = stays (shell_of at)
+next_state (Becomes found) = becomes (state_of found)
+
+abbrev pub turn_of : {A N g : _} → Turn' A N g → Turn
+turn_of turn = record { call = turn.call; next = next_state turn.next }
+
+abbrev pub user_of_kind : {A N g : _} → Kind A N g → User
+user_of_kind Init = init
+user_of_kind (Shell' profile at) = shell profile (shell_of at)
+user_of_kind (Program found) = program (state_of found)
+
+abbrev pub user_of : {A N g : _} → User' A N g → User
+user_of user = user_of_kind user.kind

@@ -1,0 +1,230 @@
+//! The states of a shell from one call to the next.
+
+ghost use Rattle.std.specs.Prelude.{◌≡◌, ◌↔◌, IsTrue};
+
+use crate::naming::Naming;
+use crate::rest::Rest;
+use sh_tree::{Cmd, Mode, same};
+use std::alloc::Allocator;
+use user_calls::{Block, Call};
+use user_progs::Prog;
+
+// How far the top shell is with the first of its lines.
+#[derive(Clone, Copy, PartialEq, Eq)]
+pub enum Phase {
+    // Nothing was called.
+    Starts,
+    // A child was forked for it.
+    Forks,
+    // The child is waited for.
+    Waits,
+    // It was a line of `cd`, and a message was written.
+    ToldCd,
+}
+
+// How far a child of a pipe is; the numbers are descriptors.
+#[derive(Clone, Copy, PartialEq, Eq)]
+pub enum Side {
+    // Its standard descriptor is being closed, in whose place the first of these comes; the others are the read end and
+    // the write end.
+    Closes(usize, usize, usize),
+    // Its end is being doubled.
+    Dups(usize, usize),
+    // The read end is being closed, and the write end, at this descriptor, comes later.
+    ClosesReader(usize),
+    ClosesWriter,
+}
+
+// How far the process is that makes a pipe.
+#[derive(Drop)]
+pub enum Parent<'t, A: Allocator> {
+    // The pipe of these two sides is being made.
+    Makes(&'t Cmd<A>, &'t Cmd<A>),
+    // A child was forked for the left side; the pipe's read end and write end are at these descriptors.
+    ForksWriter(&'t Cmd<A>, &'t Cmd<A>, usize, usize),
+    // A child was forked for the right side.
+    ForksReader(&'t Cmd<A>, usize, usize),
+    // The read end is being closed, and the write end, at this descriptor, comes later.
+    ClosesReader(usize),
+    ClosesWriter,
+    // The two children are waited for.
+    WaitsFirst,
+    WaitsSecond,
+}
+
+// Where a shell is. Each state waits for the reply to a call.
+#[derive(Drop)]
+pub enum At<'t, A: Allocator, N: Naming> {
+    Top(Phase, Rest<'t, A, N>),
+    // `Exec` was called for a program of this name, and there is none.
+    Unknown(&'t [u8]),
+    // A redirection: its descriptor is being closed, and then its file opened.
+    ClosesOld(Mode, &'t [u8], &'t Cmd<A>),
+    OpensFile(&'t [u8], &'t Cmd<A>),
+    // A list: a child was forked for the left side, which is waited for.
+    ForksLeft(&'t Cmd<A>, &'t Cmd<A>),
+    WaitsLeft(&'t Cmd<A>),
+    Pipes(Parent<'t, A>),
+    // A child of a pipe, which is to run this side.
+    Side(Side, &'t Cmd<A>),
+    // A command behind `&`: a child was forked for it.
+    ForksBack(&'t Cmd<A>),
+    // A message was written.
+    Told,
+    // `Exit` was called.
+    Ended,
+}
+
+// What a shell goes on as.
+#[derive(Drop)]
+pub enum Next<'t, A: Allocator, N: Naming> {
+    Stays(At<'t, A, N>),
+    // A program that was found takes the process over.
+    Becomes(Prog<'t, A>),
+}
+
+// A call, and what waits for the reply to it.
+#[derive(Drop)]
+pub struct Turn<'t, A: Allocator, N: Naming> {
+    pub call: Call,
+    pub next: Next<'t, A, N>,
+}
+
+impl<'t, A: Allocator, N: Naming> Turn<'t, A, N> {
+    ghost use Rattle.user_calls.specs.declared.calls.Call.TheVariants.{Write};
+    ghost use Rattle.sh_machine.specs.State.{told};
+    ghost use Rattle.sh_machine.specs.Turn.{calls, exits, tells};
+    ghost use Rattle.sh_machine.specs.View.{shell_of, turn_of};
+
+    pub fn calls(call: Call, at: At<'t, A, N>) -> Self
+        ensures { turn_of result ≡ calls call (shell_of at.entry) }
+    {
+        Turn {
+            call,
+            next: Next::Stays(at),
+        }
+    }
+
+    pub fn exits() -> Self
+        ensures { turn_of result ≡ exits }
+    {
+        Turn::calls(Call::Exit, At::Ended)
+    }
+
+    // Writes a message to descriptor 2, and exits then.
+    pub fn tells(message: &[u8]) -> Self
+        ensures { turn_of result ≡ tells message.now }
+    {
+        Turn::writes(Block::from_slice(message))
+    }
+
+    // Writes these bytes to descriptor 2, and exits then.
+    pub fn writes(message: Block) -> Self
+        ensures { turn_of result ≡ calls (Write 2 message) told }
+    {
+        Turn::calls(Call::Write(2, message), At::Told)
+    }
+}
+
+impl<'t, A: Allocator> Parent<'t, A> {
+    ghost use Rattle.sh_machine.specs.View.{parent_of};
+
+    pub fn twin(&self) -> Self
+        ensures { parent_of result ≡ parent_of self.now }
+    {
+        match self {
+            Parent::Makes(left, right) => Parent::Makes(left, right),
+            Parent::ForksWriter(left, right, reader, writer) => Parent::ForksWriter(
+                left, right, *reader, *writer,
+            ),
+            Parent::ForksReader(right, reader, writer) => Parent::ForksReader(
+                right, *reader, *writer,
+            ),
+            Parent::ClosesReader(writer) => Parent::ClosesReader(*writer),
+            Parent::ClosesWriter => Parent::ClosesWriter,
+            Parent::WaitsFirst => Parent::WaitsFirst,
+            Parent::WaitsSecond => Parent::WaitsSecond,
+        }
+    }
+
+    pub fn same(&self, other: &Self) -> bool
+        ensures { IsTrue result ↔ (parent_of self.now ≡ parent_of other.now) }
+    {
+        match (self, other) {
+            (Parent::Makes(left, right), Parent::Makes(other_left, other_right)) => {
+                same(left, other_left) && same(right, other_right)
+            }
+            (
+                Parent::ForksWriter(left, right, reader, writer),
+                Parent::ForksWriter(other_left, other_right, other_reader, other_writer),
+            ) => {
+                reader == other_reader
+                    && writer == other_writer
+                    && same(left, other_left)
+                    && same(right, other_right)
+            }
+            (
+                Parent::ForksReader(right, reader, writer),
+                Parent::ForksReader(other_right, other_reader, other_writer),
+            ) => { reader == other_reader && writer == other_writer && same(right, other_right) }
+            (Parent::ClosesReader(writer), Parent::ClosesReader(other_writer)) => {
+                writer == other_writer
+            }
+            (Parent::ClosesWriter, Parent::ClosesWriter) => true,
+            (Parent::WaitsFirst, Parent::WaitsFirst) => true,
+            (Parent::WaitsSecond, Parent::WaitsSecond) => true,
+            _ => false,
+        }
+    }
+}
+
+impl<'t, A: Allocator, N: Naming> At<'t, A, N> {
+    ghost use Rattle.sh_machine.specs.View.{shell_of};
+
+    pub fn twin(&self) -> Self
+        ensures { shell_of result ≡ shell_of self.now }
+    {
+        match self {
+            At::Top(phase, rest) => At::Top(*phase, rest.twin()),
+            At::Unknown(name) => At::Unknown(name),
+            At::ClosesOld(mode, name, body) => At::ClosesOld(*mode, name, body),
+            At::OpensFile(name, body) => At::OpensFile(name, body),
+            At::ForksLeft(left, right) => At::ForksLeft(left, right),
+            At::WaitsLeft(right) => At::WaitsLeft(right),
+            At::Pipes(parent) => At::Pipes(parent.twin()),
+            At::Side(side, tree) => At::Side(*side, tree),
+            At::ForksBack(body) => At::ForksBack(body),
+            At::Told => At::Told,
+            At::Ended => At::Ended,
+        }
+    }
+
+    // In constant time, but for the tree that a process runs, which is compared node by node.
+    pub fn same(&self, other: &Self) -> bool
+        ensures { IsTrue result ↔ (shell_of self.now ≡ shell_of other.now) }
+    {
+        match (self, other) {
+            (At::Top(phase, rest), At::Top(other_phase, other_rest)) => {
+                phase == other_phase && rest.same(other_rest)
+            }
+            (At::Unknown(name), At::Unknown(other_name)) => *name == *other_name,
+            (At::ClosesOld(mode, name, body), At::ClosesOld(other_mode, other_name, other_body)) =>
+                { mode == other_mode && *name == *other_name && same(body, other_body) }
+            (At::OpensFile(name, body), At::OpensFile(other_name, other_body)) => {
+                *name == *other_name && same(body, other_body)
+            }
+            (At::ForksLeft(left, right), At::ForksLeft(other_left, other_right)) => {
+                same(left, other_left) && same(right, other_right)
+            }
+            (At::WaitsLeft(right), At::WaitsLeft(other_right)) => same(right, other_right),
+            (At::Pipes(parent), At::Pipes(other_parent)) => parent.same(other_parent),
+            (At::Side(side, tree), At::Side(other_side, other_tree)) => {
+                side == other_side && same(tree, other_tree)
+            }
+            (At::ForksBack(body), At::ForksBack(other_body)) => same(body, other_body),
+            (At::Told, At::Told) => true,
+            (At::Ended, At::Ended) => true,
+            _ => false,
+        }
+    }
+}

@@ -1,0 +1,128 @@
+//! Init, shells and programs as machines.
+
+ghost use Rattle.std.specs.Prelude.{◌≡◌};
+ghost use Rattle.script_load.specs.Line.{lines_of};
+ghost use Rattle.sh_machine.specs.declared.state.Phase.TheVariants.{Starts};
+ghost use Rattle.sh_machine.specs.State.{init, shell, top};
+ghost use Rattle.sh_machine.specs.View.{user_of};
+
+use crate::naming::Naming;
+use crate::rest::Rest;
+use crate::state::{At, Next, Phase, Turn};
+use crate::turns::turn;
+use script_load::{Profile, Script};
+use std::alloc::Allocator;
+use std::marker::Model;
+use user_calls::{Call, Machine, Reply};
+use user_progs::Prog;
+
+/// Stands for the states of users as plain data, whatever the lifetime and the allocator. No value of it is made.
+#[derive(Drop)]
+pub struct UserState {
+    nothing: (),
+}
+
+impl Model for UserState {
+    ghost use Rattle.sh_machine.specs.State.{User, user_code, init};
+
+    ghost Value = { User };
+
+    ghost coded = { user_code };
+
+    ghost view = { λ s. init };
+}
+
+#[derive(Drop)]
+enum Kind<'t, A: Allocator, N: Naming> {
+    Init,
+    Shell(Profile, At<'t, A, N>),
+    Program(Prog<'t, A>),
+}
+
+/// Init, a shell or a program. A shell borrows the script that `N` names, and a shell or a program the tree that it runs;
+/// a twin copies references and small state, and takes no memory.
+#[derive(Drop)]
+pub struct User<'t, A: Allocator, N: Naming> {
+    kind: Kind<'t, A, N>,
+}
+
+ghost use Rattle.sh_machine.specs.Turn.{user_of_next};
+ghost use Rattle.sh_machine.specs.View.{user_of_kind, next_state};
+
+// What a shell goes on as.
+fn goes_on<'t, A: Allocator, N: Naming>(profile: Profile, next: Next<'t, A, N>) -> Kind<'t, A, N>
+    ensures { user_of_kind result ≡ user_of_next profile (next_state next.entry) }
+{
+    match next {
+        Next::Stays(at) => Kind::Shell(profile, at),
+        Next::Becomes(found) => Kind::Program(found),
+    }
+}
+
+impl<'t, A: Allocator, N: Naming> User<'t, A, N> {
+    /// The first process, which waits for ever (`user/init.c`; it doesn't start the shell, own).
+    pub fn init() -> Self
+        ensures { user_of result ≡ init }
+    {
+        User { kind: Kind::Init }
+    }
+
+    /// The top shell before the first line of its script.
+    pub fn shell(script: &'t Script<A>) -> Self
+        requires { lines_of script.now.lines ≡ N.script }
+        ensures { user_of result ≡ shell script.now.profile (top Starts (lines_of script.now.lines)) }
+    {
+        User {
+            kind: Kind::Shell(script.profile, At::Top(Phase::Starts, Rest::whole(script))),
+        }
+    }
+}
+
+impl<'t, A: Allocator, N: Naming> Machine for User<'t, A, N> {
+    ghost use Rattle.sh_machine.specs.State.{user_code};
+    ghost use Rattle.sh_machine.specs.Turn.{call_of, next_of};
+    ghost use Rattle.sh_machine.specs.View.{user_of};
+
+    type State = UserState;
+
+    ghost code = { user_code };
+
+    ghost view = { λ user. user_of user };
+
+    ghost call_of = { call_of };
+
+    ghost next_of = { next_of };
+
+    fn run(&mut self, reply: &Reply) -> Call {
+        if let Kind::Program(found) = &mut self.kind {
+            return found.run(reply);
+        }
+        let Kind::Shell(profile, at) = &self.kind else {
+            return Call::Wait;
+        };
+        let profile = *profile;
+        let Turn { call, next } = turn(profile, at, reply);
+        self.kind = goes_on(profile, next);
+        call
+    }
+
+    fn twin(&self) -> Self {
+        let kind = match &self.kind {
+            Kind::Init => Kind::Init,
+            Kind::Shell(profile, at) => Kind::Shell(*profile, at.twin()),
+            Kind::Program(found) => Kind::Program(found.twin()),
+        };
+        User { kind }
+    }
+
+    fn same(&self, other: &Self) -> bool {
+        match (&self.kind, &other.kind) {
+            (Kind::Init, Kind::Init) => true,
+            (Kind::Shell(profile, at), Kind::Shell(other_profile, other_at)) => {
+                profile == other_profile && at.same(other_at)
+            }
+            (Kind::Program(found), Kind::Program(other_found)) => found.same(other_found),
+            _ => false,
+        }
+    }
+}
