@@ -11,14 +11,15 @@ Without any words xvsh reads a script from standard input, as `xvsh plain -` doe
 A script is lines of at most 511 bytes. A line is commands joined by `|` (the left side's output is
 the right side's input) and `;` (one after the other); `( )` groups, `&` after a command doesn't wait
 for it, `< FILE`, `> FILE` and `>> FILE` take and put input and output. `>` empties the file, and
-`>>` writes over it from its beginning, as xv6 does, or with `--append` at its end. A command has at most nine words. There are no
-quotes, variables, patterns or comments. A line that is no command does nothing.
+`>>` writes over it from its beginning, as xv6 does, or with `--append` at its end. A command has at
+most nine words. There are no quotes, variables, patterns or comments. A line that is no command does
+nothing.
 
 Programs, which work on their input where no FILE is given:
   cat [FILE]..            copies it
   echo [WORD]..           writes its words
-  grep PATTERN [FILE]..   the lines that match; `^` is a line's begin, `$` its end, `.` any byte, and
-                          `*` after a byte any number of it
+  grep PATTERN [FILE]..   the lines that match; `^` is a line's beginning, `$` its end, `.` any byte,
+                          and `*` after a byte any number of it
   head [-N] [FILE]..      the first 10 lines, or N
   tee [FILE]..            copies its input to its output and to each FILE
   wc [FILE]..             counts lines, words and bytes
