@@ -4,13 +4,14 @@
 //! Here a call never waits: it moves what it can and says so, and the caller decides when to try again (own).
 #![tactic(auto)]
 
-ghost use Rattle.std.specs.Prelude.{◌≡◌, ◌≤◌, List, [], ◌++◌, drop, length, vec_len, vec_capacity, IfOk};
+ghost use Rattle.std.specs.Prelude.{◌≡◌, ◌≤◌, length, IfOk};
 ghost use Rattle.byte_pipe.specs.declared.TheConstants.{PIPE_SIZE};
 
 pub mod laws;
 #[cfg(test)]
 mod tests;
 
+use circular_buffer::HeapCircularBuffer;
 use std::alloc::{AllocError, Allocator};
 use std::marker::Model;
 
@@ -45,21 +46,21 @@ pub enum Take {
 /// memory.
 #[derive(Drop)]
 pub struct Pipe<A: Allocator> {
-    bytes: Vec<u8, A>,
+    ring: HeapCircularBuffer<u8, A>,
     reader: bool,
     writer: bool,
 }
 
 impl<A: Allocator> Model for Pipe<A> {
-    ghost use Rattle.std.specs.Prelude.{◌≤◌, length, vec_capacity};
+    ghost use Rattle.std.specs.Prelude.{◌≡◌, ◌≤◌, length};
     ghost use Rattle.byte_pipe.specs.PipeState.{PipeState};
     ghost use Rattle.byte_pipe.specs.declared.TheConstants.{PIPE_SIZE};
 
     ghost Value = { PipeState };
 
-    ghost view = { λ p. record { bytes = p.bytes.items; reader = p.reader; writer = p.writer } };
+    ghost view = { λ p. record { bytes = p.ring.items; reader = p.reader; writer = p.writer } };
 
-    ghost invariant = { λ p. (length p.bytes.items ≤ PIPE_SIZE) × (PIPE_SIZE ≤ vec_capacity p.bytes) };
+    ghost invariant = { λ p. (p.ring.capacity ≡ PIPE_SIZE) × (length p.ring.items ≤ PIPE_SIZE) };
 }
 
 impl<A: Allocator> Pipe<A> {
@@ -71,9 +72,9 @@ impl<A: Allocator> Pipe<A> {
     pub fn new(alloc: A) -> Result<Self, AllocError>
         ensures { IfOk result (λ p. p ≡ new_pipe) }
     {
-        let bytes = Vec::with_capacity(alloc, PIPE_SIZE)?;
+        let ring = HeapCircularBuffer::with_capacity(alloc, PIPE_SIZE)?;
         Ok(Pipe {
-            bytes,
+            ring,
             reader: true,
             writer: true,
         })
@@ -88,7 +89,7 @@ impl<A: Allocator> Pipe<A> {
         ensures after { self.new ≡ after_put self.old bytes.now }
         ensures within { length self.new.bytes ≤ PIPE_SIZE }
     {
-        let room = PIPE_SIZE - self.bytes.len();
+        let room = PIPE_SIZE - self.ring.len();
         if bytes.is_empty() {
             return Put::Took(0);
         }
@@ -98,9 +99,7 @@ impl<A: Allocator> Pipe<A> {
         if room == 0 {
             return Put::Full;
         }
-        let count = room.min(bytes.len());
-        self.bytes.extend_from_slice(&bytes[..count]).unwrap();
-        Put::Took(count)
+        Put::Took(self.ring.fill_from_slice(bytes))
     }
 
     /// Moves the oldest bytes to the front of `buffer`, as many as it can hold (`piperead`).
@@ -112,13 +111,10 @@ impl<A: Allocator> Pipe<A> {
         ensures after { self.new ≡ after_take self.old (length buffer.old) }
         ensures within { length self.new.bytes ≤ PIPE_SIZE }
     {
-        if self.bytes.is_empty() {
+        if self.ring.is_empty() {
             return if self.writer { Take::Empty } else { Take::End };
         }
-        let count = self.bytes.len().min(buffer.len());
-        buffer[..count].copy_from_slice(&self.bytes[..count]);
-        remove_first(&mut self.bytes, count);
-        Take::Got(count)
+        Take::Got(self.ring.read_into(buffer))
     }
 
     /// Closes the read end: from now on bytes that are put are refused (`pipeclose`).
@@ -140,7 +136,7 @@ impl<A: Allocator> Pipe<A> {
         ensures count { result ≡ length self.now.bytes }
         ensures within { result ≤ PIPE_SIZE }
     {
-        self.bytes.len()
+        self.ring.len()
     }
 
     /// Whether the read end is open.
@@ -156,15 +152,4 @@ impl<A: Allocator> Pipe<A> {
     {
         self.writer
     }
-}
-
-// Removes the first `count` bytes.
-fn remove_first<A: Allocator>(bytes: &mut Vec<u8, A>, count: usize)
-    requires { count ≤ vec_len bytes.old }
-    ensures items { bytes.new.items ≡ drop count bytes.old.items }
-    ensures capacity { vec_capacity bytes.new ≡ vec_capacity bytes.old }
-{
-    let rest = bytes.len() - count;
-    bytes.rotate_left(count);
-    bytes.truncate(rest);
 }

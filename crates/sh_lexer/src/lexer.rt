@@ -10,7 +10,8 @@ use std::alloc::{AllocError, Allocator};
 pub fn is_white(byte: u8) -> bool
     ensures { result ≡ is_white byte }
 {
-    matches!(byte, b' ' | b'\t' | b'\n' | 11 | b'\r')
+    // All five compared, with no branch: in text, white space comes too unevenly to be foreseen.
+    (byte == b' ') | (byte == b'\t') | (byte == b'\n') | (byte == 11) | (byte == b'\r')
 }
 
 fn is_word_byte(byte: u8) -> bool
