@@ -8,7 +8,7 @@ use Rattle.std.proofs.lemmas.List.Sorted.{sum_by-IsPermutation}
 use Rattle.std.proofs.lemmas.Bool.{eqb-true, eqb-false, eq-eqb, leb-true, leb-false}
 use Rattle.std.specs.Prelude.{IsSome, IsPermutation, All, ◌==◌, nat_le, cond, replicate, ◌↔◌, if◌then◌else◌}
 use Rattle.fd_table.specs.declared.names.Object.{Object}
-use Rattle.fd_table.specs.Entries.{Entries, OpenFile, entry_at, IsInUse, is_free, count_of, opened, lowest_free_entry, added, added_at, more_held, held, less_held, last_object, released, moved_on, advanced}
+use Rattle.fd_table.specs.Entries.{Entries, OpenFile, entry_at, IsInUse, is_free, count_of, opened, lowest_free_entry, added, added_at, more_held, held, less_held, last_object, released, moved_on, advanced, going_on_at, moved_to}
 use Rattle.fd_table.specs.Descriptors.{Descriptors, entry_of, lowest_free, installed, installed_at, without, is_entry, holders_in, after_dup, held_by_dup, after_close, released_by_close, all_held, HoldsInUse}
 use Rattle.fd_table.specs.Holders.{holders, HasHolders, CountHolders}
 use Rattle.fd_table.proofs.Lists.{position_found, within_list}
@@ -232,6 +232,16 @@ pub advance_kept : (t : Entries) (e n : ℕ) (tables : List Descriptors) → Cou
 advance_kept t e n tables counts =
     by_entry t e (moved_on n (entry_at t e)) tables tables
     (has_holders_along (moved_on n (entry_at t e)) (entry_at (advanced t e n) e) (holders tables e) (holders tables e) (sym (entry_at-set_mine (moved_on n) t e refl)) refl (moved_has n (holders tables e) (entry_at t e) (counts e)))
+    (λ i ne. refl) counts
+
+at_has : (n m : ℕ) (x : Option OpenFile) → HasHolders x m → HasHolders (going_on_at n x) m
+at_has n m None has = has
+at_has n m (Some f) has = has
+
+pub move_kept : (t : Entries) (e n : ℕ) (tables : List Descriptors) → CountHolders t tables → CountHolders (moved_to t e n) tables
+move_kept t e n tables counts =
+    by_entry t e (going_on_at n (entry_at t e)) tables tables
+    (has_holders_along (going_on_at n (entry_at t e)) (entry_at (moved_to t e n) e) (holders tables e) (holders tables e) (sym (entry_at-set_mine (going_on_at n) t e refl)) refl (at_has n (holders tables e) (entry_at t e) (counts e)))
     (λ i ne. refl) counts
 
 all_free : (n e : ℕ) → entry_at (replicate n None) e ≡ None

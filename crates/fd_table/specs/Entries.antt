@@ -84,6 +84,15 @@ moved_on n (Some f) = Some (record { object = f.object; count = f.count; offset 
 abbrev pub advanced : Entries → ℕ → ℕ → Entries
 advanced t e n = slice_set t e (moved_on n (entry_at t e))
 
+-- going on at the byte n
+abbrev pub going_on_at : ℕ → Option OpenFile → Option OpenFile
+going_on_at n None = None
+going_on_at n (Some f) = Some (record { object = f.object; count = f.count; offset = n })
+
+-- the entries after e was moved to the byte n
+abbrev pub moved_to : Entries → ℕ → ℕ → Entries
+moved_to t e n = slice_set t e (going_on_at n (entry_at t e))
+
 -- how many places are free
 abbrev pub free_count : {X : Type 0} → List (Option X) → ℕ
 free_count places = count_by is_free places

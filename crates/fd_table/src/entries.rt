@@ -79,7 +79,7 @@ impl OpenFiles {
     ghost use Rattle.std.specs.Prelude.{◌≡◌, ◌≤◌, ◌<◌, ◌+◌, ◌^◌, IfSome, Some, None, ok_or, length, replicate};
     ghost use Rattle.fd_table.specs.declared.entries.TheConstants.{ENTRIES};
     ghost use Rattle.fd_table.specs.declared.faults.FdFault.TheVariants.{FullOpen};
-    ghost use Rattle.fd_table.specs.Entries.{entry_at, IsInUse, count_of, offset_of, lowest_free_entry, added, held, last_object, released, advanced, free_count};
+    ghost use Rattle.fd_table.specs.Entries.{entry_at, IsInUse, count_of, offset_of, lowest_free_entry, added, held, last_object, released, advanced, moved_to, free_count};
 
     /// All entries are free.
     pub fn new() -> Self
@@ -166,6 +166,17 @@ impl OpenFiles {
     {
         if let Some(opened) = &mut self.slots[entry.index] {
             opened.offset += count;
+        }
+    }
+
+    /// The entry goes on at this byte, counted from 0, wherever it was before (own: after a write that went to the end
+    /// of its file).
+    pub fn move_to(&mut self, entry: Entry, offset: u64)
+        requires { IsInUse self.old entry }
+        ensures { self.new ≡ moved_to self.old entry offset }
+    {
+        if let Some(opened) = &mut self.slots[entry.index] {
+            opened.offset = offset;
         }
     }
 

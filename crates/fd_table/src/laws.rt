@@ -9,7 +9,7 @@ ghost use Rattle.std.specs.Prelude.{◌≡◌, ◌≤◌, ◌<◌, ◌+◌, ◌-
 ghost use Rattle.fd_table.specs.declared.names.Object.{Object};
 ghost use Rattle.fd_table.specs.declared.entries.TheConstants.{ENTRIES};
 ghost use Rattle.fd_table.specs.declared.descriptors.TheConstants.{DESCRIPTORS};
-ghost use Rattle.fd_table.specs.Entries.{Entries, IsInUse, entry_at, count_of, lowest_free_entry, added, held, released, advanced, last_object, free_count};
+ghost use Rattle.fd_table.specs.Entries.{Entries, IsInUse, entry_at, count_of, lowest_free_entry, added, held, released, advanced, moved_to, last_object, free_count};
 ghost use Rattle.fd_table.specs.Descriptors.{Descriptors, entry_of, lowest_free, installed, without, dup_answer, after_dup, held_by_dup, after_close, released_by_close, all_held, HoldsInUse, CountsFit};
 ghost use Rattle.fd_table.specs.Holders.{holders, CountHolders};
 
@@ -76,6 +76,11 @@ pub fn fork_copy_keeps_counts()
 /// Moving on in a file changes no count.
 pub fn advance_keeps_counts()
     ensures { (t : Entries) (e n : ℕ) (tables : List Descriptors) → CountHolders t tables → CountHolders (advanced t e n) tables }
+{}
+
+/// Moving to another byte of a file changes no count.
+pub fn move_to_keeps_counts()
+    ensures { (t : Entries) (e n : ℕ) (tables : List Descriptors) → CountHolders t tables → CountHolders (moved_to t e n) tables }
 {}
 
 /// Where the counts are right, the entries that a table holds are in use, and no count is more than 16 for each table.

@@ -1,0 +1,15 @@
+pub mod Pipes
+pub mod KernelState
+pub mod Modes
+pub mod Replies
+pub mod Descriptors
+pub mod Processes
+pub mod Opening
+pub mod Reading
+pub mod Writing
+pub mod Events
+pub mod Boot
+pub mod Sound
+pub mod History
+pub mod Along
+pub mod Lasting

@@ -1,0 +1,13 @@
+//! The pipes of a kernel, each under the name that its maker gives it, and the blocks of bytes that reads give.
+//!
+//! The behaviour is that of xv6's `kernel/pipe.c`; that a pipe has a name, and is found by it, is own.
+#![tactic(auto)]
+
+mod blocks;
+mod named;
+mod pipes;
+#[cfg(test)]
+mod tests;
+
+pub use blocks::first_block;
+pub use pipes::Pipes;
