@@ -1,4 +1,4 @@
-mod InPlace
-mod Changes
-mod Counts
+pub mod InPlace
+pub mod Changes
+pub mod Counts
 mod Alone

@@ -1,0 +1,9 @@
+pub mod Slots
+pub mod OnePipe
+pub mod PipeReads
+pub mod PipeWrites
+pub mod Closes
+pub mod Children
+pub mod Exits
+pub mod Calls
+pub mod Runs

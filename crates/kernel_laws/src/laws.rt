@@ -1,0 +1,41 @@
+//! Laws of every run of a kernel from its start: each function's contract is the law, and its body is empty.
+//!
+//! The programs are any machines. `m` is the kernel after any events that can happen, with memory refused or not at
+//! each; the run need not be finished.
+
+ghost use Rattle.std.specs.Prelude.{◌≡◌, ◌≤◌, ℕ, List, Bool, Some, false, length};
+ghost use Rattle.mem_files.specs.Name.{Bytes, Name};
+ghost use Rattle.byte_pipe.specs.PipeState.{PipeState};
+ghost use Rattle.byte_pipe.specs.declared.TheConstants.{PIPE_SIZE};
+ghost use Rattle.proc_table.specs.Slots.{at, is_free, is_child_of};
+ghost use Rattle.kernel_model.specs.declared.events.Event.{Event};
+ghost use Rattle.kernel_model.specs.KernelState.{KernelState};
+ghost use Rattle.kernel_model.specs.Boot.{boot_kernel};
+ghost use Rattle.kernel_model.specs.Events.{run};
+ghost use Rattle.kernel_model.specs.Pipes.{pipe_of};
+ghost use Rattle.kernel_laws.specs.Sleeping.{AllWait};
+
+use user_calls::Machine;
+
+/// No wake-up is lost: whoever sleeps has to. For bytes of a pipe: it is empty, and its write end is open. For room in
+/// a pipe: it holds 512 bytes, and its read end is open. For its children: it has one, and none that is a zombie.
+pub fn no_wake_up_is_lost<M: Machine>()
+    ensures { (init shell : M.State) (input : Bytes) (list : List (Name × Bytes)) (m : KernelState M.State) (events : List Event) (notes : List Bool)
+        → run M.call_of M.next_of (Some (boot_kernel init shell input list)) events notes ≡ Some m → AllWait m.table m.pipes }
+{}
+
+/// Nobody is its own child; init is always there, and nobody's child.
+pub fn nobody_is_its_own_child<M: Machine>()
+    ensures own { (init shell : M.State) (input : Bytes) (list : List (Name × Bytes)) (m : KernelState M.State) (events : List Event) (notes : List Bool) (pid : ℕ)
+        → run M.call_of M.next_of (Some (boot_kernel init shell input list)) events notes ≡ Some m → is_child_of pid (at m.table pid) ≡ false }
+    ensures init { (init shell : M.State) (input : Bytes) (list : List (Name × Bytes)) (m : KernelState M.State) (events : List Event) (notes : List Bool)
+        → run M.call_of M.next_of (Some (boot_kernel init shell input list)) events notes ≡ Some m → is_free (at m.table 0) ≡ false }
+    ensures eldest { (init shell : M.State) (input : Bytes) (list : List (Name × Bytes)) (m : KernelState M.State) (events : List Event) (notes : List Bool) (pid : ℕ)
+        → run M.call_of M.next_of (Some (boot_kernel init shell input list)) events notes ≡ Some m → is_child_of pid (at m.table 0) ≡ false }
+{}
+
+/// No pipe ever holds more than 512 bytes.
+pub fn a_pipe_never_holds_too_much<M: Machine>()
+    ensures { (init shell : M.State) (input : Bytes) (list : List (Name × Bytes)) (m : KernelState M.State) (events : List Event) (notes : List Bool) (id : ℕ) (p : PipeState)
+        → run M.call_of M.next_of (Some (boot_kernel init shell input list)) events notes ≡ Some m → pipe_of m.pipes id ≡ Some p → length p.bytes ≤ PIPE_SIZE }
+{}
