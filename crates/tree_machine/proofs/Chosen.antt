@@ -168,7 +168,7 @@ module _ (profile : Profile) where
   chosen cl en i (into_meets_end {F = F} {G = G} {X' = X'} {file = f} {at = at} s) met =
       let a = chosen (is_gap (F f) at) en i s met in
       (on_left a.0, ap (into_move f at) a.1 ∙ (λ t. move_by meets_end (into f (add-zero at t) X') (patched_none G f at t)))
-  chosen cl en i (into_puts {F = F} {G = G} {X' = X'} {file = f} {at = at} s e h) met =
+  chosen cl en i (into_puts {F = F} {G = G} {X' = X'} {file = f} {at = at} s within e h) met =
       let a = chosen (is_gap (F f) at) en i s tt in
       (on_left a.0, ap (into_move f at) a.1 ∙ (λ t. move_by silent (into f (sym e t) X') (sym h t)))
   chosen cl en i (into_refused {F = F} {G = G} {X' = X'} {file = f} {at = at} s gap) met =

@@ -31,7 +31,7 @@ use Rattle.mem_files.specs.Files.{FileMap, bytes_of}
 use Rattle.script_load.specs.declared.profile.Profile.{Profile}
 use Rattle.sh_meaning.specs.Value.{Value}
 
-no_gap_there : (x : Option Bytes) (at : ℕ) → IsThere x at → is_gap x at ≡ false
+pub no_gap_there : (x : Option Bytes) (at : ℕ) → IsThere x at → is_gap x at ≡ false
 no_gap_there None at h = absurd h
 no_gap_there (Some b) at h = grind (arith, nat_tests)
 

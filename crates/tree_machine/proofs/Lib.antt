@@ -20,3 +20,6 @@ pub mod Keep
 pub mod Chosen
 pub mod Short
 pub mod OneAnswer
+mod Worked
+pub mod Moving
+pub mod Progress

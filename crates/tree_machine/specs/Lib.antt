@@ -7,3 +7,4 @@ pub mod Final
 pub mod Tidy
 pub mod Kept
 pub mod Runs
+pub mod Moving

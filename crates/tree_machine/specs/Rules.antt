@@ -76,11 +76,11 @@ pub data Steps (profile : Profile) : Residual → FileMap → Label → Residual
   from_meets_end : {F G : FileMap} {X X' : Residual} {file : Name} {at : ℕ} → Steps profile X F meets_end X' G → drop at (bytes_of (F file)) ≡ [] → Steps profile (from file at X) F silent (from file at X') G
   from_puts : {F G : FileMap} {X X' : Residual} {file : Name} {at : ℕ} {bytes : Bytes} → Steps profile X F (puts bytes) X' G → Steps profile (from file at X) F (puts bytes) (from file at X') G
   from_refused : {F G : FileMap} {X X' : Residual} {file : Name} {at : ℕ} → Steps profile X F refused X' G → Steps profile (from file at X) F refused (from file at X') G
-  -- steps under a redirection of the output, whose writes are refused only where they would leave a gap
+  -- steps under a redirection of the output, whose writes are refused exactly where they would leave a gap
   into_silent : {F G : FileMap} {X X' : Residual} {file : Name} {at : ℕ} → Steps profile X F silent X' G → Steps profile (into file at X) F silent (into file at X') G
   into_takes : {F G : FileMap} {X X' : Residual} {file : Name} {at : ℕ} {bytes : Bytes} → Steps profile X F (takes bytes) X' G → Steps profile (into file at X) F (takes bytes) (into file at X') G
   into_meets_end : {F G : FileMap} {X X' : Residual} {file : Name} {at : ℕ} → Steps profile X F meets_end X' G → Steps profile (into file at X) F meets_end (into file at X') G
-  into_puts : {F G H : FileMap} {X X' : Residual} {file : Name} {at at' : ℕ} {bytes : Bytes} → Steps profile X F (puts bytes) X' G → at' ≡ at + length bytes → H ≡ patched G file at bytes → Steps profile (into file at X) F silent (into file at' X') H
+  into_puts : {F G H : FileMap} {X X' : Residual} {file : Name} {at at' : ℕ} {bytes : Bytes} → Steps profile X F (puts bytes) X' G → (is_gap (F file) at ≡ true → bytes ≡ []) → at' ≡ at + length bytes → H ≡ patched G file at bytes → Steps profile (into file at X) F silent (into file at' X') H
   into_refused : {F G : FileMap} {X X' : Residual} {file : Name} {at : ℕ} → Steps profile X F refused X' G → is_gap (F file) at ≡ true → Steps profile (into file at X) F silent (into file at X') G
 
 -- where a label can be met: by these bytes of the input, whether these are all that ever come, and whether nobody reads the

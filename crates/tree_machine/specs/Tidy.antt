@@ -4,7 +4,9 @@ use Rattle.sh_tree.specs.Tree.{Tree, exec, redir, pipe, list, back}
 use Rattle.mem_files.specs.Name.{Name, Bytes}
 use Rattle.mem_files.specs.Files.{FileMap}
 use Rattle.prog_parts.specs.declared.program.Program.{Program}
-use Rattle.conflict_check.specs.Clear.{IsClear}
+use Rattle.conflict_check.specs.Clear.{has_back, IsClear}
+use Rattle.script_load.specs.Line.{ScriptLine}
+use Rattle.sh_meaning.specs.Meaning.{script_tree}
 use Rattle.prog_laws.specs.Waits.{BeginsShort, Waits}
 use Rattle.prog_laws.specs.Fits.{Fits}
 use Rattle.tree_machine.specs.Residual.{alone, Residual, done, todo, running, seq, piped, unopened, from, into, left_names, left_writes, keeps_0}
@@ -25,6 +27,12 @@ HasShortCommands (back body) = HasShortCommands body
 -- a clear tree of short commands
 abbrev pub IsTidyTree : Tree → Type 0
 IsTidyTree tree = IsClear tree × HasShortCommands tree
+
+-- a script whose commands can't come upon each other at a file, of which none runs behind &, and whose commands are short
+pub record IsClearScript (lines : List ScriptLine) : Type 0 where
+  pub no_back : has_back (script_tree lines) ≡ false
+  pub clear : IsClear (script_tree lines)
+  pub short : HasShortCommands (script_tree lines)
 
 -- the file is there, with at least so many bytes
 abbrev pub IsThere : Option Bytes → ℕ → Type 0
