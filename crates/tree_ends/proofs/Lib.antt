@@ -1,0 +1,9 @@
+pub mod WorkBytes
+pub mod TurnBytes
+pub mod More
+pub mod RunFalls
+pub mod PartFalls
+pub mod StepFalls
+pub mod Ending
+pub mod Answering
+mod Counted

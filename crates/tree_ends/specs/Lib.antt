@@ -1,0 +1,3 @@
+pub mod ProgramBytes
+pub mod Bound
+pub mod Ends

@@ -1,0 +1,25 @@
+pub mod Bools
+pub mod Values
+pub mod Joins
+pub mod Calls
+pub mod Acting
+pub mod Effects
+pub mod CallFrame
+pub mod Running
+pub mod RunKept
+pub mod Parts
+pub mod TreeFrame
+pub mod Frame
+pub mod Unused
+pub mod StepFrame
+pub mod Smaller
+pub mod StepTidy
+pub mod PipeKept
+pub mod RedirKept
+pub mod Keep
+pub mod Chosen
+pub mod Short
+pub mod OneAnswer
+mod Worked
+pub mod Moving
+pub mod Progress

@@ -1,0 +1,10 @@
+pub mod Residual
+pub mod Answers
+pub mod Begin
+pub mod Rules
+pub mod Step
+pub mod Final
+pub mod Tidy
+pub mod Kept
+pub mod Runs
+pub mod Moving
