@@ -1,0 +1,191 @@
+//! What a kernel does with its state at an event, and what it asks of it.
+
+ghost use Rattle.std.specs.Prelude.{◌≡◌, ◌<◌, ◌≤◌, ◌+◌, ◌^◌, IsTrue, ◌↔◌, true, false, IfSome, None, All, position, count_by};
+ghost use Rattle.std.specs.Bool.{OnFalse, OnTrue};
+ghost use Rattle.proc_table.specs.Slots.{at, is_running, is_running_on, is_runnable};
+ghost use Rattle.proc_table.specs.Calls.{CanDispatch, dispatched};
+ghost use Rattle.proc_table.specs.declared.pid.TheConstants.{PROCS};
+ghost use Rattle.proc_table.specs.declared.table.TheConstants.{HARTS};
+ghost use Rattle.kernel_model.specs.Events.{IsFinished, acted, counted};
+ghost use Rattle.kernel_model.specs.History.{IsOwed, IsTask};
+ghost use Rattle.kernel_model.specs.Sound.{IsSound, Keeps};
+ghost use Rattle.kernel_state.specs.Runnable.{is_runnable_state};
+
+use crate::State;
+use kernel_model::Full;
+use mem_files::Files;
+use proc_table::{HARTS, Pid, State as SlotState};
+use std::alloc::Allocator;
+use user_calls::{Call, Machine, Ran, Reply};
+
+/// A process to run on a hart: a twin of its machine, and the reply that waits for it.
+#[derive(Drop)]
+pub struct Task<M: Machine> {
+    pub pid: Pid,
+    pub machine: M,
+    pub reply: Reply,
+}
+
+impl<M: Machine, A: Allocator> State<M, A> {
+    /// Some Runnable process begins to run on the hart, which runs nothing, as one more event; `None` where none is
+    /// Runnable (`scheduler`).
+    pub fn dispatch(&mut self, hart: u8) -> Option<Pid>
+        requires hart { hart < HARTS }
+        requires idle { All (λ slot. is_running_on hart slot ≡ false) self.old.table }
+        requires fits { self.old.events + 1 < 2 ^ 64 }
+        ensures none { result ≡ None → All (λ slot. is_runnable slot ≡ false) self.old.table }
+        ensures same { result ≡ None → self.new ≡ self.old }
+        ensures was { IfSome result (λ pid. is_runnable (at self.old.table pid) ≡ true) }
+        ensures after { IfSome result (λ pid. self.new ≡ record (counted self.old) { table = dispatched self.old.table pid hart }) }
+    {
+        let Some(pid) = self.procs.dispatch(hart) else {
+            return None;
+        };
+        self.events += 1;
+        Some(pid)
+    }
+
+    /// The process in slot `pid` begins to run on the hart, as one more event, which is told by `true`; where it can't,
+    /// nothing changes.
+    pub fn dispatch_pid(&mut self, hart: u8, pid: usize) -> bool
+        requires fits { self.old.events + 1 < 2 ^ 64 }
+        ensures can { IsTrue result ↔ CanDispatch self.old.table hart pid }
+        ensures after { OnTrue result (self.new ≡ record (counted self.old) { table = dispatched self.old.table pid hart }) }
+        ensures same { OnFalse result (self.new ≡ self.old) }
+    {
+        if !self.procs.dispatch_pid(hart, pid) {
+            return false;
+        }
+        self.events += 1;
+        true
+    }
+
+    /// Whether the process in slot `pid` can be given to the hart.
+    pub fn can_dispatch(&self, hart: u8, pid: usize) -> bool
+        requires { IsSound self.now.table self.now.entries }
+        ensures { IsTrue result ↔ CanDispatch self.now.table hart pid }
+    {
+        hart < HARTS && self.is_idle(hart) && self.has_runnable(pid)
+    }
+
+    // Whether the process in the slot of this number is Runnable; there is none past the last slot.
+    fn has_runnable(&self, pid: usize) -> bool
+        requires { IsSound self.now.table self.now.entries }
+        ensures { result ≡ is_runnable (at self.now.table pid) }
+    {
+        match Pid::new(pid) {
+            Some(pid) => is_runnable_state(self.procs.state(pid)),
+            None => false,
+        }
+    }
+
+    /// What a hart needs to run the process.
+    pub fn task(&self, pid: Pid) -> Task<M>
+        requires { is_running (at self.now.table pid) ≡ true }
+        ensures pid { result.pid ≡ pid }
+        ensures task { IsTask (at self.now.table pid) (M.view result.machine) result.reply }
+    {
+        Task {
+            pid,
+            machine: self.procs.machine(pid).twin(),
+            reply: self.procs.reply(pid).twin(),
+        }
+    }
+
+    /// The call that the process makes, and its machine after it.
+    pub fn run(&self, pid: Pid) -> (Call, M)
+        requires { is_running (at self.now.table pid) ≡ true }
+        ensures call { IfSome (at self.now.table pid) (λ p. result.0 ≡ M.call_of p.machine p.reply) }
+        ensures after { IfSome (at self.now.table pid) (λ p. M.view result.1 ≡ M.next_of p.machine p.reply) }
+    {
+        let mut after = self.procs.machine(pid).twin();
+        let call = after.run(self.procs.reply(pid));
+        (call, after)
+    }
+
+    /// Whether the run is one that the kernel waits for: of the machine of a process that runs on the hart, with the
+    /// reply that waits for it.
+    pub fn is_owed(&self, hart: u8, pid: Pid, ran: &Ran<M>) -> bool
+        ensures { IsTrue result ↔ IsOwed hart (at self.now.table pid) ran.now }
+    {
+        self.procs.runs_on(hart, pid)
+            && self.procs.machine(pid).same(ran.before())
+            && self.procs.reply(pid).same(ran.reply())
+    }
+
+    /// The process that runs on the hart, if any (`myproc`).
+    pub fn running_on(&self, hart: u8) -> Option<Pid>
+        ensures { result ≡ position (is_running_on hart) self.now.table }
+    {
+        self.procs.running_on(hart)
+    }
+
+    /// Whether the hart runs nothing.
+    pub fn is_idle(&self, hart: u8) -> bool
+        ensures { IsTrue result ↔ All (λ slot. is_running_on hart slot ≡ false) self.now.table }
+    {
+        self.procs.is_idle(hart)
+    }
+
+    /// How many processes are running.
+    pub fn running(&self) -> usize
+        ensures count { result ≡ count_by is_running self.now.table }
+        ensures within { result ≤ PROCS }
+    {
+        self.procs.running()
+    }
+
+    /// How many processes are Runnable.
+    pub fn runnable(&self) -> usize
+        ensures count { result ≡ count_by is_runnable self.now.table }
+        ensures within { result ≤ PROCS }
+    {
+        self.procs.runnable()
+    }
+
+    /// Whether every slot but init's is free.
+    pub fn is_finished(&self) -> bool
+        ensures { IsTrue result ↔ IsFinished self.now }
+    {
+        self.procs.is_alone()
+    }
+
+    /// What the first refusal for want of room was for.
+    pub fn full(&self) -> Option<Full>
+        ensures { result ≡ self.now.full }
+    {
+        self.full
+    }
+
+    /// The output, the diagnostics and the files.
+    pub fn into_parts(self) -> (Vec<u8, A>, Vec<u8, A>, Files<A>)
+        ensures out { result.0.items ≡ self.out }
+        ensures diag { result.1.items ≡ self.diag }
+        ensures files { result.2 ≡ self.files }
+    {
+        (self.out, self.diag, self.files)
+    }
+}
+
+impl<M: Machine, A: Allocator + Copy> State<M, A> {
+    /// The call of a running process, whose machine after it is this one, is carried out as one more event (`usertrap`).
+    /// It says whether memory was refused.
+    pub fn trap(&mut self, pid: Pid, call: Call, after: M) -> bool
+        requires runs { is_running (at self.old.table pid) ≡ true }
+        requires sound { IsSound self.old.table self.old.entries }
+        requires fits { self.old.events + 1 < 2 ^ 64 }
+        ensures after { self.new ≡ acted (counted self.old) pid (M.view after) call result }
+        ensures keeps { Keeps (count_by is_running self.old.table) self.new.table self.new.entries }
+    {
+        self.events += 1;
+        mem_files::laws::are_files(&self.files);
+        self.act(pid, call, after)
+    }
+}
+
+// Whether a slot in this state has a Runnable process.
+fn is_runnable_state(state: SlotState) -> bool
+    ensures { result ≡ is_runnable_state state }
+{
+    matches!(state, SlotState::Runnable)
+}

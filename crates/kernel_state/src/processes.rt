@@ -1,0 +1,80 @@
+//! fork, exec, exit and wait (xv6's `kernel/proc.c`).
+
+ghost use Rattle.std.specs.Prelude.{◌≡◌, true};
+ghost use Rattle.fd_table.specs.declared.descriptors.TheConstants.{DESCRIPTORS};
+ghost use Rattle.proc_table.specs.Slots.{at, is_running};
+ghost use Rattle.kernel_model.specs.Sound.{IsSound};
+ghost use Rattle.kernel_model.specs.Descriptors.{closed_below};
+ghost use Rattle.kernel_model.specs.Processes.{exec, exit, fork, wait};
+
+use crate::State;
+use fd_table::DESCRIPTORS;
+use kernel_model::Full;
+use proc_table::{Channel, Pid, Waited};
+use std::alloc::Allocator;
+use user_calls::{Machine, Reply};
+
+impl<M: Machine, A: Allocator> State<M, A> {
+    // A child shares the entries of its parent (`kfork`).
+    pub(crate) fn fork(&mut self, pid: Pid, after: M)
+        requires runs { is_running (at self.old.table pid) ≡ true }
+        requires sound { IsSound self.old.table self.old.entries }
+        ensures { self.new ≡ fork self.old pid (M.view after) }
+    {
+        if self.procs.lowest_free().is_none() {
+            self.refuse(pid, after, Full::Procs);
+            return;
+        }
+        let fds = self.procs.fds(pid).fork_copy(&mut self.entries);
+        match self.procs.fork(pid, after.twin(), fds) {
+            Ok(_) => self.procs.ready(pid, after, Reply::Done),
+            Err(_) => unreachable!(),
+        }
+    }
+
+    // `kexec` of a program that was found, or not.
+    pub(crate) fn exec(&mut self, pid: Pid, after: M, found: bool)
+        requires { is_running (at self.old.table pid) ≡ true }
+        ensures { self.new ≡ exec self.old pid (M.view after) found }
+    {
+        let reply = if found { Reply::Done } else { Reply::Refused };
+        self.answer(pid, after, reply);
+    }
+
+    // Init is refused; any other process closes its descriptors and becomes a zombie (`kexit`).
+    pub(crate) fn exit(&mut self, pid: Pid, after: M)
+        requires runs { is_running (at self.old.table pid) ≡ true }
+        requires sound { IsSound self.old.table self.old.entries }
+        ensures { self.new ≡ exit self.old pid (M.view after) }
+    {
+        if pid == Pid::init() {
+            self.answer(pid, after, Reply::Refused);
+            return;
+        }
+        self.close_all(pid);
+        self.procs.exit(pid);
+    }
+
+    // Closes all descriptors of the process, the lowest first.
+    pub(crate) fn close_all(&mut self, pid: Pid)
+        requires runs { is_running (at self.old.table pid) ≡ true }
+        requires sound { IsSound self.old.table self.old.entries }
+        ensures { self.new ≡ closed_below self.old pid DESCRIPTORS }
+    {
+        for fd in 0..DESCRIPTORS {
+            self.close_one(pid, fd);
+        }
+    }
+
+    // The lowest child that is a zombie is reaped; where none is, the process sleeps (`kwait`).
+    pub(crate) fn wait(&mut self, pid: Pid, after: M)
+        requires { is_running (at self.old.table pid) ≡ true }
+        ensures { self.new ≡ wait self.old pid (M.view after) }
+    {
+        match self.procs.wait(pid) {
+            Waited::Reaped(_) => self.procs.ready(pid, after, Reply::Done),
+            Waited::NoChildren => self.procs.ready(pid, after, Reply::Refused),
+            Waited::MustSleep => self.procs.sleep(pid, Channel::Children(pid), 0),
+        }
+    }
+}
