@@ -1,7 +1,10 @@
 //! How fast the programs are as machines: each is given a MiB of standard input in blocks of 512 bytes (`echo` a MiB
 //! of words), beside a plain loop over as many bytes, and then twins of it are made as it is in the middle of its work.
-//! Of several rounds the fastest counts. The figures go to standard error.
+//! Of several rounds the fastest counts. Then states of init, of shells and of programs are copied and compared. The
+//! figures go to standard error.
 #![tactic(auto)]
+
+mod states;
 
 use sh_lexer::Bytes;
 use std::alloc::{AllocError, Global};
@@ -283,5 +286,6 @@ fn main(rt: HostRuntime) -> io::Result<()> {
         input,
         ("echo", Plain::Copies),
         &mut buffer,
-    )
+    )?;
+    states::measure_states(&rt)
 }

@@ -1,1 +1,6 @@
 pub mod Ends
+pub mod Holding
+pub mod Keeping
+pub mod Lines
+pub mod Parts
+pub mod Places

@@ -1,5 +1,7 @@
 pub mod CallsOn
 pub mod End
+pub mod Held
+pub mod Place
 pub mod State
 pub mod Turn
 pub mod View

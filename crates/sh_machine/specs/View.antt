@@ -1,9 +1,12 @@
 -- The states of users over a borrowed script, as plain data.
 use Rattle.std.specs.Prelude.{List, map}
-use Rattle.sh_tree.specs.Tree.{tree_of}
+use Rattle.sh_tree.specs.Tree.{Tree, exec, redir, pipe, list, back, tree_of}
 use Rattle.script_load.specs.Line.{ScriptLine, line_of}
 use Rattle.user_progs.specs.View.{state_of}
 use Rattle.sh_machine.specs.declared.rest.Rest.{Rest}
+use Rattle.sh_machine.specs.declared.node.Node.{Node}
+use Rattle.sh_machine.specs.declared.node.Opened.{Opened}
+use Rattle.sh_machine.specs.declared.node.Opened.TheVariants.{Exec as Exec', Redir as Redir', Pipe as Pipe', List as List', Back as Back'}
 use Rattle.sh_machine.specs.declared.state.Parent.{Parent as Parent'}
 use Rattle.sh_machine.specs.declared.state.Parent.TheVariants.{Makes, ForksWriter, ForksReader, ClosesReader, ClosesWriter, WaitsFirst, WaitsSecond}
 use Rattle.sh_machine.specs.declared.state.At.{At}
@@ -20,10 +23,20 @@ use Rattle.sh_machine.specs.Turn.{Next, stays, becomes, Turn}
 abbrev pub rest_of : {A N g : _} → Rest A N g → List ScriptLine
 rest_of rest = map line_of rest.lines.now
 
-abbrev pub parent_of : {A : _} → Parent' A → Parent
-parent_of (Makes left right) = makes (tree_of left.now) (tree_of right.now)
-parent_of (ForksWriter left right reader writer) = forks_writer (tree_of left.now) (tree_of right.now) reader writer
-parent_of (ForksReader right reader writer) = forks_reader (tree_of right.now) reader writer
+abbrev pub node_of : {A N g : _} → Node A N g → Tree
+node_of node = tree_of node.tree.now
+
+abbrev pub opened_of : {A N g : _} → Opened A N g → Tree
+opened_of (Exec' words) = exec words.now
+opened_of (Redir' mode name body) = redir mode name.now (node_of body)
+opened_of (Pipe' left right) = pipe (node_of left) (node_of right)
+opened_of (List' left right) = list (node_of left) (node_of right)
+opened_of (Back' body) = back (node_of body)
+
+abbrev pub parent_of : {A N g : _} → Parent' A N g → Parent
+parent_of (Makes left right) = makes (node_of left) (node_of right)
+parent_of (ForksWriter left right reader writer) = forks_writer (node_of left) (node_of right) reader writer
+parent_of (ForksReader right reader writer) = forks_reader (node_of right) reader writer
 parent_of (ClosesReader writer) = closes_reader writer
 parent_of ClosesWriter = closes_writer
 parent_of WaitsFirst = waits_first
@@ -32,13 +45,13 @@ parent_of WaitsSecond = waits_second
 abbrev pub shell_of : {A N g : _} → At A N g → Shell
 shell_of (Top phase rest) = top phase (rest_of rest)
 shell_of (Unknown name) = unknown name.now
-shell_of (ClosesOld mode name body) = closes_old mode name.now (tree_of body.now)
-shell_of (OpensFile name body) = opens_file name.now (tree_of body.now)
-shell_of (ForksLeft left right) = forks_left (tree_of left.now) (tree_of right.now)
-shell_of (WaitsLeft right) = waits_left (tree_of right.now)
+shell_of (ClosesOld mode name body) = closes_old mode name.now (node_of body)
+shell_of (OpensFile name body) = opens_file name.now (node_of body)
+shell_of (ForksLeft left right) = forks_left (node_of left) (node_of right)
+shell_of (WaitsLeft right) = waits_left (node_of right)
 shell_of (Pipes parent) = pipes (parent_of parent)
-shell_of (Side' at tree) = side at (tree_of tree.now)
-shell_of (ForksBack body) = forks_back (tree_of body.now)
+shell_of (Side' at tree) = side at (node_of tree)
+shell_of (ForksBack body) = forks_back (node_of body)
 shell_of Told = told
 shell_of Ended = ended
 

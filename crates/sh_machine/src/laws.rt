@@ -1,19 +1,34 @@
-//! The rows of the table of calls: each the contract of a function that does nothing.
-ghost use Rattle.std.specs.Prelude.{◌≡◌, ◌++◌, ◌∷◌, [], ℕ, List, codes};
+//! The rows of the table of calls, and what a shell calls whatever it is answered: each the contract of a function that
+//! does nothing.
+
+ghost use Rattle.std.specs.Prelude.{◌≡◌, ◌++◌, ◌∷◌, [], ℕ, List, Some, None, true, false, Contains, length, drop, replicate, codes};
 ghost use Rattle.mem_files.specs.Name.{Bytes, Name};
 ghost use Rattle.sh_tree.specs.declared.tree.Mode.{Mode};
 ghost use Rattle.sh_tree.specs.declared.fault.ParseFault.{ParseFault};
-ghost use Rattle.sh_tree.specs.Tree.{Tree, redir, pipe, list, back};
+ghost use Rattle.sh_tree.specs.declared.fault.ParseFault.TheVariants.{MissingFile, MissingParen, TooManyWords, Unexpected, Leftover, Memory};
+ghost use Rattle.sh_tree.specs.Tree.{Tree, exec, redir, pipe, list, back};
 ghost use Rattle.script_load.specs.declared.profile.Profile.{Profile};
 ghost use Rattle.script_load.specs.Line.{ScriptLine, command, bad, cd};
 ghost use Rattle.sh_machine.specs.declared.state.Phase.TheVariants.{Starts};
-ghost use Rattle.user_calls.specs.declared.calls.Call.TheVariants.{Fork, Exit, Wait, MakePipe, Write, OpenFile, Close, Dup};
+ghost use Rattle.user_calls.specs.declared.calls.Call.TheVariants.{Fork, Exec, Exit, Wait, MakePipe, Write, OpenFile, Close, Dup};
 ghost use Rattle.user_calls.specs.declared.calls.Reply.TheVariants.{Start, Child, Done, Fd, Ends, Refused};
 ghost use Rattle.user_calls.specs.declared.calls.Reply.{Reply};
+ghost use Rattle.user_progs.specs.State.{State};
 ghost use Rattle.user_progs.specs.Turn.{block};
+ghost use Rattle.user_progs.specs.View.{first_state};
 ghost use Rattle.sh_machine.specs.CallsOn.{calls_from, calls_on};
-ghost use Rattle.sh_machine.specs.State.{shell, top};
-ghost use Rattle.sh_machine.specs.Turn.{runs, takes_first, fault_text, old_fd, call_mode};
+ghost use Rattle.sh_machine.specs.Held.{MayCall, calls_of_lines, ends_of, held_by, held_next};
+ghost use Rattle.sh_machine.specs.State.{Shell, ended, init, program, shell, top};
+ghost use Rattle.sh_machine.specs.Turn.{call_mode, fault_text, old_fd, runs, shell_turn, takes_first};
+
+/// A command without words exits. A command whose program is known becomes that program; one whose isn't tells so.
+pub fn a_command_becomes_its_program()
+    ensures nothing { (profile : Profile) → calls_from profile (runs (exec [])) [] ≡ Exit ∷ [] }
+    ensures found { (profile : Profile) (name : Bytes) (arguments : List Bytes) (state : State) (replies : List Reply) → first_state (name ∷ arguments) ≡ Some state
+        → calls_from profile (runs (exec (name ∷ arguments))) replies ≡ Exec true ∷ calls_on (program state) replies }
+    ensures unknown { (profile : Profile) (name : Bytes) (arguments : List Bytes) (reply : Reply) → first_state (name ∷ arguments) ≡ None
+        → calls_from profile (runs (exec (name ∷ arguments))) (Refused ∷ reply ∷ []) ≡ Exec false ∷ Write 2 (block (codes "exec " ++ (name ++ codes " failed\n"))) ∷ Exit ∷ [] }
+{}
 
 /// A list: the parent waits for the left side, and then runs the right side; a child runs the left side.
 pub fn a_list_is_run_in_order()
@@ -50,9 +65,37 @@ pub fn a_line_is_run_and_waited_for()
     ensures directory { (profile : Profile) (text : Bytes) (later : List ScriptLine) (reply : Reply) → calls_on (shell profile (top Starts (cd text ∷ later))) (Start ∷ reply ∷ []) ≡ Write 2 (block (codes "cannot cd " ++ (text ++ 10 ∷ []))) ∷ (takes_first later).call ∷ [] }
 {}
 
+/// Over all its lines the top shell makes each line's calls in order, and exits then.
+pub fn the_top_shell_takes_every_line()
+    ensures { (profile : Profile) (lines : List ScriptLine)
+        → calls_on (shell profile (top Starts lines)) (Start ∷ replicate (length (calls_of_lines lines)) Done) ≡ calls_of_lines lines ++ Exit ∷ [] }
+{}
+
+/// What the child of a line that is no command writes.
+pub fn each_fault_has_its_message()
+    ensures file { (text : Bytes) (place : ℕ) → fault_text (MissingFile place) text ≡ codes "missing file for redirection\n" }
+    ensures parenthesis { (text : Bytes) (place : ℕ) → fault_text (MissingParen place) text ≡ codes "syntax - missing )\n" }
+    ensures words { (text : Bytes) (place : ℕ) → fault_text (TooManyWords place) text ≡ codes "too many args\n" }
+    ensures unexpected { (text : Bytes) (place : ℕ) → fault_text (Unexpected place) text ≡ codes "syntax\n" }
+    ensures leftover { (text : Bytes) (place : ℕ) → fault_text (Leftover place) text ≡ codes "leftovers: " ++ (drop place text ++ 10 ∷ []) }
+    ensures memory { (text : Bytes) → fault_text Memory text ≡ codes "no memory\n" }
+{}
+
 /// A refused fork or pipe is told of, and ends the process, the top shell too.
 pub fn a_refused_fork_ends_the_process()
     ensures first { (profile : Profile) (tree : Tree) (later : List ScriptLine) (reply : Reply) → calls_on (shell profile (top Starts (command tree ∷ later))) (Start ∷ Refused ∷ reply ∷ []) ≡ Fork ∷ Write 2 (block (codes "fork\n")) ∷ Exit ∷ [] }
     ensures side { (profile : Profile) (left right : Tree) (reply : Reply) → calls_from profile (runs (list left right)) (Refused ∷ reply ∷ []) ≡ Fork ∷ Write 2 (block (codes "fork\n")) ∷ Exit ∷ [] }
+    ensures behind { (profile : Profile) (body : Tree) (reply : Reply) → calls_from profile (runs (back body)) (Refused ∷ reply ∷ []) ≡ Fork ∷ Write 2 (block (codes "fork\n")) ∷ Exit ∷ [] }
     ensures ends { (profile : Profile) (left right : Tree) (reply : Reply) → calls_from profile (runs (pipe left right)) (Refused ∷ reply ∷ []) ≡ MakePipe ∷ Write 2 (block (codes "pipe\n")) ∷ Exit ∷ [] }
+    ensures left { (profile : Profile) (left right : Tree) (reader writer : ℕ) (reply : Reply) → calls_from profile (runs (pipe left right)) (Ends reader writer ∷ Refused ∷ reply ∷ []) ≡ MakePipe ∷ Fork ∷ Write 2 (block (codes "fork\n")) ∷ Exit ∷ [] }
+    ensures right { (profile : Profile) (left right : Tree) (reader writer : ℕ) (reply : Reply) → calls_from profile (runs (pipe left right)) (Ends reader writer ∷ Done ∷ Refused ∷ reply ∷ []) ≡ MakePipe ∷ Fork ∷ Fork ∷ Write 2 (block (codes "fork\n")) ∷ Exit ∷ [] }
+{}
+
+/// Whatever it is answered, a shell reads nothing, writes to descriptor 2 alone, and closes and doubles no descriptor but
+/// 0, 1 and the ends of the pipe that it made; one that exited exits again, and init waits.
+pub fn a_shell_keeps_to_its_calls()
+    ensures calls { (profile : Profile) (at : Shell) (reply : Reply) → MayCall at (shell_turn profile at reply).call }
+    ensures holds { (profile : Profile) (at : Shell) (reply : Reply) (fd : ℕ) → Contains (held_next (shell_turn profile at reply).next) fd → Contains (held_by at ++ ends_of reply) fd }
+    ensures over { (profile : Profile) (replies : List Reply) → calls_on (shell profile ended) replies ≡ replicate (length replies) Exit }
+    ensures waits { (replies : List Reply) → calls_on init replies ≡ replicate (length replies) Wait }
 {}

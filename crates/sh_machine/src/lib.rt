@@ -21,6 +21,8 @@
 pub mod laws;
 mod message;
 mod naming;
+mod node;
+mod place;
 mod rest;
 mod state;
 #[cfg(test)]

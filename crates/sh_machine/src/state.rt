@@ -3,8 +3,9 @@
 ghost use Rattle.std.specs.Prelude.{◌≡◌, ◌↔◌, IsTrue};
 
 use crate::naming::Naming;
+use crate::node::Node;
 use crate::rest::Rest;
-use sh_tree::{Cmd, Mode, same};
+use sh_tree::Mode;
 use std::alloc::Allocator;
 use user_calls::{Block, Call};
 use user_progs::Prog;
@@ -37,13 +38,13 @@ pub enum Side {
 
 // How far the process is that makes a pipe.
 #[derive(Drop)]
-pub enum Parent<'t, A: Allocator> {
+pub enum Parent<'t, A: Allocator, N: Naming> {
     // The pipe of these two sides is being made.
-    Makes(&'t Cmd<A>, &'t Cmd<A>),
+    Makes(Node<'t, A, N>, Node<'t, A, N>),
     // A child was forked for the left side; the pipe's read end and write end are at these descriptors.
-    ForksWriter(&'t Cmd<A>, &'t Cmd<A>, usize, usize),
+    ForksWriter(Node<'t, A, N>, Node<'t, A, N>, usize, usize),
     // A child was forked for the right side.
-    ForksReader(&'t Cmd<A>, usize, usize),
+    ForksReader(Node<'t, A, N>, usize, usize),
     // The read end is being closed, and the write end, at this descriptor, comes later.
     ClosesReader(usize),
     ClosesWriter,
@@ -59,16 +60,16 @@ pub enum At<'t, A: Allocator, N: Naming> {
     // `Exec` was called for a program of this name, and there is none.
     Unknown(&'t [u8]),
     // A redirection: its descriptor is being closed, and then its file opened.
-    ClosesOld(Mode, &'t [u8], &'t Cmd<A>),
-    OpensFile(&'t [u8], &'t Cmd<A>),
+    ClosesOld(Mode, &'t [u8], Node<'t, A, N>),
+    OpensFile(&'t [u8], Node<'t, A, N>),
     // A list: a child was forked for the left side, which is waited for.
-    ForksLeft(&'t Cmd<A>, &'t Cmd<A>),
-    WaitsLeft(&'t Cmd<A>),
-    Pipes(Parent<'t, A>),
+    ForksLeft(Node<'t, A, N>, Node<'t, A, N>),
+    WaitsLeft(Node<'t, A, N>),
+    Pipes(Parent<'t, A, N>),
     // A child of a pipe, which is to run this side.
-    Side(Side, &'t Cmd<A>),
+    Side(Side, Node<'t, A, N>),
     // A command behind `&`: a child was forked for it.
-    ForksBack(&'t Cmd<A>),
+    ForksBack(Node<'t, A, N>),
     // A message was written.
     Told,
     // `Exit` was called.
@@ -126,19 +127,24 @@ impl<'t, A: Allocator, N: Naming> Turn<'t, A, N> {
     }
 }
 
-impl<'t, A: Allocator> Parent<'t, A> {
+impl<'t, A: Allocator, N: Naming> Parent<'t, A, N> {
     ghost use Rattle.sh_machine.specs.View.{parent_of};
 
     pub fn twin(&self) -> Self
         ensures { parent_of result ≡ parent_of self.now }
     {
         match self {
-            Parent::Makes(left, right) => Parent::Makes(left, right),
+            Parent::Makes(left, right) => Parent::Makes(left.twin(), right.twin()),
             Parent::ForksWriter(left, right, reader, writer) => Parent::ForksWriter(
-                left, right, *reader, *writer,
+                left.twin(),
+                right.twin(),
+                *reader,
+                *writer,
             ),
             Parent::ForksReader(right, reader, writer) => Parent::ForksReader(
-                right, *reader, *writer,
+                right.twin(),
+                *reader,
+                *writer,
             ),
             Parent::ClosesReader(writer) => Parent::ClosesReader(*writer),
             Parent::ClosesWriter => Parent::ClosesWriter,
@@ -152,7 +158,7 @@ impl<'t, A: Allocator> Parent<'t, A> {
     {
         match (self, other) {
             (Parent::Makes(left, right), Parent::Makes(other_left, other_right)) => {
-                same(left, other_left) && same(right, other_right)
+                left.same(other_left) && right.same(other_right)
             }
             (
                 Parent::ForksWriter(left, right, reader, writer),
@@ -160,13 +166,13 @@ impl<'t, A: Allocator> Parent<'t, A> {
             ) => {
                 reader == other_reader
                     && writer == other_writer
-                    && same(left, other_left)
-                    && same(right, other_right)
+                    && left.same(other_left)
+                    && right.same(other_right)
             }
             (
                 Parent::ForksReader(right, reader, writer),
                 Parent::ForksReader(other_right, other_reader, other_writer),
-            ) => { reader == other_reader && writer == other_writer && same(right, other_right) }
+            ) => { reader == other_reader && writer == other_writer && right.same(other_right) }
             (Parent::ClosesReader(writer), Parent::ClosesReader(other_writer)) => {
                 writer == other_writer
             }
@@ -187,19 +193,19 @@ impl<'t, A: Allocator, N: Naming> At<'t, A, N> {
         match self {
             At::Top(phase, rest) => At::Top(*phase, rest.twin()),
             At::Unknown(name) => At::Unknown(name),
-            At::ClosesOld(mode, name, body) => At::ClosesOld(*mode, name, body),
-            At::OpensFile(name, body) => At::OpensFile(name, body),
-            At::ForksLeft(left, right) => At::ForksLeft(left, right),
-            At::WaitsLeft(right) => At::WaitsLeft(right),
+            At::ClosesOld(mode, name, body) => At::ClosesOld(*mode, name, body.twin()),
+            At::OpensFile(name, body) => At::OpensFile(name, body.twin()),
+            At::ForksLeft(left, right) => At::ForksLeft(left.twin(), right.twin()),
+            At::WaitsLeft(right) => At::WaitsLeft(right.twin()),
             At::Pipes(parent) => At::Pipes(parent.twin()),
-            At::Side(side, tree) => At::Side(*side, tree),
-            At::ForksBack(body) => At::ForksBack(body),
+            At::Side(side, tree) => At::Side(*side, tree.twin()),
+            At::ForksBack(body) => At::ForksBack(body.twin()),
             At::Told => At::Told,
             At::Ended => At::Ended,
         }
     }
 
-    // In constant time, but for the tree that a process runs, which is compared node by node.
+    // In constant time where the two are at one place of the script, but for a name, whose bytes are compared.
     pub fn same(&self, other: &Self) -> bool
         ensures { IsTrue result ↔ (shell_of self.now ≡ shell_of other.now) }
     {
@@ -209,19 +215,19 @@ impl<'t, A: Allocator, N: Naming> At<'t, A, N> {
             }
             (At::Unknown(name), At::Unknown(other_name)) => *name == *other_name,
             (At::ClosesOld(mode, name, body), At::ClosesOld(other_mode, other_name, other_body)) =>
-                { mode == other_mode && *name == *other_name && same(body, other_body) }
+                { mode == other_mode && *name == *other_name && body.same(other_body) }
             (At::OpensFile(name, body), At::OpensFile(other_name, other_body)) => {
-                *name == *other_name && same(body, other_body)
+                *name == *other_name && body.same(other_body)
             }
             (At::ForksLeft(left, right), At::ForksLeft(other_left, other_right)) => {
-                same(left, other_left) && same(right, other_right)
+                left.same(other_left) && right.same(other_right)
             }
-            (At::WaitsLeft(right), At::WaitsLeft(other_right)) => same(right, other_right),
+            (At::WaitsLeft(right), At::WaitsLeft(other_right)) => right.same(other_right),
             (At::Pipes(parent), At::Pipes(other_parent)) => parent.same(other_parent),
             (At::Side(side, tree), At::Side(other_side, other_tree)) => {
-                side == other_side && same(tree, other_tree)
+                side == other_side && tree.same(other_tree)
             }
-            (At::ForksBack(body), At::ForksBack(other_body)) => same(body, other_body),
+            (At::ForksBack(body), At::ForksBack(other_body)) => body.same(other_body),
             (At::Told, At::Told) => true,
             (At::Ended, At::Ended) => true,
             _ => false,

@@ -1,22 +1,21 @@
 //! What a shell does with a reply.
 
 ghost use Rattle.std.specs.Prelude.{◌≡◌, codes};
-ghost use Rattle.sh_tree.specs.Tree.{tree_of};
-ghost use Rattle.script_load.specs.Line.{line_of};
-ghost use Rattle.sh_machine.specs.Turn.{old_fd, call_mode, execs, runs, runs_line, runs_first, takes_first, top_turn, pipe_turn, side_turn, failed, shell_turn, on_fork, on_fd, on_done, on_unknown, calls, exits, tells};
+ghost use Rattle.sh_machine.specs.Turn.{old_fd, call_mode, execs, runs, runs_first, takes_first, top_turn, pipe_turn, side_turn, failed, shell_turn, on_fork, on_fd, on_done, on_unknown, calls, exits, tells};
 ghost use Rattle.sh_machine.specs.State.{makes, forks_writer, forks_reader, waits_left};
 ghost use Rattle.user_calls.specs.declared.calls.Call.TheVariants.{Wait};
 ghost use Rattle.sh_machine.specs.declared.state.Phase.TheVariants.{Forks};
 ghost use Rattle.sh_machine.specs.declared.state.Side.TheVariants.{Dups};
-ghost use Rattle.sh_machine.specs.View.{rest_of, parent_of, shell_of, turn_of};
+ghost use Rattle.sh_machine.specs.View.{rest_of, node_of, parent_of, shell_of, turn_of};
 
 use crate::message;
 use crate::naming::Naming;
+use crate::node::{Node, Opened};
 use crate::rest::Rest;
 use crate::state::{At, Next, Parent, Phase, Side, Turn};
 use script_load::{Line, Profile};
 use sh_lexer::Bytes;
-use sh_tree::{Cmd, Mode};
+use sh_tree::Mode;
 use std::alloc::Allocator;
 use user_calls::{Block, Call, Mode as CallMode, Reply};
 use user_progs::lookup;
@@ -63,34 +62,22 @@ fn execs<'t, A: Allocator, N: Naming>(words: &'t [Bytes<A>]) -> Turn<'t, A, N>
 }
 
 // Runs a tree.
-fn runs<'t, A: Allocator, N: Naming>(tree: &'t Cmd<A>) -> Turn<'t, A, N>
-    ensures { turn_of result ≡ runs (tree_of tree.now) }
+fn runs<'t, A: Allocator, N: Naming>(tree: &Node<'t, A, N>) -> Turn<'t, A, N>
+    ensures { turn_of result ≡ runs (node_of tree.now) }
 {
-    match tree {
-        Cmd::Exec(words) => execs(words.as_slice()),
-        Cmd::Redir { mode, name, body } => Turn::calls(
-            Call::Close(old_fd(*mode)),
-            At::ClosesOld(*mode, name.as_slice(), body),
+    match tree.open() {
+        Opened::Exec(words) => execs(words),
+        Opened::Redir(mode, name, body) => Turn::calls(
+            Call::Close(old_fd(mode)),
+            At::ClosesOld(mode, name, body),
         ),
-        Cmd::Pipe(left, right) => Turn::calls(
+        Opened::Pipe(left, right) => Turn::calls(
             Call::MakePipe,
             At::Pipes(Parent::Makes(left, right)),
         ),
-        Cmd::List(left, right) => Turn::calls(Call::Fork, At::ForksLeft(left, right)),
-        Cmd::Back(body) => Turn::calls(Call::Fork, At::ForksBack(body)),
+        Opened::List(left, right) => Turn::calls(Call::Fork, At::ForksLeft(left, right)),
+        Opened::Back(body) => Turn::calls(Call::Fork, At::ForksBack(body)),
     }
-}
-
-// Runs a line, in the child that was forked for it.
-fn runs_line<'t, A: Allocator, N: Naming>(line: &'t Line<A>) -> Turn<'t, A, N>
-    ensures { turn_of result ≡ runs_line (line_of line.now) }
-{
-    match line {
-        Line::Tree(tree) => return runs(tree),
-        Line::Bad(fault, text) => return Turn::writes(message::fault(*fault, text.as_slice())),
-        Line::Cd(_) => {}
-    }
-    Turn::exits()
 }
 
 // Runs the first of these lines, in the child that was forked for it.
@@ -100,7 +87,12 @@ fn runs_first<'t, A: Allocator, N: Naming>(rest: &Rest<'t, A, N>) -> Turn<'t, A,
     let Some((line, _)) = rest.lines().split_first() else {
         return Turn::exits();
     };
-    runs_line(line)
+    match line {
+        Line::Tree(tree) => return runs(&Node::first(rest, tree)),
+        Line::Bad(fault, text) => return Turn::writes(message::fault(*fault, text.as_slice())),
+        Line::Cd(_) => {}
+    }
+    Turn::exits()
 }
 
 // Takes the first of these lines.
@@ -165,17 +157,17 @@ fn top<'t, A: Allocator, N: Naming>(
 
 // The pipe of these two sides was made, or could not be.
 fn made<'t, A: Allocator, N: Naming>(
-    left: &'t Cmd<A>,
-    right: &'t Cmd<A>,
+    left: &Node<'t, A, N>,
+    right: &Node<'t, A, N>,
     reply: &Reply,
 ) -> Turn<'t, A, N>
-    ensures { turn_of result ≡ pipe_turn (makes (tree_of left.now) (tree_of right.now)) reply.now }
+    ensures { turn_of result ≡ pipe_turn (makes (node_of left.now) (node_of right.now)) reply.now }
 {
     match reply {
         Reply::Ends(reader, writer) => {
             return Turn::calls(
                 Call::Fork,
-                At::Pipes(Parent::ForksWriter(left, right, *reader, *writer)),
+                At::Pipes(Parent::ForksWriter(left.twin(), right.twin(), *reader, *writer)),
             );
         }
         Reply::Refused => return Turn::tells(b"pipe\n"),
@@ -186,25 +178,25 @@ fn made<'t, A: Allocator, N: Naming>(
 
 // A child was forked for the left side of a pipe, or could not be.
 fn forked_writer<'t, A: Allocator, N: Naming>(
-    left: &'t Cmd<A>,
-    right: &'t Cmd<A>,
+    left: &Node<'t, A, N>,
+    right: &Node<'t, A, N>,
     reader: usize,
     writer: usize,
     reply: &Reply,
 ) -> Turn<'t, A, N>
-    ensures { turn_of result ≡ pipe_turn (forks_writer (tree_of left.now) (tree_of right.now) reader writer) reply.now }
+    ensures { turn_of result ≡ pipe_turn (forks_writer (node_of left.now) (node_of right.now) reader writer) reply.now }
 {
     match reply {
         Reply::Done => {
             return Turn::calls(
                 Call::Fork,
-                At::Pipes(Parent::ForksReader(right, reader, writer)),
+                At::Pipes(Parent::ForksReader(right.twin(), reader, writer)),
             );
         }
         Reply::Child => {
             return Turn::calls(
                 Call::Close(1),
-                At::Side(Side::Closes(writer, reader, writer), left),
+                At::Side(Side::Closes(writer, reader, writer), left.twin()),
             );
         }
         Reply::Refused => return no_fork(),
@@ -215,12 +207,12 @@ fn forked_writer<'t, A: Allocator, N: Naming>(
 
 // A child was forked for the right side of a pipe, or could not be.
 fn forked_reader<'t, A: Allocator, N: Naming>(
-    right: &'t Cmd<A>,
+    right: &Node<'t, A, N>,
     reader: usize,
     writer: usize,
     reply: &Reply,
 ) -> Turn<'t, A, N>
-    ensures { turn_of result ≡ pipe_turn (forks_reader (tree_of right.now) reader writer) reply.now }
+    ensures { turn_of result ≡ pipe_turn (forks_reader (node_of right.now) reader writer) reply.now }
 {
     match reply {
         Reply::Done => {
@@ -229,7 +221,7 @@ fn forked_reader<'t, A: Allocator, N: Naming>(
         Reply::Child => {
             return Turn::calls(
                 Call::Close(0),
-                At::Side(Side::Closes(reader, reader, writer), right),
+                At::Side(Side::Closes(reader, reader, writer), right.twin()),
             );
         }
         Reply::Refused => return no_fork(),
@@ -239,7 +231,7 @@ fn forked_reader<'t, A: Allocator, N: Naming>(
 }
 
 // The process that makes a pipe.
-fn pipe<'t, A: Allocator, N: Naming>(parent: &Parent<'t, A>, reply: &Reply) -> Turn<'t, A, N>
+fn pipe<'t, A: Allocator, N: Naming>(parent: &Parent<'t, A, N>, reply: &Reply) -> Turn<'t, A, N>
     ensures { turn_of result ≡ pipe_turn (parent_of parent.now) reply.now }
 {
     match parent {
@@ -272,8 +264,8 @@ fn after<'t, A: Allocator, N: Naming>(reply: &Reply, call: Call, at: At<'t, A, N
 }
 
 // Runs this tree once the last call was carried out.
-fn runs_after<'t, A: Allocator, N: Naming>(reply: &Reply, tree: &'t Cmd<A>) -> Turn<'t, A, N>
-    ensures { turn_of result ≡ on_done reply.now (runs (tree_of tree.now)) }
+fn runs_after<'t, A: Allocator, N: Naming>(reply: &Reply, tree: &Node<'t, A, N>) -> Turn<'t, A, N>
+    ensures { turn_of result ≡ on_done reply.now (runs (node_of tree.now)) }
 {
     match reply {
         Reply::Done => return runs(tree),
@@ -286,16 +278,16 @@ fn runs_after<'t, A: Allocator, N: Naming>(reply: &Reply, tree: &'t Cmd<A>) -> T
 fn doubled<'t, A: Allocator, N: Naming>(
     reader: usize,
     writer: usize,
-    tree: &'t Cmd<A>,
+    tree: &Node<'t, A, N>,
     reply: &Reply,
 ) -> Turn<'t, A, N>
-    ensures { turn_of result ≡ side_turn (Dups reader writer) (tree_of tree.now) reply.now }
+    ensures { turn_of result ≡ side_turn (Dups reader writer) (node_of tree.now) reply.now }
 {
     match reply {
         Reply::Fd(_) => {
             return Turn::calls(
                 Call::Close(reader),
-                At::Side(Side::ClosesReader(writer), tree),
+                At::Side(Side::ClosesReader(writer), tree.twin()),
             );
         }
         _ => {}
@@ -304,15 +296,19 @@ fn doubled<'t, A: Allocator, N: Naming>(
 }
 
 // A child of a pipe.
-fn side<'t, A: Allocator, N: Naming>(side: Side, tree: &'t Cmd<A>, reply: &Reply) -> Turn<'t, A, N>
-    ensures { turn_of result ≡ side_turn side (tree_of tree.now) reply.now }
+fn side<'t, A: Allocator, N: Naming>(
+    side: Side,
+    tree: &Node<'t, A, N>,
+    reply: &Reply,
+) -> Turn<'t, A, N>
+    ensures { turn_of result ≡ side_turn side (node_of tree.now) reply.now }
 {
     match side {
         Side::Closes(kept, reader, writer) => {
             return after(
                 reply,
                 Call::Dup(kept),
-                At::Side(Side::Dups(reader, writer), tree),
+                At::Side(Side::Dups(reader, writer), tree.twin()),
             );
         }
         Side::Dups(reader, writer) => return doubled(reader, writer, tree, reply),
@@ -320,7 +316,7 @@ fn side<'t, A: Allocator, N: Naming>(side: Side, tree: &'t Cmd<A>, reply: &Reply
             return after(
                 reply,
                 Call::Close(writer),
-                At::Side(Side::ClosesWriter, tree),
+                At::Side(Side::ClosesWriter, tree.twin()),
             );
         }
         Side::ClosesWriter => {}
@@ -349,10 +345,10 @@ fn not_found<'t, A: Allocator, N: Naming>(name: &[u8], reply: &Reply) -> Turn<'t
 // The file of a redirection was opened, or could not be.
 fn opened<'t, A: Allocator, N: Naming>(
     name: &[u8],
-    body: &'t Cmd<A>,
+    body: &Node<'t, A, N>,
     reply: &Reply,
 ) -> Turn<'t, A, N>
-    ensures { turn_of result ≡ on_fd reply.now (runs (tree_of body.now)) (failed (codes "open ") name.now) }
+    ensures { turn_of result ≡ on_fd reply.now (runs (node_of body.now)) (failed (codes "open ") name.now) }
 {
     match reply {
         Reply::Fd(_) => return runs(body),
@@ -364,14 +360,14 @@ fn opened<'t, A: Allocator, N: Naming>(
 
 // A child was forked for the left side of a list, or could not be.
 fn forked_left<'t, A: Allocator, N: Naming>(
-    left: &'t Cmd<A>,
-    right: &'t Cmd<A>,
+    left: &Node<'t, A, N>,
+    right: &Node<'t, A, N>,
     reply: &Reply,
 ) -> Turn<'t, A, N>
-    ensures { turn_of result ≡ on_fork reply.now (calls Wait (waits_left (tree_of right.now))) (runs (tree_of left.now)) }
+    ensures { turn_of result ≡ on_fork reply.now (calls Wait (waits_left (node_of right.now))) (runs (node_of left.now)) }
 {
     match reply {
-        Reply::Done => return Turn::calls(Call::Wait, At::WaitsLeft(right)),
+        Reply::Done => return Turn::calls(Call::Wait, At::WaitsLeft(right.twin())),
         Reply::Child => return runs(left),
         Reply::Refused => return no_fork(),
         _ => {}
@@ -380,8 +376,8 @@ fn forked_left<'t, A: Allocator, N: Naming>(
 }
 
 // A child was forked for a command behind `&`, or could not be.
-fn forked_back<'t, A: Allocator, N: Naming>(body: &'t Cmd<A>, reply: &Reply) -> Turn<'t, A, N>
-    ensures { turn_of result ≡ on_fork reply.now exits (runs (tree_of body.now)) }
+fn forked_back<'t, A: Allocator, N: Naming>(body: &Node<'t, A, N>, reply: &Reply) -> Turn<'t, A, N>
+    ensures { turn_of result ≡ on_fork reply.now exits (runs (node_of body.now)) }
 {
     match reply {
         Reply::Child => return runs(body),
@@ -404,7 +400,7 @@ pub fn turn<'t, A: Allocator, N: Naming>(
         At::Unknown(name) => return not_found(name, reply),
         At::ClosesOld(mode, name, body) => {
             let opens = Call::OpenFile(Block::from_slice(name), call_mode(profile, *mode));
-            return after(reply, opens, At::OpensFile(name, body));
+            return after(reply, opens, At::OpensFile(name, body.twin()));
         }
         At::OpensFile(name, body) => return opened(name, body, reply),
         At::ForksLeft(left, right) => return forked_left(left, right, reply),
