@@ -26,7 +26,7 @@ use Rattle.proc_table.specs.declared.states.Channel.{Channel}
 use Rattle.proc_table.specs.declared.states.Channel.TheVariants.{Children}
 use Rattle.proc_table.specs.declared.table.Waited.{Waited}
 use Rattle.proc_table.specs.declared.table.Waited.TheVariants.{Reaped, NoChildren, MustSleep}
-use Rattle.proc_table.specs.Slots.{Table, at, is_free, put_of}
+use Rattle.proc_table.specs.Slots.{at, put_of}
 use Rattle.proc_table.specs.Calls.{lowest_free as lowest_free_slot, wait_answer, wait_by as waited_by, zombie_child, some_child, reaped, slept}
 use Rattle.kernel_model.specs.declared.events.Full.{Full}
 use Rattle.kernel_model.specs.declared.events.Full.TheVariants.{Open, Fds, Memory, Files, Size}
@@ -40,7 +40,7 @@ use Rattle.kernel_model.specs.Opening.{emptied_if, with_bytes, open_here, open_f
 use Rattle.kernel_model.specs.Reading.{read_file, read_mode, read_pipe, read_object, read_entry, read_held}
 use Rattle.kernel_model.specs.Writing.{write_file, append_file, write_mode, write_pipe, write_object, write_entry, write_held}
 use Rattle.kernel_model.specs.Events.{acted}
-use Rattle.kernel_laws.specs.Sleeping.{Waits, Rests}
+use Rattle.kernel_laws.specs.Sleeping.{Waits, Lives, Rests}
 use Rattle.kernel_laws.specs.Busy.{IsBusy}
 use Rattle.kernel_laws.proofs.Slots.{rests, ready_rests, sleep_busy, slept_waits, asleep_where, fds_busy}
 use Rattle.kernel_laws.proofs.PipeReads.{read_rests}
@@ -69,10 +69,10 @@ module _ {S : Type 0} (pid : ℕ) (after : S) where
 
   -- ---- processes
 
-  fork_call : (k : KernelState S) (place : Option ℕ) → lowest_free_slot k.table ≡ place → is_free (at k.table pid) ≡ false → Busy k → AtRest (fork_into k pid after place)
-  fork_call k None found used b = ready_rests k.table k.pipes pid after Refused b
-  fork_call k (Some child) found used b =
-      ready_rests _ k.pipes pid after Done (fork_busy k.table k.pipes pid child after (fds_at k pid) found used b)
+  fork_call : (k : KernelState S) (place : Option ℕ) → lowest_free_slot k.table ≡ place → Lives (at k.table pid) → Busy k → AtRest (fork_into k pid after place)
+  fork_call k None found lives b = ready_rests k.table k.pipes pid after Refused b
+  fork_call k (Some child) found lives b =
+      ready_rests _ k.pipes pid after Done (fork_busy k.table k.pipes pid child after (fds_at k pid) found lives b)
 
   exit_by : (k : KernelState S) (b : Bool) → (pid == 0) ≡ b → Busy k → AtRest (if b then answered k pid after Refused else ended pid (closed_below k pid DESCRIPTORS))
   exit_by k true test busy = answering k Refused busy
@@ -223,16 +223,16 @@ module _ {S : Type 0} (pid : ℕ) (after : S) where
   write_call k bs refused None b = answering k Refused b
   write_call k bs refused (Some e) b = write_entry_call k e bs refused (file_at k.entries (Some e)) b
 
-  pub acted_rests : (k : KernelState S) (call : Call) (refused : Bool) → is_free (at k.table pid) ≡ false → Busy k → AtRest (acted k pid after call refused)
-  acted_rests k Fork refused used b = fork_call k (lowest_free_slot k.table) refl used b
-  acted_rests k (Exec found) refused used b = answering k _ b
-  acted_rests k Exit refused used b = exit_by k (pid == 0) refl b
-  acted_rests k Wait refused used b = wait_call k (zombie_child k.table pid) (some_child k.table pid) refl refl b
-  acted_rests k MakePipe refused used b = make_pipe_call k refused b
-  acted_rests k (Read fd n) refused used b = read_call k (min n BLOCK_SIZE) (entry_of (fds_at k pid) fd) b
-  acted_rests k (Write fd bs) refused used b = write_call k bs refused (entry_of (fds_at k pid) fd) b
-  acted_rests k (OpenFile name mode) refused used b = open_call k name mode refused b
-  acted_rests k (Close fd) refused used b = answering (closed k pid fd) _ (closed_busy pid k fd b)
-  acted_rests k (Dup fd) refused used b =
+  pub acted_rests : (k : KernelState S) (call : Call) (refused : Bool) → Lives (at k.table pid) → Busy k → AtRest (acted k pid after call refused)
+  acted_rests k Fork refused lives b = fork_call k (lowest_free_slot k.table) refl lives b
+  acted_rests k (Exec found) refused lives b = answering k _ b
+  acted_rests k Exit refused lives b = exit_by k (pid == 0) refl b
+  acted_rests k Wait refused lives b = wait_call k (zombie_child k.table pid) (some_child k.table pid) refl refl b
+  acted_rests k MakePipe refused lives b = make_pipe_call k refused b
+  acted_rests k (Read fd n) refused lives b = read_call k (min n BLOCK_SIZE) (entry_of (fds_at k pid) fd) b
+  acted_rests k (Write fd bs) refused lives b = write_call k bs refused (entry_of (fds_at k pid) fd) b
+  acted_rests k (OpenFile name mode) refused lives b = open_call k name mode refused b
+  acted_rests k (Close fd) refused lives b = answering (closed k pid fd) _ (closed_busy pid k fd b)
+  acted_rests k (Dup fd) refused lives b =
       dup_call (copied k pid (entry_of (fds_at k pid) fd) (lowest_free (fds_at k pid))) (dup_answer (entry_of (fds_at k pid) fd) (lowest_free (fds_at k pid)))
       (fds_busy k.table k.pipes pid (after_dup (fds_at k pid) (entry_of (fds_at k pid) fd) (lowest_free (fds_at k pid))) b)

@@ -10,11 +10,11 @@ use Rattle.std.specs.List.{position_or_len}
 use Rattle.fd_table.specs.Descriptors.{Descriptors}
 use Rattle.proc_table.specs.declared.states.Channel.{Channel}
 use Rattle.proc_table.specs.declared.states.Channel.TheVariants.{PipeBytes, PipeRoom, Children}
-use Rattle.proc_table.specs.Slots.{Table, Slot, at, is_free, is_running, is_child_of, is_zombie_child_of, is_zombie, is_number}
+use Rattle.proc_table.specs.Slots.{Table, Slot, at, is_free, is_child_of, is_zombie_child_of, is_zombie, is_number}
 use Rattle.proc_table.specs.Calls.{forked, newborn, lowest_free, reaped, zombie_child, some_child}
 use Rattle.proc_table.proofs.Changes.{was_free, child_is, reaped_is_free, reaped_others, was_zombie_child}
 use Rattle.kernel_model.specs.Pipes.{Pipes}
-use Rattle.kernel_laws.specs.Sleeping.{Waits, WaitsForChild, SleepsOn, IsFamily}
+use Rattle.kernel_laws.specs.Sleeping.{Waits, WaitsForChild, SleepsOn, Lives, IsFamily}
 use Rattle.kernel_laws.specs.Busy.{IsBusy}
 use Rattle.kernel_laws.proofs.Slots.{and_false}
 
@@ -64,22 +64,32 @@ module _ {S : Type 0} (t : Table S) (pipes : Pipes) (pid child : ℕ) (m : S) (f
   used_apart : (i : ℕ) → is_free (at t i) ≡ false → i ≢ child
   used_apart i used is = both_ways (is_free (at t i)) used (ap (λ (k : ℕ). is_free (at t k)) is ∙ ap is_free free)
 
+  -- who lives goes on to
+  lives_by : (q : ℕ) → Lives (at t q) → Lives (at grown q)
+  lives_by q lives = subst (λ (x : Slot S). Lives x) (sym (other q (used_apart q lives.used))) lives
+
+  parents_by : (i q : ℕ) → Lives (at t pid) → IsFamily t → (i ≡ child) ⊎ (i ≢ child) → is_child_of q (at grown i) ≡ true → Lives (at grown q)
+  parents_by i q lives f (inl is) c =
+      let parent : (q == pid) ≡ true = sym (ap (is_child_of q) new) ∙ ap (λ (k : ℕ). is_child_of q (at grown k)) (sym is) ∙ c in
+      subst (λ (k : ℕ). Lives (at grown k)) (sym (eqb-true q pid parent)) (lives_by pid lives)
+  parents_by i q lives f (inr ne) c = lives_by q (f.parents i q (ap (is_child_of q) (sym (other i ne)) ∙ c))
+
   own_by : (i : ℕ) → pid ≢ child → IsFamily t → (i ≡ child) ⊎ (i ≢ child) → is_child_of i (at grown i) ≡ false
   own_by i apart f (inl is) = ap (λ (k : ℕ). is_child_of k (at grown k)) is ∙ ap (is_child_of child) new ∙ ne_eqb child pid (λ same. apart (sym same))
   own_by i apart f (inr ne) = ap (is_child_of i) (other i ne) ∙ f.own i
 
-  fork_family : is_free (at t pid) ≡ false → IsFamily t → IsFamily grown
-  fork_family used f =
-      let init_stays : at grown 0 ≡ at t 0 = other 0 (used_apart 0 f.init) in
+  fork_family : Lives (at t pid) → IsFamily t → IsFamily grown
+  fork_family lives f =
       record {
-        init = ap is_free init_stays ∙ f.init;
-        eldest = λ r. ap (is_child_of r) init_stays ∙ f.eldest r;
-        own = λ i. own_by i (used_apart pid used) f (cases_eq i child);
+        init = lives_by 0 f.init;
+        eldest = λ r. ap (is_child_of r) (other 0 (used_apart 0 f.init.used)) ∙ f.eldest r;
+        own = λ i. own_by i (used_apart pid lives.used) f (cases_eq i child);
+        parents = λ i q c. parents_by i q lives f (cases_eq i child) c;
       }
 
-  pub fork_busy : is_free (at t pid) ≡ false → IsBusy t pipes pid → IsBusy grown pipes pid
-  fork_busy used b =
-      record { others = λ q c ne sleeps. fork_waits q c sleeps (b.others q c ne) (cases_eq q child); small = b.small; family = fork_family used b.family }
+  pub fork_busy : Lives (at t pid) → IsBusy t pipes pid → IsBusy grown pipes pid
+  fork_busy lives b =
+      record { others = λ q c ne sleeps. fork_waits q c sleeps (b.others q c ne) (cases_eq q child); small = b.small; family = fork_family lives b.family }
 
 -- ---- a reaped child
 
@@ -99,28 +109,37 @@ module _ {S : Type 0} (t : Table S) (pipes : Pipes) (pid child : ℕ) (found : z
   reap_stays q i ne (inl is) =
       let P : ℕ → Type 0 = λ k. StaysFor q (at t k) (at (reaped t pid) k) in
       subst P (sym is) (record { child = λ c. absurd (ne (one_parent_of q pid (at t child) c parent)); zombie = λ z. ap (is_zombie_child_of q) (reaped_is_free t pid child found) })
-  reap_stays q i ne (inr apart) = same_for q (at t i) (at (reaped t pid) i) (reaped_others t pid child i found apart)
+  reap_stays q i ne (inr aside) = same_for q (at t i) (at (reaped t pid) i) (reaped_others t pid child i found aside)
 
   reap_waits : (q : ℕ) (c : Channel) → q ≢ pid → SleepsOn (at (reaped t pid) q) c → (SleepsOn (at t q) c → Waits t pipes q c) → (q ≡ child) ⊎ (q ≢ child) → Waits (reaped t pid) pipes q c
   reap_waits q c ne sleeps waits (inl is) = absurd (subst (λ (x : Slot S). SleepsOn x c) (ap (λ (k : ℕ). at (reaped t pid) k) is ∙ reaped_is_free t pid child found) sleeps)
-  reap_waits q c ne sleeps waits (inr apart) =
-      waits_for t (reaped t pid) pipes q c (λ i. reap_stays q i ne (cases_eq i child)) (waits (subst (λ (x : Slot S). SleepsOn x c) (reaped_others t pid child q found apart) sleeps))
+  reap_waits q c ne sleeps waits (inr aside) =
+      waits_for t (reaped t pid) pipes q c (λ i. reap_stays q i ne (cases_eq i child)) (waits (subst (λ (x : Slot S). SleepsOn x c) (reaped_others t pid child q found aside) sleeps))
 
   own_left : (i : ℕ) → IsFamily t → (i ≡ child) ⊎ (i ≢ child) → is_child_of i (at (reaped t pid) i) ≡ false
   own_left i f (inl is) = ap (λ (k : ℕ). is_child_of i (at (reaped t pid) k)) is ∙ ap (is_child_of i) (reaped_is_free t pid child found)
-  own_left i f (inr apart) = ap (is_child_of i) (reaped_others t pid child i found apart) ∙ f.own i
+  own_left i f (inr aside) = ap (is_child_of i) (reaped_others t pid child i found aside) ∙ f.own i
 
-  -- init is nobody's child, so it isn't reaped
-  init_apart : IsFamily t → 0 ≢ child
-  init_apart f is = both_ways (is_child_of pid (at t 0)) (f.eldest pid) (ap (λ (k : ℕ). is_child_of pid (at t k)) is ∙ parent)
+  -- who lives isn't reaped
+  apart : (q : ℕ) → Lives (at t q) → q ≢ child
+  apart q lives is =
+      both_ways (is_zombie (at t q)) lives.alive (ap (λ (k : ℕ). is_zombie (at t k)) is ∙ (and_parts (is_child_of pid (at t child)) (is_zombie (at t child)) (was_zombie_child t pid child found).1).1)
+
+  lives_left : (q : ℕ) → Lives (at t q) → Lives (at (reaped t pid) q)
+  lives_left q lives = subst (λ (x : Slot S). Lives x) (sym (reaped_others t pid child q found (apart q lives))) lives
+
+  parents_left : (i q : ℕ) → IsFamily t → (i ≡ child) ⊎ (i ≢ child) → is_child_of q (at (reaped t pid) i) ≡ true → Lives (at (reaped t pid) q)
+  parents_left i q f (inl is) c =
+      absurd (both_ways (is_child_of q (at (reaped t pid) i)) (ap (λ (k : ℕ). is_child_of q (at (reaped t pid) k)) is ∙ ap (is_child_of q) (reaped_is_free t pid child found)) c)
+  parents_left i q f (inr ne) c = lives_left q (f.parents i q (ap (is_child_of q) (sym (reaped_others t pid child i found ne)) ∙ c))
 
   reap_family : IsFamily t → IsFamily (reaped t pid)
   reap_family f =
-      let init_stays : at (reaped t pid) 0 ≡ at t 0 = reaped_others t pid child 0 found (init_apart f) in
       record {
-        init = ap is_free init_stays ∙ f.init;
-        eldest = λ r. ap (is_child_of r) init_stays ∙ f.eldest r;
+        init = lives_left 0 f.init;
+        eldest = λ r. ap (is_child_of r) (reaped_others t pid child 0 found (apart 0 f.init)) ∙ f.eldest r;
         own = λ i. own_left i f (cases_eq i child);
+        parents = λ i q c. parents_left i q f (cases_eq i child) c;
       }
 
   pub reap_busy : IsBusy t pipes pid → IsBusy (reaped t pid) pipes pid

@@ -10,7 +10,7 @@ use Rattle.proc_table.specs.Slots.{Table, Slot, at, is_free, is_number, is_child
 use Rattle.proc_table.specs.Calls.{exited, given, woken, woken_status, woken_by_exit, with_status, zombie_child}
 use Rattle.proc_table.proofs.Changes.{exit_self, exit_other, exit_child, gone_after, init_after, others_after}
 use Rattle.kernel_model.specs.Pipes.{Pipes}
-use Rattle.kernel_laws.specs.Sleeping.{Waits, WaitsForChild, SleepsOn, IsFamily, Rests}
+use Rattle.kernel_laws.specs.Sleeping.{Waits, WaitsForChild, SleepsOn, Lives, Rests}
 use Rattle.kernel_laws.specs.Busy.{IsBusy}
 use Rattle.kernel_laws.proofs.Slots.{woken_or_not, sleeps_on}
 use Rattle.kernel_laws.proofs.Children.{none_at}
@@ -160,14 +160,26 @@ module _ {S : Type 0} (t : Table S) (pid : ℕ) where
     eldest_after r (inl is) = ap (λ (k : ℕ). is_child_of k (at u 0)) is ∙ exit_child t pid pid 0 ∙ gone_after pid (at t 0) some
     eldest_after r (inr ne) = no_child r 0 ne (busy.family.eldest r) (λ _. busy.family.eldest pid) (cases_eq r 0)
 
+    lives_after : (q : ℕ) → q ≢ pid → Lives (at t q) → Lives (at u q)
+    lives_after q ne lives =
+        record { used = ap is_free (exit_other t pid q ne) ∙ free_after (given pid (at t q)) ∙ free_given pid (at t q) ∙ lives.used; alive = zombie_other q ne ∙ lives.alive }
+
+    parents_after : (i q : ℕ) → (q ≡ pid) ⊎ (q ≢ pid) → (q ≡ 0) ⊎ (q ≢ 0) → is_child_of q (at u i) ≡ true → Lives (at u q)
+    parents_after i q (inl is) z c =
+        absurd (both_ways (is_child_of q (at u i)) (ap (λ (k : ℕ). is_child_of k (at u i)) is ∙ exit_child t pid pid i ∙ gone_after pid (at t i) some) c)
+    parents_after i q (inr ne) (inl is) c = subst (λ (k : ℕ). Lives (at u k)) (sym is) (lives_after 0 (λ same. some (sym same)) busy.family.init)
+    parents_after i q (inr ne) (inr not_init) c =
+        lives_after q ne (busy.family.parents i q (sym (others_after pid q (at t i) ne not_init) ∙ sym (exit_child t pid q i) ∙ c))
+
     pub exit_rests : Rests u pipes
     exit_rests =
         record {
           waits = λ q c sleeps. exit_waits q c sleeps (cases_eq q pid);
           small = busy.small;
           family = record {
-            init = ap is_free (exit_other t pid 0 (λ is. some (sym is))) ∙ free_after (given pid (at t 0)) ∙ free_given pid (at t 0) ∙ busy.family.init;
+            init = lives_after 0 (λ is. some (sym is)) busy.family.init;
             eldest = λ r. eldest_after r (cases_eq r pid);
             own = λ i. own_after i (cases_eq i pid) (cases_eq i 0);
+            parents = λ i q c. parents_after i q (cases_eq q pid) (cases_eq q 0) c;
           };
         }

@@ -1,12 +1,14 @@
 -- In every run from the start whoever sleeps has to: at the start nobody sleeps, and each event keeps it.
-use Rattle.std.proofs.Common.{◌≡◌, ℕ, zero, suc, List, [], ◌∷◌, Bool, true, false, Option, Some, None, refl, ap, subst, ◌∙◌}
+use Rattle.std.proofs.Common.{◌≡◌, ℕ, zero, suc, List, [], ◌∷◌, Bool, true, false, Option, Some, None, refl, sym, ap, subst, ◌∙◌}
+use Rattle.std.proofs.lemmas.Bool.{both_ways, eqb-true}
 use Rattle.std.specs.Prelude.{⊤, if◌then◌else◌, replicate}
 use Rattle.user_calls.specs.declared.calls.Call.{Call}
 use Rattle.user_calls.specs.declared.calls.Reply.{Reply}
 use Rattle.fd_table.specs.declared.names.Object.TheVariants.{Input, Out, Diag}
 use Rattle.proc_table.specs.declared.states.Channel.{Channel}
-use Rattle.proc_table.specs.declared.states.Status.TheVariants.{Running}
-use Rattle.proc_table.specs.Slots.{Table, Slot, at, is_free, is_child_of, is_running_on}
+use Rattle.proc_table.specs.declared.states.Status.{Status}
+use Rattle.proc_table.specs.declared.states.Status.TheVariants.{Runnable, Running, Asleep, Zombie}
+use Rattle.proc_table.specs.Slots.{Table, Slot, at, is_free, is_child_of, is_zombie, is_zombie_status, is_running_on, is_running_on_status}
 use Rattle.proc_table.specs.Calls.{boot_table, dispatched, with_status}
 use Rattle.proc_table.proofs.Changes.{written}
 use Rattle.mem_files.specs.Name.{Name, Bytes}
@@ -17,7 +19,7 @@ use Rattle.kernel_model.specs.Pipes.{Pipes}
 use Rattle.kernel_model.specs.Descriptors.{with_open}
 use Rattle.kernel_model.specs.Boot.{closed_kernel, boot_kernel}
 use Rattle.kernel_model.specs.Events.{counted, trapped, can_dispatch, happens, then_happens, run}
-use Rattle.kernel_laws.specs.Sleeping.{SleepsOn, Rests}
+use Rattle.kernel_laws.specs.Sleeping.{SleepsOn, Lives, Rests}
 use Rattle.kernel_laws.specs.Busy.{IsBusy}
 use Rattle.kernel_laws.proofs.Slots.{rests, running_busy}
 use Rattle.kernel_laws.proofs.Closes.{open_busy}
@@ -45,12 +47,20 @@ module _ {S : Type 0} (init shell : S) where
   nobody_is_its_own (suc zero) = refl
   nobody_is_its_own (suc (suc i)) = ap (is_child_of (suc (suc i))) (past_two S 62 i)
 
+  init_lives : Lives (at (boot_table init shell) 0)
+  init_lives = record { used = refl; alive = refl }
+
+  parents_live : (i q : ℕ) → is_child_of q (at (boot_table init shell) i) ≡ true → Lives (at (boot_table init shell) q)
+  parents_live zero q c = absurd (let z : ⊥ = cc in z)
+  parents_live (suc zero) q c = subst (λ (k : ℕ). Lives (at (boot_table init shell) k)) (sym (eqb-true q 0 c)) init_lives
+  parents_live (suc (suc i)) q c = absurd (both_ways (is_child_of q (at (boot_table init shell) (suc (suc i)))) (ap (is_child_of q) (past_two S 62 i)) c)
+
   booting : IsBusy (boot_table init shell) [] 1
   booting =
       record {
         others = λ q c ne sleeps. absurd (nobody_sleeps q c sleeps);
         small = tt;
-        family = record { init = refl; eldest = λ r. refl; own = nobody_is_its_own };
+        family = record { init = init_lives; eldest = λ r. refl; own = nobody_is_its_own; parents = parents_live };
       }
 
   pub boot_rests : (input : Bytes) (list : List (Name × Bytes)) → Rests (boot_kernel init shell input list).table (boot_kernel init shell input list).pipes
@@ -77,21 +87,28 @@ abbrev RestsIf : {S : Type 0} → Option (KernelState S) → Type 0
 RestsIf None = ⊤
 RestsIf (Some k) = Rests k.table k.pipes
 
-rests_where : {S : Type 0} (b : Bool) (o : Option (KernelState S)) → RestsIf o → RestsIf (if b then o else None)
-rests_where true o r = r
+rests_where : {S : Type 0} (b : Bool) (o : Option (KernelState S)) → (b ≡ true → RestsIf o) → RestsIf (if b then o else None)
+rests_where true o r = r refl
 rests_where false o r = tt
 
+-- who runs lives
+runs_alive : (h : ℕ) (s : Status) → is_running_on_status h s ≡ true → is_zombie_status s ≡ false
+runs_alive h Runnable runs = refl
+runs_alive h (Running other) runs = refl
+runs_alive h (Asleep c) runs = refl
+runs_alive h Zombie runs = absurd (let z : ⊥ = cc in z)
+
 module _ {S : Type 0} (call : S → Reply → Call) (next : S → Reply → S) where
-  trap_rests : (k : KernelState S) (pid : ℕ) (x : Slot S) (refused : Bool) → at k.table pid ≡ x → Rests k.table k.pipes → RestsIf (trapped call next k pid x refused)
-  trap_rests k pid None refused is r = tt
-  trap_rests k pid (Some p) refused is r =
-      acted_rests pid (next p.machine p.reply) (counted k) (call p.machine p.reply) refused (ap is_free is) (busy k.table k.pipes pid r)
+  trap_rests : (k : KernelState S) (pid : ℕ) (x : Slot S) (h : ℕ) (refused : Bool) → at k.table pid ≡ x → is_running_on h x ≡ true → Rests k.table k.pipes → RestsIf (trapped call next k pid x refused)
+  trap_rests k pid None h refused is runs r = tt
+  trap_rests k pid (Some p) h refused is runs r =
+      acted_rests pid (next p.machine p.reply) (counted k) (call p.machine p.reply) refused (record { used = ap is_free is; alive = ap is_zombie is ∙ runs_alive h p.status runs }) (busy k.table k.pipes pid r)
 
   happens_rests : (k : KernelState S) (e : Event) (refused : Bool) → Rests k.table k.pipes → RestsIf (happens call next k e refused)
   happens_rests k (Dispatch h pid) refused r =
-      rests_where (can_dispatch k.table h pid) (Some (record (counted k) { table = dispatched k.table pid h })) (dispatch_rests k.table k.pipes pid h r)
+      rests_where (can_dispatch k.table h pid) (Some (record (counted k) { table = dispatched k.table pid h })) (λ _. dispatch_rests k.table k.pipes pid h r)
   happens_rests k (Trap h pid) refused r =
-      rests_where (is_running_on h (at k.table pid)) (trapped call next k pid (at k.table pid) refused) (trap_rests k pid (at k.table pid) refused refl r)
+      rests_where (is_running_on h (at k.table pid)) (trapped call next k pid (at k.table pid) refused) (λ runs. trap_rests k pid (at k.table pid) h refused refl runs r)
 
   then_rests : (o : Option (KernelState S)) (e : Event) (refused : Bool) → RestsIf o → RestsIf (then_happens call next o e refused)
   then_rests None e refused r = tt

@@ -9,17 +9,17 @@ use Rattle.proc_table.specs.declared.states.Channel.{Channel}
 use Rattle.proc_table.specs.declared.states.Channel.TheVariants.{PipeBytes, PipeRoom, Children}
 use Rattle.proc_table.specs.declared.states.Status.{Status}
 use Rattle.proc_table.specs.declared.states.Status.TheVariants.{Runnable, Running, Asleep, Zombie}
-use Rattle.proc_table.specs.Slots.{Table, Slot, at, is_child_of, is_zombie_child_of, is_zombie_status, is_free, same_channel, is_asleep_on_status}
+use Rattle.proc_table.specs.Slots.{Table, Slot, at, is_child_of, is_zombie, is_zombie_child_of, is_zombie_status, is_free, same_channel, is_asleep_on_status}
 use Rattle.proc_table.specs.Calls.{readied, made_ready, slept, put_to_sleep, all_woken, woken, woken_status, fds_set, with_fds, with_status}
 use Rattle.proc_table.proofs.Changes.{written, mapped}
 use Rattle.kernel_model.specs.Pipes.{Pipes}
-use Rattle.kernel_laws.specs.Sleeping.{Waits, SleepsOn, AllWait, AreSmall, IsFamily, Rests}
+use Rattle.kernel_laws.specs.Sleeping.{Waits, SleepsOn, AreSmall, Lives, IsFamily, Rests}
 use Rattle.kernel_laws.specs.Busy.{OthersWait, IsBusy, Stays}
 
 -- ---- slots that stay
 
 pub stays_same : {S : Type 0} (x y : Slot S) → y ≡ x → Stays x y
-stays_same x y is = record { child = λ r. ap (is_child_of r) is; zombie = λ r none. ap (is_zombie_child_of r) is ∙ none; free = ap is_free is }
+stays_same x y is = record { child = λ r. ap (is_child_of r) is; zombie = λ r none. ap (is_zombie_child_of r) is ∙ none; free = ap is_free is; alive = λ none. ap is_zombie is ∙ none }
 
 pub and_false : (b : Bool) → (b && false) ≡ false
 and_false true = refl
@@ -27,19 +27,19 @@ and_false false = refl
 
 ready_stays : {S : Type 0} (m : S) (reply : Reply) (x : Slot S) → Stays x (made_ready m reply x)
 ready_stays m reply None = stays_same None None refl
-ready_stays m reply (Some p) = record { child = λ r. refl; zombie = λ r none. and_false (is_child_of r (Some p)); free = refl }
+ready_stays m reply (Some p) = record { child = λ r. refl; zombie = λ r none. and_false (is_child_of r (Some p)); free = refl; alive = λ none. refl }
 
 sleep_stays : {S : Type 0} (c : Channel) (put : ℕ) (x : Slot S) → Stays x (put_to_sleep c put x)
 sleep_stays c put None = stays_same None None refl
-sleep_stays c put (Some p) = record { child = λ r. refl; zombie = λ r none. and_false (is_child_of r (Some p)); free = refl }
+sleep_stays c put (Some p) = record { child = λ r. refl; zombie = λ r none. and_false (is_child_of r (Some p)); free = refl; alive = λ none. refl }
 
 fds_stays : {S : Type 0} (fds : Descriptors) (x : Slot S) → Stays x (with_fds fds x)
 fds_stays fds None = stays_same None None refl
-fds_stays fds (Some p) = record { child = λ r. refl; zombie = λ r none. none; free = refl }
+fds_stays fds (Some p) = record { child = λ r. refl; zombie = λ r none. none; free = refl; alive = λ none. none }
 
 running_stays : {S : Type 0} (h : ℕ) (x : Slot S) → Stays x (with_status (Running h) x)
 running_stays h None = stays_same None None refl
-running_stays h (Some p) = record { child = λ r. refl; zombie = λ r none. and_false (is_child_of r (Some p)); free = refl }
+running_stays h (Some p) = record { child = λ r. refl; zombie = λ r none. and_false (is_child_of r (Some p)); free = refl; alive = λ none. refl }
 
 pub woken_or_not : (b : Bool) (s : Channel) → is_zombie_status (if b then Runnable else Asleep s) ≡ false
 woken_or_not true s = refl
@@ -54,7 +54,7 @@ no_new_zombie c Zombie true none = none
 
 woken_stays : {S : Type 0} (c : Channel) (x : Slot S) → Stays x (woken c x)
 woken_stays c None = stays_same None None refl
-woken_stays c (Some p) = record { child = λ r. refl; zombie = λ r none. no_new_zombie c p.status (is_child_of r (Some p)) none; free = refl }
+woken_stays c (Some p) = record { child = λ r. refl; zombie = λ r none. no_new_zombie c p.status (is_child_of r (Some p)) none; free = refl; alive = no_new_zombie c p.status true }
 
 -- ---- tables of slots that stay
 
@@ -82,8 +82,17 @@ waits_on t u pipes q (Children pid) stays w = (
   },
 )
 
+lives_on : {S : Type 0} (x y : Slot S) → Stays x y → Lives x → Lives y
+lives_on x y stays lives = record { used = stays.free ∙ lives.used; alive = stays.alive lives.alive }
+
 family_on : {S : Type 0} (t u : Table S) → ((i : ℕ) → Stays (at t i) (at u i)) → IsFamily t → IsFamily u
-family_on t u stays f = record { init = (stays 0).free ∙ f.init; eldest = λ r. (stays 0).child r ∙ f.eldest r; own = λ i. (stays i).child i ∙ f.own i }
+family_on t u stays f =
+    record {
+      init = lives_on (at t 0) (at u 0) (stays 0) f.init;
+      eldest = λ r. (stays 0).child r ∙ f.eldest r;
+      own = λ i. (stays i).child i ∙ f.own i;
+      parents = λ i q child. lives_on (at t q) (at u q) (stays q) (f.parents i q (sym ((stays i).child q) ∙ child));
+    }
 
 -- ---- the caller's slot
 

@@ -5,7 +5,7 @@ use Rattle.byte_pipe.specs.PipeState.{PipeState}
 use Rattle.proc_table.specs.declared.states.Channel.{Channel}
 use Rattle.proc_table.specs.declared.states.Channel.TheVariants.{PipeBytes, PipeRoom, Children}
 use Rattle.proc_table.specs.declared.states.Status.TheVariants.{Asleep}
-use Rattle.proc_table.specs.Slots.{Table, Slot, at, is_free, is_child_of, is_zombie_child_of}
+use Rattle.proc_table.specs.Slots.{Table, Slot, at, is_free, is_child_of, is_zombie, is_zombie_child_of}
 use Rattle.kernel_model.specs.KernelState.{KernelState}
 use Rattle.kernel_model.specs.Pipes.{Pipes, pipe_of}
 
@@ -50,11 +50,17 @@ abbrev pub AreSmall : Pipes → Type 0
 AreSmall [] = ⊤
 AreSmall (p ∷ rest) = (length p.1.bytes ≤ PIPE_SIZE) × AreSmall rest
 
--- who descends from whom: init is there and nobody's child, and nobody is its own child
+-- a process that is there, and no zombie
+pub record Lives {S : Type 0} (x : Slot S) : Type 0 where
+  pub used : is_free x ≡ false
+  pub alive : is_zombie x ≡ false
+
+-- who descends from whom: init lives and is nobody's child, nobody is its own child, and every parent lives
 pub record IsFamily {S : Type 0} (t : Table S) : Type 0 where
-  pub init : is_free (at t 0) ≡ false
+  pub init : Lives (at t 0)
   pub eldest : (r : ℕ) → is_child_of r (at t 0) ≡ false
   pub own : (i : ℕ) → is_child_of i (at t i) ≡ false
+  pub parents : (i q : ℕ) → is_child_of q (at t i) ≡ true → Lives (at t q)
 
 -- a kernel between two events
 pub record Rests {S : Type 0} (t : Table S) (pipes : Pipes) : Type 0 where

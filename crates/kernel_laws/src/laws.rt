@@ -3,17 +3,17 @@
 //! The programs are any machines. `m` is the kernel after any events that can happen, with memory refused or not at
 //! each; the run need not be finished.
 
-ghost use Rattle.std.specs.Prelude.{◌≡◌, ◌≤◌, ℕ, List, Bool, Some, false, length};
+ghost use Rattle.std.specs.Prelude.{◌≡◌, ◌≤◌, ℕ, List, Bool, Some, true, false, length};
 ghost use Rattle.mem_files.specs.Name.{Bytes, Name};
 ghost use Rattle.byte_pipe.specs.PipeState.{PipeState};
 ghost use Rattle.byte_pipe.specs.declared.TheConstants.{PIPE_SIZE};
-ghost use Rattle.proc_table.specs.Slots.{at, is_free, is_child_of};
+ghost use Rattle.proc_table.specs.Slots.{at, is_child_of};
 ghost use Rattle.kernel_model.specs.declared.events.Event.{Event};
 ghost use Rattle.kernel_model.specs.KernelState.{KernelState};
 ghost use Rattle.kernel_model.specs.Boot.{boot_kernel};
 ghost use Rattle.kernel_model.specs.Events.{run};
 ghost use Rattle.kernel_model.specs.Pipes.{pipe_of};
-ghost use Rattle.kernel_laws.specs.Sleeping.{AllWait};
+ghost use Rattle.kernel_laws.specs.Sleeping.{AllWait, Lives};
 
 use user_calls::Machine;
 
@@ -24,14 +24,16 @@ pub fn no_wake_up_is_lost<M: Machine>()
         → run M.call_of M.next_of (Some (boot_kernel init shell input list)) events notes ≡ Some m → AllWait m.table m.pipes }
 {}
 
-/// Nobody is its own child; init is always there, and nobody's child.
-pub fn nobody_is_its_own_child<M: Machine>()
-    ensures own { (init shell : M.State) (input : Bytes) (list : List (Name × Bytes)) (m : KernelState M.State) (events : List Event) (notes : List Bool) (pid : ℕ)
-        → run M.call_of M.next_of (Some (boot_kernel init shell input list)) events notes ≡ Some m → is_child_of pid (at m.table pid) ≡ false }
+/// Every parent lives: it is there, and no zombie. Init lives, and is nobody's child; nobody is its own child.
+pub fn every_parent_lives<M: Machine>()
+    ensures parents { (init shell : M.State) (input : Bytes) (list : List (Name × Bytes)) (m : KernelState M.State) (events : List Event) (notes : List Bool) (child parent : ℕ)
+        → run M.call_of M.next_of (Some (boot_kernel init shell input list)) events notes ≡ Some m → is_child_of parent (at m.table child) ≡ true → Lives (at m.table parent) }
     ensures init { (init shell : M.State) (input : Bytes) (list : List (Name × Bytes)) (m : KernelState M.State) (events : List Event) (notes : List Bool)
-        → run M.call_of M.next_of (Some (boot_kernel init shell input list)) events notes ≡ Some m → is_free (at m.table 0) ≡ false }
+        → run M.call_of M.next_of (Some (boot_kernel init shell input list)) events notes ≡ Some m → Lives (at m.table 0) }
     ensures eldest { (init shell : M.State) (input : Bytes) (list : List (Name × Bytes)) (m : KernelState M.State) (events : List Event) (notes : List Bool) (pid : ℕ)
         → run M.call_of M.next_of (Some (boot_kernel init shell input list)) events notes ≡ Some m → is_child_of pid (at m.table 0) ≡ false }
+    ensures own { (init shell : M.State) (input : Bytes) (list : List (Name × Bytes)) (m : KernelState M.State) (events : List Event) (notes : List Bool) (pid : ℕ)
+        → run M.call_of M.next_of (Some (boot_kernel init shell input list)) events notes ≡ Some m → is_child_of pid (at m.table pid) ≡ false }
 {}
 
 /// No pipe ever holds more than 512 bytes.
