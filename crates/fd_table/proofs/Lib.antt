@@ -1,4 +1,4 @@
 pub mod Lists
 pub mod Holding
 pub mod Counting
-mod Free
+pub mod Free

@@ -7,3 +7,9 @@ pub mod Children
 pub mod Exits
 pub mod Calls
 pub mod Runs
+pub mod EntryCounts
+pub mod PipeNames
+pub mod EndsClosed
+pub mod EndsOpened
+pub mod EndsCalls
+pub mod EndsRuns

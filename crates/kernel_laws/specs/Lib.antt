@@ -1,2 +1,3 @@
 pub mod Sleeping
 pub mod Busy
+pub mod Ends

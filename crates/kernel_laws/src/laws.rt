@@ -13,6 +13,7 @@ ghost use Rattle.kernel_model.specs.KernelState.{KernelState};
 ghost use Rattle.kernel_model.specs.Boot.{boot_kernel};
 ghost use Rattle.kernel_model.specs.Events.{run};
 ghost use Rattle.kernel_model.specs.Pipes.{pipe_of};
+ghost use Rattle.kernel_laws.specs.Ends.{EndsAgree};
 ghost use Rattle.kernel_laws.specs.Sleeping.{AllWait, Lives};
 
 use user_calls::Machine;
@@ -40,4 +41,11 @@ pub fn every_parent_lives<M: Machine>()
 pub fn a_pipe_never_holds_too_much<M: Machine>()
     ensures { (init shell : M.State) (input : Bytes) (list : List (Name × Bytes)) (m : KernelState M.State) (events : List Event) (notes : List Bool) (id : ℕ) (p : PipeState)
         → run M.call_of M.next_of (Some (boot_kernel init shell input list)) events notes ≡ Some m → pipe_of m.pipes id ≡ Some p → length p.bytes ≤ PIPE_SIZE }
+{}
+
+/// An end of a pipe is open exactly while one entry has it open, and no entry has a closed end open. No two pipes have
+/// one name.
+pub fn an_end_is_open_while_an_entry_has_it<M: Machine>()
+    ensures { (init shell : M.State) (input : Bytes) (list : List (Name × Bytes)) (m : KernelState M.State) (events : List Event) (notes : List Bool)
+        → run M.call_of M.next_of (Some (boot_kernel init shell input list)) events notes ≡ Some m → EndsAgree m.entries m.pipes }
 {}
