@@ -13,3 +13,4 @@ pub mod EndsClosed
 pub mod EndsOpened
 pub mod EndsCalls
 pub mod EndsRuns
+pub mod FilesKept

@@ -45,12 +45,12 @@ AreFiles-with_entry list name bytes kept good size room = record {
 }
 
 -- one more file, of a new name
-AreFiles-added : (list : List (Name × Bytes)) (name : Name) (bytes : Bytes) → AreFiles list → is_openable name ≡ true → length bytes ≤ max_size → files list name ≡ None → length list < max_files → AreFiles (with_entry list name bytes)
+pub AreFiles-added : (list : List (Name × Bytes)) (name : Name) (bytes : Bytes) → AreFiles list → is_openable name ≡ true → length bytes ≤ max_size → files list name ≡ None → length list < max_files → AreFiles (with_entry list name bytes)
 AreFiles-added list name bytes kept good size new room =
     AreFiles-with_entry list name bytes kept good size (subst (λ (o : Option Bytes). cond (is_some o) (length list) (length list + 1) ≤ max_files) (sym new) (omega arith))
 
 -- other bytes for a file that is there
-AreFiles-changed : (list : List (Name × Bytes)) (name : Name) (old bytes : Bytes) → AreFiles list → files list name ≡ Some old → length bytes ≤ max_size → AreFiles (with_entry list name bytes)
+pub AreFiles-changed : (list : List (Name × Bytes)) (name : Name) (old bytes : Bytes) → AreFiles list → files list name ≡ Some old → length bytes ≤ max_size → AreFiles (with_entry list name bytes)
 AreFiles-changed list name old bytes kept is size =
     AreFiles-with_entry list name bytes kept (openable_file list name old kept is) size (subst (λ (o : Option Bytes). cond (is_some o) (length list) (length list + 1) ≤ max_files) (sym is) kept.few)
 
