@@ -14,3 +14,5 @@ pub mod EndsOpened
 pub mod EndsCalls
 pub mod EndsRuns
 pub mod FilesKept
+pub mod SoundRuns
+pub mod Held

@@ -1,3 +1,4 @@
 pub mod Sleeping
 pub mod Busy
 pub mod Ends
+pub mod Held

@@ -3,8 +3,9 @@
 //! The programs are any machines. `m` is the kernel after any events that can happen, with memory refused or not at
 //! each; the run need not be finished.
 
-ghost use Rattle.std.specs.Prelude.{◌≡◌, ◌≤◌, ℕ, List, Bool, Some, true, false, length};
+ghost use Rattle.std.specs.Prelude.{◌≡◌, ◌≤◌, ◌↔◌, ℕ, List, Bool, Some, true, false, length};
 ghost use Rattle.mem_files.specs.Name.{Bytes, Name};
+ghost use Rattle.mem_files.specs.Listing.{AreFiles};
 ghost use Rattle.byte_pipe.specs.PipeState.{PipeState};
 ghost use Rattle.byte_pipe.specs.declared.TheConstants.{PIPE_SIZE};
 ghost use Rattle.proc_table.specs.Slots.{at, is_child_of};
@@ -13,7 +14,9 @@ ghost use Rattle.kernel_model.specs.KernelState.{KernelState};
 ghost use Rattle.kernel_model.specs.Boot.{boot_kernel};
 ghost use Rattle.kernel_model.specs.Events.{run};
 ghost use Rattle.kernel_model.specs.Pipes.{pipe_of};
-ghost use Rattle.kernel_laws.specs.Ends.{EndsAgree};
+ghost use Rattle.kernel_model.specs.Sound.{IsSound};
+ghost use Rattle.kernel_laws.specs.Ends.{EndsAgree, read_end_open, reads_pipe, write_end_open, writes_pipe};
+ghost use Rattle.kernel_laws.specs.Held.{IsHeld};
 ghost use Rattle.kernel_laws.specs.Sleeping.{AllWait, Lives};
 
 use user_calls::Machine;
@@ -48,4 +51,21 @@ pub fn a_pipe_never_holds_too_much<M: Machine>()
 pub fn an_end_is_open_while_an_entry_has_it<M: Machine>()
     ensures { (init shell : M.State) (input : Bytes) (list : List (Name × Bytes)) (m : KernelState M.State) (events : List Event) (notes : List Bool)
         → run M.call_of M.next_of (Some (boot_kernel init shell input list)) events notes ≡ Some m → EndsAgree m.entries m.pipes }
+{}
+
+/// Begun with files as they have to be, a kernel stays sound: each entry counts the descriptors that hold it, a zombie
+/// holds nothing, and there are 64 slots with 16 descriptors each. Its files stay as they have to be.
+pub fn every_run_is_sound<M: Machine>()
+    ensures sound { (init shell : M.State) (input : Bytes) (list : List (Name × Bytes)) (m : KernelState M.State) (events : List Event) (notes : List Bool)
+        → AreFiles list → run M.call_of M.next_of (Some (boot_kernel init shell input list)) events notes ≡ Some m → IsSound m.table m.entries }
+    ensures files { (init shell : M.State) (input : Bytes) (list : List (Name × Bytes)) (m : KernelState M.State) (events : List Event) (notes : List Bool)
+        → AreFiles list → run M.call_of M.next_of (Some (boot_kernel init shell input list)) events notes ≡ Some m → AreFiles m.files }
+{}
+
+/// An end of a pipe is open exactly while some descriptor of some process holds it.
+pub fn an_end_is_open_while_it_is_held<M: Machine>()
+    ensures reader { (init shell : M.State) (input : Bytes) (list : List (Name × Bytes)) (m : KernelState M.State) (events : List Event) (notes : List Bool) (id : ℕ)
+        → AreFiles list → run M.call_of M.next_of (Some (boot_kernel init shell input list)) events notes ≡ Some m → (read_end_open (pipe_of m.pipes id) ≡ true) ↔ IsHeld m (reads_pipe id) }
+    ensures writer { (init shell : M.State) (input : Bytes) (list : List (Name × Bytes)) (m : KernelState M.State) (events : List Event) (notes : List Bool) (id : ℕ)
+        → AreFiles list → run M.call_of M.next_of (Some (boot_kernel init shell input list)) events notes ≡ Some m → (write_end_open (pipe_of m.pipes id) ≡ true) ↔ IsHeld m (writes_pipe id) }
 {}
