@@ -6,15 +6,18 @@ ghost use Rattle.script_load.specs.declared.profile.Profile.{Profile};
 ghost use Rattle.script_load.specs.Limits.{are_small};
 ghost use Rattle.script_load.specs.Line.{ScriptLine};
 ghost use Rattle.script_load.specs.Script.{IsScript};
-ghost use Rattle.sh_meaning.specs.Meaning.{script_meaning, script_tree};
+ghost use Rattle.sh_meaning.specs.Firm.{IsFirm};
+ghost use Rattle.sh_meaning.specs.Meaning.{meaning, script_meaning, script_tree};
 ghost use Rattle.sh_meaning.specs.Settled.{IsSettledScript};
 ghost use Rattle.sh_meaning.specs.Value.{Value};
+ghost use Rattle.sh_tree.specs.Tree.{Tree};
 ghost use Rattle.tree_machine.specs.Moving.{IsPlain, Moves};
 ghost use Rattle.tree_machine.specs.Residual.{Residual, done};
 ghost use Rattle.tree_machine.specs.Rules.{IsMet, Label, Steps, is_refused, put_out, taken};
 ghost use Rattle.tree_machine.specs.Runs.{Agrees, Goes, IsOnWay, Reaches, Stage, after_steps, first_stage, next_stage};
 ghost use Rattle.tree_machine.specs.Step.{Choice, step};
 ghost use Rattle.tree_machine.specs.Tidy.{HasShortCommands, IsClearScript, IsTidy};
+ghost use Rattle.tree_machine.specs.Uncut.{AgreesWholly, IsUncut, IsUncutScript, has_lost};
 
 /// Each step by the rules is the step of a choice, wherever its label can be met.
 pub fn each_rule_is_a_choice()
@@ -62,4 +65,16 @@ pub fn what_is_left_waits_only_on_what_is_around_it()
 pub fn a_run_goes_on_until_all_is_done()
     ensures { (profile : Profile) (lines : List ScriptLine) (input : Bytes) (F : FileMap) (last : Stage) → IsClearScript lines
         → Reaches profile (first_stage (script_tree lines) input F) last → (last.left ≡ done) ⊎ ((next : Stage) × Goes profile last next) }
+{}
+
+/// The plain case, where each right side of a pipe reads its input to the end, so that no pipe is cut: nothing is soft or loose,
+/// so a clear script without `&` is settled; in none of its runs a write is refused to the left side of a pipe; and each run
+/// that is done gives the output, every file and the rest of the input of the recursive meaning.
+pub fn where_no_pipe_is_cut_nothing_depends_on_the_order()
+    ensures firm { (profile : Profile) (tree : Tree) (input : Bytes) (F : FileMap) → IsUncut profile tree input F → IsFirm (meaning profile tree input F) }
+    ensures settled { (profile : Profile) (lines : List ScriptLine) (input : Bytes) (F : FileMap) → IsUncutScript profile lines input F → IsSettledScript profile lines input F }
+    ensures unrefused { (profile : Profile) (lines : List ScriptLine) (input : Bytes) (F : FileMap) (last : Stage) → IsUncutScript profile lines input F → HasShortCommands (script_tree lines)
+        → Reaches profile (first_stage (script_tree lines) input F) last → has_lost last.left ≡ false }
+    ensures wholly { (profile : Profile) (lines : List ScriptLine) (input : Bytes) (F : FileMap) (last : Stage) → IsUncutScript profile lines input F → HasShortCommands (script_tree lines)
+        → Reaches profile (first_stage (script_tree lines) input F) last → last.left ≡ done → AgreesWholly last (script_meaning profile lines input F) }
 {}
