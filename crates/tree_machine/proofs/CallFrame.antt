@@ -125,6 +125,14 @@ module _ (N : Name → Type 0) (state : State) (own : List OwnFile) (F G : FileM
       go strays = record { own = refl; files = h }
   after_same (Dup fd) reply may = record { own = refl; files = h }
 
+pub asks_frame : (N : Name → Type 0) (run : Running) (i : Bytes) (F G : FileMap) → MayCall run.turn.call run.turn.next (alone run F) → ((n : Name) → depends_on run.turn.next (alone run F) n ≡ true → N n) → Agree N F G → (count : ℕ) (cl en : Bool) →
+    AlikeMove N (act asks run count cl en i F) (act asks run count cl en i G)
+asks_frame N run i F G may sub h count cl en =
+    let e : answer run F ≡ answer run G = reply_same N run.turn.next run.own F G sub h run.turn.call may in
+    let a = after_same N run.turn.next run.own F G sub h run.turn.call (answer run F) may in
+    subst (λ r. AlikeMove N (act asks run count cl en i F) (record { wrote = []; refused = false; took = 0; next = Some (replied run r G); files = files_after run r G })) e
+    (record { wrote = refl; refused = refl; took = refl; next = λ t. Some (record { turn = turn run.turn.next (answer run F); own = a.own t; put = 0 }); files = a.files })
+
 pub act_frame : (N : Name → Type 0) (run : Running) (count : ℕ) (cl en : Bool) (i : Bytes) (F G : FileMap) → MayCall run.turn.call run.turn.next (alone run F) → ((n : Name) → depends_on run.turn.next (alone run F) n ≡ true → N n) → Agree N F G →
     AlikeMove N (acts run count cl en i F) (acts run count cl en i G)
 act_frame N run count cl en i F G may sub h = go (kind_of run.turn.call)
@@ -148,8 +156,4 @@ act_frame N run count cl en i F G may sub h = go (kind_of run.turn.call)
     go leaves = record { wrote = refl; refused = refl; took = refl; next = refl; files = h }
     go (reads_input most) = at_read most i en
     go (writes_output bytes) = at_write (drop run.put bytes) count cl
-    go asks =
-        let e : answer run F ≡ answer run G = reply_same N run.turn.next run.own F G sub h run.turn.call may in
-        let a = after_same N run.turn.next run.own F G sub h run.turn.call (answer run F) may in
-        subst (λ r. AlikeMove N (act asks run count cl en i F) (record { wrote = []; refused = false; took = 0; next = Some (replied run r G); files = files_after run r G })) e
-        (record { wrote = refl; refused = refl; took = refl; next = λ t. Some (record { turn = turn run.turn.next (answer run F); own = a.own t; put = 0 }); files = a.files })
+    go asks = asks_frame N run i F G may sub h count cl en

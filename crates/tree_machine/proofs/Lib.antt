@@ -27,3 +27,5 @@ pub mod Uncut
 pub mod UncutFrame
 pub mod UncutKept
 pub mod PlainRuns
+pub mod RuleFrame
+pub mod Commuting

@@ -1,6 +1,6 @@
 -- Runs of a script in which no pipe is cut: each gives the whole meaning, and in none is a write refused.
 use Rattle.std.proofs.Common.{◌≡◌, ◌∙◌, true, false, List, [], ◌++◌, drop, refl, sym, ap, subst, append-nil}
-use Rattle.mem_files.specs.Name.{Name, Bytes}
+use Rattle.mem_files.specs.Name.{Bytes}
 use Rattle.mem_files.specs.Files.{FileMap}
 use Rattle.prog_parts.specs.NameSets.{no_names}
 use Rattle.script_load.specs.declared.profile.Profile.{Profile}
@@ -32,7 +32,7 @@ module _ (profile : Profile) where
       let a = chosen profile false true x.input g.steps g.met in
       let m = step profile x.left a.0 false true x.input x.files in
       let u = step_uncut profile x.left a.0 false true x.input [] x.files h.tidy (λ e. refl) (not_true m.refused (λ e. not_both false (refused_closed profile x.left a.0 false true x.input x.files e) refl))
-          (subst (λ j. IsUncutLeft profile x.left j x.files) (sym (append-nil x.input)) h.uncut) in
+      (subst (λ j. IsUncutLeft profile x.left j x.files) (sym (append-nil x.input)) h.uncut) in
       let whole : drop m.took x.input ++ [] ≡ y.input = append-nil (drop m.took x.input) ∙ ap (λ (k : Move Residual). drop k.took x.input) a.1 ∙ sym g.input in
       record {
         tidy = (after profile g.label g.steps h.tidy).tidy;

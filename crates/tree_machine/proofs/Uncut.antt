@@ -1,5 +1,5 @@
 -- Where no pipe is cut nothing is soft, loose or met; so such a tree is settled.
-use Rattle.std.proofs.Common.{◌≡◌, ◌∙◌, Bool, true, false, Option, Some, None, refl, sym, ap}
+use Rattle.std.proofs.Common.{◌≡◌, Bool, true, false, Option, Some, None, refl}
 use Rattle.std.specs.Prelude.{◌&&◌, IfSome}
 use Rattle.sh_tree.specs.declared.tree.Mode.{Mode}
 use Rattle.sh_tree.specs.declared.tree.Mode.TheVariants.{Input, Fresh, Over}
@@ -15,7 +15,6 @@ use Rattle.sh_meaning.specs.Meaning.{input_value, output_value, opened, written_
 use Rattle.sh_meaning.specs.Settled.{with_name, IsSettled}
 use Rattle.sh_meaning.specs.Value.{Value, nothing, seq_value, pipe_value, is_cut}
 use Rattle.sh_meaning.proofs.Firm.{firm_words}
-use Rattle.tree_machine.specs.Final.{piped_value}
 use Rattle.tree_machine.specs.Uncut.{IsUncut}
 use Rattle.tree_machine.proofs.Bools.{neither, not_both, all4}
 

@@ -1,12 +1,11 @@
 -- What is left of a command in which no pipe is cut: it gives nothing soft or loose, and is so among other files that agree.
-use Rattle.std.proofs.Common.{◌≡◌, ◌∙◌, Bool, true, false, [], ◌++◌, drop, Option, Some, None, refl, sym, ap, subst}
+use Rattle.std.proofs.Common.{◌≡◌, ◌∙◌, true, false, ◌++◌, drop, Option, Some, None, refl, sym, subst}
 use Rattle.std.specs.Prelude.{◌||◌, not, IfSome}
 use Rattle.std.specs.Str.{bytes_eq}
 use Rattle.std.proofs.lemmas.Bool.{or_left, or_right}
-use Rattle.sh_tree.specs.declared.tree.Mode.{Mode}
 use Rattle.sh_tree.specs.declared.tree.Mode.TheVariants.{Input, Fresh, Over}
 use Rattle.sh_tree.specs.Tree.{Tree, exec, redir, pipe, list, back}
-use Rattle.mem_files.specs.Name.{Name, Bytes, is_openable}
+use Rattle.mem_files.specs.Name.{Name, Bytes}
 use Rattle.mem_files.specs.Files.{FileMap, bytes_of}
 use Rattle.prog_parts.specs.Program.{is_empty}
 use Rattle.conflict_check.specs.Names.{names, uses_input}

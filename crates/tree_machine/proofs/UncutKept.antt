@@ -1,5 +1,5 @@
 -- Where no pipe is cut, each step leaves it so, and no write is refused to the left side of a pipe.
-use Rattle.std.proofs.Common.{◌≡◌, ◌∙◌, ℕ, ◌+◌, Bool, true, false, List, [], ◌++◌, drop, length, Option, Some, None, refl, sym, ap, subst, append_assoc, append-nil, drop-drop}
+use Rattle.std.proofs.Common.{◌≡◌, ◌∙◌, ℕ, ◌+◌, Bool, true, false, [], ◌++◌, drop, Option, Some, None, refl, sym, ap, subst, append_assoc, append-nil, drop-drop}
 use Rattle.std.specs.Prelude.{◌||◌, not, IfSome}
 use Rattle.std.specs.Str.{bytes_eq}
 use Rattle.std.proofs.lemmas.Slice.Eq.{bytes_eq-Decides}
@@ -11,19 +11,18 @@ use Rattle.mem_files.specs.Name.{Name, Bytes, is_openable}
 use Rattle.mem_files.specs.Files.{FileMap, bytes_of}
 use Rattle.prog_parts.specs.Program.{is_empty}
 use Rattle.script_load.specs.declared.profile.Profile.{Profile}
-use Rattle.sh_meaning.specs.Firm.{IsFirm}
 use Rattle.sh_meaning.specs.Inputs.{found}
-use Rattle.sh_meaning.specs.Meaning.{meaning, opened}
-use Rattle.sh_meaning.specs.Value.{Value, is_cut}
+use Rattle.sh_meaning.specs.Meaning.{opened}
+use Rattle.sh_meaning.specs.Value.{is_cut}
 use Rattle.prog_laws.proofs.Keeps.{found_is}
 use Rattle.tree_machine.specs.Residual.{Running, Residual, done, todo, running, seq, piped, unopened, from, into, left_names, left_writes, keeps_0, keeps_1}
 use Rattle.tree_machine.specs.Begin.{run_left, begun_words, unfolded, open_from, open_into, opens_file}
 use Rattle.tree_machine.specs.Rules.{patched, is_gap}
-use Rattle.tree_machine.specs.Step.{Move, Choice, here, on_left, on_right, acts, seq_end, piped_end, from_end, into_end, step}
+use Rattle.tree_machine.specs.Step.{Choice, here, on_left, on_right, acts, seq_end, piped_end, from_end, into_end, step}
 use Rattle.tree_machine.specs.Final.{final}
 use Rattle.tree_machine.specs.Tidy.{IsTidy}
 use Rattle.tree_machine.specs.Uncut.{IsUncut, has_lost}
-use Rattle.tree_machine.proofs.Bools.{not_left, not_right, neither, not_both, not_true, not_not, apart}
+use Rattle.tree_machine.proofs.Bools.{not_left, neither, not_both, not_true, not_not, apart}
 use Rattle.tree_machine.proofs.Frame.{right_tidy}
 use Rattle.tree_machine.proofs.Joins.{less_cut}
 use Rattle.tree_machine.proofs.Keep.{keeps, no_gap_there}
@@ -34,7 +33,6 @@ use Rattle.tree_machine.proofs.StepFrame.{step_only}
 use Rattle.tree_machine.proofs.StepTidy.{step_tidy}
 use Rattle.tree_machine.proofs.Unused.{closed_0, closed_1}
 use Rattle.tree_machine.proofs.UncutFrame.{IsUncutLeft, left_firm, left_uncut}
-use Rattle.tree_machine.proofs.Values.{Agree, Alike, Keeps}
 
 run_uncut : (profile : Profile) (o : Option Running) (i : Bytes) (F : FileMap) → IsUncutLeft profile (run_left o) i F
 run_uncut profile None i F = tt
@@ -76,10 +74,10 @@ module _ (profile : Profile) where
       let y = final profile Y j v.files in
       not_true (step profile X c (not (keeps_0 Y)) en i F).refused
       (λ e.
-          let closed = not_not (keeps_0 Y) (refused_closed profile X c (not (keeps_0 Y)) en i F e) in
-          let rest : y.rest ≡ j = ap (λ x. x.rest) (closed_0 profile Y j j v.files closed).same in
-          let some = some_behind q v.out (refused_out profile X c (not (keeps_0 Y)) en i t F d.0 e) in
-          not_both (is_empty y.rest) (not_empty y.rest (not_left (not (is_empty y.rest)) y.loose h.3)) (ap is_empty rest ∙ some))
+      let closed = not_not (keeps_0 Y) (refused_closed profile X c (not (keeps_0 Y)) en i F e) in
+      let rest : y.rest ≡ j = ap (λ x. x.rest) (closed_0 profile Y j j v.files closed).same in
+      let some = some_behind q v.out (refused_out profile X c (not (keeps_0 Y)) en i t F d.0 e) in
+      not_both (is_empty y.rest) (not_empty y.rest (not_left (not (is_empty y.rest)) y.loose h.3)) (ap is_empty rest ∙ some))
     where
       not_empty : (b : Bytes) → not (is_empty b) ≡ false → is_empty b ≡ true
       not_empty b e = flip (is_empty b) e

@@ -1,7 +1,7 @@
 //! Laws of the tree machine: each function's contract is the law, and its body is empty.
 ghost use Rattle.std.specs.Prelude.{◌≡◌, ◌⊎◌, true, false, Bool, List};
 ghost use Rattle.mem_files.specs.Files.{FileMap};
-ghost use Rattle.mem_files.specs.Name.{Bytes};
+ghost use Rattle.mem_files.specs.Name.{Bytes, Name};
 ghost use Rattle.script_load.specs.declared.profile.Profile.{Profile};
 ghost use Rattle.script_load.specs.Limits.{are_small};
 ghost use Rattle.script_load.specs.Line.{ScriptLine};
@@ -12,8 +12,8 @@ ghost use Rattle.sh_meaning.specs.Settled.{IsSettledScript};
 ghost use Rattle.sh_meaning.specs.Value.{Value};
 ghost use Rattle.sh_tree.specs.Tree.{Tree};
 ghost use Rattle.tree_machine.specs.Moving.{IsPlain, Moves};
-ghost use Rattle.tree_machine.specs.Residual.{Residual, done};
-ghost use Rattle.tree_machine.specs.Rules.{IsMet, Label, Steps, is_refused, put_out, taken};
+ghost use Rattle.tree_machine.specs.Residual.{Residual, done, left_names, left_writes, piped};
+ghost use Rattle.tree_machine.specs.Rules.{IsMet, Label, Steps, is_refused, put_out, silent, taken};
 ghost use Rattle.tree_machine.specs.Runs.{Agrees, Goes, IsOnWay, Reaches, Stage, after_steps, first_stage, next_stage};
 ghost use Rattle.tree_machine.specs.Step.{Choice, step};
 ghost use Rattle.tree_machine.specs.Tidy.{HasShortCommands, IsClearScript, IsTidy};
@@ -23,6 +23,19 @@ ghost use Rattle.tree_machine.specs.Uncut.{AgreesWholly, IsUncut, IsUncutScript,
 pub fn each_rule_is_a_choice()
     ensures { (profile : Profile) (X Y : Residual) (F G : FileMap) (label : Label) (closed ended : Bool) (input : Bytes) → Steps profile X F label Y G → IsMet label closed ended input
         → (c : Choice) × (step profile X c closed ended input F ≡ record { wrote = put_out label; refused = is_refused label; took = taken label; next = Y; files = G }) }
+{}
+
+/// The two sides of a pipe commute: a step of the left side, as an open, a read or a write of a file, and then one of the right
+/// side give the same as these two in the other order, since where the tree was clear neither side comes upon the other at a
+/// file.
+pub fn steps_of_the_two_sides_commute()
+    ensures sides { (profile : Profile) (X NextX Y NextY : Residual) (F G H : FileMap) (left right : Label) → IsTidy X F → IsTidy Y F
+        → ((name : Name) → left_writes X name ≡ true → left_names Y name ≡ false) → ((name : Name) → left_writes Y name ≡ true → left_names X name ≡ false)
+        → Steps profile X F left NextX G → Steps profile Y G right NextY H
+        → (K : FileMap) × Steps profile Y F right NextY K × Steps profile X K left NextX H }
+    ensures pipe { (profile : Profile) (lost : Bool) (bytes : Bytes) (X NextX Y NextY : Residual) (F G H : FileMap) → IsTidy (piped lost X bytes Y) F
+        → Steps profile X F silent NextX G → Steps profile Y G silent NextY H
+        → (K : FileMap) × Steps profile (piped lost X bytes Y) F silent (piped lost X bytes NextY) K × Steps profile (piped lost X bytes NextY) K silent (piped lost NextX bytes NextY) H }
 {}
 
 /// A settled script begins on the way to its meaning, and each step stays on it: what is left is tidy, and what was written
