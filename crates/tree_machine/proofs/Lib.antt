@@ -29,3 +29,4 @@ pub mod UncutKept
 pub mod PlainRuns
 pub mod RuleFrame
 pub mod Commuting
+mod Orders
