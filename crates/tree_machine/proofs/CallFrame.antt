@@ -2,6 +2,7 @@
 use Rattle.std.proofs.Common.{◌≡◌, ◌∙◌, ℕ, zero, suc, Bool, true, false, List, [], ◌∷◌, take, drop, Option, Some, None, refl, sym, ap, subst, ◌&&◌, length}
 use Rattle.std.specs.Prelude.{not, nat_le, if◌then◌else◌}
 use Rattle.std.specs.Str.{bytes_eq}
+use Rattle.std.proofs.lemmas.Bool.{or_left}
 use Rattle.mem_files.specs.Name.{Name, Bytes, is_openable}
 use Rattle.mem_files.specs.Files.{FileMap, bytes_of}
 use Rattle.mem_files.specs.Overlay.{written}
@@ -22,7 +23,7 @@ use Rattle.prog_laws.proofs.Keeps.{open_changes_nothing}
 use Rattle.tree_machine.specs.Residual.{Running, alone}
 use Rattle.tree_machine.specs.Answers.{Kind, leaves, reads_input, writes_output, asks, kind_of, read_reply, open_reply, reply_of, replied, files_after, answer}
 use Rattle.tree_machine.specs.Step.{read_input, put_some, write_output, act, acts}
-use Rattle.tree_machine.proofs.Bools.{or_left, back}
+use Rattle.tree_machine.proofs.Bools.{back}
 use Rattle.tree_machine.proofs.Calls.{over}
 use Rattle.tree_machine.proofs.Effects.{own_named}
 use Rattle.tree_machine.proofs.Values.{Agree, AlikeMove}
