@@ -46,6 +46,8 @@ pub fn each_step_keeps_the_final_value()
         → IsOnWay profile (script_meaning profile lines input F) (first_stage (script_tree lines) input F) }
     ensures by_rules { (profile : Profile) (value : Value) (stage next : Stage) → Goes profile stage next → IsOnWay profile value stage → IsOnWay profile value next }
     ensures by_choices { (profile : Profile) (value : Value) (stage : Stage) (c : Choice) → IsOnWay profile value stage → IsOnWay profile value (next_stage profile stage c) }
+    ensures reached { (profile : Profile) (lines : List ScriptLine) (input : Bytes) (F : FileMap) (last : Stage) → IsSettledScript profile lines input F → HasShortCommands (script_tree lines)
+        → Reaches profile (first_stage (script_tree lines) input F) last → IsOnWay profile (script_meaning profile lines input F) last }
     ensures done { (profile : Profile) (value : Value) (stage : Stage) → IsOnWay profile value stage → stage.left ≡ done → Agrees stage value }
 {}
 
