@@ -1,5 +1,5 @@
 -- Each of the ten calls leaves a kernel in which whoever sleeps has to.
-use Rattle.std.proofs.Common.{◌≡◌, ℕ, ◌+◌, List, [], ◌++◌, Bool, true, false, Option, Some, None, length, drop, take, refl, sym, ap, subst, ◌∙◌}
+use Rattle.std.proofs.Common.{◌≡◌, ℕ, ◌+◌, List, [], ◌++◌, Bool, true, false, Option, Some, None, length, drop, refl, subst}
 use Rattle.std.specs.Prelude.{if◌then◌else◌, nat_lt, nat_le, ◌==◌, is_none, Result, Ok, Err, min}
 use Rattle.std.proofs.lemmas.Bool.{eqb-false}
 use Rattle.user_calls.specs.declared.block.TheConstants.{BLOCK_SIZE}
@@ -24,10 +24,8 @@ use Rattle.mem_files.specs.Overlay.{written}
 use Rattle.mem_files.specs.Listing.{max_files, max_size, with_entry}
 use Rattle.proc_table.specs.declared.states.Channel.{Channel}
 use Rattle.proc_table.specs.declared.states.Channel.TheVariants.{Children}
-use Rattle.proc_table.specs.declared.table.Waited.{Waited}
-use Rattle.proc_table.specs.declared.table.Waited.TheVariants.{Reaped, NoChildren, MustSleep}
 use Rattle.proc_table.specs.Slots.{at, put_of}
-use Rattle.proc_table.specs.Calls.{lowest_free as lowest_free_slot, wait_answer, wait_by as waited_by, zombie_child, some_child, reaped, slept}
+use Rattle.proc_table.specs.Calls.{lowest_free as lowest_free_slot, wait_by as waited_by, zombie_child, some_child, reaped, slept}
 use Rattle.kernel_model.specs.declared.events.Full.{Full}
 use Rattle.kernel_model.specs.declared.events.Full.TheVariants.{Open, Fds, Memory, Files, Size}
 use Rattle.kernel_model.specs.KernelState.{KernelState, fds_at, file_at}
@@ -35,7 +33,7 @@ use Rattle.kernel_model.specs.Pipes.{pipe_of}
 use Rattle.kernel_model.specs.Modes.{entry_mode, empties, reads}
 use Rattle.kernel_model.specs.Replies.{answered, refused_for}
 use Rattle.kernel_model.specs.Descriptors.{closed, closed_below, dup_by, copied, with_open, with_reader, with_ends, ends_reply, make_pipe}
-use Rattle.kernel_model.specs.Processes.{fork_into, ended, exit, wait_by}
+use Rattle.kernel_model.specs.Processes.{fork_into, ended, wait_by}
 use Rattle.kernel_model.specs.Opening.{emptied_if, with_bytes, open_here, open_for_reading, open_for_writing, open_file}
 use Rattle.kernel_model.specs.Reading.{read_file, read_mode, read_pipe, read_object, read_entry, read_held}
 use Rattle.kernel_model.specs.Writing.{write_file, append_file, write_mode, write_pipe, write_object, write_entry, write_held}

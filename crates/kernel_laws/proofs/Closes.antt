@@ -1,5 +1,5 @@
 -- A closed end of a pipe, and a new pipe, lose no wake-up: with its last descriptor an end is closed, and those who wait at the other are woken.
-use Rattle.std.proofs.Common.{◌≡◌, ℕ, zero, suc, Bool, true, false, Option, Some, None, refl, sym, ap, subst, ◌∙◌, length, ◌≤◌}
+use Rattle.std.proofs.Common.{◌≡◌, ℕ, zero, suc, Bool, true, false, Option, Some, None, refl, length, ◌≤◌}
 use Rattle.std.proofs.lemmas.Bool.{both_ways}
 use Rattle.std.specs.Prelude.{◌||◌, if◌then◌else◌, Result, Ok, Err}
 use Rattle.fd_table.specs.declared.faults.FdFault.{FdFault}
@@ -16,7 +16,7 @@ use Rattle.kernel_model.specs.KernelState.{KernelState, fds_at}
 use Rattle.kernel_model.specs.Pipes.{Pipes, pipe_of, with_pipe, without_pipe, with_new, reader_gone, writer_gone}
 use Rattle.kernel_model.specs.Descriptors.{let_go, let_go_of, taken_away, closed, closed_below, opened_at, with_open, with_reader, with_ends}
 use Rattle.kernel_laws.specs.Sleeping.{Waits, WaitsForBytes, WaitsForRoom, AreSmall}
-use Rattle.kernel_laws.specs.Busy.{IsBusy, IsFair}
+use Rattle.kernel_laws.specs.Busy.{IsBusy}
 use Rattle.kernel_laws.proofs.OnePipe.{pipe_still, given_up, it_holds, new_still, small_found, small_with, small_without, small_new}
 use Rattle.kernel_laws.proofs.PipeReads.{same_room}
 use Rattle.kernel_laws.proofs.PipeWrites.{same_bytes}

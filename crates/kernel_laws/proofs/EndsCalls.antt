@@ -1,7 +1,7 @@
 -- Each of the ten calls keeps the ends of pipes and the entries that hold them in step.
 use Rattle.std.proofs.Common.{◌≡◌, ℕ, ◌+◌, List, [], ◌++◌, Bool, true, false, Option, Some, None, length, drop, take, refl}
 use Rattle.std.proofs.lemmas.Bool.{ltb-false}
-use Rattle.std.specs.Prelude.{if◌then◌else◌, nat_lt, nat_le, ◌==◌, is_none, count_by, Result, Ok, Err, min}
+use Rattle.std.specs.Prelude.{if◌then◌else◌, nat_lt, nat_le, ◌==◌, is_none, Result, Ok, Err, min}
 use Rattle.user_calls.specs.declared.block.TheConstants.{BLOCK_SIZE}
 use Rattle.user_calls.specs.declared.calls.Call.{Call}
 use Rattle.user_calls.specs.declared.calls.Call.TheVariants.{Fork, Exec, Exit, Wait, MakePipe, Read, Write, OpenFile, Close, Dup}
@@ -34,13 +34,13 @@ use Rattle.kernel_model.specs.KernelState.{KernelState, fds_at, file_at}
 use Rattle.kernel_model.specs.Pipes.{pipe_of, with_pipe}
 use Rattle.kernel_model.specs.Modes.{entry_mode, empties, reads}
 use Rattle.kernel_model.specs.Replies.{answered, refused_for}
-use Rattle.kernel_model.specs.Descriptors.{closed, closed_below, dup_by, copied, with_reader, with_ends, ends_reply, make_pipe}
+use Rattle.kernel_model.specs.Descriptors.{closed_below, dup_by, copied, with_reader, with_ends, ends_reply}
 use Rattle.kernel_model.specs.Processes.{fork_into, ended, exit, wait_by}
 use Rattle.kernel_model.specs.Opening.{emptied_if, with_bytes, open_here, open_for_reading, open_for_writing, open_file}
 use Rattle.kernel_model.specs.Reading.{read_file, read_mode, read_by, read_pipe, read_object, read_entry, read_held}
 use Rattle.kernel_model.specs.Writing.{write_file, append_file, write_mode, write_by, write_pipe, write_object, write_entry, write_held}
 use Rattle.kernel_model.specs.Events.{acted}
-use Rattle.kernel_laws.specs.Ends.{has_object, EndsAgree}
+use Rattle.kernel_laws.specs.Ends.{EndsAgree}
 use Rattle.kernel_laws.proofs.EntryCounts.{advanced_count, moved_count, dup_count, fork_count}
 use Rattle.kernel_laws.proofs.EndsClosed.{entries_agree, bytes_agree, closed_agrees, closed_below_agrees}
 use Rattle.kernel_laws.proofs.EndsOpened.{other_agrees, ends_agree}

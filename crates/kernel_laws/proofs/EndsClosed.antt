@@ -1,23 +1,21 @@
 -- An open, a close and a new pipe keep the ends of pipes and the entries that hold them in step.
-use Rattle.std.proofs.Common.{◌≡◌, ◌≢◌, ◌⊎◌, ℕ, zero, suc, ◌+◌, ◌≤◌, Bool, true, false, Option, Some, None, refl, sym, ap, subst, ◌∙◌, arith, inl, inr}
+use Rattle.std.proofs.Common.{◌≡◌, ◌≢◌, ◌⊎◌, ℕ, zero, suc, ◌+◌, Bool, true, false, Option, Some, None, refl, sym, ap, subst, ◌∙◌, arith, inl, inr}
 use Rattle.std.proofs.Math.ListN.{set}
 use Rattle.std.proofs.lemmas.Bool.{cases_eq, eq-eqb, ne_eqb}
-use Rattle.std.specs.Prelude.{◌==◌, ◌||◌, if◌then◌else◌, nat_le, ◌-◌, count_by, is_some, IsSome, Result, Ok, Err}
-use Rattle.fd_table.specs.declared.faults.FdFault.{FdFault}
+use Rattle.std.specs.Prelude.{◌==◌, ◌||◌, if◌then◌else◌, nat_le, ◌-◌, count_by, Ok}
 use Rattle.fd_table.specs.declared.names.Object.{Object}
 use Rattle.fd_table.specs.declared.names.Object.TheVariants.{Input, Out, Diag, File, PipeRead, PipeWrite}
-use Rattle.fd_table.specs.Entries.{Entries, OpenFile, entry_at, is_free, less_held, last_object, released, added, added_at, lowest_free_entry, free_count}
-use Rattle.fd_table.specs.Descriptors.{entry_of, close_answer}
-use Rattle.fd_table.proofs.Free.{found as found_free, add_taken}
-use Rattle.byte_pipe.specs.PipeState.{PipeState, new_pipe, after_close_read, after_close_write}
+use Rattle.fd_table.specs.Entries.{Entries, OpenFile, entry_at, less_held, last_object, released}
+use Rattle.fd_table.specs.Descriptors.{entry_of}
+use Rattle.byte_pipe.specs.PipeState.{PipeState, after_close_read, after_close_write}
 use Rattle.proc_table.specs.Slots.{tally}
 use Rattle.kernel_model.specs.KernelState.{KernelState, fds_at}
-use Rattle.kernel_model.specs.Pipes.{Pipes, pipe_of, with_pipe, without_pipe, with_new, kept_while_open, reader_gone, writer_gone}
-use Rattle.kernel_model.specs.Descriptors.{let_go, let_go_of, taken_away, closed_by, closed, closed_below, opened_at, with_open, with_ends}
+use Rattle.kernel_model.specs.Pipes.{Pipes, pipe_of, with_pipe, without_pipe, kept_while_open, reader_gone, writer_gone}
+use Rattle.kernel_model.specs.Descriptors.{let_go, let_go_of, taken_away, closed_by, closed, closed_below}
 use Rattle.kernel_laws.specs.Ends.{reads_pipe, writes_pipe, has_object, read_end_open, write_end_open, AreApart, EndsAgree}
 use Rattle.kernel_laws.proofs.OnePipe.{found_now, others_found, others_stay}
-use Rattle.kernel_laws.proofs.PipeNames.{apart_with, apart_without, apart_closed, given_up_is_gone, new_other, new_self, apart_new}
-use Rattle.kernel_laws.proofs.EntryCounts.{unchanged, freed, opened_count}
+use Rattle.kernel_laws.proofs.PipeNames.{apart_with, apart_without, apart_closed, given_up_is_gone}
+use Rattle.kernel_laws.proofs.EntryCounts.{unchanged, freed}
 
 -- entries that have the same objects open
 pub entries_agree : (E now : Entries) (pipes : Pipes) → ((test : Object → Bool) → count_by (has_object test) now ≡ count_by (has_object test) E) → EndsAgree E pipes → EndsAgree now pipes

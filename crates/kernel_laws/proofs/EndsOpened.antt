@@ -1,17 +1,16 @@
 -- An open of anything but a pipe leaves the ends of pipes alone; a new pipe has both of its ends open, and an entry for each.
-use Rattle.std.proofs.Common.{◌≡◌, ◌≢◌, ◌⊎◌, ℕ, ◌+◌, ◌≤◌, Bool, true, false, Option, Some, None, refl, sym, ap, ◌∙◌, arith, inl, inr}
+use Rattle.std.proofs.Common.{◌≡◌, ◌≢◌, ◌⊎◌, ℕ, ◌+◌, ◌≤◌, Bool, false, Option, Some, None, refl, ap, ◌∙◌, arith, inl, inr}
 use Rattle.std.proofs.lemmas.Bool.{cases_eq, eq-eqb, ne_eqb}
 use Rattle.std.specs.Prelude.{◌==◌, count_by, IsSome}
 use Rattle.fd_table.specs.declared.names.Object.{Object}
-use Rattle.fd_table.specs.declared.names.Object.TheVariants.{File, PipeRead, PipeWrite}
-use Rattle.fd_table.specs.declared.names.Mode.{Mode}
+use Rattle.fd_table.specs.declared.names.Object.TheVariants.{PipeRead, PipeWrite}
 use Rattle.fd_table.specs.Entries.{Entries, is_free, added, added_at, lowest_free_entry, free_count}
 use Rattle.fd_table.proofs.Free.{found as found_free, add_taken}
-use Rattle.byte_pipe.specs.PipeState.{PipeState, new_pipe}
+use Rattle.byte_pipe.specs.PipeState.{PipeState}
 use Rattle.proc_table.specs.Slots.{tally}
 use Rattle.kernel_model.specs.KernelState.{KernelState}
 use Rattle.kernel_model.specs.Pipes.{Pipes, pipe_of, with_new}
-use Rattle.kernel_model.specs.Descriptors.{opened_at, with_open, with_reader, with_ends}
+use Rattle.kernel_model.specs.Descriptors.{opened_at, with_open, with_ends}
 use Rattle.kernel_laws.specs.Ends.{reads_pipe, writes_pipe, has_object, read_end_open, write_end_open, EndsAgree}
 use Rattle.kernel_laws.proofs.PipeNames.{new_other, new_self, apart_new}
 use Rattle.kernel_laws.proofs.EntryCounts.{opened_count}

@@ -1,12 +1,11 @@
 -- How many entries have an object open: an open makes them one more, the last close one less, and nothing else counts.
-use Rattle.std.proofs.Common.{◌≡◌, ℕ, zero, suc, ◌+◌, ◌<◌, ◌≤◌, ◌⊎◌, List, [], ◌∷◌, Bool, true, false, Option, Some, None, length, get_or, refl, sym, ap, ◌∙◌, arith, inl, inr}
+use Rattle.std.proofs.Common.{◌≡◌, ℕ, zero, suc, ◌+◌, ◌<◌, ◌≤◌, ◌⊎◌, List, [], ◌∷◌, Bool, true, false, Option, Some, None, length, refl, ap, arith, inl, inr}
 use Rattle.std.proofs.Math.ListN.{set}
 use Rattle.std.proofs.lemmas.Bool.{cases_lt}
-use Rattle.std.proofs.lemmas.List.{get_or_past}
 use Rattle.std.proofs.lemmas.List.Sums.{sum_by-set, sum_by-cons}
-use Rattle.std.specs.Prelude.{count_by, cond, nat_le, ◌-◌, if◌then◌else◌}
+use Rattle.std.specs.Prelude.{count_by, cond}
 use Rattle.fd_table.specs.declared.names.Object.{Object}
-use Rattle.fd_table.specs.Entries.{Entries, OpenFile, entry_at, is_free, opened, more_held, moved_on, going_on_at, added_at, held, advanced, moved_to, lowest_free_entry}
+use Rattle.fd_table.specs.Entries.{Entries, OpenFile, entry_at, is_free, opened, more_held, moved_on, going_on_at, added_at, advanced, moved_to, lowest_free_entry}
 use Rattle.fd_table.specs.Descriptors.{Descriptors, holders_in, all_held, all_held_from, held_by_dup}
 use Rattle.fd_table.proofs.Lists.{position_found, within_list}
 use Rattle.proc_table.specs.Slots.{tally}

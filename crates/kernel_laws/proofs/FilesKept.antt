@@ -1,5 +1,5 @@
 -- Each of the ten calls leaves files of good names and sizes, and not too many of them.
-use Rattle.std.proofs.Common.{◌≡◌, ℕ, zero, suc, ◌+◌, ◌≤◌, List, [], ◌++◌, Bool, true, false, Option, Some, None, length, drop, refl, arith, length-append, max}
+use Rattle.std.proofs.Common.{◌≡◌, ℕ, zero, suc, ◌+◌, ◌≤◌, List, [], ◌++◌, Bool, true, false, Option, Some, None, length, drop, refl, arith, length-append}
 use Rattle.std.proofs.lemmas.Bool.{ltb-false, leb-false}
 use Rattle.std.specs.Prelude.{if◌then◌else◌, nat_lt, nat_le, ◌==◌, is_none, Result, Ok, Err, min}
 use Rattle.user_calls.specs.declared.block.TheConstants.{BLOCK_SIZE}
@@ -36,7 +36,7 @@ use Rattle.kernel_model.specs.KernelState.{KernelState, fds_at, file_at}
 use Rattle.kernel_model.specs.Pipes.{pipe_of, with_pipe, with_new}
 use Rattle.kernel_model.specs.Modes.{entry_mode, empties, reads}
 use Rattle.kernel_model.specs.Replies.{answered, refused_for}
-use Rattle.kernel_model.specs.Descriptors.{let_go, let_go_of, taken_away, closed, closed_below, opened_at, with_open, dup_by, copied, with_reader, with_ends, ends_reply, make_pipe}
+use Rattle.kernel_model.specs.Descriptors.{let_go_of, taken_away, closed, closed_below, opened_at, with_open, dup_by, copied, with_reader, with_ends, ends_reply, make_pipe}
 use Rattle.kernel_model.specs.Processes.{fork_into, ended, exit, wait_by}
 use Rattle.kernel_model.specs.Opening.{emptied_if, with_bytes, open_here, open_for_reading, open_for_writing, open_file}
 use Rattle.kernel_model.specs.Reading.{read_file, read_mode, read_by, read_pipe, read_object, read_entry, read_held}

@@ -1,15 +1,14 @@
 -- An entry is in use exactly while some descriptor holds it; so an end of a pipe is open exactly while some descriptor holds it.
-use Rattle.std.proofs.Common.{◌≡◌, ◌⊎◌, ℕ, zero, suc, ◌+◌, ◌<◌, ◌≤◌, List, [], ◌∷◌, Bool, true, false, Option, Some, None, length, get_or, refl, sym, ap, subst, ◌∙◌, arith, inl, inr}
-use Rattle.std.proofs.lemmas.Bool.{cases_eq, cases_lt, eqb-true}
-use Rattle.std.proofs.lemmas.List.{get_or_past}
+use Rattle.std.proofs.Common.{◌≡◌, ◌⊎◌, ℕ, zero, suc, ◌+◌, ◌<◌, ◌≤◌, List, [], ◌∷◌, Bool, true, false, Option, Some, None, length, get_or, refl, sym, ap, subst, arith, inl, inr}
+use Rattle.std.proofs.lemmas.Bool.{cases_lt, eqb-true}
 use Rattle.std.proofs.lemmas.List.Sums.{sum_by-cons}
-use Rattle.std.specs.Prelude.{◌==◌, ◌↔◌, count_by, sum_by, cond, map}
+use Rattle.std.specs.Prelude.{◌↔◌, count_by, sum_by, cond}
 use Rattle.fd_table.specs.declared.names.Object.{Object}
-use Rattle.fd_table.specs.Entries.{Entries, OpenFile, entry_at}
+use Rattle.fd_table.specs.Entries.{OpenFile, entry_at}
 use Rattle.fd_table.specs.Descriptors.{Descriptors, entry_of, is_entry, holders_in}
 use Rattle.fd_table.specs.Holders.{holders, HasHolders}
 use Rattle.fd_table.proofs.Lists.{within_list}
-use Rattle.proc_table.specs.Slots.{Table, Slot, at, tally}
+use Rattle.proc_table.specs.Slots.{Table, at, tally}
 use Rattle.kernel_model.specs.KernelState.{KernelState, fds_of, fds_at}
 use Rattle.kernel_model.specs.Sound.{IsSound, tables}
 use Rattle.kernel_laws.specs.Ends.{has_object}

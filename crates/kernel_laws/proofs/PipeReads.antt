@@ -1,5 +1,5 @@
 -- A read of a pipe loses no wake-up: it takes bytes and wakes the writers, or has to sleep, or is at the end.
-use Rattle.std.proofs.Common.{◌≡◌, ℕ, ◌≤◌, List, [], ◌∷◌, Bool, true, false, Option, Some, None, length, take, drop, refl, sym, ap, subst, ◌∙◌, arith}
+use Rattle.std.proofs.Common.{◌≡◌, ℕ, ◌≤◌, List, [], ◌∷◌, Bool, true, false, Some, length, take, drop, refl, sym, ap, subst, ◌∙◌, arith}
 use Rattle.std.proofs.Math.Seq.{drop-nil}
 use Rattle.std.proofs.lemmas.List.{length-drop}
 use Rattle.std.proofs.lemmas.Bool.{both_ways, eq-eqb, eqb-true}
@@ -87,7 +87,7 @@ module _ {S : Type 0} (k : KernelState S) (pid : ℕ) (after : S) (id n : ℕ) (
       let reply = Bytes (take n p.bytes) in
       let t = readied k.table pid after reply in
       let fair : IsFair id (PipeRoom id) p (after_take p n) =
-          record { bytes = λ unlike w. absurd (got_some p n l is w.empty); room = λ unlike w. absurd (both_ways (same_channel (PipeRoom id) (PipeRoom id)) unlike (same_room id)) } in
+      record { bytes = λ unlike w. absurd (got_some p n l is w.empty); room = λ unlike w. absurd (both_ways (same_channel (PipeRoom id) (PipeRoom id)) unlike (same_room id)) } in
       rests (all_woken (PipeRoom id) t) now pid
       (wake_busy t k.pipes now pid (PipeRoom id) small_now (pipe_still t k.pipes id (PipeRoom id) p (after_take p n) found fair) (ready_busy k.table k.pipes pid after reply busy))
       (λ c sleeps. absurd (awake k.table pid after reply c (slept_before t pid (PipeRoom id) c sleeps).0))

@@ -1,5 +1,5 @@
 -- A write to a pipe loses no wake-up: it wakes the readers, and has to sleep where the pipe is full before all is put.
-use Rattle.std.proofs.Common.{◌≡◌, ◌≢◌, ℕ, ◌+◌, ◌-◌, ◌≤◌, List, [], ◌++◌, Bool, true, false, Option, Some, None, length, take, refl, sym, ap, subst, ◌∙◌, arith, length-append}
+use Rattle.std.proofs.Common.{◌≡◌, ◌≢◌, ℕ, ◌+◌, ◌≤◌, List, [], ◌++◌, Bool, true, false, Some, length, take, refl, sym, ap, subst, ◌∙◌, arith, length-append}
 use Rattle.std.proofs.lemmas.List.{length-take}
 use Rattle.std.proofs.lemmas.Bool.{both_ways, eq-eqb, eqb-true, eqb-false}
 use Rattle.std.specs.Prelude.{◌==◌, not, if◌then◌else◌, min}
@@ -16,7 +16,7 @@ use Rattle.kernel_model.specs.KernelState.{KernelState}
 use Rattle.kernel_model.specs.Pipes.{Pipes, pipe_of, with_pipe}
 use Rattle.kernel_model.specs.Replies.{answered, sleeps, wakes}
 use Rattle.kernel_model.specs.Writing.{write_by}
-use Rattle.kernel_laws.specs.Sleeping.{Waits, WaitsForBytes, WaitsForRoom, AreSmall, Rests}
+use Rattle.kernel_laws.specs.Sleeping.{Waits, WaitsForBytes, AreSmall, Rests}
 use Rattle.kernel_laws.specs.Busy.{IsBusy, IsFair}
 use Rattle.kernel_laws.proofs.OnePipe.{pipe_still, calm_still, found_now, small_found, small_with}
 use Rattle.kernel_laws.proofs.Slots.{rests, ready_rests, ready_busy, sleep_busy, wake_busy, change_busy, awake, asleep_where, slept_before}

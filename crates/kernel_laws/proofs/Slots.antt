@@ -1,5 +1,5 @@
 -- What a change of slots leaves to those who sleep: the caller goes on, falls asleep or gets other descriptors, and all that sleep on a channel are woken.
-use Rattle.std.proofs.Common.{◌≡◌, ◌≢◌, ◌⊎◌, ℕ, Bool, true, false, Option, Some, None, refl, sym, ap, subst, ◌∙◌, inl, inr, get_or-set_other}
+use Rattle.std.proofs.Common.{◌≡◌, ◌≢◌, ◌⊎◌, ℕ, Bool, true, false, Some, None, refl, sym, ap, subst, ◌∙◌, inl, inr, get_or-set_other}
 use Rattle.std.proofs.Math.ListN.{set}
 use Rattle.std.proofs.lemmas.Bool.{cases_eq}
 use Rattle.std.specs.Prelude.{◌&&◌, if◌then◌else◌}
@@ -14,7 +14,7 @@ use Rattle.proc_table.specs.Calls.{readied, made_ready, slept, put_to_sleep, all
 use Rattle.proc_table.proofs.Changes.{written, mapped}
 use Rattle.kernel_model.specs.Pipes.{Pipes}
 use Rattle.kernel_laws.specs.Sleeping.{Waits, SleepsOn, AreSmall, Lives, IsFamily, Rests}
-use Rattle.kernel_laws.specs.Busy.{OthersWait, IsBusy, Stays}
+use Rattle.kernel_laws.specs.Busy.{IsBusy, Stays}
 
 -- ---- slots that stay
 

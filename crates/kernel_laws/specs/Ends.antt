@@ -1,5 +1,5 @@
 -- The ends of pipes: one is open exactly while some descriptor holds it (`pipeclose` of `kernel/pipe.c`, `fileclose` of `kernel/file.c`).
-use Rattle.std.specs.Prelude.{◌≡◌, ⊤, ℕ, Bool, true, false, ◌==◌, List, [], ◌∷◌, Option, Some, None, count_by}
+use Rattle.std.specs.Prelude.{◌≡◌, ⊤, ℕ, Bool, false, ◌==◌, [], ◌∷◌, Option, Some, None, count_by}
 use Rattle.fd_table.specs.declared.names.Object.{Object}
 use Rattle.fd_table.specs.declared.names.Object.TheVariants.{Input, Out, Diag, File, PipeRead, PipeWrite}
 use Rattle.fd_table.specs.Entries.{Entries, OpenFile}

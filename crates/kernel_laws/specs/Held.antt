@@ -1,5 +1,5 @@
 -- Which descriptors hold an end of a pipe.
-use Rattle.std.specs.Prelude.{◌≡◌, ℕ, Bool, true, Option, Some}
+use Rattle.std.specs.Prelude.{◌≡◌, ℕ, Bool, true, Some}
 use Rattle.fd_table.specs.declared.names.Object.{Object}
 use Rattle.fd_table.specs.Entries.{entry_at}
 use Rattle.fd_table.specs.Descriptors.{entry_of}

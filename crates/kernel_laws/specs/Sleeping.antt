@@ -1,12 +1,11 @@
 -- What each process that sleeps waits for: nothing of it has come yet (`sleep` and `wakeup` of `kernel/proc.c`).
-use Rattle.std.specs.Prelude.{◌≡◌, ◌≢◌, ⊤, ℕ, ◌≤◌, true, false, List, [], ◌∷◌, Option, Some, None, length}
+use Rattle.std.specs.Prelude.{◌≡◌, ⊤, ℕ, ◌≤◌, true, false, [], ◌∷◌, Some, None, length}
 use Rattle.byte_pipe.specs.declared.TheConstants.{PIPE_SIZE}
 use Rattle.byte_pipe.specs.PipeState.{PipeState}
 use Rattle.proc_table.specs.declared.states.Channel.{Channel}
 use Rattle.proc_table.specs.declared.states.Channel.TheVariants.{PipeBytes, PipeRoom, Children}
 use Rattle.proc_table.specs.declared.states.Status.TheVariants.{Asleep}
 use Rattle.proc_table.specs.Slots.{Table, Slot, at, is_free, is_child_of, is_zombie, is_zombie_child_of}
-use Rattle.kernel_model.specs.KernelState.{KernelState}
 use Rattle.kernel_model.specs.Pipes.{Pipes, pipe_of}
 
 -- a reader of the pipe has to wait: it is empty, and its write end is open

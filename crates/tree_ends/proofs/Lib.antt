@@ -1,6 +1,7 @@
 pub mod WorkBytes
 pub mod TurnBytes
 pub mod More
+pub mod Growing
 pub mod RunFalls
 pub mod PartFalls
 pub mod StepFalls

@@ -14,7 +14,8 @@ use Rattle.tree_machine.proofs.Bools.{apart}
 use Rattle.tree_machine.proofs.Progress.{After}
 use Rattle.tree_ends.specs.Bound.{grown, bytes_left}
 use Rattle.tree_ends.proofs.More.{tree_more, left_more}
-use Rattle.tree_ends.proofs.RunFalls.{Falls, written_size}
+use Rattle.tree_ends.proofs.Growing.{written_size}
+use Rattle.tree_ends.proofs.RunFalls.{Falls}
 
 -- steps of parts
 pub seq_falls : (X X' : Residual) (T : Tree) (F G : FileMap) (n took wrote : ℕ) → Falls X F n took wrote X' G → Falls (seq X T) F n took wrote (seq X' T) G

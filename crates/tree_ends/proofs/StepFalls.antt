@@ -23,7 +23,8 @@ use Rattle.tree_machine.proofs.StepFrame.{named}
 use Rattle.tree_ends.specs.Bound.{begun_bytes, begun_steps, input_under, grown, tree_bytes, tree_steps, bytes_left, steps_left}
 use Rattle.tree_ends.proofs.More.{tree_more}
 use Rattle.tree_ends.proofs.PartFalls.{seq_falls, left_falls, right_falls, from_falls, into_falls, as_it_was, one_patched}
-use Rattle.tree_ends.proofs.RunFalls.{Falls, with_size, asks_falls, read_falls, write_falls, refused_falls, part_falls}
+use Rattle.tree_ends.proofs.Growing.{with_size}
+use Rattle.tree_ends.proofs.RunFalls.{Falls, asks_falls, read_falls, write_falls, refused_falls, part_falls}
 
 -- a step that takes nothing of the input, and writes nothing to it or to files
 pub even : (X X' : Residual) (F G : FileMap) (n : ℕ) → bytes_left X' n (sizes G) ≤ bytes_left X n (sizes F) → suc (steps_left X' n (sizes G)) ≤ steps_left X n (sizes F) → ((f : Name) → sizes G f ≤ sizes F f) → Falls X F n 0 0 X' G

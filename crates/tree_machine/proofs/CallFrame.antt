@@ -2,6 +2,7 @@
 use Rattle.std.proofs.Common.{◌≡◌, ◌∙◌, ℕ, zero, suc, Bool, true, false, List, [], ◌∷◌, take, drop, Option, Some, None, refl, sym, ap, subst, ◌&&◌, length}
 use Rattle.std.specs.Prelude.{not, nat_le, if◌then◌else◌}
 use Rattle.std.specs.Str.{bytes_eq}
+use Rattle.std.proofs.lemmas.Bool.{or_left}
 use Rattle.mem_files.specs.Name.{Name, Bytes, is_openable}
 use Rattle.mem_files.specs.Files.{FileMap, bytes_of}
 use Rattle.mem_files.specs.Overlay.{written}
@@ -22,7 +23,7 @@ use Rattle.prog_laws.proofs.Keeps.{open_changes_nothing}
 use Rattle.tree_machine.specs.Residual.{Running, alone}
 use Rattle.tree_machine.specs.Answers.{Kind, leaves, reads_input, writes_output, asks, kind_of, read_reply, open_reply, reply_of, replied, files_after, answer}
 use Rattle.tree_machine.specs.Step.{read_input, put_some, write_output, act, acts}
-use Rattle.tree_machine.proofs.Bools.{or_left, back}
+use Rattle.tree_machine.proofs.Bools.{back}
 use Rattle.tree_machine.proofs.Calls.{over}
 use Rattle.tree_machine.proofs.Effects.{own_named}
 use Rattle.tree_machine.proofs.Values.{Agree, AlikeMove}
@@ -125,6 +126,14 @@ module _ (N : Name → Type 0) (state : State) (own : List OwnFile) (F G : FileM
       go strays = record { own = refl; files = h }
   after_same (Dup fd) reply may = record { own = refl; files = h }
 
+pub asks_frame : (N : Name → Type 0) (run : Running) (i : Bytes) (F G : FileMap) → MayCall run.turn.call run.turn.next (alone run F) → ((n : Name) → depends_on run.turn.next (alone run F) n ≡ true → N n) → Agree N F G → (count : ℕ) (cl en : Bool) →
+    AlikeMove N (act asks run count cl en i F) (act asks run count cl en i G)
+asks_frame N run i F G may sub h count cl en =
+    let e : answer run F ≡ answer run G = reply_same N run.turn.next run.own F G sub h run.turn.call may in
+    let a = after_same N run.turn.next run.own F G sub h run.turn.call (answer run F) may in
+    subst (λ r. AlikeMove N (act asks run count cl en i F) (record { wrote = []; refused = false; took = 0; next = Some (replied run r G); files = files_after run r G })) e
+    (record { wrote = refl; refused = refl; took = refl; next = λ t. Some (record { turn = turn run.turn.next (answer run F); own = a.own t; put = 0 }); files = a.files })
+
 pub act_frame : (N : Name → Type 0) (run : Running) (count : ℕ) (cl en : Bool) (i : Bytes) (F G : FileMap) → MayCall run.turn.call run.turn.next (alone run F) → ((n : Name) → depends_on run.turn.next (alone run F) n ≡ true → N n) → Agree N F G →
     AlikeMove N (acts run count cl en i F) (acts run count cl en i G)
 act_frame N run count cl en i F G may sub h = go (kind_of run.turn.call)
@@ -148,8 +157,4 @@ act_frame N run count cl en i F G may sub h = go (kind_of run.turn.call)
     go leaves = record { wrote = refl; refused = refl; took = refl; next = refl; files = h }
     go (reads_input most) = at_read most i en
     go (writes_output bytes) = at_write (drop run.put bytes) count cl
-    go asks =
-        let e : answer run F ≡ answer run G = reply_same N run.turn.next run.own F G sub h run.turn.call may in
-        let a = after_same N run.turn.next run.own F G sub h run.turn.call (answer run F) may in
-        subst (λ r. AlikeMove N (act asks run count cl en i F) (record { wrote = []; refused = false; took = 0; next = Some (replied run r G); files = files_after run r G })) e
-        (record { wrote = refl; refused = refl; took = refl; next = λ t. Some (record { turn = turn run.turn.next (answer run F); own = a.own t; put = 0 }); files = a.files })
+    go asks = asks_frame N run i F G may sub h count cl en

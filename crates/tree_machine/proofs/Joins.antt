@@ -77,7 +77,7 @@ keeps_lost false ws ws' us us' v v' x x' b less less_use cut rest out files soft
     }
 
 -- a step of the right side
-less_cut : (x x' : Value) (w : Bytes) → Keeps w x x' → is_cut x ≡ false → is_cut x' ≡ false
+pub less_cut : (x x' : Value) (w : Bytes) → Keeps w x x' → is_cut x ≡ false → is_cut x' ≡ false
 less_cut x x' w k e =
     let t = not_right (not (is_empty x.rest)) x.loose e in
     neither (not (is_empty x'.rest)) x'.loose (ap (λ z. not (is_empty z)) (sym (k.rest t)) ∙ not_left (not (is_empty x.rest)) x.loose e) (k.loose t)

@@ -23,3 +23,10 @@ pub mod OneAnswer
 mod Worked
 pub mod Moving
 pub mod Progress
+pub mod Uncut
+pub mod UncutFrame
+pub mod UncutKept
+pub mod PlainRuns
+pub mod RuleFrame
+pub mod Commuting
+mod Orders

@@ -18,7 +18,7 @@ use Rattle.tree_machine.proofs.Smaller.{smaller, refused_closed}
 use Rattle.tree_machine.proofs.StepFrame.{named, step_frame, step_only, step_unused}
 use Rattle.tree_machine.proofs.StepTidy.{step_tidy}
 use Rattle.tree_machine.proofs.Unused.{closed_0, free, soft}
-use Rattle.tree_machine.proofs.Values.{Agree, AlikeMove, Keeps, alike_then}
+use Rattle.tree_machine.proofs.Values.{Agree, Alike, AlikeMove, Keeps, alike_then}
 use Rattle.mem_files.specs.Name.{Name, Bytes}
 use Rattle.mem_files.specs.Files.{FileMap, bytes_of}
 use Rattle.prog_parts.specs.NameSets.{Names}
@@ -29,7 +29,7 @@ some_append : (a b : Bytes) → is_empty a ≡ false → is_empty (a ++ b) ≡ f
 some_append [] b e = cc
 some_append (x ∷ a) b e = refl
 
-some_behind : (a b : Bytes) → is_empty b ≡ false → is_empty (a ++ b) ≡ false
+pub some_behind : (a b : Bytes) → is_empty b ≡ false → is_empty (a ++ b) ≡ false
 some_behind [] b e = e
 some_behind (x ∷ a) b e = refl
 
@@ -126,21 +126,34 @@ module _ (profile : Profile) where
           let s = smaller profile X c z en i F h.0 in
           subst Goal (sym e) (lost_kept false X m.next Y q (q ++ m.wrote) v v' d (not_not (keeps_0 Y) (refused_closed profile X c z en i F e)) h.2 b s.writes s.uses (λ g. refused_out X c z en i t F h.0 e) (rest_kept X c z en i t F h.0) (files_kept X c z en i (i ++ t) (drop m.took i ++ t) F h.0))
 
+  -- what the left side gives after a step of the right side, and what this step makes of the files that the left side leaves
+  pub right_alike : (l : Bool) (X : Residual) (q : Bytes) (Y : Residual) (c : Choice) (cl : Bool) (j : Bytes) (F : FileMap) → IsTidy (piped l X q Y) F → Alike (λ n. left_writes Y n ≡ false) (final profile X j F) (final profile X j (step profile Y c cl (not (keeps_1 X)) q F).files)
+  right_alike l X q Y c cl j F h =
+      frame profile (λ n. left_writes Y n ≡ false) X j F (step profile Y c cl (not (keeps_1 X)) q F).files h.0 (λ n e. apart (left_writes Y n) (left_names X n) (h.3 n) e) (record { at = λ n e. sym (step_only profile Y c cl (not (keeps_1 X)) q F n h.1 e) })
+
+  pub right_files : (l : Bool) (X : Residual) (q : Bytes) (Y : Residual) (c : Choice) (cl : Bool) (j : Bytes) (F : FileMap) → IsTidy (piped l X q Y) F → (step profile Y c cl (not (keeps_1 X)) q (final profile X j F).files).files ≡ (final profile X j (step profile Y c cl (not (keeps_1 X)) q F).files).files
+  right_files l X q Y c cl j F h =
+      let z = not (keeps_1 X) in
+      let m = step profile Y c cl z q F in
+      let v = final profile X j F in
+      let m1 = step profile Y c cl z q v.files in
+      let dx = tidy_agree X F m.files (λ n e. sym (step_only profile Y c cl z q F n h.1 (apart (left_writes Y n) (left_names X n) (h.3 n) e))) h.0 in
+      let bs = beside l X Y q c cl j F h in
+      let quiet = λ (n : Name) (e : left_writes X n ≡ false). sym (bs.files.at n e) ∙ sym (only profile X j m.files n dx e) in
+      fun_ext (λ n. same_files X Y v.files (final profile X j m.files).files m1.files n (h.2 n) (λ e. step_only profile Y c cl z q v.files n (right_tidy profile l X q Y j F h) e) ((right_alike l X q Y c cl j F h).files.at n) (quiet n))
+
   pub right_step : (l : Bool) (X : Residual) (q : Bytes) (Y : Residual) (c : Choice) (cl : Bool) (i t : Bytes) (F : FileMap) → IsTidy (piped l X q Y) F → ((n : Name) → (final profile (piped l X q Y) (i ++ t) F).met n ≡ false) → Keeps (step profile Y c cl (not (keeps_1 X)) q (final profile X (i ++ t) F).files).wrote (final profile Y (q ++ (final profile X (i ++ t) F).out) (final profile X (i ++ t) F).files) (final profile (step profile Y c cl (not (keeps_1 X)) q (final profile X (i ++ t) F).files).next (drop (step profile Y c cl (not (keeps_1 X)) q (final profile X (i ++ t) F).files).took q ++ (final profile X (i ++ t) F).out) (step profile Y c cl (not (keeps_1 X)) q (final profile X (i ++ t) F).files).files) → Keeps (step profile Y c cl (not (keeps_1 X)) q F).wrote (final profile (piped l X q Y) (i ++ t) F) (final profile (piped l X (drop (step profile Y c cl (not (keeps_1 X)) q F).took q) (step profile Y c cl (not (keeps_1 X)) q F).next) (i ++ t) (step profile Y c cl (not (keeps_1 X)) q F).files)
   right_step l X q Y c cl i t F h b k =
       let z = not (keeps_1 X) in
       let m = step profile Y c cl z q F in
       let v = final profile X (i ++ t) F in
       let v2 = final profile X (i ++ t) m.files in
-      let m1 = step profile Y c cl z q v.files in
-      let d = right_tidy profile l X q Y (i ++ t) F h in
-      let dx = tidy_agree X F m.files (λ n e. sym (step_only profile Y c cl z q F n h.1 (apart (left_writes Y n) (left_names X n) (h.3 n) e))) h.0 in
       let bs = beside l X Y q c cl (i ++ t) F h in
-      let a = frame profile (λ n. left_writes Y n ≡ false) X (i ++ t) F m.files h.0 (λ n e. apart (left_writes Y n) (left_names X n) (h.3 n) e) (record { at = λ n e. sym (step_only profile Y c cl z q F n h.1 e) }) in
-      let quiet = λ (n : Name) (e : left_writes X n ≡ false). sym (bs.files.at n e) ∙ sym (only profile X (i ++ t) m.files n dx e) in
-      let fs : m1.files ≡ v2.files = fun_ext (λ n. same_files X Y v.files v2.files m1.files n (h.2 n) (λ e. step_only profile Y c cl z q v.files n d e) (a.files.at n) (quiet n)) in
+      let a = right_alike l X q Y c cl (i ++ t) F h in
+      let fs = right_files l X q Y c cl (i ++ t) F h in
       let w = sym bs.wrote in
       let nx = sym bs.next in
       let tk = sym bs.took in
-      let k2 : Keeps m.wrote (final profile Y (q ++ v.out) v.files) (final profile m.next (drop m.took q ++ v2.out) v2.files) = transport (λ z. Keeps (w z) (final profile Y (q ++ v.out) v.files) (final profile (nx z) (drop (tk z) q ++ a.out z) (fs z))) k in
+      let k2 : Keeps m.wrote (final profile Y (q ++ v.out) v.files) (final profile m.next (drop m.took q ++ v2.out) v2.files) =
+      transport (λ z. Keeps (w z) (final profile Y (q ++ v.out) v.files) (final profile (nx z) (drop (tk z) q ++ a.out z) (fs z))) k in
       keeps_right l (left_writes X) (left_uses X) m.wrote v v2 (final profile Y (q ++ v.out) v.files) (final profile m.next (drop m.took q ++ v2.out) v2.files) b a k2

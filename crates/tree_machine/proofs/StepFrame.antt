@@ -71,7 +71,7 @@ module _ (profile : Profile) where
     files = agree_opened N m F G f nf h;
   }
 
-  alike_opens : (N : Name → Type 0) (m : Mode) (f : Name) (T : Tree) (F G : FileMap) → N f → Agree N F G → AlikeMove N (open_move (opens_file profile m f T F)) (open_move (opens_file profile m f T G))
+  pub alike_opens : (N : Name → Type 0) (m : Mode) (f : Name) (T : Tree) (F G : FileMap) → N f → Agree N F G → AlikeMove N (open_move (opens_file profile m f T F)) (open_move (opens_file profile m f T G))
   alike_opens N Input f T F G nf h = alike_from N (found F f) (found G f) f T F G (found_same f F G (h.at f nf)) h
   alike_opens N Fresh f T F G nf h = alike_into N (is_openable f) Fresh f T F G nf h
   alike_opens N Over f T F G nf h = alike_into N (is_openable f) Over f T F G nf h

@@ -8,3 +8,4 @@ pub mod Tidy
 pub mod Kept
 pub mod Runs
 pub mod Moving
+pub mod Uncut
