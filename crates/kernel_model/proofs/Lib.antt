@@ -18,3 +18,4 @@ pub mod Writing
 pub mod Along
 pub mod Lasting
 pub mod PipeNames
+pub mod Quiet

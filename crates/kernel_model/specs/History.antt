@@ -5,6 +5,7 @@ use Rattle.user_calls.specs.declared.calls.Reply.{Reply}
 use Rattle.user_calls.specs.RanOnce.{RanOnce}
 use Rattle.proc_table.specs.Slots.{Slot, is_running_on_status, is_running}
 use Rattle.kernel_model.specs.declared.events.Event.{Event}
+use Rattle.kernel_model.specs.declared.events.Event.TheVariants.{Dispatch, Trap}
 use Rattle.kernel_model.specs.KernelState.{KernelState}
 use Rattle.kernel_model.specs.Events.{run, happens}
 use Rattle.kernel_model.specs.Sound.{IsSound}
@@ -48,3 +49,7 @@ IsOwed h (Some p) ran = (is_running_on_status h p.status ≡ true) × (p.machine
 abbrev pub IsTask : {S : Type 0} → Slot S → S → Reply → Type 0
 IsTask None machine reply = ⊥
 IsTask (Some p) machine reply = (machine ≡ p.machine) × (reply ≡ p.reply)
+
+-- a kernel goes on by a dispatch of some process on the hart, and the trap of that process
+abbrev pub Steps : {S : Type 0} → (S → Reply → Call) → (S → Reply → S) → History S → ℕ → History S → Type 0
+Steps call next old h new = (pid : ℕ) × (mid : History _) × GoesOn call next old (Dispatch h pid) mid × GoesOn call next mid (Trap h pid) new

@@ -13,3 +13,4 @@ pub mod Sound
 pub mod History
 pub mod Along
 pub mod Lasting
+pub mod Quiet

@@ -16,6 +16,7 @@ ghost use Rattle.kernel_model.specs.Sound.{IsSound, Keeps};
 ghost use Rattle.kernel_model.specs.Along.{IsAlong};
 ghost use Rattle.kernel_model.specs.Lasting.{IsLater};
 ghost use Rattle.kernel_model.specs.Events.{acted, run};
+ghost use Rattle.kernel_model.specs.Quiet.{no_refusals};
 
 use user_calls::Machine;
 
@@ -49,4 +50,13 @@ pub fn a_run_counts_its_events<M: Machine>()
 pub fn a_pipe_gets_a_new_name<M: Machine>()
     ensures { (init shell : M.State) (input : Bytes) (list : List (Name × Bytes)) (m : KernelState M.State) (events : List Event) (notes : List Bool) (id : ℕ)
         → run M.call_of M.next_of (Some (boot_kernel init shell input list)) events notes ≡ Some m → length events < id → pipe_of m.pipes id ≡ None }
+{}
+
+/// The schedule of a run that marked nothing determines it, whatever its notes: it is the run in which memory was never
+/// refused, and there is one such run.
+pub fn a_schedule_determines_an_unmarked_run<M: Machine>()
+    ensures quiet { (k m : KernelState M.State) (events : List Event) (notes : List Bool) → run M.call_of M.next_of (Some k) events notes ≡ Some m → m.full ≡ None
+        → run M.call_of M.next_of (Some k) events (no_refusals events) ≡ Some m }
+    ensures one { (k m n : KernelState M.State) (events : List Event) (notes others : List Bool) → run M.call_of M.next_of (Some k) events notes ≡ Some m
+        → run M.call_of M.next_of (Some k) events others ≡ Some n → m.full ≡ None → n.full ≡ None → m ≡ n }
 {}

@@ -1,0 +1,30 @@
+use Rattle.std.proofs.Common.{◌≡◌, ◌∙◌, ◌++◌, ◌∷◌, [], sym, ap, subst, arith, false, refl}
+use Rattle.std.specs.Prelude.{All}
+use Rattle.proc_table.specs.Slots.{is_running_on}
+use Rattle.kernel_model.specs.declared.events.Event.TheVariants.{Dispatch}
+use Rattle.kernel_model.specs.History.{History, GoesOn}
+use Rattle.kernel_core.proofs.Keeping.{dispatch_goes, dispatch_kept}
+use Rattle.kernel_core.proofs.kernel.Kernel.dispatch.Goals as goal
+
+pub invariant_of-self-2 : goal.invariant_of-self-2
+invariant_of-self-2 g c =
+    let idle : All (λ slot. is_running_on c.args.hart slot ≡ false) c.self.inside.state.table = rw (← c.self.view_is) at c.requires.idle in
+    dispatch_kept g.M.Machine.call_of g.M.Machine.next_of c.self.inside.state c.dispatch.new.self c.args.hart c.in-Some.pid c.requires.hart idle c.in-Some.ensures.was c.in-Some.ensures.after
+    c.self.inside.boot.value c.self.inside.log c.write.new.self c.self.invariant
+    (c.write.ensures.events ∙ (λ i. c.in_ok-reserve.ensures.events i ++ Dispatch c.args.hart (c.index.ensures.value i) ∷ []))
+    (c.write.ensures.notes ∙ ap (λ ns. ns ++ false ∷ []) c.in_ok-reserve.ensures.notes)
+    (omega (arith, c.in_ok-reserve.ensures.ok, c.running-owed.ensures.count, c.write.ensures.room))
+
+pub returns-clause-event : goal.returns-clause-event
+returns-clause-event g c =
+    let idle : All (λ slot. is_running_on c.args.hart slot ≡ false) c.self.inside.state.table = rw (← c.self.view_is) at c.requires.idle in
+    let old : History g.row.M-State.Denot = record { boot = c.self.inside.boot.value; now = c.self.inside.state; schedule = c.self.inside.log.events; notes = c.self.inside.log.notes } in
+    let new : History g.row.M-State.Denot = record { boot = c.self.inside.boot.value; now = c.dispatch.new.self; schedule = c.write.new.self.events; notes = c.write.new.self.notes } in
+    let goes : GoesOn g.M.Machine.call_of g.M.Machine.next_of old (Dispatch c.args.hart c.in-Some.pid) new =
+    record {
+      boot = refl;
+      schedule = c.write.ensures.events ∙ (λ i. c.in_ok-reserve.ensures.events i ++ Dispatch c.args.hart (c.index.ensures.value i) ∷ []);
+      note = (false, c.write.ensures.notes ∙ ap (λ ns. ns ++ false ∷ []) c.in_ok-reserve.ensures.notes, dispatch_goes g.M.Machine.call_of g.M.Machine.next_of c.self.inside.state c.dispatch.new.self c.args.hart c.in-Some.pid c.requires.hart idle c.in-Some.ensures.was c.in-Some.ensures.after);
+    } in
+    subst (λ (k : History g.row.M-State.Denot). GoesOn g.M.Machine.call_of g.M.Machine.next_of k (Dispatch c.args.hart c.task.result.pid) new) c.self.view_is
+    (subst (λ n. GoesOn g.M.Machine.call_of g.M.Machine.next_of old (Dispatch c.args.hart n) new) (sym c.task.ensures.pid) goes)

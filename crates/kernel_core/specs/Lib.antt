@@ -1,0 +1,2 @@
+pub mod Harts
+pub mod Doer
