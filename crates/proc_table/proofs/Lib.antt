@@ -1,4 +1,5 @@
-mod InPlace
 mod Changes
 mod Counts
 mod Alone
+mod Searched
+mod Kept
