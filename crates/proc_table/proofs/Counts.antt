@@ -19,12 +19,12 @@ tally_is true c is = ap tally is
 tally_is false c is = ap tally is
 
 -- one slot is written
-set_counts : {S : Type 0} (test : Slot S → Bool) (t : Table S) (pid : ℕ) (y : Slot S) (before after : Bool) → pid < length t → test (at t pid) ≡ before → test y ≡ after → count_by test (set t pid y) + tally before ≡ count_by test t + tally after
+pub set_counts : {S : Type 0} (test : Slot S → Bool) (t : Table S) (pid : ℕ) (y : Slot S) (before after : Bool) → pid < length t → test (at t pid) ≡ before → test y ≡ after → count_by test (set t pid y) + tally before ≡ count_by test t + tally after
 set_counts test t pid y before after within was now =
     omega (arith, sum_by-set (λ x. cond {A = ℕ} (test x) 1 0) t pid y None within, tally_is (test (at t pid)) before was, tally_is (test y) after now)
 
 -- a slot with a process stands in the table
-used_within : {S : Type 0} (t : Table S) (pid : ℕ) (p : Process S) → at t pid ≡ Some p → pid < length t
+pub used_within : {S : Type 0} (t : Table S) (pid : ℕ) (p : Process S) → at t pid ≡ Some p → pid < length t
 used_within [] pid p is = absurd (let no : ⊥ = cc in no)
 used_within (x ∷ t) zero p is = omega arith
 used_within (x ∷ t) (suc pid) p is = omega (arith, used_within t pid p is)

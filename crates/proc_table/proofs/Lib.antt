@@ -1,4 +1,5 @@
-pub mod InPlace
 pub mod Changes
 pub mod Counts
 mod Alone
+mod Searched
+mod Kept

@@ -1,9 +1,7 @@
 //! The table.
 
-use crate::process::{
-    are_free, fds_of, give_all, is_child_of, is_runnable, is_running, is_running_on,
-    is_zombie_child_of, wake_all,
-};
+use crate::heads::Heads;
+use crate::process::{are_free, fds_of, head_of, is_runnable, is_running, is_running_on};
 use crate::{Channel, PROCS, Pid, Process, State, Status};
 use fd_table::Fds;
 use std::alloc::{AllocError, Allocator};
@@ -36,30 +34,32 @@ pub enum Waited {
 #[derive(Drop)]
 pub struct Procs<M: Machine, A: Allocator> {
     slots: Vec<Option<Process<M>>, A>,
+    // What is searched of them.
+    heads: Heads,
 }
 
 impl<M: Machine, A: Allocator> Model for Procs<M, A> {
-    ghost use Rattle.std.specs.Prelude.{◌≡◌, length};
-    ghost use Rattle.proc_table.specs.declared.pid.TheConstants.{PROCS};
+    ghost use Rattle.proc_table.specs.Heads.{AreHeads};
     ghost use Rattle.proc_table.specs.Slots.{Table};
 
     ghost Value = { Table M.State };
 
     ghost view = { λ p. p.slots.items };
 
-    ghost invariant = { λ p. length p.slots.items ≡ PROCS };
+    ghost invariant = { λ p. AreHeads p.slots.items p.heads };
 }
 
 impl<M: Machine, A: Allocator> Procs<M, A> {
     ghost use Rattle.std.specs.Borrow.{Lends, sem};
     ghost use Rattle.fd_table.specs.contracts.descriptors.Fds.{the_row as fds_row};
     ghost use Rattle.proc_table.specs.contracts.table.Procs.{the_row as procs_row};
-    ghost use Rattle.std.specs.Prelude.{◌≡◌, ◌≢◌, ◌≤◌, ◌<◌, All, IfOk, IfSome, IsSome, IsTrue, ◌↔◌, OnErr, None, Some, true, false, count_by, position};
+    ghost use Rattle.std.specs.Prelude.{◌≡◌, ◌≢◌, ◌≤◌, ◌<◌, ℕ, All, IfNone, IfOk, IfSome, IsSome, IsTrue, ◌↔◌, OnErr, None, Some, true, false, count_by, map, position, slice_set};
     ghost use Rattle.std.specs.Bool.{OnFalse, OnTrue};
     ghost use Rattle.proc_table.specs.declared.pid.TheConstants.{PROCS};
     ghost use Rattle.proc_table.specs.declared.table.TheConstants.{HARTS};
     ghost use Rattle.proc_table.specs.Slots.{IsAlone, at, is_asleep_on, is_child_of, is_runnable, is_running, is_running_on, parent_of, put_of, state_of};
-    ghost use Rattle.proc_table.specs.Calls.{CanDispatch, all_woken, boot_table, dispatched, exited, fds_set, forked, lowest_free, readied, reaped, slept, some_child, status_set, wait_answer, zombie_child};
+    ghost use Rattle.proc_table.specs.Heads.{to_init};
+    ghost use Rattle.proc_table.specs.Calls.{CanDispatch, all_woken, boot_table, dispatched, exited, fds_set, forked, given, lowest_free, readied, reaped, slept, some_child, status_set, wait_answer, zombie_child};
 
     /// The table with init in slot 0 and the top shell, its child, in slot 1, and room for 62 processes more
     /// (`procinit` and `userinit`; that there are two processes from the start is own).
@@ -74,7 +74,10 @@ impl<M: Machine, A: Allocator> Procs<M, A> {
         for _free in 0..PROCS - 2 {
             slots.push(None)?;
         }
-        Ok(Procs { slots })
+        Ok(Procs {
+            slots,
+            heads: Heads::new(),
+        })
     }
 
     /// The lowest free slot, if there is one (`allocproc`).
@@ -98,7 +101,7 @@ impl<M: Machine, A: Allocator> Procs<M, A> {
         let Some(index) = self.free_index() else {
             return Err(FullProcs);
         };
-        self.slots[index] = Some(Process::child(parent, child_machine, fds));
+        self.set(index, Some(Process::child(parent, child_machine, fds)));
         Ok(Pid::at(index))
     }
 
@@ -112,7 +115,7 @@ impl<M: Machine, A: Allocator> Procs<M, A> {
     {
         let orphan = self.zombie_child(pid).is_some();
         let parent = self.parent(pid);
-        give_all(&mut self.slots, pid);
+        self.give_all(pid);
         self.set_status(pid, Status::Zombie);
         self.wakeup(Channel::Children(parent));
         if orphan {
@@ -129,7 +132,7 @@ impl<M: Machine, A: Allocator> Procs<M, A> {
     {
         match self.zombie_child(pid) {
             Some(child) => {
-                self.slots[child] = None;
+                self.set(child, None);
                 Waited::Reaped(Pid::at(child))
             }
             None => {
@@ -178,7 +181,7 @@ impl<M: Machine, A: Allocator> Procs<M, A> {
     pub fn is_idle(&self, hart: u8) -> bool
         ensures { IsTrue result ↔ All (λ slot. is_running_on hart slot ≡ false) self.now }
     {
-        !self.slots.iter().any(|slot| is_running_on(slot, hart))
+        self.heads.is_idle(hart)
     }
 
     /// The parent of a process. Init is its own, but not its own child.
@@ -257,6 +260,8 @@ impl<M: Machine, A: Allocator> Procs<M, A> {
             process.machine = machine;
             process.reply = reply;
             process.put = 0;
+            let head = process.head();
+            self.heads.put(pid.index(), Some(head));
         }
     }
 
@@ -268,6 +273,8 @@ impl<M: Machine, A: Allocator> Procs<M, A> {
         if let Some(process) = &mut self.slots[pid.index()] {
             process.status = Status::Asleep(channel);
             process.put = put;
+            let head = process.head();
+            self.heads.put(pid.index(), Some(head));
         }
     }
 
@@ -276,7 +283,7 @@ impl<M: Machine, A: Allocator> Procs<M, A> {
         ensures woken { self.new ≡ all_woken channel self.old }
         ensures count { result ≡ count_by (is_asleep_on channel) self.old }
     {
-        wake_all(&mut self.slots, &channel)
+        self.wake_all(&channel)
     }
 
     /// Some Runnable process becomes Running on the hart, which runs nothing; `None` where none is Runnable
@@ -289,7 +296,7 @@ impl<M: Machine, A: Allocator> Procs<M, A> {
         ensures was { IfSome result (λ pid. is_runnable (at self.old pid) ≡ true) }
         ensures after { IfSome result (λ pid. self.new ≡ dispatched self.old pid hart) }
     {
-        let Some(index) = self.slots.iter().position(|slot| is_runnable(slot)) else {
+        let Some(index) = self.heads.next(hart) else {
             return None;
         };
         let pid = Pid::at(index);
@@ -323,7 +330,7 @@ impl<M: Machine, A: Allocator> Procs<M, A> {
         ensures count { result ≡ count_by is_running self.now }
         ensures within { result ≤ PROCS }
     {
-        self.slots.iter().filter(|slot| is_running(slot)).count()
+        self.heads.running()
     }
 
     /// How many processes are Runnable (own).
@@ -331,7 +338,7 @@ impl<M: Machine, A: Allocator> Procs<M, A> {
         ensures count { result ≡ count_by is_runnable self.now }
         ensures within { result ≤ PROCS }
     {
-        self.slots.iter().filter(|slot| is_runnable(slot)).count()
+        self.heads.runnable()
     }
 
     /// Whether every slot but init's is free (own).
@@ -346,7 +353,7 @@ impl<M: Machine, A: Allocator> Procs<M, A> {
         ensures value { result ≡ lowest_free self.now }
         ensures within { IfSome result (λ index. index < PROCS) }
     {
-        self.slots.iter().position(|slot| slot.is_none())
+        self.heads.free()
     }
 
     // Whether the process in the slot of this number is Runnable; there is none past the last slot.
@@ -362,7 +369,7 @@ impl<M: Machine, A: Allocator> Procs<M, A> {
         ensures value { result ≡ position (is_running_on hart) self.now }
         ensures within { IfSome result (λ index. index < PROCS) }
     {
-        self.slots.iter().position(|slot| is_running_on(slot, hart))
+        self.heads.running_on(hart)
     }
 
     // The number of the lowest child that is a zombie.
@@ -370,16 +377,50 @@ impl<M: Machine, A: Allocator> Procs<M, A> {
         ensures value { result ≡ zombie_child self.now pid }
         ensures within { IfSome result (λ index. index < PROCS) }
     {
-        self.slots
-            .iter()
-            .position(|slot| is_zombie_child_of(slot, pid))
+        self.heads.zombie_child(pid)
     }
 
     // The number of the lowest child.
     fn some_child(&self, pid: Pid) -> Option<usize>
-        ensures { result ≡ some_child self.now pid }
+        ensures value { result ≡ some_child self.now pid }
+        ensures within { IfSome result (λ index. index < PROCS) }
     {
-        self.slots.iter().position(|slot| is_child_of(slot, pid))
+        self.heads.child(pid)
+    }
+
+    // A process that sleeps on the channel.
+    fn sleeper(&self, channel: &Channel) -> Option<Pid>
+        ensures some { IfSome result (λ pid. is_asleep_on channel.now (at self.now pid) ≡ true) }
+        ensures none { IfNone result ((pid : ℕ) → is_asleep_on channel.now (at self.now pid) ≡ false) }
+    {
+        match self.heads.sleeper(channel) {
+            Some(index) => Some(Pid::at(index)),
+            None => None,
+        }
+    }
+
+    // Wakes all that sleep on the channel, and tells how many did.
+    fn wake_all(&mut self, channel: &Channel) -> usize
+        ensures woken { self.new ≡ all_woken channel.now self.old }
+        ensures count { result ≡ count_by (is_asleep_on channel.now) self.old }
+    {
+        // All slots are 64, and so many fit a number.
+        let _slots = &self.slots;
+        let mut woken = 0;
+        while let Some(pid) = self.sleeper(channel) {
+            self.set_status(pid, Status::Runnable);
+            woken += 1;
+        }
+        woken
+    }
+
+    // What is in the slot of this number.
+    fn set(&mut self, index: usize, slot: Option<Process<M>>)
+        requires { index < PROCS }
+        ensures { self.new ≡ slice_set self.old index slot }
+    {
+        self.heads.put(index, head_of(&slot));
+        self.slots[index] = slot;
     }
 
     fn set_status(&mut self, pid: Pid, status: Status)
@@ -387,6 +428,30 @@ impl<M: Machine, A: Allocator> Procs<M, A> {
     {
         if let Some(process) = &mut self.slots[pid.index()] {
             process.set_status(status);
+            let head = process.head();
+            self.heads.put(pid.index(), Some(head));
+        }
+    }
+
+    // Gives the children of a process to init (xv6's `reparent`).
+    fn give_all(&mut self, pid: Pid)
+        requires { pid ≢ 0 }
+        ensures { self.new ≡ map (given pid) self.old }
+    {
+        while let Some(child) = self.some_child(pid) {
+            self.give(child);
+        }
+    }
+
+    // Gives the process in the slot of this number to init.
+    fn give(&mut self, index: usize)
+        requires { index < PROCS }
+        ensures { self.new ≡ slice_set self.old index (to_init (at self.old index)) }
+    {
+        if let Some(process) = &mut self.slots[index] {
+            process.set_parent(Pid::init());
+            let head = process.head();
+            self.heads.put(index, Some(head));
         }
     }
 }

@@ -1,0 +1,89 @@
+-- What is searched in a table says what is in its slots.
+use Rattle.std.proofs.Common.{◌≡◌, ℕ, zero, suc, ◌+◌, ◌<◌, List, [], ◌∷◌, Bool, true, false, Option, Some, None, length, get_or, refl, sym, ap, ◌∙◌, arith}
+use Rattle.std.proofs.lemmas.List.{length-map}
+use Rattle.std.proofs.lemmas.List.Sums.{sum_by-cons}
+use Rattle.std.specs.Prelude.{All, ◌↔◌, cond, map, count_by, position, nat_lt, not}
+use Rattle.std.specs.List.{position_or_len}
+use Rattle.proc_table.specs.declared.heads.Head.{Head}
+use Rattle.proc_table.specs.declared.states.Status.{Status}
+use Rattle.proc_table.specs.Slots.{Slot, Table, at, has_status, is_child_of, is_free, is_zombie_child_of}
+use Rattle.proc_table.specs.Heads.{head_at, head_has, head_is_child_of, head_is_free, head_is_zombie_child_of, head_of}
+
+has : {S : Type 0} (test : Status → Bool) (x : Slot S) → head_has test (head_of x) ≡ has_status test x
+has test None = refl
+has test (Some p) = refl
+
+free : {S : Type 0} (x : Slot S) → head_is_free (head_of x) ≡ is_free x
+free None = refl
+free (Some p) = refl
+
+child : {S : Type 0} (pid : ℕ) (x : Slot S) → head_is_child_of pid (head_of x) ≡ is_child_of pid x
+child pid None = refl
+child pid (Some p) = refl
+
+zombie_child : {S : Type 0} (pid : ℕ) (x : Slot S) → head_is_zombie_child_of pid (head_of x) ≡ is_zombie_child_of pid x
+zombie_child pid None = refl
+zombie_child pid (Some p) = refl
+
+-- the head in a slot
+pub head_there : {S : Type 0} (t : Table S) (pid : ℕ) → head_at (map head_of t) pid ≡ head_of (at t pid)
+head_there [] pid = refl
+head_there (x ∷ t) zero = refl
+head_there (x ∷ t) (suc pid) = head_there t pid
+
+pub status_there : {S : Type 0} (test : Status → Bool) (t : Table S) (pid : ℕ) → head_has test (head_at (map head_of t) pid) ≡ has_status test (at t pid)
+status_there test t pid = ap (head_has test) (head_there t pid) ∙ has test (at t pid)
+
+-- a test of heads that is a test of slots
+
+first_by : {X Y : Type 0} (f : X → Y) (p : Y → Bool) (q : X → Bool) → ((x : X) → p (f x) ≡ q x) → (xs : List X) → position_or_len p (map f xs) ≡ position_or_len q xs
+first_by f p q same [] = refl
+first_by f p q same (x ∷ xs) =
+    ap (λ (b : Bool). cond (not b) (1 + position_or_len p (map f xs)) 0) (same x) ∙ ap (λ (n : ℕ). cond (not (q x)) (1 + n) 0) (first_by f p q same xs)
+
+found_by : {X Y : Type 0} (f : X → Y) (p : Y → Bool) (q : X → Bool) → ((x : X) → p (f x) ≡ q x) → (xs : List X) → position p (map f xs) ≡ position q xs
+found_by f p q same xs =
+    ap (λ (n : ℕ). cond (nat_lt n (length (map f xs))) (Some n) None) (first_by f p q same xs)
+    ∙ ap (λ (l : ℕ). cond (nat_lt (position_or_len q xs) l) (Some (position_or_len q xs)) None) (length-map xs f)
+
+counted_by : {X Y : Type 0} (f : X → Y) (p : Y → Bool) (q : X → Bool) → ((x : X) → p (f x) ≡ q x) → (xs : List X) → count_by p (map f xs) ≡ count_by q xs
+counted_by f p q same [] = refl
+counted_by f p q same (x ∷ xs) =
+    omega (arith, sum_by-cons (λ y. cond {A = ℕ} (p y) 1 0) (f x) (map f xs), sum_by-cons (λ y. cond {A = ℕ} (q y) 1 0) x xs, counted_by f p q same xs, ap (λ (b : Bool). cond {A = ℕ} b 1 0) (same x))
+
+pub first_free : {S : Type 0} (t : Table S) → position head_is_free (map head_of t) ≡ position is_free t
+first_free t = found_by head_of head_is_free is_free free t
+
+pub first_child : {S : Type 0} (pid : ℕ) (t : Table S) → position (head_is_child_of pid) (map head_of t) ≡ position (is_child_of pid) t
+first_child pid t = found_by head_of (head_is_child_of pid) (is_child_of pid) (child pid) t
+
+pub first_zombie_child : {S : Type 0} (pid : ℕ) (t : Table S) → position (head_is_zombie_child_of pid) (map head_of t) ≡ position (is_zombie_child_of pid) t
+first_zombie_child pid t = found_by head_of (head_is_zombie_child_of pid) (is_zombie_child_of pid) (zombie_child pid) t
+
+pub first_with : {S : Type 0} (test : Status → Bool) (t : Table S) → position (head_has test) (map head_of t) ≡ position (has_status test) t
+first_with test t = found_by head_of (head_has test) (has_status test) (has test) t
+
+pub count_with : {S : Type 0} (test : Status → Bool) (t : Table S) → count_by (head_has test) (map head_of t) ≡ count_by (has_status test) t
+count_with test t = counted_by head_of (head_has test) (has_status test) (has test) t
+
+-- a hart that nothing runs on
+
+got : {S : Type 0} (t : Table S) (k : ℕ) (d : Slot S) → get_or (map head_of t) k (head_of d) ≡ head_of (get_or t k d)
+got [] k d = refl
+got (x ∷ t) zero d = refl
+got (x ∷ t) (suc k) d = got t k d
+
+any_default : {X : Type 0} (xs : List X) (k : ℕ) (d e : X) → k < length xs → get_or xs k d ≡ get_or xs k e
+any_default [] k d e lt = absurd (omega arith)
+any_default (x ∷ xs) zero d e lt = refl
+any_default (x ∷ xs) (suc k) d e lt = any_default xs k d e (omega arith)
+
+pub none_with : {S : Type 0} (test : Status → Bool) (t : Table S) → All (λ head. head_has test head ≡ false) (map head_of t) ↔ All (λ slot. has_status test slot ≡ false) t
+none_with test t = (forth, back) where
+  forth : All (λ head. head_has test head ≡ false) (map head_of t) → All (λ slot. has_status test slot ≡ false) t
+  forth all k d lt = sym (ap (head_has test) (got t k d) ∙ has test (get_or t k d)) ∙ all k (head_of d) (rw (length-map t head_of) lt)
+
+  back : All (λ slot. has_status test slot ≡ false) t → All (λ head. head_has test head ≡ false) (map head_of t)
+  back all k d lt =
+      let long : length (map head_of t) ≡ length t = length-map t head_of in
+      ap (head_has test) (any_default (map head_of t) k d None lt ∙ got t k None) ∙ has test (get_or t k None) ∙ all k None (omega arith)

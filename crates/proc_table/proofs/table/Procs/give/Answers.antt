@@ -1,0 +1,9 @@
+-- The head is written with the slot.
+use Rattle.std.proofs.Common.{Some, ap, refl}
+use Rattle.proc_table.proofs.Kept.{written_kept}
+use Rattle.proc_table.proofs.table.Procs.give.Goals as goal
+
+pub invariant_of-self : goal.invariant_of-self
+invariant_of-self g c =
+    written_kept c.self.inside.slots.items c.self.inside.heads c.put.new.self c.args.index c.args.index (Some c.set_parent.new.self) (Some c.head-head.result)
+    c.self.invariant c.put.ensures refl (ap Some c.head-head.ensures)
