@@ -17,8 +17,8 @@ use Rattle.kernel_model.specs.History.{IsKept, Written}
 use Rattle.kernel_model.specs.Sound.{IsSound}
 use Rattle.kernel_model.proofs.Lasting.{happens_later}
 use Rattle.kernel_model.proofs.Runs.{run_more, length_more, dispatch_happens}
-use Rattle.kernel_model.proofs.SlotChanges.{written}
-use Rattle.kernel_model.proofs.SlotCounts.{status_counts}
+use Rattle.proc_table.proofs.Changes.{written}
+use Rattle.proc_table.proofs.Counts.{status_counts}
 use Rattle.kernel_model.proofs.Sound.{dispatch_sound}
 
 pub kept_after : {S : Type 0} (call : S → Reply → Call) (next : S → Reply → S) (boot old new : KernelState S) (before after : Written) (e : Event) (note : Bool) → IsKept call next boot old before → happens call next old e note ≡ Some new → after.events ≡ before.events ++ e ∷ [] → after.notes ≡ before.notes ++ note ∷ [] → count_by is_running new.table ≤ after.room → IsSound new.table new.entries → IsKept call next boot new after

@@ -12,7 +12,7 @@ use Rattle.fd_table.proofs.Lists.{within_list}
 use Rattle.proc_table.specs.declared.states.Channel.TheVariants.{PipeBytes, PipeRoom}
 use Rattle.proc_table.specs.Slots.{at}
 use Rattle.proc_table.specs.Calls.{woken, with_fds}
-use Rattle.kernel_model.proofs.SlotChanges.{written, mapped}
+use Rattle.proc_table.proofs.Changes.{written, mapped}
 use Rattle.kernel_model.specs.KernelState.{KernelState, fds_of, fds_at}
 use Rattle.kernel_model.specs.Sound.{IsMid, Keeps}
 use Rattle.kernel_model.specs.Descriptors.{let_go, let_go_of, taken_away, closed, closed_below, copied, dup_by, close, dup}

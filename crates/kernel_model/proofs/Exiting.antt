@@ -11,8 +11,8 @@ use Rattle.proc_table.specs.declared.states.Channel.TheVariants.{Children}
 use Rattle.proc_table.specs.declared.states.Status.TheVariants.{Zombie}
 use Rattle.proc_table.specs.Slots.{Table, Slot, Process, at, is_zombie, is_running, is_running_status, is_zombie_child_of}
 use Rattle.proc_table.specs.Calls.{forked, newborn, lowest_free as lowest_free_slot, exited, reaped, zombie_child, wait_answer, wait_by as waited_by, some_child, given, woken_by_exit, with_status, woken, fds_set, with_fds, all_woken}
-use Rattle.kernel_model.proofs.SlotChanges.{exit_self, exit_other}
-use Rattle.kernel_model.proofs.SlotCounts.{exit_counts_by}
+use Rattle.proc_table.proofs.Changes.{exit_self, exit_other}
+use Rattle.proc_table.proofs.Counts.{exit_counts_by}
 use Rattle.kernel_model.specs.KernelState.{KernelState, fds_of, fds_at}
 use Rattle.kernel_model.specs.Sound.{IsMid, Keeps}
 use Rattle.kernel_model.specs.Replies.{answered}

@@ -6,8 +6,8 @@ use Rattle.fd_table.specs.declared.descriptors.TheConstants.{DESCRIPTORS}
 use Rattle.fd_table.proofs.Counting.{fork_kept, closed_table_not_counted}
 use Rattle.proc_table.specs.Slots.{Slot, at, is_running, is_running_status}
 use Rattle.proc_table.specs.Calls.{forked, newborn, lowest_free as lowest_free_slot}
-use Rattle.kernel_model.proofs.SlotChanges.{was_free, child_within}
-use Rattle.kernel_model.proofs.SlotCounts.{fork_states}
+use Rattle.proc_table.proofs.Changes.{was_free, child_within}
+use Rattle.proc_table.proofs.Counts.{fork_states}
 use Rattle.kernel_model.specs.KernelState.{KernelState, fds_of, fds_at}
 use Rattle.kernel_model.specs.Sound.{IsMid, Keeps}
 use Rattle.kernel_model.specs.Processes.{fork_into}

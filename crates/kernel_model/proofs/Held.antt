@@ -14,8 +14,8 @@ use Rattle.proc_table.specs.declared.states.Status.{Status}
 use Rattle.proc_table.specs.declared.states.Status.TheVariants.{Runnable, Running, Asleep, Zombie}
 use Rattle.proc_table.specs.Slots.{Table, Slot, Process, at, is_zombie, is_zombie_status, is_running, is_running_status}
 use Rattle.proc_table.specs.Calls.{lowest_free}
-use Rattle.kernel_model.proofs.SlotChanges.{was_free}
-use Rattle.kernel_model.proofs.SlotCounts.{used_within}
+use Rattle.proc_table.proofs.Changes.{was_free}
+use Rattle.proc_table.proofs.Counts.{used_within}
 use Rattle.kernel_model.specs.KernelState.{fds_of}
 use Rattle.kernel_model.specs.Sound.{tables, IsSound}
 use Rattle.kernel_model.proofs.Sound.{split_at, length-map}

@@ -13,8 +13,8 @@ use Rattle.proc_table.specs.declared.states.Status.{Status}
 use Rattle.proc_table.specs.declared.states.Status.TheVariants.{Runnable, Running, Asleep, Zombie}
 use Rattle.proc_table.specs.Slots.{Table, Slot, Process, at, is_zombie, is_running, is_running_status, tally}
 use Rattle.proc_table.specs.Calls.{readied, made_ready, slept, put_to_sleep, all_woken, woken, woken_status, fds_set, with_fds}
-use Rattle.kernel_model.proofs.SlotChanges.{written, mapped}
-use Rattle.kernel_model.proofs.SlotCounts.{status_counts, all_woken_same, count_stays, with_fds_status}
+use Rattle.proc_table.proofs.Changes.{written, mapped}
+use Rattle.proc_table.proofs.Counts.{status_counts, all_woken_same, count_stays, with_fds_status}
 use Rattle.kernel_model.specs.KernelState.{fds_of}
 use Rattle.kernel_model.specs.Sound.{IsSound, IsMid, Keeps}
 use Rattle.kernel_model.proofs.Sound.{counts_changed, ready_sound, sleep_sound, wake_sound}

@@ -10,8 +10,6 @@ pub mod Opening
 pub mod Piping
 pub mod Reading
 pub mod Runs
-pub mod SlotChanges
-pub mod SlotCounts
 pub mod Sound
 pub mod Waiting
 pub mod Writing

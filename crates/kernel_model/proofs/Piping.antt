@@ -13,7 +13,7 @@ use Rattle.fd_table.specs.Descriptors.{Descriptors, lowest_free, installed, inst
 use Rattle.fd_table.proofs.Lists.{position_found}
 use Rattle.proc_table.specs.Slots.{at}
 use Rattle.proc_table.specs.Calls.{with_fds}
-use Rattle.kernel_model.proofs.SlotChanges.{written}
+use Rattle.proc_table.proofs.Changes.{written}
 use Rattle.kernel_model.specs.KernelState.{KernelState, fds_of, fds_at}
 use Rattle.kernel_model.specs.Sound.{IsMid, Keeps}
 use Rattle.kernel_model.specs.Replies.{answered, refused_for}

@@ -12,7 +12,7 @@ use Rattle.proc_table.specs.declared.states.Status.{Status}
 use Rattle.proc_table.specs.declared.states.Status.TheVariants.{Runnable, Running, Asleep, Zombie}
 use Rattle.proc_table.specs.Slots.{Table, Slot, at, is_zombie, is_zombie_status, is_asleep_on_status}
 use Rattle.proc_table.specs.Calls.{readied, made_ready, slept, put_to_sleep, all_woken, woken, woken_status, with_status, dispatched}
-use Rattle.kernel_model.proofs.SlotChanges.{written, mapped}
+use Rattle.proc_table.proofs.Changes.{written, mapped}
 use Rattle.kernel_model.specs.KernelState.{fds_of}
 use Rattle.kernel_model.specs.Sound.{tables, IsSound}
 

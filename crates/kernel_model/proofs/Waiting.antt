@@ -9,8 +9,8 @@ use Rattle.proc_table.specs.declared.table.Waited.{Waited}
 use Rattle.proc_table.specs.declared.table.Waited.TheVariants.{Reaped, NoChildren, MustSleep}
 use Rattle.proc_table.specs.Slots.{Table, Slot, Process, at, is_zombie, is_running, is_running_status, is_zombie_child_of}
 use Rattle.proc_table.specs.Calls.{forked, newborn, lowest_free as lowest_free_slot, exited, reaped, zombie_child, wait_answer, wait_by as waited_by, some_child, given, woken_by_exit, with_status, woken, fds_set, with_fds, all_woken}
-use Rattle.kernel_model.proofs.SlotChanges.{reaped_is_free, reaped_others, reaped_nothing, caller_stays, was_zombie_child}
-use Rattle.kernel_model.proofs.SlotCounts.{wait_states}
+use Rattle.proc_table.proofs.Changes.{reaped_is_free, reaped_others, reaped_nothing, caller_stays, was_zombie_child}
+use Rattle.proc_table.proofs.Counts.{wait_states}
 use Rattle.kernel_model.specs.KernelState.{KernelState, fds_of}
 use Rattle.kernel_model.specs.Sound.{IsMid, Keeps}
 use Rattle.proc_table.specs.Slots.{put_of}

@@ -1,6 +1,6 @@
 use Rattle.std.proofs.Common.{◌≡◌, ◌∙◌, ap, true}
 use Rattle.proc_table.specs.Slots.{at, is_running}
-use Rattle.kernel_model.proofs.SlotChanges.{caller_stays}
+use Rattle.proc_table.proofs.Changes.{caller_stays}
 use Rattle.kernel_model.proofs.Held.{not_zombie}
 use Rattle.kernel_state.proofs.state.State.wait.Goals as goal
 
