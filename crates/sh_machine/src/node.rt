@@ -84,7 +84,8 @@ impl<'t, A: Allocator, N: Naming> Node<'t, A, N> {
     }
 
     pub fn twin(&self) -> Self
-        ensures { node_of result ≡ node_of self.now }
+        ensures tree { node_of result ≡ node_of self.now }
+        ensures place { result.place ≡ self.now.place }
     {
         Node {
             tree: self.tree,
