@@ -49,7 +49,8 @@ impl<'t, A: Allocator, N: Naming> Node<'t, A, N> {
     // The command at this place.
     fn at(tree: &'t Cmd<A>, place: Option<Place>) -> Self
         requires { IsPlaced N.script place (tree_of tree.now) }
-        ensures { node_of result ≡ tree_of tree.now }
+        ensures tree { node_of result ≡ tree_of tree.now }
+        ensures place { result.place ≡ place }
     {
         Node {
             tree,
@@ -83,7 +84,8 @@ impl<'t, A: Allocator, N: Naming> Node<'t, A, N> {
     }
 
     pub fn twin(&self) -> Self
-        ensures { node_of result ≡ node_of self.now }
+        ensures tree { node_of result ≡ node_of self.now }
+        ensures place { result.place ≡ self.now.place }
     {
         Node {
             tree: self.tree,
