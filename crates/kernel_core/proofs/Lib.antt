@@ -1,1 +1,3 @@
 mod Keeping
+mod Scripts
+mod Turning

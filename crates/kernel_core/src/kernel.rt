@@ -29,8 +29,8 @@ pub struct Stranger;
 /// beside each event that tells whether memory was refused.
 #[derive(Drop)]
 pub struct Kernel<M: Machine, A: Allocator> {
-    state: State<M, A>,
-    log: Log<A>,
+    pub(crate) state: State<M, A>,
+    pub(crate) log: Log<A>,
     boot: Snapshot<State<M, A>>,
 }
 
@@ -240,6 +240,7 @@ impl<M: Machine, A: Allocator + Copy> Kernel<M, A> {
         ensures err { OnErr result (self.new ≡ self.old) }
         ensures could { IsErr result → 0 < count_by is_runnable self.old.now.table }
         ensures events { result ≡ Ok true → Steps M.call_of M.next_of self.old hart self.new }
+        ensures running { OnOk result (count_by is_running self.new.now.table ≡ count_by is_running self.old.now.table) }
     {
         if self.state.runnable() == 0 {
             return Ok(false);

@@ -6,9 +6,11 @@
 //! keeps that its state is the one that its schedule leads to.
 #![tactic(auto)]
 
+mod happening;
 mod kernel;
 mod log;
 mod report;
+mod run;
 #[cfg(test)]
 mod tests;
 
@@ -16,3 +18,4 @@ pub use kernel::{Kernel, Stranger};
 pub use kernel_model::{Event, Full};
 pub use kernel_state::Task;
 pub use report::{Report, Schedule};
+pub use run::{MAX_TURNS, RunOneFault, run_one};

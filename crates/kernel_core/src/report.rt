@@ -1,7 +1,8 @@
 //! What a run leaves.
 
-ghost use Rattle.std.specs.Prelude.{◌≡◌, count_by};
+ghost use Rattle.std.specs.Prelude.{◌≡◌, ◌↔◌, IsTrue, count_by};
 ghost use Rattle.kernel_core.specs.Harts.{is_of_hart};
+ghost use Rattle.kernel_core.specs.Same.{AreSame, EndedTheSame, LeftTheSame, WentTheSame};
 
 use kernel_model::{Event, Full};
 use mem_files::Files;
@@ -54,6 +55,38 @@ pub struct Report<A: Allocator> {
     pub schedule: Schedule<A>,
     /// How many events of the schedule each hart had.
     pub by_hart: [u64; 8],
+}
+
+impl<A: Allocator> Report<A> {
+    /// Whether both reports tell the same, by whatever allocators they are kept.
+    pub fn same<B: Allocator>(&self, other: &Report<B>) -> bool
+        ensures { IsTrue result ↔ AreSame self.now other.now }
+    {
+        self.left_the_same(other) && self.ended_the_same(other) && self.went_the_same(other)
+    }
+
+    // Whether the same was written, and the same files are left.
+    fn left_the_same<B: Allocator>(&self, other: &Report<B>) -> bool
+        ensures { IsTrue result ↔ LeftTheSame self.now other.now }
+    {
+        self.out.as_slice() == other.out.as_slice()
+            && self.diag.as_slice() == other.diag.as_slice()
+            && self.files.same(&other.files)
+    }
+
+    // Whether the run came as far, and the same was full.
+    fn ended_the_same<B: Allocator>(&self, other: &Report<B>) -> bool
+        ensures { IsTrue result ↔ EndedTheSame self.now other.now }
+    {
+        self.full == other.full && self.finished == other.finished
+    }
+
+    // Whether the same events happened.
+    fn went_the_same<B: Allocator>(&self, other: &Report<B>) -> bool
+        ensures { IsTrue result ↔ WentTheSame self.now other.now }
+    {
+        self.schedule.as_slice() == other.schedule.as_slice() && self.by_hart == other.by_hart
+    }
 }
 
 // Whether the event is one of the hart.

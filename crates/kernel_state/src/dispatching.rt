@@ -120,6 +120,20 @@ impl<M: Machine, A: Allocator> State<M, A> {
         self.procs.running_on(hart)
     }
 
+    /// The process in the slot of this number, if it runs on the hart.
+    pub fn found_on(&self, hart: u8, pid: usize) -> Option<Pid>
+        requires { IsSound self.now.table self.now.entries }
+        ensures some { IfSome result (λ found. (found ≡ pid) × (is_running_on hart (at self.now.table pid) ≡ true)) }
+        ensures none { result ≡ None → is_running_on hart (at self.now.table pid) ≡ false }
+    {
+        let found = Pid::new(pid)?;
+        if self.procs.runs_on(hart, found) {
+            Some(found)
+        } else {
+            None
+        }
+    }
+
     /// Whether the hart runs nothing.
     pub fn is_idle(&self, hart: u8) -> bool
         ensures { IsTrue result ↔ All (λ slot. is_running_on hart slot ≡ false) self.now.table }

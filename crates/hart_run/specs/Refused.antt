@@ -1,0 +1,53 @@
+-- Why a schedule isn't the one of a finished run.
+use Rattle.std.specs.Prelude.{◌≡◌, ℕ, ◌+◌, Bool, List, [], ◌∷◌, ◌++◌, length}
+use Rattle.sh_machine.specs.State.{User}
+use Rattle.kernel_model.specs.declared.events.Event.{Event}
+use Rattle.kernel_model.specs.declared.events.Event.TheVariants.{Dispatch, Trap}
+use Rattle.kernel_model.specs.KernelState.{KernelState}
+use Rattle.kernel_model.specs.Events.{IsFinished}
+use Rattle.kernel_core.specs.Possible.{CanHappen}
+use Rattle.kernel_core.specs.ScriptRun.{IsRun}
+use Rattle.hart_run.specs.declared.replaying.ReplayFault.{ReplayFault}
+use Rattle.hart_run.specs.declared.replaying.ReplayFault.TheVariants.{NotRunnable, NotRunning, Unfinished, Memory}
+
+-- the fault of an event of this number that can't take place
+abbrev pub refused_at : Event → ℕ → ReplayFault
+refused_at (Dispatch h pid) number = NotRunnable number
+refused_at (Trap h pid) number = NotRunning number
+
+-- of the events these took place and led to this kernel, in which the next one, for which this fault is told, can't
+pub record Stops {S : Type 0} (k : KernelState S) (before events : List Event) (fault : ReplayFault) : Type 0 where
+  pub event : Event
+  pub after : List Event
+  pub split : events ≡ before ++ event ∷ after
+  pub impossible : CanHappen k.table event → ⊥
+  pub told : fault ≡ refused_at event (length before + 1)
+
+-- the events stopped at one that can't take place, or memory was refused
+abbrev pub StopsAt : {S : Type 0} → KernelState S → List Event → List Event → ReplayFault → Type 0
+StopsAt k before events (NotRunnable number) = Stops k before events (NotRunnable number)
+StopsAt k before events (NotRunning number) = Stops k before events (NotRunning number)
+StopsAt k before events Unfinished = ⊥
+StopsAt k before events Memory = Unit {0}
+
+-- a run by the first of the events leads to a kernel in which the next one can't take place
+pub record StopsFrom (start : KernelState User) (events : List Event) (fault : ReplayFault) : Type 0 where
+  pub before : List Event
+  pub notes : List Bool
+  pub last : KernelState User
+  pub runs : IsRun start before notes last
+  pub stops : Stops last before events fault
+
+-- a run by all of the events leads to a kernel that isn't finished
+pub record EndsEarly (start : KernelState User) (events : List Event) : Type 0 where
+  pub notes : List Bool
+  pub last : KernelState User
+  pub runs : IsRun start events notes last
+  pub unfinished : IsFinished last → ⊥
+
+-- why there is no report of a finished run by these events
+abbrev pub IsReplayFault : KernelState User → List Event → ReplayFault → Type 0
+IsReplayFault start events (NotRunnable number) = StopsFrom start events (NotRunnable number)
+IsReplayFault start events (NotRunning number) = StopsFrom start events (NotRunning number)
+IsReplayFault start events Unfinished = EndsEarly start events
+IsReplayFault start events Memory = Unit {0}

@@ -1,0 +1,408 @@
+use super::*;
+use kernel_core::{Event, Full, MAX_TURNS, RunOneFault, run_one};
+use mem_files::{Files, FilesFault, MAX_FILES, MAX_SIZE};
+use script_load::{Profile, Script, load, load_with};
+use std::alloc::Global;
+use std::process::Abort;
+use std::test::Fail;
+
+const TURNS: u64 = 10_000_000;
+
+type Row<'a> = (&'a str, &'a [u8]);
+
+// What a script is to leave.
+struct Want<'a> {
+    out: &'a str,
+    diag: &'a str,
+    full: Option<Full>,
+    files: &'a [Row<'a>],
+}
+
+fn files_of(alloc: Global, rows: &[Row<'_>]) -> Result<Files<Global>, FilesFault> {
+    let mut files = Files::new(alloc);
+    for (name, bytes) in rows {
+        files.put(name.as_bytes(), bytes)?;
+    }
+    Ok(files)
+}
+
+// Runs a script on one hart, compares what it leaves, replays its schedule, and compares the reports.
+fn run_row<R: AllocGlobal + Abort>(
+    rt: &R,
+    script: &Script<Global>,
+    stdin: &str,
+    given: &[Row<'_>],
+    want: &Want<'_>,
+) -> Result<(), Fail> {
+    let alloc = rt.alloc();
+    let files = files_of(alloc, given)?;
+    let report = run_one(alloc, script, stdin.as_bytes(), &files, TURNS)?;
+    assert!(rt; report.finished);
+    assert_eq!(rt; report.full, want.full);
+    assert_eq!(rt; report.out.as_slice(), want.out.as_bytes());
+    assert_eq!(rt; report.diag.as_slice(), want.diag.as_bytes());
+    for (name, bytes) in want.files {
+        assert!(rt; report.files.get(name.as_bytes()) == Some(*bytes));
+    }
+    let again = replay(
+        alloc,
+        script,
+        stdin.as_bytes(),
+        &files,
+        report.schedule.as_slice(),
+    )?;
+    assert!(rt; again.same(&report));
+    Ok(())
+}
+
+fn check<R: AllocGlobal + Abort>(
+    rt: &R,
+    script: &str,
+    stdin: &str,
+    given: &[Row<'_>],
+    want: &Want<'_>,
+) -> Result<(), Fail> {
+    let script = load(rt.alloc(), script.as_bytes())?;
+    run_row(rt, &script, stdin, given, want)
+}
+
+// A script that leaves this output, no diagnostics and nothing full.
+fn gives<R: AllocGlobal + Abort>(
+    rt: &R,
+    script: &str,
+    given: &[Row<'_>],
+    out: &str,
+    files: &[Row<'_>],
+) -> Result<(), Fail> {
+    check(
+        rt,
+        script,
+        "",
+        given,
+        &Want {
+            out,
+            diag: "",
+            full: None,
+            files,
+        },
+    )
+}
+
+// One without output that tells these diagnostics.
+fn tells<R: AllocGlobal + Abort>(
+    rt: &R,
+    script: &str,
+    diag: &str,
+    files: &[Row<'_>],
+) -> Result<(), Fail> {
+    let want = Want {
+        out: "",
+        diag,
+        full: None,
+        files,
+    };
+    check(rt, script, "", &[], &want)
+}
+
+const P: Row<'static> = ("p", b"b\naab\naabc\ncb\n");
+
+#[test]
+fn commands_run(rt: HostRuntime) -> Result<(), Fail> {
+    gives(&rt, "", &[P], "", &[P])?;
+    gives(&rt, "echo hello\n", &[], "hello\n", &[])?;
+    gives(&rt, "()\n;;\n", &[], "", &[])?;
+    gives(&rt, "grep ^a*b$ p", &[P], "b\naab\n", &[])?;
+    gives(&rt, "grep x l", &[("l", b"x\nx")], "x\n", &[])?;
+    let z = ("z", b"a\nx\0\na\n".as_slice());
+    gives(&rt, "grep a z", &[z], "a\n", &[])?;
+    let big = "0123456789ab\n".repeat(rt.alloc(), 100)?;
+    let given = [P, ("big", big.as_bytes())];
+    gives(&rt, "wc p big", &given, "4 4 14 p\n100 100 1300 big\n", &[])?;
+    gives(&rt, "head -1 p big", &given, "b\n0123456789ab\n", &[])?;
+    gives(&rt, "head -0 p", &given, "", &[])?;
+    tells(&rt, "head -x p", "usage: head [-N] [file ...]\n", &[])?;
+    Ok(())
+}
+
+#[test]
+fn long_lines_end_grep(rt: HostRuntime) -> Result<(), Fail> {
+    let short = "x".repeat(rt.alloc(), 1022)?;
+    let line = format!(in rt.alloc(); "{}\n", short.as_str())?;
+    let long = "x".repeat(rt.alloc(), 1023)?;
+    let over = format!(in rt.alloc(); "x\n{}\n", long.as_str())?;
+    let given = [
+        ("w1", line.as_bytes()),
+        ("w2", &over.as_bytes()[2..]),
+        ("w3", over.as_bytes()),
+    ];
+    gives(&rt, "grep x w1", &given, line.as_str(), &[])?;
+    gives(&rt, "grep x w2", &given, "", &[])?;
+    gives(&rt, "grep x w3", &given, "x\n", &[])?;
+    Ok(())
+}
+
+#[test]
+fn redirections_run(rt: HostRuntime) -> Result<(), Fail> {
+    let files = [("x", b"a\n".as_slice()), ("y", b"".as_slice())];
+    gives(&rt, "echo a > x > y", &[], "", &files)?;
+    let script = "echo hello > f; echo J >> f; cat f";
+    gives(&rt, script, &[], "J\nllo\n", &[("f", b"J\nllo\n")])?;
+    gives(&rt, "(echo a; echo b) > f", &[], "", &[("f", b"a\nb\n")])?;
+    gives(&rt, "> f", &[("f", b"old")], "", &[("f", b"")])?;
+    tells(
+        &rt,
+        "cat < none > o",
+        "open none failed\n",
+        &[("o", b"")],
+    )?;
+    tells(&rt, "cat > o2 < none", "open none failed\n", &[])?;
+    let script = "(echo aaa; echo b > f; echo c) > f";
+    gives(&rt, script, &[], "", &[("f", b"b\n")])?;
+    Ok(())
+}
+
+#[test]
+fn pipes_run(rt: HostRuntime) -> Result<(), Fail> {
+    let big = "0123456789ab\n".repeat(rt.alloc(), 100)?;
+    let given = [P, ("big", big.as_bytes())];
+    gives(&rt, "echo | wc", &[], "0 0 0 \n", &[])?;
+    gives(&rt, "cat big | wc", &given, "100 100 1300 \n", &[])?;
+    gives(&rt, "cat p | grep b | wc", &given, "4 4 14 \n", &[])?;
+    gives(
+        &rt,
+        "cat big | (head -2; wc)",
+        &given,
+        "0123456789ab\n0123456789ab\n98 98 1274 \n",
+        &[],
+    )?;
+    let teed = [("x", b"a\n".as_slice()), ("y", b"a\n".as_slice())];
+    gives(&rt, "echo a | tee x y", &[], "a\n", &teed)?;
+    gives(&rt, "| echo a", &[], "a\n", &[])?;
+    let stages = " | cat".repeat(rt.alloc(), 30)?;
+    let script = format!(in rt.alloc(); "echo a{}", stages.as_str())?;
+    gives(&rt, script.as_str(), &[], "a\n", &[])?;
+    let script = "cat p | cat\n".repeat(rt.alloc(), 200)?;
+    let text = "b\naab\naabc\ncb\n".repeat(rt.alloc(), 200)?;
+    gives(&rt, script.as_str(), &given, text.as_str(), &[])?;
+    Ok(())
+}
+
+#[test]
+fn early_readers_run(rt: HostRuntime) -> Result<(), Fail> {
+    let big = "0123456789ab\n".repeat(rt.alloc(), 100)?;
+    let given = [P, ("big", big.as_bytes())];
+    let line = "0123456789ab\n";
+    gives(&rt, "cat big | tee c | head -1", &given, line, &[])?;
+    let two = "0123456789ab\n4 4 14 p\n";
+    gives(&rt, "cat < big | head -1; wc p", &given, two, &[])?;
+    gives(&rt, "tee c < big | cat | head -1", &given, line, &[])?;
+    Ok(())
+}
+
+#[test]
+fn lines_share_the_input(rt: HostRuntime) -> Result<(), Fail> {
+    let want = Want {
+        out: "a\n2 2 4 \n",
+        diag: "",
+        full: None,
+        files: &[],
+    };
+    check(&rt, "head -1\nwc", "a\nb\nc\n", &[], &want)
+}
+
+#[test]
+fn mistakes_are_told(rt: HostRuntime) -> Result<(), Fail> {
+    let want = Want {
+        out: "ok\n",
+        diag: "leftovers: b\n",
+        full: None,
+        files: &[],
+    };
+    check(&rt, "a & b\necho ok", "", &[], &want)?;
+    let told = "exec foo failed\ncannot cd x\n";
+    tells(&rt, "foo\ncd x", told, &[])?;
+    let told = "missing file for redirection\nsyntax - missing )\ntoo many args\nsyntax\n";
+    tells(
+        &rt,
+        "cat >\n(echo a\necho 1 2 3 4 5 6 7 8 9\necho (a)",
+        told,
+        &[],
+    )?;
+    tells(&rt, "cat none", "cat: cannot open none\n", &[])?;
+    Ok(())
+}
+
+#[test]
+fn both_profiles_run(rt: HostRuntime) -> Result<(), Fail> {
+    let alloc = rt.alloc();
+    let big = "0123456789ab\n".repeat(alloc, 100)?;
+    let given = [("big", big.as_bytes()), ("f", big.as_bytes())];
+    let counted = [
+        (Profile::Xv6, "100 100 1300 f\n"),
+        (Profile::Append, "200 200 2600 f\n"),
+    ];
+    for (profile, out) in counted {
+        let script = load_with(alloc, b"cat big >> f; wc f".as_slice(), profile)?;
+        let want = Want {
+            out,
+            diag: "",
+            full: None,
+            files: &[],
+        };
+        run_row(&rt, &script, "", &given, &want)?;
+    }
+    let text = b"echo hello > f; echo J >> f; cat f".as_slice();
+    let script = load_with(alloc, text, Profile::Append)?;
+    let want = Want {
+        out: "hello\nJ\n",
+        diag: "",
+        full: None,
+        files: &[("f", b"hello\nJ\n")],
+    };
+    run_row(&rt, &script, "", &[], &want)?;
+    let script = load_with(alloc, b"(echo a; echo b) >> f".as_slice(), Profile::Append)?;
+    let want = Want {
+        out: "",
+        diag: "",
+        full: None,
+        files: &[("f", b"z\na\nb\n")],
+    };
+    run_row(&rt, &script, "", &[("f", b"z\n")], &want)
+}
+
+#[test]
+fn a_file_may_be_full(rt: HostRuntime) -> Result<(), Fail> {
+    let alloc = rt.alloc();
+    let large = "x".repeat(alloc, MAX_SIZE)?;
+    let given = [
+        ("a", large.as_bytes()),
+        ("f", b"y".as_slice()),
+        ("n", b"y".as_slice()),
+    ];
+    gives(&rt, "cat a > g", &given, "", &[("g", large.as_bytes())])?;
+    let want = Want {
+        out: "",
+        diag: "cat: write error\n",
+        full: Some(Full::Size),
+        files: &[("g", large.as_bytes())],
+    };
+    check(&rt, "cat a n > g", "", &given, &want)?;
+    let script = load_with(alloc, b"cat a >> f".as_slice(), Profile::Append)?;
+    let files = files_of(alloc, &given)?;
+    let report = run_one(alloc, &script, &[], &files, TURNS)?;
+    assert_eq!(rt; report.full, Some(Full::Size));
+    let length = report.files.get(b"f").map(|bytes| bytes.len());
+    assert_eq!(rt; length, Some(273_921));
+    Ok(())
+}
+
+// So many parentheses round `echo a;`.
+fn nested(alloc: Global, count: usize) -> Result<String, std::alloc::AllocError> {
+    let left = "(".repeat(alloc, count)?;
+    let right = ";)".repeat(alloc, count)?;
+    format!(in alloc; "{}echo a{}", left.as_str(), right.as_str())
+}
+
+#[test]
+fn tables_may_be_full(rt: HostRuntime) -> Result<(), Fail> {
+    let alloc = rt.alloc();
+    let fits = nested(alloc, 61)?;
+    gives(&rt, fits.as_str(), &[], "a\n", &[])?;
+    let over = nested(alloc, 62)?;
+    let want = Want {
+        out: "",
+        diag: "fork\n",
+        full: Some(Full::Procs),
+        files: &[],
+    };
+    check(&rt, over.as_str(), "", &[], &want)?;
+    let mut files = Files::new(alloc);
+    for n in 0..MAX_FILES {
+        let name = format!(in alloc; "f{n}")?;
+        files.put(name.as_bytes(), &[])?;
+    }
+    let script = load(alloc, b"> zz".as_slice())?;
+    let report = run_one(alloc, &script, &[], &files, TURNS)?;
+    assert!(rt; report.files.get(b"zz").is_none());
+    assert!(rt; report.diag.as_slice() == b"open zz failed\n".as_slice());
+    assert_eq!(rt; report.full, Some(Full::Files));
+    Ok(())
+}
+
+#[test]
+fn turns_are_counted(rt: HostRuntime) -> Result<(), Fail> {
+    let alloc = rt.alloc();
+    let script = load(alloc, b"echo a | cat".as_slice())?;
+    let files = Files::new(alloc);
+    let all = run_one(alloc, &script, &[], &files, TURNS)?;
+    let events = all.schedule.as_slice().len() as u64;
+    for turns in [0, MAX_TURNS + 1] {
+        let report = run_one(alloc, &script, &[], &files, turns);
+        assert!(rt; matches!(report, Err(RunOneFault::BadTurns)));
+    }
+    for turns in [1, 2, events - 1] {
+        let report = run_one(alloc, &script, &[], &files, turns);
+        assert!(rt; matches!(report, Err(RunOneFault::Spent)));
+    }
+    let just = run_one(alloc, &script, &[], &files, events)?;
+    assert!(rt; just.same(&all));
+    assert_eq!(rt; just.by_hart[0], events);
+    Ok(())
+}
+
+#[test]
+fn forged_schedules_are_refused(rt: HostRuntime) -> Result<(), Fail> {
+    let alloc = rt.alloc();
+    let script = load(alloc, &[])?;
+    let files = Files::new(alloc);
+    let rows: &[(&[Event], ReplayFault)] = &[
+        (&[Event::Dispatch(8, 1)], ReplayFault::NotRunnable(1)),
+        (&[Event::Dispatch(0, 64)], ReplayFault::NotRunnable(1)),
+        (&[Event::Trap(0, 1)], ReplayFault::NotRunning(1)),
+        (&[Event::Trap(9, 1000)], ReplayFault::NotRunning(1)),
+        (
+            &[Event::Dispatch(0, 1), Event::Dispatch(0, 0)],
+            ReplayFault::NotRunnable(2),
+        ),
+        (
+            &[Event::Dispatch(0, 1), Event::Dispatch(1, 1)],
+            ReplayFault::NotRunnable(2),
+        ),
+        (
+            &[Event::Dispatch(0, 1), Event::Trap(1, 1)],
+            ReplayFault::NotRunning(2),
+        ),
+        (
+            &[Event::Dispatch(0, 1), Event::Trap(0, 1), Event::Dispatch(0, 40)],
+            ReplayFault::NotRunnable(3),
+        ),
+        (
+            &[Event::Dispatch(0, 0), Event::Trap(0, 0), Event::Dispatch(0, 0)],
+            ReplayFault::NotRunnable(3),
+        ),
+        (
+            &[
+                Event::Dispatch(0, 0),
+                Event::Trap(0, 0),
+                Event::Dispatch(0, 1),
+                Event::Trap(0, 1),
+            ],
+            ReplayFault::Unfinished,
+        ),
+        (&[], ReplayFault::Unfinished),
+    ];
+    for (events, fault) in rows {
+        let report = replay(alloc, &script, &[], &files, events);
+        assert!(rt; report.is_err_and(|told| told == *fault));
+    }
+    let finishes = [
+        Event::Dispatch(0, 1),
+        Event::Trap(0, 1),
+        Event::Dispatch(0, 0),
+        Event::Trap(0, 0),
+    ];
+    let report = replay(alloc, &script, &[], &files, &finishes)?;
+    assert!(rt; report.finished);
+    assert!(rt; report.out.is_empty());
+    Ok(())
+}

@@ -1,0 +1,60 @@
+//! Events that are given from outside.
+
+ghost use Rattle.std.specs.Prelude.{◌≡◌, ◌↔◌, IsTrue, IfOk, OnErr, IsErr, Ok, false, true};
+ghost use Rattle.std.specs.Bool.{OnFalse, OnTrue};
+ghost use Rattle.proc_table.specs.Slots.{at, is_running_on};
+ghost use Rattle.proc_table.specs.Calls.{CanDispatch};
+ghost use Rattle.kernel_model.specs.History.{GoesOn};
+ghost use Rattle.kernel_model.specs.declared.events.Event.TheVariants.{Dispatch, Trap};
+ghost use Rattle.kernel_core.specs.Possible.{CanHappen};
+
+use crate::kernel::Kernel;
+use kernel_model::Event;
+use std::alloc::{AllocError, Allocator};
+use user_calls::Machine;
+
+impl<M: Machine, A: Allocator + Copy> Kernel<M, A> {
+    /// The event takes place, which is told by `true`, if it is one that can: nothing is handed out, and the call of a
+    /// trap is the one that the process's own machine makes. Where it can't, nothing changes.
+    ///
+    /// `AllocError`, with nothing changed, where the schedule gets no room, and only where the event could take place.
+    pub fn happen(&mut self, event: Event) -> Result<bool, AllocError>
+        ensures can { IfOk result (λ happened. IsTrue happened ↔ CanHappen self.old.now.table event) }
+        ensures event { result ≡ Ok true → GoesOn M.call_of M.next_of self.old event self.new }
+        ensures same { result ≡ Ok false → self.new ≡ self.old }
+        ensures err { OnErr result (self.new ≡ self.old) }
+        ensures could { IsErr result → CanHappen self.old.now.table event }
+    {
+        match event {
+            Event::Dispatch(hart, pid) => self.begin(hart, pid),
+            Event::Trap(hart, pid) => Ok(self.go_on(hart, pid)),
+        }
+    }
+
+    // The process in slot `pid` begins to run on the hart, if it can.
+    fn begin(&mut self, hart: u8, pid: usize) -> Result<bool, AllocError>
+        ensures can { IfOk result (λ happened. IsTrue happened ↔ CanDispatch self.old.now.table hart pid) }
+        ensures event { result ≡ Ok true → GoesOn M.call_of M.next_of self.old (Dispatch hart pid) self.new }
+        ensures same { result ≡ Ok false → self.new ≡ self.old }
+        ensures err { OnErr result (self.new ≡ self.old) }
+        ensures could { IsErr result → CanDispatch self.old.now.table hart pid }
+    {
+        Ok(self.dispatch_pid(hart, pid)?.is_some())
+    }
+
+    // The call of the process in slot `pid` is carried out, if it runs on the hart.
+    fn go_on(&mut self, hart: u8, pid: usize) -> bool
+        ensures can { result ≡ is_running_on hart (at self.old.now.table pid) }
+        ensures event { OnTrue result (GoesOn M.call_of M.next_of self.old (Trap hart pid) self.new) }
+        ensures same { OnFalse result (self.new ≡ self.old) }
+    {
+        let Some(slot) = self.state.found_on(hart, pid) else {
+            return false;
+        };
+        self.log.fits();
+        let (call, after) = self.state.run(slot);
+        let refused = self.state.trap(slot, call, after);
+        self.log.write(Event::Trap(hart, slot.index()), refused);
+        true
+    }
+}
