@@ -9,6 +9,7 @@ ghost use Rattle.kernel_model.specs.declared.events.Event.TheVariants.{Dispatch,
 ghost use Rattle.kernel_core.specs.Possible.{CanHappen};
 
 use crate::kernel::Kernel;
+use kernel_calls::trap;
 use kernel_model::Event;
 use std::alloc::{AllocError, Allocator};
 use user_calls::Machine;
@@ -53,7 +54,7 @@ impl<M: Machine, A: Allocator + Copy> Kernel<M, A> {
         };
         self.log.fits();
         let (call, after) = self.state.run(slot);
-        let refused = self.state.trap(slot, call, after);
+        let refused = trap(&mut self.state, slot, call, after);
         self.log.write(Event::Trap(hart, slot.index()), refused);
         true
     }

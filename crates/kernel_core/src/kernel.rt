@@ -10,6 +10,7 @@ ghost use Rattle.kernel_core.specs.Harts.{AreCounts};
 
 use crate::log::Log;
 use crate::report::{Report, Schedule, count_of_hart};
+use kernel_calls::trap;
 use kernel_model::{Event, Full};
 use kernel_state::{State, Task};
 use mem_files::Files;
@@ -223,7 +224,7 @@ impl<M: Machine, A: Allocator + Copy> Kernel<M, A> {
         }
         self.log.fits();
         let (call, after) = ran.into_parts();
-        let refused = self.state.trap(pid, call, after);
+        let refused = trap(&mut self.state, pid, call, after);
         self.log.write(Event::Trap(hart, pid.index()), refused);
         Ok(())
     }
@@ -253,7 +254,7 @@ impl<M: Machine, A: Allocator + Copy> Kernel<M, A> {
         };
         self.log.write(Event::Dispatch(hart, pid.index()), false);
         let (call, after) = self.state.run(pid);
-        let refused = self.state.trap(pid, call, after);
+        let refused = trap(&mut self.state, pid, call, after);
         self.log.write(Event::Trap(hart, pid.index()), refused);
         Ok(true)
     }

@@ -1,2 +1,1 @@
-pub mod FileOf
 pub mod Runnable

@@ -1,4 +1,4 @@
-//! What a kernel does with its state at an event, and what it asks of it.
+//! Dispatches, and what a kernel asks of its state (xv6's `scheduler` and `myproc`).
 
 ghost use Rattle.std.specs.Prelude.{◌≡◌, ◌<◌, ◌≤◌, ◌+◌, ◌^◌, IsTrue, ◌↔◌, true, false, IfSome, None, All, position, count_by};
 ghost use Rattle.std.specs.Bool.{OnFalse, OnTrue};
@@ -6,9 +6,9 @@ ghost use Rattle.proc_table.specs.Slots.{at, is_running, is_running_on, is_runna
 ghost use Rattle.proc_table.specs.Calls.{CanDispatch, dispatched};
 ghost use Rattle.proc_table.specs.declared.pid.TheConstants.{PROCS};
 ghost use Rattle.proc_table.specs.declared.table.TheConstants.{HARTS};
-ghost use Rattle.kernel_model.specs.Events.{IsFinished, acted, counted};
+ghost use Rattle.kernel_model.specs.Events.{IsFinished, counted};
 ghost use Rattle.kernel_model.specs.History.{IsOwed, IsTask};
-ghost use Rattle.kernel_model.specs.Sound.{IsSound, Keeps};
+ghost use Rattle.kernel_model.specs.Sound.{IsSound};
 ghost use Rattle.kernel_state.specs.Runnable.{is_runnable_state};
 
 use crate::State;
@@ -178,22 +178,6 @@ impl<M: Machine, A: Allocator> State<M, A> {
         ensures files { result.2 ≡ self.files }
     {
         (self.out, self.diag, self.files)
-    }
-}
-
-impl<M: Machine, A: Allocator + Copy> State<M, A> {
-    /// The call of a running process, whose machine after it is this one, is carried out as one more event (`usertrap`).
-    /// It says whether memory was refused.
-    pub fn trap(&mut self, pid: Pid, call: Call, after: M) -> bool
-        requires runs { is_running (at self.old.table pid) ≡ true }
-        requires sound { IsSound self.old.table self.old.entries }
-        requires fits { self.old.events + 1 < 2 ^ 64 }
-        ensures after { self.new ≡ acted (counted self.old) pid (M.view after) call result }
-        ensures keeps { Keeps (count_by is_running self.old.table) self.new.table self.new.entries }
-    {
-        self.events += 1;
-        mem_files::laws::are_files(&self.files);
-        self.act(pid, call, after)
     }
 }
 

@@ -1,20 +1,17 @@
-//! The state of a kernel, and what each system call and each event does to it.
+//! The state of a kernel, its start, its dispatches, and the calls on processes.
 //!
-//! The behaviour is that of xv6's `kernel/proc.c`, `file.c`, `pipe.c` and `sysfile.c`. The state is one value; a call is
-//! one step of it, and never waits: a process that would wait is put to sleep, and its call is made again.
+//! The behaviour is that of xv6's `kernel/proc.c`, and of `fileclose` and `pipeclose`, which an exit needs. The state is
+//! one value; a call is one step of it, and never waits: a process that would wait is put to sleep, and its call is made
+//! again.
 #![tactic(auto)]
 
-mod acting;
 mod booting;
 mod descriptors;
 mod dispatching;
-mod opening;
-mod piping;
 mod processes;
-mod reading;
 mod state;
 mod unread;
-mod writing;
 
 pub use dispatching::Task;
 pub use state::State;
+pub use unread::Unread;

@@ -15,8 +15,8 @@ use std::alloc::Allocator;
 use user_calls::{Machine, Reply};
 
 impl<M: Machine, A: Allocator> State<M, A> {
-    // A child shares the entries of its parent (`kfork`).
-    pub(crate) fn fork(&mut self, pid: Pid, after: M)
+    /// A child shares the entries of its parent (`kfork`).
+    pub fn fork(&mut self, pid: Pid, after: M)
         requires runs { is_running (at self.old.table pid) ≡ true }
         requires sound { IsSound self.old.table self.old.entries }
         ensures { self.new ≡ fork self.old pid (M.view after) }
@@ -32,8 +32,8 @@ impl<M: Machine, A: Allocator> State<M, A> {
         }
     }
 
-    // `kexec` of a program that was found, or not.
-    pub(crate) fn exec(&mut self, pid: Pid, after: M, found: bool)
+    /// `kexec` of a program that was found, or not.
+    pub fn exec(&mut self, pid: Pid, after: M, found: bool)
         requires { is_running (at self.old.table pid) ≡ true }
         ensures { self.new ≡ exec self.old pid (M.view after) found }
     {
@@ -41,8 +41,8 @@ impl<M: Machine, A: Allocator> State<M, A> {
         self.answer(pid, after, reply);
     }
 
-    // Init is refused; any other process closes its descriptors and becomes a zombie (`kexit`).
-    pub(crate) fn exit(&mut self, pid: Pid, after: M)
+    /// Init is refused; any other process closes its descriptors and becomes a zombie (`kexit`).
+    pub fn exit(&mut self, pid: Pid, after: M)
         requires runs { is_running (at self.old.table pid) ≡ true }
         requires sound { IsSound self.old.table self.old.entries }
         ensures { self.new ≡ exit self.old pid (M.view after) }
@@ -56,7 +56,7 @@ impl<M: Machine, A: Allocator> State<M, A> {
     }
 
     // Closes all descriptors of the process, the lowest first.
-    pub(crate) fn close_all(&mut self, pid: Pid)
+    fn close_all(&mut self, pid: Pid)
         requires runs { is_running (at self.old.table pid) ≡ true }
         requires sound { IsSound self.old.table self.old.entries }
         ensures { self.new ≡ closed_below self.old pid DESCRIPTORS }
@@ -66,8 +66,8 @@ impl<M: Machine, A: Allocator> State<M, A> {
         }
     }
 
-    // The lowest child that is a zombie is reaped; where none is, the process sleeps (`kwait`).
-    pub(crate) fn wait(&mut self, pid: Pid, after: M)
+    /// The lowest child that is a zombie is reaped; where none is, the process sleeps (`kwait`).
+    pub fn wait(&mut self, pid: Pid, after: M)
         requires { is_running (at self.old.table pid) ≡ true }
         ensures { self.new ≡ wait self.old pid (M.view after) }
     {

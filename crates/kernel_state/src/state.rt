@@ -15,18 +15,19 @@ use user_calls::{Machine, Reply};
 
 /// The state of a kernel whose programs are machines `M`.
 ///
-/// Contracts see it as plain data. Nothing is asked of it between calls but what each call says.
+/// Contracts see it as plain data. Its fields are open to the calls, and nothing is asked of it between them but what
+/// each says.
 #[derive(Drop)]
 pub struct State<M: Machine, A: Allocator> {
-    pub(crate) procs: Procs<M, A>,
-    pub(crate) entries: OpenFiles,
-    pub(crate) pipes: Pipes<A>,
-    pub(crate) files: Files<A>,
-    pub(crate) input: Unread<A>,
-    pub(crate) out: Vec<u8, A>,
-    pub(crate) diag: Vec<u8, A>,
-    pub(crate) events: u64,
-    pub(crate) full: Option<Full>,
+    pub procs: Procs<M, A>,
+    pub entries: OpenFiles,
+    pub pipes: Pipes<A>,
+    pub files: Files<A>,
+    pub input: Unread<A>,
+    pub out: Vec<u8, A>,
+    pub diag: Vec<u8, A>,
+    pub events: u64,
+    pub full: Option<Full>,
 }
 
 impl<M: Machine, A: Allocator> Model for State<M, A> {
@@ -50,16 +51,16 @@ impl<M: Machine, A: Allocator> Model for State<M, A> {
 impl<M: Machine, A: Allocator> State<M, A> {
     ghost use Rattle.kernel_model.specs.Replies.{answered, refused_for};
 
-    // The process goes on with its machine after the call and this reply.
-    pub(crate) fn answer(&mut self, pid: Pid, after: M, reply: Reply)
+    /// The process goes on with its machine after the call and this reply (`yield`).
+    pub fn answer(&mut self, pid: Pid, after: M, reply: Reply)
         requires { is_running (at self.old.table pid) ≡ true }
         ensures { self.new ≡ answered self.old pid (M.view after) reply }
     {
         self.procs.ready(pid, after, reply);
     }
 
-    // The call is refused for want of room; the first such refusal is kept.
-    pub(crate) fn refuse(&mut self, pid: Pid, after: M, full: Full)
+    /// The call is refused for want of room; the first such refusal is kept.
+    pub fn refuse(&mut self, pid: Pid, after: M, full: Full)
         requires { is_running (at self.old.table pid) ≡ true }
         ensures { self.new ≡ refused_for self.old pid (M.view after) full }
     {

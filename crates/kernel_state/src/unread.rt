@@ -8,7 +8,7 @@ use std::alloc::Allocator;
 use std::marker::Model;
 use user_calls::Block;
 
-// Bytes of which the first were read. Contracts see the others.
+/// Standard input of which the first bytes were read. Contracts see the others.
 #[derive(Drop)]
 pub struct Unread<A: Allocator> {
     bytes: Vec<u8, A>,
@@ -33,8 +33,8 @@ impl<A: Allocator> Unread<A> {
         Unread { bytes, read: 0 }
     }
 
-    // Reads the next n bytes, or all where there are fewer.
-    pub(crate) fn read(&mut self, n: usize) -> Block
+    /// Reads the next n bytes, or all where there are fewer.
+    pub fn read(&mut self, n: usize) -> Block
         requires { n ≤ BLOCK_SIZE }
         ensures block { result ≡ take n self.old }
         ensures after { self.new ≡ drop n self.old }

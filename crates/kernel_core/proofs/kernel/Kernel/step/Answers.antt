@@ -27,7 +27,7 @@ invariant_of-self-2 g c =
     (omega (arith, c.in_ok-reserve.ensures.ok, c.running-owed.ensures.count, c.write.ensures.room)) in
     let runs : is_running_on c.args.hart (at c.dispatch.new.self.table c.in-Some.pid) ≡ true
     = ap (λ (k : KernelState g.row.M-State.Denot). is_running_on c.args.hart (at k.table c.in-Some.pid)) c.in-Some.ensures.after ∙ runs_there c.self.inside.state.table c.in-Some.pid c.args.hart c.in-Some.ensures.was in
-    kept_after g.M.Machine.call_of g.M.Machine.next_of c.self.inside.boot.value c.dispatch.new.self c.trap-refused.new.self c.write.new.self c.write-2.new.self (Trap c.args.hart c.in-Some.pid) c.trap-refused.result between
+    kept_after g.M.Machine.call_of g.M.Machine.next_of c.self.inside.boot.value c.dispatch.new.self c.trap-refused.new.state c.write.new.self c.write-2.new.self (Trap c.args.hart c.in-Some.pid) c.trap-refused.result between
     (trap_goes g.M.Machine.call_of g.M.Machine.next_of c.dispatch.new.self c.args.hart c.in-Some.pid c.run-call.result.0 (g.M.Machine.view c.run-call.result.1) c.trap-refused.result runs c.run-call.ensures.call c.run-call.ensures.after ∙ ap Some (sym c.trap-refused.ensures.after))
     (c.write-2.ensures.events ∙ ap (λ n. c.write.new.self.events ++ Trap c.args.hart n ∷ []) c.index-2.ensures.value)
     c.write-2.ensures.notes
@@ -43,7 +43,7 @@ returns-clause-events g c = λ _.
     = ap (λ (k : KernelState g.row.M-State.Denot). is_running_on c.args.hart (at k.table c.in-Some.pid)) c.in-Some.ensures.after ∙ runs_there c.self.inside.state.table c.in-Some.pid c.args.hart c.in-Some.ensures.was in
     let old : History g.row.M-State.Denot = record { boot = c.self.inside.boot.value; now = c.self.inside.state; schedule = c.self.inside.log.events; notes = c.self.inside.log.notes } in
     let mid : History g.row.M-State.Denot = record { boot = c.self.inside.boot.value; now = c.dispatch.new.self; schedule = c.write.new.self.events; notes = c.write.new.self.notes } in
-    let new : History g.row.M-State.Denot = record { boot = c.self.inside.boot.value; now = c.trap-refused.new.self; schedule = c.write-2.new.self.events; notes = c.write-2.new.self.notes } in
+    let new : History g.row.M-State.Denot = record { boot = c.self.inside.boot.value; now = c.trap-refused.new.state; schedule = c.write-2.new.self.events; notes = c.write-2.new.self.notes } in
     let begins : GoesOn call next old (Dispatch c.args.hart c.in-Some.pid) mid =
     record {
       boot = refl;

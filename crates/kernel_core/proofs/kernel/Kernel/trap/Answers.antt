@@ -12,9 +12,9 @@ invariant_of-self g c =
     let owed : IsOwed c.args.hart (at c.self.inside.state.table c.args.pid) c.args.ran = search rules in
     let call = g.M.Machine.call_of c.args.ran.before c.args.ran.reply in
     let next = g.M.Machine.next_of c.args.ran.before c.args.ran.reply in
-    let is : c.trap-refused.new.self ≡ acted (counted c.self.inside.state) c.args.pid next call c.trap-refused.result
+    let is : c.trap-refused.new.state ≡ acted (counted c.self.inside.state) c.args.pid next call c.trap-refused.result
     = c.trap-refused.ensures.after ∙ (λ i. acted (counted c.self.inside.state) c.args.pid (c.into_parts-call.ensures.after i) (c.into_parts-call.ensures.call i) c.trap-refused.result) in
-    kept_after g.M.Machine.call_of g.M.Machine.next_of c.self.inside.boot.value c.self.inside.state c.trap-refused.new.self c.self.inside.log c.write.new.self (Trap c.args.hart c.args.pid) c.trap-refused.result c.self.invariant
+    kept_after g.M.Machine.call_of g.M.Machine.next_of c.self.inside.boot.value c.self.inside.state c.trap-refused.new.state c.self.inside.log c.write.new.self (Trap c.args.hart c.args.pid) c.trap-refused.result c.self.invariant
     (trap_happens g.M.Machine.call_of g.M.Machine.next_of c.self.inside.state c.args.hart c.args.pid c.args.ran c.trap-refused.result owed ∙ ap Some (sym is))
     (c.write.ensures.events ∙ ap (λ n. c.self.inside.log.events ++ Trap c.args.hart n ∷ []) c.index.ensures.value)
     c.write.ensures.notes

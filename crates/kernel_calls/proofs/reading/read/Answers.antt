@@ -7,15 +7,11 @@ use Rattle.kernel_model.specs.KernelState.{KernelState, fds_at}
 use Rattle.kernel_model.specs.Sound.{IsSound}
 use Rattle.kernel_model.specs.Reading.{read_entry, read_object, read_held}
 use Rattle.kernel_model.proofs.Held.{held_in_use, runs_within}
-use Rattle.kernel_state.proofs.state.State.read.Goals as goal
-
-in_use : {S : Type 0} (k : KernelState S) (pid fd e : ℕ) → is_running (at k.table pid) ≡ true → IsSound k.table k.entries → Some e ≡ entry_of (fds_at k pid) fd → IsInUse k.entries e
-in_use k pid fd e runs sound is =
-    let P : Option ℕ → Type 0 = λ x. HoldsInUse k.entries x in
-    subst P (sym is) (held_in_use k.table k.entries pid fd (runs_within k.table pid runs) sound)
+use Rattle.kernel_calls.proofs.InUse.{in_use}
+use Rattle.kernel_calls.proofs.reading.read.Goals as goal
 
 pub read_held-requires-clause-in_use : goal.read_held-requires-clause-in_use
-read_held-requires-clause-in_use g c = in_use c.args.self.now c.args.pid c.args.fd c.in-Some.entry c.requires.runs c.requires.sound c.in-Some.ensures
+read_held-requires-clause-in_use g c = in_use c.args.state.now c.args.pid c.args.fd c.in-Some.entry c.requires.runs c.requires.sound c.in-Some.ensures
 
 by_object : {S : Type 0} (k new : KernelState S) (pid : ℕ) (after : S) (e n : ℕ) (o : Option OpenFile) → IsSome o → IfSome o (λ f. new ≡ read_object k pid after e f.offset n f.object) → new ≡ read_entry k pid after e n o
 by_object k new pid after e n None some is = absurd (let z : ⊥ = cc in z)
@@ -23,7 +19,7 @@ by_object k new pid after e n (Some f) some is = is
 
 pub returns-in-Some : goal.returns-in-Some
 returns-in-Some g c =
-    let k = c.args.self.now in
+    let k = c.args.state.now in
     let e = c.in-Some.entry in
     let after = g.M.Machine.view c.args.after in
-    by_object k c.read_held.new.self c.args.pid after e c.min-n.result (entry_at k.entries e) (in_use k c.args.pid c.args.fd e c.requires.runs c.requires.sound c.in-Some.ensures) c.read_held.ensures ∙ ap (read_held k c.args.pid after c.min-n.result) c.in-Some.ensures ∙ ap (λ n. read_held k c.args.pid after n (entry_of (fds_at k c.args.pid) c.args.fd)) c.min-n.ensures
+    by_object k c.read_held.new.state c.args.pid after e c.min-n.result (entry_at k.entries e) (in_use k c.args.pid c.args.fd e c.requires.runs c.requires.sound c.in-Some.ensures) c.read_held.ensures ∙ ap (read_held k c.args.pid after c.min-n.result) c.in-Some.ensures ∙ ap (λ n. read_held k c.args.pid after n (entry_of (fds_at k c.args.pid) c.args.fd)) c.min-n.ensures

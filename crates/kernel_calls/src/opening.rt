@@ -1,0 +1,171 @@
+//! open (xv6's `sys_open`).
+
+ghost use Rattle.std.specs.Prelude.{◌≡◌, is_some, true};
+ghost use Rattle.proc_table.specs.Slots.{at, is_running};
+ghost use Rattle.mem_files.specs.Name.{is_openable};
+ghost use Rattle.mem_files.specs.Files.{files};
+ghost use Rattle.kernel_model.specs.Modes.{empties, entry_mode, reads};
+ghost use Rattle.kernel_model.specs.Opening.{emptied_if, open_file, open_for_reading, open_for_writing, open_here, open_reply};
+
+use crate::descriptors::{free_fd, open_object};
+use fd_table::{Mode as EntryMode, Name, Object};
+use kernel_model::Full;
+use kernel_state::State;
+use mem_files::{FilesFault, is_openable};
+use proc_table::Pid;
+use std::alloc::Allocator;
+use user_calls::{Block, Machine, Mode, Reply};
+
+// Opens the file, which is there, in this mode.
+pub(crate) fn open_here<M: Machine, A: Allocator>(
+    state: &mut State<M, A>,
+    pid: Pid,
+    after: M,
+    name: Name,
+    mode: Mode,
+)
+    requires runs { is_running (at state.old.table pid) ≡ true }
+    ensures { state.new ≡ open_here state.old pid (M.view after) name mode }
+{
+    let fd = free_fd(state, pid);
+    open_object(state, pid, Object::File(name, entry_mode(mode)));
+    state.answer(pid, after, open_reply(fd));
+}
+
+// A missing file is refused.
+pub(crate) fn open_for_reading<M: Machine, A: Allocator>(
+    state: &mut State<M, A>,
+    pid: Pid,
+    after: M,
+    name: Name,
+    mode: Mode,
+)
+    requires runs { is_running (at state.old.table pid) ≡ true }
+    ensures { state.new ≡ open_for_reading state.old pid (M.view after) name mode (files state.old.files name) }
+{
+    if state.files.get(name.as_slice()).is_some() {
+        open_here(state, pid, after, name, mode);
+    } else {
+        state.answer(pid, after, Reply::Refused);
+    }
+}
+
+// An entry and a descriptor are looked for first. It says whether memory was refused.
+pub(crate) fn open_file<M: Machine, A: Allocator + Copy>(
+    state: &mut State<M, A>,
+    pid: Pid,
+    after: M,
+    name: &Block,
+    mode: Mode,
+) -> bool
+    requires runs { is_running (at state.old.table pid) ≡ true }
+    ensures { state.new ≡ open_file state.old pid (M.view after) name.now mode result }
+{
+    if state.entries.free_count() == 0 {
+        state.refuse(pid, after, Full::Open);
+        return false;
+    }
+    if free_fd(state, pid).is_none() {
+        state.refuse(pid, after, Full::Fds);
+        return false;
+    }
+    if !is_openable(name.as_slice()) {
+        state.answer(pid, after, Reply::Refused);
+        return false;
+    }
+    let Some(name) = Name::new(name.as_slice()) else {
+        unreachable!()
+    };
+    if reads(mode) {
+        open_for_reading(state, pid, after, name, mode);
+        false
+    } else {
+        open_for_writing(state, pid, after, name, mode)
+    }
+}
+
+// A missing file is made. It says whether memory was refused.
+pub(crate) fn open_for_writing<M: Machine, A: Allocator + Copy>(
+    state: &mut State<M, A>,
+    pid: Pid,
+    after: M,
+    name: Name,
+    mode: Mode,
+) -> bool
+    requires runs { is_running (at state.old.table pid) ≡ true }
+    requires openable { is_openable name ≡ true }
+    ensures { state.new ≡ open_for_writing state.old pid (M.view after) name mode result (files state.old.files name) }
+{
+    if state.files.get(name.as_slice()).is_some() {
+        empty_if(state, empties(mode), name.as_slice());
+        open_here(state, pid, after, name, mode);
+        return false;
+    }
+    match state.files.create(name.as_slice()) {
+        Ok(()) => {
+            open_here(state, pid, after, name, mode);
+            false
+        }
+        Err(FilesFault::FullFiles) => {
+            state.refuse(pid, after, Full::Files);
+            false
+        }
+        Err(FilesFault::Memory) => {
+            state.refuse(pid, after, Full::Memory);
+            true
+        }
+        Err(_) => unreachable!(),
+    }
+}
+
+// Empties the file, which is there, where it is to be.
+pub(crate) fn empty_if<M: Machine, A: Allocator + Copy>(
+    state: &mut State<M, A>,
+    empties: bool,
+    name: &[u8],
+)
+    requires { is_some (files state.old.files name.now) ≡ true }
+    ensures { state.new ≡ emptied_if empties state.old name.now }
+{
+    if empties {
+        if state.files.truncate(name).is_err() {
+            unreachable!()
+        }
+    }
+}
+
+// What an open is answered, by its descriptor.
+fn open_reply(fd: Option<usize>) -> Reply
+    ensures { result ≡ open_reply fd }
+{
+    match fd {
+        Some(fd) => Reply::Fd(fd),
+        None => Reply::Refused,
+    }
+}
+
+// The mode of an entry that is opened so.
+fn entry_mode(mode: Mode) -> EntryMode
+    ensures { result ≡ entry_mode mode }
+{
+    match mode {
+        Mode::Input => EntryMode::Input,
+        Mode::Fresh => EntryMode::Fresh,
+        Mode::Over => EntryMode::Over,
+        Mode::Append => EntryMode::Append,
+    }
+}
+
+// Whether a file is opened so for reading.
+fn reads(mode: Mode) -> bool
+    ensures { result ≡ reads mode }
+{
+    matches!(mode, Mode::Input)
+}
+
+// Whether a file that is opened so is emptied.
+fn empties(mode: Mode) -> bool
+    ensures { result ≡ empties mode }
+{
+    matches!(mode, Mode::Fresh)
+}

@@ -1,0 +1,81 @@
+//! Any call, and the trap that carries it out (xv6's `usertrap` and `syscall`).
+
+ghost use Rattle.std.specs.Prelude.{◌≡◌, ◌<◌, ◌+◌, ◌^◌, true, count_by};
+ghost use Rattle.proc_table.specs.Slots.{at, is_running};
+ghost use Rattle.kernel_model.specs.Sound.{IsSound, Keeps};
+ghost use Rattle.kernel_model.specs.Events.{acted, counted};
+
+use crate::descriptors::{close, dup};
+use crate::opening::open_file;
+use crate::piping::make_pipe;
+use crate::reading::read;
+use crate::writing::write;
+use kernel_state::State;
+use proc_table::Pid;
+use std::alloc::Allocator;
+use user_calls::{Call, Machine};
+
+/// The call of a running process, whose machine after it is this one, is carried out as one more event. It says
+/// whether memory was refused.
+pub fn trap<M: Machine, A: Allocator + Copy>(
+    state: &mut State<M, A>,
+    pid: Pid,
+    call: Call,
+    after: M,
+) -> bool
+    requires runs { is_running (at state.old.table pid) ≡ true }
+    requires sound { IsSound state.old.table state.old.entries }
+    requires fits { state.old.events + 1 < 2 ^ 64 }
+    ensures after { state.new ≡ acted (counted state.old) pid (M.view after) call result }
+    ensures keeps { Keeps (count_by is_running state.old.table) state.new.table state.new.entries }
+{
+    state.events += 1;
+    mem_files::laws::are_files(&state.files);
+    act(state, pid, call, after)
+}
+
+// The call of a process, whose machine is this one after it. It says whether memory was refused.
+fn act<M: Machine, A: Allocator + Copy>(
+    state: &mut State<M, A>,
+    pid: Pid,
+    call: Call,
+    after: M,
+) -> bool
+    requires runs { is_running (at state.old.table pid) ≡ true }
+    requires sound { IsSound state.old.table state.old.entries }
+    ensures { state.new ≡ acted state.old pid (M.view after) call result }
+{
+    match call {
+        Call::Fork => {
+            state.fork(pid, after);
+            false
+        }
+        Call::Exec(found) => {
+            state.exec(pid, after, found);
+            false
+        }
+        Call::Exit => {
+            state.exit(pid, after);
+            false
+        }
+        Call::Wait => {
+            state.wait(pid, after);
+            false
+        }
+        Call::MakePipe => make_pipe(state, pid, after),
+        Call::Read(fd, n) => {
+            read(state, pid, after, fd, n);
+            false
+        }
+        Call::Write(fd, block) => write(state, pid, after, fd, block.as_slice()),
+        Call::OpenFile(name, mode) => open_file(state, pid, after, &name, mode),
+        Call::Close(fd) => {
+            close(state, pid, after, fd);
+            false
+        }
+        Call::Dup(fd) => {
+            dup(state, pid, after, fd);
+            false
+        }
+    }
+}

@@ -1,0 +1,209 @@
+//! write (xv6's `filewrite` and `pipewrite`).
+
+ghost use Rattle.std.specs.Prelude.{◌≡◌, ◌≤◌, ◌<◌, ◌+◌, true, IfSome, Some, drop, min, length};
+ghost use Rattle.fd_table.specs.Entries.{IsInUse, entry_at, offset_of};
+ghost use Rattle.mem_files.specs.Files.{files};
+ghost use Rattle.mem_files.specs.Listing.{max_size};
+ghost use Rattle.proc_table.specs.Slots.{at, is_running, put_of};
+ghost use Rattle.kernel_calls.specs.FileOf.{IfFile};
+ghost use Rattle.kernel_model.specs.Sound.{IsSound};
+ghost use Rattle.kernel_model.specs.Pipes.{pipe_of};
+ghost use Rattle.kernel_model.specs.Writing.{append_file, write, write_file, write_object, write_pipe};
+
+use crate::descriptors::entry;
+use byte_pipe::Put;
+use fd_table::{Entry, Mode as EntryMode, Object};
+use kernel_model::Full;
+use kernel_state::State;
+use mem_files::FilesFault;
+use proc_table::{Channel, Pid};
+use std::alloc::Allocator;
+use user_calls::{Machine, Reply};
+
+// `sys_write`. It says whether memory was refused.
+pub(crate) fn write<M: Machine, A: Allocator>(
+    state: &mut State<M, A>,
+    pid: Pid,
+    after: M,
+    fd: usize,
+    bytes: &[u8],
+) -> bool
+    requires runs { is_running (at state.old.table pid) ≡ true }
+    requires sound { IsSound state.old.table state.old.entries }
+    requires few { length bytes.now ≤ 1024 }
+    ensures { state.new ≡ write state.old pid (M.view after) fd bytes.now result }
+{
+    match entry(state, pid, fd) {
+        Some(entry) => write_held(state, pid, after, entry, bytes),
+        None => {
+            state.answer(pid, after, Reply::Refused);
+            false
+        }
+    }
+}
+
+// A write to what the entry has open. It says whether memory was refused.
+pub(crate) fn write_held<M: Machine, A: Allocator>(
+    state: &mut State<M, A>,
+    pid: Pid,
+    after: M,
+    entry: Entry,
+    bytes: &[u8],
+) -> bool
+    requires runs { is_running (at state.old.table pid) ≡ true }
+    requires in_use { IsInUse state.old.entries entry }
+    requires small { offset_of (entry_at state.old.entries entry) ≤ max_size }
+    requires few { length bytes.now ≤ 1024 }
+    ensures { IfSome (entry_at state.old.entries entry) (λ f. state.new ≡ write_object state.old pid (M.view after) entry f.offset bytes.now result f.object) }
+{
+    match state.entries.object(entry) {
+        Object::Out => {
+            if state.out.extend_from_slice(bytes).is_err() {
+                state.refuse(pid, after, Full::Memory);
+                return true;
+            }
+            state.procs.ready(pid, after, Reply::Done);
+            false
+        }
+        Object::Diag => {
+            if state.diag.extend_from_slice(bytes).is_err() {
+                state.refuse(pid, after, Full::Memory);
+                return true;
+            }
+            state.procs.ready(pid, after, Reply::Done);
+            false
+        }
+        Object::File(_, EntryMode::Fresh) => write_file(state, pid, after, entry, bytes),
+        Object::File(_, EntryMode::Over) => write_file(state, pid, after, entry, bytes),
+        Object::File(_, EntryMode::Append) => append_file(state, pid, after, entry, bytes),
+        Object::PipeWrite(name) => {
+            let name = *name;
+            let put = state.procs.put(pid);
+            let from = put.min(bytes.len());
+            write_pipe(state, pid, after, name, put, &bytes[from..]);
+            false
+        }
+        Object::File(_, EntryMode::Input) => {
+            state.procs.ready(pid, after, Reply::Refused);
+            false
+        }
+        Object::PipeRead(_) => {
+            state.procs.ready(pid, after, Reply::Refused);
+            false
+        }
+        Object::Input => {
+            state.procs.ready(pid, after, Reply::Refused);
+            false
+        }
+    }
+}
+
+// A write to the pipe of that name of the bytes that are left after so many were put. What sleeps has put less
+// than a block.
+pub(crate) fn write_pipe<M: Machine, A: Allocator>(
+    state: &mut State<M, A>,
+    pid: Pid,
+    after: M,
+    name: u64,
+    put: usize,
+    left: &[u8],
+)
+    requires runs { is_running (at state.old.table pid) ≡ true }
+    requires few { 0 < length left.now → put + length left.now ≤ 1024 }
+    ensures { state.new ≡ write_pipe state.old pid (M.view after) name put left.now (pipe_of state.old.pipes name) }
+{
+    match state.pipes.put(name, left) {
+        None => state.procs.ready(pid, after, Reply::Refused),
+        Some(Put::Closed) => state.procs.ready(pid, after, Reply::Refused),
+        Some(Put::Full) => {
+            state.procs.sleep(pid, Channel::PipeRoom(name), put);
+            state.procs.wakeup(Channel::PipeBytes(name));
+        }
+        Some(Put::Took(count)) => {
+            if count == left.len() {
+                state.procs.ready(pid, after, Reply::Done);
+            } else {
+                state.procs.sleep(pid, Channel::PipeRoom(name), put + count);
+            }
+            state.procs.wakeup(Channel::PipeBytes(name));
+        }
+    }
+}
+
+// A write to the file that the entry has open for writing. It says whether memory was refused.
+pub(crate) fn write_file<M: Machine, A: Allocator>(
+    state: &mut State<M, A>,
+    pid: Pid,
+    after: M,
+    entry: Entry,
+    bytes: &[u8],
+) -> bool
+    requires runs { is_running (at state.old.table pid) ≡ true }
+    requires in_use { IsInUse state.old.entries entry }
+    requires small { offset_of (entry_at state.old.entries entry) ≤ max_size }
+    requires few { length bytes.now ≤ 1024 }
+    ensures { IfFile (entry_at state.old.entries entry) (λ name offset. state.new ≡ write_file state.old pid (M.view after) entry name offset bytes.now result (files state.old.files name)) }
+{
+    let offset = state.entries.offset(entry);
+    let Object::File(name, _) = state.entries.object(entry) else {
+        return false;
+    };
+    match state
+        .files
+        .write_at(name.as_slice(), offset as usize, bytes)
+    {
+        Ok(()) => {
+            state.entries.advance(entry, bytes.len() as u64);
+            state.procs.ready(pid, after, Reply::Done);
+            false
+        }
+        Err(FilesFault::FullSize) => {
+            state.refuse(pid, after, Full::Size);
+            false
+        }
+        Err(FilesFault::Memory) => {
+            state.refuse(pid, after, Full::Memory);
+            true
+        }
+        Err(_) => {
+            state.procs.ready(pid, after, Reply::Refused);
+            false
+        }
+    }
+}
+
+// A write to the end of the file that the entry has open. It says whether memory was refused.
+pub(crate) fn append_file<M: Machine, A: Allocator>(
+    state: &mut State<M, A>,
+    pid: Pid,
+    after: M,
+    entry: Entry,
+    bytes: &[u8],
+) -> bool
+    requires runs { is_running (at state.old.table pid) ≡ true }
+    requires in_use { IsInUse state.old.entries entry }
+    ensures { IfFile (entry_at state.old.entries entry) (λ name offset. state.new ≡ append_file state.old pid (M.view after) entry name bytes.now result (files state.old.files name)) }
+{
+    let Object::File(name, _) = state.entries.object(entry) else {
+        return false;
+    };
+    match state.files.append(name.as_slice(), bytes) {
+        Ok(size) => {
+            state.entries.move_to(entry, size as u64);
+            state.procs.ready(pid, after, Reply::Done);
+            false
+        }
+        Err(FilesFault::FullSize) => {
+            state.refuse(pid, after, Full::Size);
+            false
+        }
+        Err(FilesFault::Memory) => {
+            state.refuse(pid, after, Full::Memory);
+            true
+        }
+        Err(_) => {
+            state.procs.ready(pid, after, Reply::Refused);
+            false
+        }
+    }
+}
