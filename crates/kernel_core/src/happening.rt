@@ -40,7 +40,17 @@ impl<M: Machine, A: Allocator + Copy> Kernel<M, A> {
         ensures err { OnErr result (self.new ≡ self.old) }
         ensures could { IsErr result → CanDispatch self.old.now.table hart pid }
     {
-        Ok(self.dispatch_pid(hart, pid)?.is_some())
+        if !self.state.can_dispatch(hart, pid) {
+            return Ok(false);
+        }
+        let owed = self.state.running();
+        self.log.reserve(owed + 2)?;
+        self.log.fits();
+        if !self.state.dispatch_pid(hart, pid) {
+            return Ok(false);
+        }
+        self.log.write(Event::Dispatch(hart, pid), false);
+        Ok(true)
     }
 
     // The call of the process in slot `pid` is carried out, if it runs on the hart.

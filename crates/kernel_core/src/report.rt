@@ -85,8 +85,31 @@ impl<A: Allocator> Report<A> {
     fn went_the_same<B: Allocator>(&self, other: &Report<B>) -> bool
         ensures { IsTrue result ↔ WentTheSame self.now other.now }
     {
-        self.schedule.as_slice() == other.schedule.as_slice() && self.by_hart == other.by_hart
+        are_same(self.schedule.as_slice(), other.schedule.as_slice())
+            && self.by_hart == other.by_hart
     }
+}
+
+// Whether both are the same events.
+fn are_same(left: &[Event], right: &[Event]) -> bool
+    ensures { IsTrue result ↔ (left.now ≡ right.now) }
+{
+    if left.len() != right.len() {
+        return false;
+    }
+    for i in 0..left.len() {
+        if !is_same(&left[i], &right[i]) {
+            return false;
+        }
+    }
+    true
+}
+
+// Whether both are the same event.
+fn is_same(left: &Event, right: &Event) -> bool
+    ensures { IsTrue result ↔ (left.now ≡ right.now) }
+{
+    left == right
 }
 
 // Whether the event is one of the hart.
