@@ -1,12 +1,14 @@
 -- Why a schedule isn't the one of a finished run.
-use Rattle.std.specs.Prelude.{◌≡◌, ℕ, ◌+◌, Bool, List, [], ◌∷◌, ◌++◌, length}
+use Rattle.std.specs.Prelude.{◌≡◌, ℕ, ◌+◌, Bool, List, [], ◌∷◌, ◌++◌, Some, length}
+use Rattle.user_calls.specs.declared.calls.Call.{Call}
+use Rattle.user_calls.specs.declared.calls.Reply.{Reply}
 use Rattle.sh_machine.specs.State.{User}
+use Rattle.sh_machine.specs.Turn.{call_of, next_of}
 use Rattle.kernel_model.specs.declared.events.Event.{Event}
 use Rattle.kernel_model.specs.declared.events.Event.TheVariants.{Dispatch, Trap}
 use Rattle.kernel_model.specs.KernelState.{KernelState}
-use Rattle.kernel_model.specs.Events.{IsFinished}
+use Rattle.kernel_model.specs.Events.{run, IsFinished}
 use Rattle.kernel_core.specs.Possible.{CanHappen}
-use Rattle.kernel_core.specs.ScriptRun.{IsRun}
 use Rattle.hart_run.specs.declared.replaying.ReplayFault.{ReplayFault}
 use Rattle.hart_run.specs.declared.replaying.ReplayFault.TheVariants.{NotRunnable, NotRunning, Unfinished, Memory}
 
@@ -30,24 +32,29 @@ StopsAt k before events (NotRunning number) = Stops k before events (NotRunning 
 StopsAt k before events Unfinished = ⊥
 StopsAt k before events Memory = Unit {0}
 
--- a run by the first of the events leads to a kernel in which the next one can't take place
-pub record StopsFrom (start : KernelState User) (events : List Event) (fault : ReplayFault) : Type 0 where
-  pub before : List Event
-  pub notes : List Bool
-  pub last : KernelState User
-  pub runs : IsRun start before notes last
-  pub stops : Stops last before events fault
+module _ {S : Type 0} (call : S → Reply → Call) (next : S → Reply → S) where
+  -- a run by the first of the events leads to a kernel in which the next one, for which this fault is told, can't take place
+  pub record StopsFrom (start : KernelState S) (events : List Event) (fault : ReplayFault) : Type 0 where
+    pub before : List Event
+    pub notes : List Bool
+    pub last : KernelState S
+    pub runs : run call next (Some start) before notes ≡ Some last
+    pub stops : Stops last before events fault
 
--- a run by all of the events leads to a kernel that isn't finished
-pub record EndsEarly (start : KernelState User) (events : List Event) : Type 0 where
-  pub notes : List Bool
-  pub last : KernelState User
-  pub runs : IsRun start events notes last
-  pub unfinished : IsFinished last → ⊥
+  -- a run by all of the events leads to a kernel that isn't finished
+  pub record EndsEarly (start : KernelState S) (events : List Event) : Type 0 where
+    pub notes : List Bool
+    pub last : KernelState S
+    pub runs : run call next (Some start) events notes ≡ Some last
+    pub unfinished : IsFinished last → ⊥
 
--- why there is no report of a finished run by these events
+  -- why there is no report of a finished run by these events
+  abbrev pub IsFaultFrom : KernelState S → List Event → ReplayFault → Type 0
+  IsFaultFrom start events (NotRunnable number) = StopsFrom start events (NotRunnable number)
+  IsFaultFrom start events (NotRunning number) = StopsFrom start events (NotRunning number)
+  IsFaultFrom start events Unfinished = EndsEarly start events
+  IsFaultFrom start events Memory = Unit {0}
+
+-- the same of a script
 abbrev pub IsReplayFault : KernelState User → List Event → ReplayFault → Type 0
-IsReplayFault start events (NotRunnable number) = StopsFrom start events (NotRunnable number)
-IsReplayFault start events (NotRunning number) = StopsFrom start events (NotRunning number)
-IsReplayFault start events Unfinished = EndsEarly start events
-IsReplayFault start events Memory = Unit {0}
+IsReplayFault start events fault = IsFaultFrom call_of next_of start events fault

@@ -2,8 +2,9 @@
 
 ghost use Rattle.std.specs.Prelude.{◌≡◌, IfErr, IfOk, OnOk, []};
 ghost use Rattle.script_load.specs.Line.{lines_of};
+ghost use Rattle.kernel_core.specs.Reports.{IsReport};
 ghost use Rattle.kernel_core.specs.ScriptRun.{IsRunFrom, script_kernel};
-ghost use Rattle.hart_run.specs.Refused.{IsReplayFault, StopsAt, refused_at};
+ghost use Rattle.hart_run.specs.Refused.{IsFaultFrom, IsReplayFault, StopsAt, refused_at};
 
 use kernel_core::{Event, Kernel, Report};
 use mem_files::Files;
@@ -72,14 +73,27 @@ fn replay_named<N: Naming, A: Allocator + Copy, B: Allocator, C: Allocator>(
     ensures fault { IfErr result (IsReplayFault (script_kernel script.now.profile (lines_of script.now.lines) stdin.now files.now) events.now) }
 {
     let init = User::<B, N>::init();
-    let mut kernel = Kernel::boot(alloc, init, User::shell(script), stdin, files)?;
+    let kernel = Kernel::boot(alloc, init, User::shell(script), stdin, files)?;
+    replay_kernel(kernel, events)
+}
+
+// Carries out the events, and gives the report if the run is finished then.
+fn replay_kernel<M: Machine, A: Allocator + Copy>(
+    mut kernel: Kernel<M, A>,
+    events: &[Event],
+) -> Result<Report<A>, ReplayFault>
+    requires { kernel.schedule ≡ [] }
+    ensures run { IfOk result (IsReport M.call_of M.next_of kernel.boot) }
+    ensures schedule { IfOk result (λ report. report.schedule ≡ events.now) }
+    ensures fault { IfErr result (IsFaultFrom M.call_of M.next_of kernel.boot events.now) }
+{
     let happened = carry_out(&mut kernel, events);
     kernel.replays();
-    happened?;
-    if !kernel.is_finished() {
-        return Err(ReplayFault::Unfinished);
+    match happened {
+        Err(fault) => Err(fault),
+        Ok(()) if !kernel.is_finished() => Err(ReplayFault::Unfinished),
+        Ok(()) => Ok(kernel.into_report()),
     }
-    Ok(kernel.into_report())
 }
 
 // Carries out the events in order.

@@ -149,12 +149,7 @@ fn redirections_run(rt: HostRuntime) -> Result<(), Fail> {
     gives(&rt, script, &[], "J\nllo\n", &[("f", b"J\nllo\n")])?;
     gives(&rt, "(echo a; echo b) > f", &[], "", &[("f", b"a\nb\n")])?;
     gives(&rt, "> f", &[("f", b"old")], "", &[("f", b"")])?;
-    tells(
-        &rt,
-        "cat < none > o",
-        "open none failed\n",
-        &[("o", b"")],
-    )?;
+    tells(&rt, "cat < none > o", "open none failed\n", &[("o", b"")])?;
     tells(&rt, "cat > o2 < none", "open none failed\n", &[])?;
     let script = "(echo aaa; echo b > f; echo c) > f";
     gives(&rt, script, &[], "", &[("f", b"b\n")])?;
@@ -373,11 +368,19 @@ fn forged_schedules_are_refused(rt: HostRuntime) -> Result<(), Fail> {
             ReplayFault::NotRunning(2),
         ),
         (
-            &[Event::Dispatch(0, 1), Event::Trap(0, 1), Event::Dispatch(0, 40)],
+            &[
+                Event::Dispatch(0, 1),
+                Event::Trap(0, 1),
+                Event::Dispatch(0, 40),
+            ],
             ReplayFault::NotRunnable(3),
         ),
         (
-            &[Event::Dispatch(0, 0), Event::Trap(0, 0), Event::Dispatch(0, 0)],
+            &[
+                Event::Dispatch(0, 0),
+                Event::Trap(0, 0),
+                Event::Dispatch(0, 0),
+            ],
             ReplayFault::NotRunnable(3),
         ),
         (

@@ -1,3 +1,3 @@
 mod Keeping
-mod Scripts
+pub mod Scripts
 mod Turning

@@ -1,5 +1,5 @@
 -- Which events are those of a hart.
-use Rattle.std.specs.Prelude.{◌≡◌, ℕ, ◌<◌, Bool, ◌==◌, List, count_by, slice_index}
+use Rattle.std.specs.Prelude.{◌≡◌, ℕ, ◌<◌, Bool, ◌==◌, List, count_by, length, slice_index}
 use Rattle.kernel_model.specs.declared.events.Event.{Event}
 use Rattle.kernel_model.specs.declared.events.Event.TheVariants.{Dispatch, Trap}
 
@@ -8,6 +8,6 @@ abbrev pub is_of_hart : ℕ → Event → Bool
 is_of_hart h (Dispatch other pid) = h == other
 is_of_hart h (Trap other pid) = h == other
 
--- the list has at each of the eight harts' places how many events of the schedule are its own
+-- the list has eight places, and at each hart's how many events of the schedule are its own
 abbrev pub AreCounts : List ℕ → List Event → Type 0
-AreCounts counts schedule = (h : ℕ) → h < 8 → slice_index counts h ≡ count_by (is_of_hart h) schedule
+AreCounts counts schedule = (length counts ≡ 8) × ((h : ℕ) → h < 8 → slice_index counts h ≡ count_by (is_of_hart h) schedule)
