@@ -10,14 +10,6 @@ const TURNS: u64 = 10_000_000;
 
 type Row<'a> = (&'a str, &'a [u8]);
 
-// What a script is to leave.
-struct Want<'a> {
-    out: &'a str,
-    diag: &'a str,
-    full: Option<Full>,
-    files: &'a [Row<'a>],
-}
-
 fn files_of(alloc: Global, rows: &[Row<'_>]) -> Result<Files<Global>, FilesFault> {
     let mut files = Files::new(alloc);
     for (name, bytes) in rows {
@@ -26,47 +18,37 @@ fn files_of(alloc: Global, rows: &[Row<'_>]) -> Result<Files<Global>, FilesFault
     Ok(files)
 }
 
-// Runs a script on one hart, compares what it leaves, replays its schedule, and compares the reports.
+// Runs a script on one hart, compares its output, its diagnostics unless they depend on the order of the processes,
+// what was full, and of the files those that are named; and replays its schedule, and compares the reports.
 fn run_row<R: AllocGlobal + Abort>(
     rt: &R,
     script: &Script<Global>,
     stdin: &str,
     given: &[Row<'_>],
-    want: &Want<'_>,
+    out: &str,
+    diag: Option<&str>,
+    full: Option<Full>,
+    files: &[Row<'_>],
 ) -> Result<(), Fail> {
     let alloc = rt.alloc();
-    let files = files_of(alloc, given)?;
-    let report = run_one(alloc, script, stdin.as_bytes(), &files, TURNS)?;
+    let given = files_of(alloc, given)?;
+    let report = run_one(alloc, script, stdin.as_bytes(), &given, TURNS)?;
     assert!(rt; report.finished);
-    assert_eq!(rt; report.full, want.full);
-    assert_eq!(rt; report.out.as_slice(), want.out.as_bytes());
-    assert_eq!(rt; report.diag.as_slice(), want.diag.as_bytes());
-    for (name, bytes) in want.files {
+    assert_eq!(rt; report.full, full);
+    assert_eq!(rt; report.out.as_slice(), out.as_bytes());
+    if let Some(diag) = diag {
+        assert_eq!(rt; report.diag.as_slice(), diag.as_bytes());
+    }
+    for (name, bytes) in files {
         assert!(rt; report.files.get(name.as_bytes()) == Some(*bytes));
     }
-    let again = replay(
-        alloc,
-        script,
-        stdin.as_bytes(),
-        &files,
-        report.schedule.as_slice(),
-    )?;
+    let events = report.schedule.as_slice();
+    let again = replay(alloc, script, stdin.as_bytes(), &given, events)?;
     assert!(rt; again.same(&report));
     Ok(())
 }
 
-fn check<R: AllocGlobal + Abort>(
-    rt: &R,
-    script: &str,
-    stdin: &str,
-    given: &[Row<'_>],
-    want: &Want<'_>,
-) -> Result<(), Fail> {
-    let script = load(rt.alloc(), script.as_bytes())?;
-    run_row(rt, &script, stdin, given, want)
-}
-
-// A script that leaves this output, no diagnostics and nothing full.
+// A script that leaves this output and these files, no diagnostics and nothing full.
 fn gives<R: AllocGlobal + Abort>(
     rt: &R,
     script: &str,
@@ -74,49 +56,47 @@ fn gives<R: AllocGlobal + Abort>(
     out: &str,
     files: &[Row<'_>],
 ) -> Result<(), Fail> {
-    check(
-        rt,
-        script,
-        "",
-        given,
-        &Want {
-            out,
-            diag: "",
-            full: None,
-            files,
-        },
-    )
+    let script = load(rt.alloc(), script.as_bytes())?;
+    run_row(rt, &script, "", given, out, Some(""), None, files)
 }
 
-// One without output that tells these diagnostics.
+// One without files and output that tells these diagnostics.
 fn tells<R: AllocGlobal + Abort>(
     rt: &R,
     script: &str,
     diag: &str,
     files: &[Row<'_>],
 ) -> Result<(), Fail> {
-    let want = Want {
-        out: "",
-        diag,
-        full: None,
-        files,
-    };
-    check(rt, script, "", &[], &want)
+    let script = load(rt.alloc(), script.as_bytes())?;
+    run_row(rt, &script, "", &[], "", Some(diag), None, files)
 }
-
-const P: Row<'static> = ("p", b"b\naab\naabc\ncb\n");
 
 #[test]
 fn commands_run(rt: HostRuntime) -> Result<(), Fail> {
-    gives(&rt, "", &[P], "", &[P])?;
+    gives(
+        &rt,
+        "",
+        &[("p", b"b\naab\naabc\ncb\n".as_slice())],
+        "",
+        &[("p", b"b\naab\naabc\ncb\n".as_slice())],
+    )?;
     gives(&rt, "echo hello\n", &[], "hello\n", &[])?;
     gives(&rt, "()\n;;\n", &[], "", &[])?;
-    gives(&rt, "grep ^a*b$ p", &[P], "b\naab\n", &[])?;
+    gives(
+        &rt,
+        "grep ^a*b$ p",
+        &[("p", b"b\naab\naabc\ncb\n".as_slice())],
+        "b\naab\n",
+        &[],
+    )?;
     gives(&rt, "grep x l", &[("l", b"x\nx")], "x\n", &[])?;
     let z = ("z", b"a\nx\0\na\n".as_slice());
     gives(&rt, "grep a z", &[z], "a\n", &[])?;
     let big = "0123456789ab\n".repeat(rt.alloc(), 100)?;
-    let given = [P, ("big", big.as_bytes())];
+    let given = [
+        ("p", b"b\naab\naabc\ncb\n".as_slice()),
+        ("big", big.as_bytes()),
+    ];
     gives(&rt, "wc p big", &given, "4 4 14 p\n100 100 1300 big\n", &[])?;
     gives(&rt, "head -1 p big", &given, "b\n0123456789ab\n", &[])?;
     gives(&rt, "head -0 p", &given, "", &[])?;
@@ -126,16 +106,18 @@ fn commands_run(rt: HostRuntime) -> Result<(), Fail> {
 
 #[test]
 fn long_lines_end_grep(rt: HostRuntime) -> Result<(), Fail> {
-    let short = "x".repeat(rt.alloc(), 1022)?;
-    let line = format!(in rt.alloc(); "{}\n", short.as_str())?;
-    let long = "x".repeat(rt.alloc(), 1023)?;
-    let over = format!(in rt.alloc(); "x\n{}\n", long.as_str())?;
+    let alloc = rt.alloc();
+    let short = "x".repeat(alloc, 1022)?;
+    let long = "x".repeat(alloc, 1023)?;
+    let fits = format!(in alloc; "{}\n", short.as_str())?;
+    let over = format!(in alloc; "{}\n", long.as_str())?;
+    let after = format!(in alloc; "x\n{}\n", long.as_str())?;
     let given = [
-        ("w1", line.as_bytes()),
-        ("w2", &over.as_bytes()[2..]),
-        ("w3", over.as_bytes()),
+        ("w1", fits.as_bytes()),
+        ("w2", over.as_bytes()),
+        ("w3", after.as_bytes()),
     ];
-    gives(&rt, "grep x w1", &given, line.as_str(), &[])?;
+    gives(&rt, "grep x w1", &given, fits.as_str(), &[])?;
     gives(&rt, "grep x w2", &given, "", &[])?;
     gives(&rt, "grep x w3", &given, "x\n", &[])?;
     Ok(())
@@ -157,9 +139,21 @@ fn redirections_run(rt: HostRuntime) -> Result<(), Fail> {
 }
 
 #[test]
+fn tee_fills_its_files(rt: HostRuntime) -> Result<(), Fail> {
+    let files = [("x", b"a\n".as_slice())];
+    gives(&rt, "echo a | tee x y", &[], "a\n", &files)?;
+    let files = [("y", b"a\n".as_slice())];
+    gives(&rt, "echo a | tee x y", &[], "a\n", &files)?;
+    Ok(())
+}
+
+#[test]
 fn pipes_run(rt: HostRuntime) -> Result<(), Fail> {
     let big = "0123456789ab\n".repeat(rt.alloc(), 100)?;
-    let given = [P, ("big", big.as_bytes())];
+    let given = [
+        ("p", b"b\naab\naabc\ncb\n".as_slice()),
+        ("big", big.as_bytes()),
+    ];
     gives(&rt, "echo | wc", &[], "0 0 0 \n", &[])?;
     gives(&rt, "cat big | wc", &given, "100 100 1300 \n", &[])?;
     gives(&rt, "cat p | grep b | wc", &given, "4 4 14 \n", &[])?;
@@ -170,8 +164,6 @@ fn pipes_run(rt: HostRuntime) -> Result<(), Fail> {
         "0123456789ab\n0123456789ab\n98 98 1274 \n",
         &[],
     )?;
-    let teed = [("x", b"a\n".as_slice()), ("y", b"a\n".as_slice())];
-    gives(&rt, "echo a | tee x y", &[], "a\n", &teed)?;
     gives(&rt, "| echo a", &[], "a\n", &[])?;
     let stages = " | cat".repeat(rt.alloc(), 30)?;
     let script = format!(in rt.alloc(); "echo a{}", stages.as_str())?;
@@ -182,87 +174,81 @@ fn pipes_run(rt: HostRuntime) -> Result<(), Fail> {
     Ok(())
 }
 
+// A left side whose reader ends early may be told so: its diagnostics depend on the order of the processes.
+fn reads_early<R: AllocGlobal + Abort>(
+    rt: &R,
+    script: &str,
+    given: &[Row<'_>],
+    out: &str,
+) -> Result<(), Fail> {
+    let script = load(rt.alloc(), script.as_bytes())?;
+    run_row(rt, &script, "", given, out, None, None, &[])
+}
+
 #[test]
 fn early_readers_run(rt: HostRuntime) -> Result<(), Fail> {
     let big = "0123456789ab\n".repeat(rt.alloc(), 100)?;
-    let given = [P, ("big", big.as_bytes())];
-    let line = "0123456789ab\n";
-    gives(&rt, "cat big | tee c | head -1", &given, line, &[])?;
-    let two = "0123456789ab\n4 4 14 p\n";
-    gives(&rt, "cat < big | head -1; wc p", &given, two, &[])?;
-    gives(&rt, "tee c < big | cat | head -1", &given, line, &[])?;
+    let given = [
+        ("p", b"b\naab\naabc\ncb\n".as_slice()),
+        ("big", big.as_bytes()),
+    ];
+    reads_early(&rt, "cat big | head -1", &given, "0123456789ab\n")?;
+    reads_early(&rt, "cat big | tee c | head -1", &given, "0123456789ab\n")?;
+    let script = "cat < big | head -1; wc p";
+    reads_early(&rt, script, &given, "0123456789ab\n4 4 14 p\n")?;
+    let script = "tee c < big | cat | head -1";
+    reads_early(&rt, script, &given, "0123456789ab\n")?;
     Ok(())
 }
 
 #[test]
 fn lines_share_the_input(rt: HostRuntime) -> Result<(), Fail> {
-    let want = Want {
-        out: "a\n2 2 4 \n",
-        diag: "",
-        full: None,
-        files: &[],
-    };
-    check(&rt, "head -1\nwc", "a\nb\nc\n", &[], &want)
+    let script = load(rt.alloc(), b"head -1\nwc".as_slice())?;
+    let out = "a\n2 2 4 \n";
+    run_row(&rt, &script, "a\nb\nc\n", &[], out, Some(""), None, &[])
 }
 
 #[test]
 fn mistakes_are_told(rt: HostRuntime) -> Result<(), Fail> {
-    let want = Want {
-        out: "ok\n",
-        diag: "leftovers: b\n",
-        full: None,
-        files: &[],
-    };
-    check(&rt, "a & b\necho ok", "", &[], &want)?;
+    let script = load(rt.alloc(), b"a & b\necho ok".as_slice())?;
+    let diag = Some("leftovers: b\n");
+    run_row(&rt, &script, "", &[], "ok\n", diag, None, &[])?;
     let told = "exec foo failed\ncannot cd x\n";
     tells(&rt, "foo\ncd x", told, &[])?;
     let told = "missing file for redirection\nsyntax - missing )\ntoo many args\nsyntax\n";
-    tells(
-        &rt,
-        "cat >\n(echo a\necho 1 2 3 4 5 6 7 8 9\necho (a)",
-        told,
-        &[],
-    )?;
+    let script = "cat >\n(echo a\necho 1 2 3 4 5 6 7 8 9\necho (a)";
+    tells(&rt, script, told, &[])?;
     tells(&rt, "cat none", "cat: cannot open none\n", &[])?;
     Ok(())
 }
 
+// Under the second profile.
+fn appends<R: AllocGlobal + Abort>(
+    rt: &R,
+    script: &str,
+    given: &[Row<'_>],
+    out: &str,
+    files: &[Row<'_>],
+) -> Result<(), Fail> {
+    let script = load_with(rt.alloc(), script.as_bytes(), Profile::Append)?;
+    run_row(rt, &script, "", given, out, Some(""), None, files)
+}
+
 #[test]
 fn both_profiles_run(rt: HostRuntime) -> Result<(), Fail> {
-    let alloc = rt.alloc();
-    let big = "0123456789ab\n".repeat(alloc, 100)?;
+    let big = "0123456789ab\n".repeat(rt.alloc(), 100)?;
     let given = [("big", big.as_bytes()), ("f", big.as_bytes())];
-    let counted = [
-        (Profile::Xv6, "100 100 1300 f\n"),
-        (Profile::Append, "200 200 2600 f\n"),
-    ];
-    for (profile, out) in counted {
-        let script = load_with(alloc, b"cat big >> f; wc f".as_slice(), profile)?;
-        let want = Want {
-            out,
-            diag: "",
-            full: None,
-            files: &[],
-        };
-        run_row(&rt, &script, "", &given, &want)?;
-    }
-    let text = b"echo hello > f; echo J >> f; cat f".as_slice();
-    let script = load_with(alloc, text, Profile::Append)?;
-    let want = Want {
-        out: "hello\nJ\n",
-        diag: "",
-        full: None,
-        files: &[("f", b"hello\nJ\n")],
-    };
-    run_row(&rt, &script, "", &[], &want)?;
-    let script = load_with(alloc, b"(echo a; echo b) >> f".as_slice(), Profile::Append)?;
-    let want = Want {
-        out: "",
-        diag: "",
-        full: None,
-        files: &[("f", b"z\na\nb\n")],
-    };
-    run_row(&rt, &script, "", &[("f", b"z\n")], &want)
+    let script = "cat big >> f; wc f";
+    gives(&rt, script, &given, "100 100 1300 f\n", &[])?;
+    appends(&rt, script, &given, "200 200 2600 f\n", &[])?;
+    let script = "echo hello > f; echo J >> f; cat f";
+    appends(&rt, script, &[], "hello\nJ\n", &[])?;
+    let held = [("f", b"z\n".as_slice())];
+    let files = [("f", b"a\nb\n".as_slice())];
+    gives(&rt, "(echo a; echo b) >> f", &held, "", &files)?;
+    let files = [("f", b"z\na\nb\n".as_slice())];
+    appends(&rt, "(echo a; echo b) >> f", &held, "", &files)?;
+    Ok(())
 }
 
 #[test]
@@ -275,13 +261,10 @@ fn a_file_may_be_full(rt: HostRuntime) -> Result<(), Fail> {
         ("n", b"y".as_slice()),
     ];
     gives(&rt, "cat a > g", &given, "", &[("g", large.as_bytes())])?;
-    let want = Want {
-        out: "",
-        diag: "cat: write error\n",
-        full: Some(Full::Size),
-        files: &[("g", large.as_bytes())],
-    };
-    check(&rt, "cat a n > g", "", &given, &want)?;
+    let script = load(alloc, b"cat a n > g".as_slice())?;
+    let diag = Some("cat: write error\n");
+    let files = [("g", large.as_bytes())];
+    run_row(&rt, &script, "", &given, "", diag, Some(Full::Size), &files)?;
     let script = load_with(alloc, b"cat a >> f".as_slice(), Profile::Append)?;
     let files = files_of(alloc, &given)?;
     let report = run_one(alloc, &script, &[], &files, TURNS)?;
@@ -304,13 +287,9 @@ fn tables_may_be_full(rt: HostRuntime) -> Result<(), Fail> {
     let fits = nested(alloc, 61)?;
     gives(&rt, fits.as_str(), &[], "a\n", &[])?;
     let over = nested(alloc, 62)?;
-    let want = Want {
-        out: "",
-        diag: "fork\n",
-        full: Some(Full::Procs),
-        files: &[],
-    };
-    check(&rt, over.as_str(), "", &[], &want)?;
+    let script = load(alloc, over.as_bytes())?;
+    let diag = Some("fork\n");
+    run_row(&rt, &script, "", &[], "", diag, Some(Full::Procs), &[])?;
     let mut files = Files::new(alloc);
     for n in 0..MAX_FILES {
         let name = format!(in alloc; "f{n}")?;
@@ -335,7 +314,7 @@ fn turns_are_counted(rt: HostRuntime) -> Result<(), Fail> {
         let report = run_one(alloc, &script, &[], &files, turns);
         assert!(rt; matches!(report, Err(RunOneFault::BadTurns)));
     }
-    for turns in [1, 2, events - 1] {
+    for turns in [1, 2, events.saturating_sub(1)] {
         let report = run_one(alloc, &script, &[], &files, turns);
         assert!(rt; matches!(report, Err(RunOneFault::Spent)));
     }
@@ -407,5 +386,45 @@ fn forged_schedules_are_refused(rt: HostRuntime) -> Result<(), Fail> {
     let report = replay(alloc, &script, &[], &files, &finishes)?;
     assert!(rt; report.finished);
     assert!(rt; report.out.is_empty());
+    Ok(())
+}
+
+// The next of a sequence of numbers that look random (Knuth's multiplier).
+fn next(seed: u64) -> u64 {
+    seed.wrapping_mul(6_364_136_223_846_793_005)
+        .wrapping_add(1_442_695_040_888_963_407)
+}
+
+// A schedule that was carried out, of which one event is replaced by one that can't take place: it is told, by its
+// number.
+#[test]
+fn the_first_forged_event_is_told(rt: HostRuntime) -> Result<(), Fail> {
+    let alloc = rt.alloc();
+    let script = load(alloc, b"echo a b | cat | wc".as_slice())?;
+    let files = Files::new(alloc);
+    let report = run_one(alloc, &script, &[], &files, TURNS)?;
+    let events = report.schedule.as_slice();
+    let mut seed = 1u64;
+    for _round in 0..1000 {
+        seed = next(seed);
+        let place = (seed >> 33) as usize % 64;
+        let number = place + 1;
+        let (forged, fault) = match (seed >> 20) % 4 {
+            0 => (Event::Dispatch(8, 1), ReplayFault::NotRunnable(number)),
+            1 => (Event::Dispatch(0, 64), ReplayFault::NotRunnable(number)),
+            2 => (Event::Trap(1, 1), ReplayFault::NotRunning(number)),
+            _ => (Event::Trap(0, 63), ReplayFault::NotRunning(number)),
+        };
+        let mut list = Vec::new(alloc);
+        for event in events.iter().take(place) {
+            list.push(*event)?;
+        }
+        assert_eq!(rt; list.len(), place);
+        list.push(forged)?;
+        // what stands behind it isn't looked at
+        list.push(Event::Dispatch(9, 9))?;
+        let told = replay(alloc, &script, &[], &files, list.as_slice());
+        assert!(rt; told.is_err_and(|told| told == fault));
+    }
     Ok(())
 }
