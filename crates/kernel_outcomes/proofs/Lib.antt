@@ -1,0 +1,15 @@
+mod ReadEnds
+mod WriteEnds
+mod OpenEnds
+mod Outcomes
+mod Refusals
+mod BytesKept
+mod Moves
+mod FlowRuns
+mod Others
+mod Leaves
+mod Asking
+mod AskCalls
+mod AskRuns
+mod EntriesLong
+mod Worked

@@ -1,0 +1,5 @@
+pub mod Outcome
+pub mod Refused
+pub mod Flow
+pub mod Asking
+pub mod Limits
