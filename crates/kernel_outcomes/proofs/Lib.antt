@@ -1,15 +1,15 @@
 mod ReadEnds
 mod WriteEnds
 mod OpenEnds
-mod Outcomes
+pub mod Outcomes
 mod Refusals
 mod BytesKept
 mod Moves
-mod FlowRuns
+pub mod FlowRuns
 mod Others
 mod Leaves
 mod Asking
 mod AskCalls
-mod AskRuns
-mod EntriesLong
+pub mod AskRuns
+pub mod EntriesLong
 mod Worked
