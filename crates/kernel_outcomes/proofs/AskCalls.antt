@@ -22,13 +22,14 @@ use Rattle.byte_pipe.specs.PipeState.{after_put, after_take}
 use Rattle.mem_files.specs.Listing.{with_entry}
 use Rattle.kernel_model.specs.Sound.{IsSound}
 use Rattle.kernel_model.specs.Modes.{entry_mode}
-use Rattle.kernel_model.specs.Replies.{answered}
+use Rattle.kernel_model.specs.Replies.{answered, marked}
 use Rattle.kernel_model.specs.Opening.{with_bytes}
 use Rattle.kernel_model.specs.Descriptors.{closed, closed_below, copied, with_open, with_reader}
 use Rattle.kernel_model.specs.Processes.{ended}
 use Rattle.kernel_model.proofs.Keeps.{mid}
 use Rattle.kernel_model.proofs.Offsets.{slot_cases}
-use Rattle.kernel_outcomes.specs.Outcome.{Outcome, object_of, object_at, left_of, refused, forks, runs, exits, reaps, waits, opens, opens_empty, closes, dups, pipes, reads_input, reads_file, takes, waits_for_bytes, meets_end, tells, complains, writes_over, appends, puts_all, puts_part}
+use Rattle.kernel_outcomes.specs.Outcome.{Outcome, object_of, object_at, left_of, refused, lacks, forks, runs, exits, reaps, waits, opens, opens_empty, closes, dups, pipes, reads_input, reads_file, takes, waits_for_bytes, meets_end, tells, complains, writes_over, appends, puts_all, puts_part}
+use Rattle.kernel_outcomes.specs.Refused.{with_mark}
 use Rattle.kernel_outcomes.specs.Asking.{MaySleep, AllAsk}
 use Rattle.kernel_outcomes.proofs.Others.{Kept, kept_same, Stay, advanced_stay, moved_stay, dup_stay, fork_stay}
 use Rattle.kernel_outcomes.proofs.Leaves.{Leaves, leaves, leaves_same, leaves_then, leaves_slot, leaves_woken, leaves_exited, closed_leaves, closed_below_leaves, open_leaves}
@@ -145,7 +146,8 @@ module _ {S : Type 0} (call : S → Reply → Call) (k : KernelState S) (pid : �
     same q ne = leaves_same q k
 
     pub outcome_asks : Outcome k pid after c0 new → Asks new
-    outcome_asks (refused full is) = so _ is (answered_asks after k Refused same)
+    outcome_asks (refused is) = so _ is (answered_asks after k Refused same)
+    outcome_asks (lacks full is) = so _ is (answered_asks after (with_mark k (marked k.full full)) Refused same)
     outcome_asks (forks child c free is) =
         so _ is (answered_asks after (record k { table = forked k.table child pid after (fds_at k pid); entries = all_held k.entries (fds_at k pid) }) Done (λ q ne. fork_leaves child after (fds_at k pid) _ q (λ p at_q. fork_stay k.entries p.fds (fds_at k pid))))
     outcome_asks (runs c is) = so _ is (answered_asks after k Done same)

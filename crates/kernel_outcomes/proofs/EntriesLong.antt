@@ -24,7 +24,7 @@ use Rattle.kernel_model.specs.Pipes.{with_new}
 use Rattle.kernel_model.specs.Opening.{with_bytes}
 use Rattle.kernel_model.specs.Descriptors.{let_go_of, taken_away, closed, closed_below, opened_at, with_open, with_reader}
 use Rattle.kernel_model.specs.Events.{counted, trapped, can_dispatch, then_happens, run}
-use Rattle.kernel_outcomes.specs.Outcome.{Outcome, refused, forks, runs, exits, reaps, waits, opens, opens_empty, closes, dups, pipes, reads_input, reads_file, takes, waits_for_bytes, meets_end, tells, complains, writes_over, appends, puts_all, puts_part}
+use Rattle.kernel_outcomes.specs.Outcome.{Outcome, refused, lacks, forks, runs, exits, reaps, waits, opens, opens_empty, closes, dups, pipes, reads_input, reads_file, takes, waits_for_bytes, meets_end, tells, complains, writes_over, appends, puts_all, puts_part}
 use Rattle.kernel_outcomes.proofs.Outcomes.{every_call_ends}
 
 added_long : (E : Entries) (place : Option ℕ) (object : Object) → length (added_at E place object) ≡ length E
@@ -72,7 +72,8 @@ module _ {S : Type 0} (pid : ℕ) where
     so l is long = ap (λ (n : KernelState S). length n.entries) is ∙ long
 
     by : Outcome k pid after call new → Long new (length k.entries)
-    by (refused full is) = so _ is refl
+    by (refused is) = so _ is refl
+    by (lacks full is) = so _ is refl
     by (forks child c free is) = so _ is (length-all_held k.entries (fds_at k pid))
     by (runs c is) = so _ is refl
     by (exits c ne is) = so _ is (closed_below_long k DESCRIPTORS)

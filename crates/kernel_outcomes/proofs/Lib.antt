@@ -3,8 +3,10 @@ mod WriteEnds
 mod OpenEnds
 pub mod Outcomes
 mod Refusals
+mod Marks
 mod BytesKept
 mod Moves
+mod Flowing
 pub mod FlowRuns
 mod Others
 mod Leaves

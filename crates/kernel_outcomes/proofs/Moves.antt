@@ -23,7 +23,7 @@ use Rattle.kernel_model.specs.Modes.{entry_mode}
 use Rattle.kernel_laws.specs.Ends.{AreApart, reads_pipe, writes_pipe}
 use Rattle.kernel_laws.proofs.OnePipe.{found_now, others_found}
 use Rattle.kernel_laws.proofs.PipeNames.{new_other, new_self}
-use Rattle.kernel_outcomes.specs.Outcome.{Outcome, IsRead, IsWrite, object_at, left_of, refused, forks, runs, exits, reaps, waits, opens, opens_empty, closes, dups, pipes, reads_input, reads_file, takes, waits_for_bytes, meets_end, tells, complains, writes_over, appends, puts_all, puts_part}
+use Rattle.kernel_outcomes.specs.Outcome.{Outcome, IsRead, IsWrite, object_at, left_of, refused, lacks, forks, runs, exits, reaps, waits, opens, opens_empty, closes, dups, pipes, reads_input, reads_file, takes, waits_for_bytes, meets_end, tells, complains, writes_over, appends, puts_all, puts_part}
 use Rattle.kernel_outcomes.specs.Flow.{got, went, passes, put_by, taken_by}
 use Rattle.kernel_outcomes.proofs.BytesKept.{closed_kept, closed_below_kept, open_pipes}
 
@@ -173,14 +173,14 @@ module _ {S : Type 0} (id : ℕ) (k : KernelState S) (pid : ℕ) (after : S) (ca
   slot_now : (m : KernelState S) (x : Slot S) → new ≡ m → at m.table pid ≡ x → at new.table pid ≡ x
   slot_now m x is at_m = ap (λ (n : KernelState S). at n.table pid) is ∙ at_m
 
-  -- what a refusal leaves
-  refused_slot : new.table ≡ readied k.table pid after Refused → at new.table pid ≡ made_ready after Refused (Some p0)
-  refused_slot is = ap (λ (t : Table S). at t pid) is ∙ ready_slot k.table after Refused (Some p0) there
+  refused_moves : new.table ≡ readied k.table pid after Refused → new.pipes ≡ k.pipes → Step
+  refused_moves is same =
+      let slot : at new.table pid ≡ made_ready after Refused (Some p0) = ap (λ (t : Table S). at t pid) is ∙ ready_slot k.table after Refused (Some p0) there in
+      stays (nothing_put call (λ before left. ap (went before left) slot)) (nothing_taken call (ap got slot)) (same_pipes same)
 
   pub outcome_moves : AreApart k.pipes → pipe_of k.pipes k.events ≡ None → Outcome k pid after call new → Step
-  outcome_moves apart none (refused full is) =
-      let slot = slot_now _ _ is (ready_slot k.table after Refused (Some p0) there) in
-      stays (nothing_put call (λ before left. ap (went before left) slot)) (nothing_taken call (ap got slot)) (same_pipes (ap pipes_now is))
+  outcome_moves apart none (refused is) = refused_moves (ap (λ (n : KernelState S). n.table) is) (ap pipes_now is)
+  outcome_moves apart none (lacks full is) = refused_moves (ap (λ (n : KernelState S). n.table) is) (ap pipes_now is)
   outcome_moves apart none (forks child c free is) = other_call Fork c refl refl (same_pipes (ap pipes_now is))
   outcome_moves apart none (runs c is) = other_call (Exec true) c refl refl (same_pipes (ap pipes_now is))
   outcome_moves apart none (exits c ne is) =

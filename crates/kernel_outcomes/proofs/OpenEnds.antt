@@ -23,10 +23,10 @@ use Rattle.kernel_model.specs.declared.events.Full.TheVariants.{Open, Fds, Files
 use Rattle.kernel_model.specs.KernelState.{KernelState, fds_of, fds_at}
 use Rattle.kernel_model.specs.Modes.{entry_mode, empties, reads}
 use Rattle.kernel_model.specs.Pipes.{with_new}
-use Rattle.kernel_model.specs.Replies.{answered, refused_for, marked}
+use Rattle.kernel_model.specs.Replies.{answered, refused_for}
 use Rattle.kernel_model.specs.Descriptors.{closed_by, close, copied, dup_by, dup, opened_at, with_open, with_reader, with_ends, ends_reply, make_pipe, close_reply}
 use Rattle.kernel_model.specs.Opening.{open_reply, emptied_if, with_bytes, open_here, open_for_reading, open_for_writing, open_named, open_file}
-use Rattle.kernel_outcomes.specs.Outcome.{Outcome, refused, opens, opens_empty, closes, dups, pipes}
+use Rattle.kernel_outcomes.specs.Outcome.{Outcome, refused, lacks, opens, opens_empty, closes, dups, pipes}
 
 -- ---- a table that a call leaves as it was
 
@@ -62,10 +62,10 @@ module _ {S : Type 0} (k : KernelState S) (pid : ℕ) (after : S) (call : Call) 
   Ends new = Outcome k pid after call new
 
   denied : Ends (answered k pid after Refused)
-  denied = refused k.full refl
+  denied = refused refl
 
   no_room : (full : Full) → Ends (refused_for k pid after full)
-  no_room full = refused (marked k.full full) refl
+  no_room full = lacks full refl
 
   if_ends : (b : Bool) (x y : KernelState S) → (b ≡ true → Ends x) → (b ≡ false → Ends y) → Ends (if b then x else y)
   if_ends true x y ex ey = ex refl
@@ -115,14 +115,14 @@ module _ {S : Type 0} (k : KernelState S) (pid : ℕ) (after : S) (call : Call) 
   pub close_ends : (fd : ℕ) → call ≡ Close fd → Ends (close k pid after fd)
   close_ends fd is = by (entry_of (fds_at k pid) fd) refl where
     by : (o : Option ℕ) → entry_of (fds_at k pid) fd ≡ o → Ends (answered (closed_by k pid fd o) pid after (close_reply (close_answer k.entries o)))
-    by None held = refused k.full (ap (λ (t : Table S). answered (record k { table = t }) pid after Refused) (fds_back k.table pid))
+    by None held = refused (ap (λ (t : Table S). answered (record k { table = t }) pid after Refused) (fds_back k.table pid))
     by (Some e) held = closes fd is (ap (λ (o : Option ℕ). answered (closed_by k pid fd o) pid after Done) (sym held))
 
   pub dup_ends : (fd : ℕ) → call ≡ Dup fd → Ends (dup k pid after fd)
   dup_ends fd is = by (entry_of (fds_at k pid) fd) (lowest_free (fds_at k pid)) refl refl where
     by : (entry place : Option ℕ) → entry_of (fds_at k pid) fd ≡ entry → lowest_free (fds_at k pid) ≡ place → Ends (dup_by (copied k pid entry place) pid after (dup_answer entry place))
-    by None place held free = refused k.full (ap (λ (t : Table S). answered (record k { table = t }) pid after Refused) (fds_back k.table pid))
-    by (Some e) None held free = refused (marked k.full Fds) (ap (λ (t : Table S). refused_for (record k { table = t }) pid after Fds) (fds_back k.table pid))
+    by None place held free = refused (ap (λ (t : Table S). answered (record k { table = t }) pid after Refused) (fds_back k.table pid))
+    by (Some e) None held free = lacks Fds (ap (λ (t : Table S). refused_for (record k { table = t }) pid after Fds) (fds_back k.table pid))
     by (Some e) (Some place) held free = dups fd e place is held free refl
 
   -- ---- pipe

@@ -20,7 +20,7 @@ use Rattle.kernel_model.specs.KernelState.{KernelState, fds_at, file_at}
 use Rattle.kernel_model.specs.Pipes.{Pipes, pipe_of, with_pipe}
 use Rattle.kernel_model.specs.Replies.{answered, sleeps}
 use Rattle.kernel_model.specs.Reading.{read_file, read_mode, read_by, read_pipe, read_object, read_entry, read_held, read}
-use Rattle.kernel_outcomes.specs.Outcome.{Outcome, IsRead, object_of, refused, reads_input, reads_file, takes, waits_for_bytes, meets_end}
+use Rattle.kernel_outcomes.specs.Outcome.{Outcome, IsRead, object_of, refused, lacks, reads_input, reads_file, takes, waits_for_bytes, meets_end}
 
 -- ---- a pipe that a call leaves as it was
 
@@ -53,7 +53,7 @@ module _ {S : Type 0} (k : KernelState S) (pid : ℕ) (after : S) (call : Call) 
   Ends new = Outcome k pid after call new
 
   denied : Ends (answered k pid after Refused)
-  denied = refused k.full refl
+  denied = refused refl
 
   read_file_ends : (e offset n : ℕ) (name : List ℕ) (mode : Mode) (o : Option (List ℕ)) → IsRead k pid call (File name mode) → Ends (read_file k pid after e offset n o)
   read_file_ends e offset n name mode None is = denied

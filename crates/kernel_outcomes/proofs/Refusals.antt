@@ -12,10 +12,10 @@ use Rattle.proc_table.proofs.Changes.{written, mapped, exit_self}
 use Rattle.fd_table.specs.declared.descriptors.TheConstants.{DESCRIPTORS}
 use Rattle.kernel_model.specs.declared.events.Full.{Full}
 use Rattle.kernel_model.specs.KernelState.{KernelState}
-use Rattle.kernel_model.specs.Replies.{answered}
+use Rattle.kernel_model.specs.Replies.{answered, marked}
 use Rattle.kernel_model.specs.Descriptors.{closed_below}
-use Rattle.kernel_outcomes.specs.Outcome.{Outcome, with_mark, refused, forks, runs, exits, reaps, waits, opens, opens_empty, closes, dups, pipes, reads_input, reads_file, takes, waits_for_bytes, meets_end, tells, complains, writes_over, appends, puts_all, puts_part}
-use Rattle.kernel_outcomes.specs.Refused.{IsRefused}
+use Rattle.kernel_outcomes.specs.Outcome.{Outcome, refused, lacks, forks, runs, exits, reaps, waits, opens, opens_empty, closes, dups, pipes, reads_input, reads_file, takes, waits_for_bytes, meets_end, tells, complains, writes_over, appends, puts_all, puts_part}
+use Rattle.kernel_outcomes.specs.Refused.{IsRefused, with_mark}
 
 -- ---- what a process was answered
 
@@ -73,8 +73,12 @@ module _ {S : Type 0} (k : KernelState S) (pid : ℕ) (after : S) (call : Call) 
   sleeping : (j : KernelState S) (c : Channel) (put : ℕ) → new ≡ record j { table = slept j.table pid c put } → Same
   sleeping j c put is = absurd (no_answer j.table pid c put (subst (λ (n : KernelState S). IsRefused (at n.table pid)) is was))
 
+  marked_so : (full : Option Full) → new ≡ with_mark (answered k pid after Refused) full → Same
+  marked_so full is = is ∙ ap (λ (f : Option Full). with_mark (answered k pid after Refused) f) (sym (ap (λ (n : KernelState S). n.full) is))
+
   pub refused_same : Outcome k pid after call new → Same
-  refused_same (refused full is) = is ∙ ap (λ (f : Option Full). with_mark (answered k pid after Refused) f) (sym (ap (λ (n : KernelState S). n.full) is))
+  refused_same (refused is) = marked_so k.full is
+  refused_same (lacks full is) = marked_so (marked k.full full) is
   refused_same (forks child c free is) = otherwise _ Done is (λ e. cc)
   refused_same (runs c is) = otherwise k Done is (λ e. cc)
   refused_same (exits c ne is) = absurd (no_answer_ever (closed_below k pid DESCRIPTORS).table pid (subst (λ (n : KernelState S). IsRefused (at n.table pid)) is was))

@@ -22,9 +22,9 @@ use Rattle.kernel_model.specs.declared.events.Full.{Full}
 use Rattle.kernel_model.specs.declared.events.Full.TheVariants.{Size, Memory}
 use Rattle.kernel_model.specs.KernelState.{KernelState, fds_at, file_at}
 use Rattle.kernel_model.specs.Pipes.{Pipes, pipe_of, with_pipe}
-use Rattle.kernel_model.specs.Replies.{answered, refused_for, sleeps, wakes, marked}
+use Rattle.kernel_model.specs.Replies.{answered, refused_for, sleeps, wakes}
 use Rattle.kernel_model.specs.Writing.{write_file, append_file, write_mode, write_by, write_pipe, write_object, write_entry, write_held, write}
-use Rattle.kernel_outcomes.specs.Outcome.{Outcome, IsWrite, object_of, left_of, refused, tells, complains, writes_over, appends, puts_all, puts_part}
+use Rattle.kernel_outcomes.specs.Outcome.{Outcome, IsWrite, object_of, left_of, refused, lacks, tells, complains, writes_over, appends, puts_all, puts_part}
 use Rattle.kernel_outcomes.proofs.ReadEnds.{with_pipe_back, no_bytes}
 
 -- ---- what a put appends
@@ -71,10 +71,10 @@ module _ {S : Type 0} (k : KernelState S) (pid : ℕ) (after : S) (call : Call) 
   Ends new = Outcome k pid after call new
 
   denied : Ends (answered k pid after Refused)
-  denied = refused k.full refl
+  denied = refused refl
 
   no_room : (full : Full) → Ends (refused_for k pid after full)
-  no_room full = refused (marked k.full full) refl
+  no_room full = lacks full refl
 
   either : (b : Bool) (x y : KernelState S) → Ends x → Ends y → Ends (if b then x else y)
   either true x y ex ey = ex
@@ -128,7 +128,7 @@ module _ {S : Type 0} (k : KernelState S) (pid : ℕ) (after : S) (call : Call) 
     answers true reader full test r f =
         took 0 (0 == length xs) refl (omega arith) (ap (appended p) (no_bytes xs (eqb-true (length xs) 0 test)) ∙ appended_none p p.reader)
     answers false false full test r f =
-        refused k.full (ap (λ (l : Pipes). answered (record k { pipes = l }) pid after Refused) (ap (with_pipe k.pipes id) (put_to_nobody p xs r) ∙ with_pipe_back k.pipes id p found))
+        refused (ap (λ (l : Pipes). answered (record k { pipes = l }) pid after Refused) (ap (with_pipe k.pipes id) (put_to_nobody p xs r) ∙ with_pipe_back k.pipes id p found))
     answers false true true test r f =
         let are : appended p xs ≡ take (room p) xs = ap (λ (o : Bool). if o then take (room p) xs else []) r in
         let nothing : take (room p) xs ≡ take 0 xs = ap (λ (n : ℕ). take n xs) (eqb-true (room p) 0 f) in

@@ -20,7 +20,7 @@ use Rattle.kernel_model.specs.declared.events.Full.{Full}
 use Rattle.kernel_model.specs.KernelState.{KernelState, fds_at, file_at}
 use Rattle.kernel_model.specs.Pipes.{pipe_of, with_pipe}
 use Rattle.kernel_model.specs.Modes.{entry_mode}
-use Rattle.kernel_model.specs.Replies.{answered, sleeps, wakes}
+use Rattle.kernel_model.specs.Replies.{answered, refused_for, sleeps, wakes}
 use Rattle.kernel_model.specs.Descriptors.{closed, closed_below, copied, with_open, with_ends}
 use Rattle.kernel_model.specs.Processes.{ended}
 use Rattle.kernel_model.specs.Opening.{with_bytes}
@@ -46,14 +46,11 @@ IsWrite k pid call object b = (fd : ℕ) × (call ≡ Write fd b) × (object_at 
 abbrev pub left_of : {S : Type 0} → KernelState S → ℕ → Bytes → Bytes
 left_of k pid b = drop (put_of (at k.table pid)) b
 
--- the kernel with this mark
-abbrev pub with_mark : {S : Type 0} → KernelState S → Option Full → KernelState S
-with_mark k full = record k { full = full }
-
 -- `new` is the kernel k after a call of pid, whose machine after it is this one
 pub data Outcome {S : Type 0} (k : KernelState S) (pid : ℕ) (after : S) (call : Call) (new : KernelState S) : Type 0 where
-  -- it is refused: nothing changes but the mark
-  refused : (full : Option Full) → new ≡ with_mark (answered k pid after Refused) full → Outcome k pid after call new
+  -- it is refused: nothing changes; or it is refused for want of room, which is marked
+  refused : new ≡ answered k pid after Refused → Outcome k pid after call new
+  lacks : (full : Full) → new ≡ refused_for k pid after full → Outcome k pid after call new
   -- fork, exec, exit and wait
   forks : (child : ℕ) → call ≡ Fork → lowest_free_slot k.table ≡ Some child → new ≡ answered (record k { table = forked k.table child pid after (fds_at k pid); entries = all_held k.entries (fds_at k pid) }) pid after Done → Outcome k pid after call new
   runs : call ≡ Exec true → new ≡ answered k pid after Done → Outcome k pid after call new

@@ -4,21 +4,21 @@
 //! The programs are any machines. In a law of runs `m` is the kernel after any events that can happen, with memory
 //! refused or not at each; the run need not be finished.
 
-ghost use Rattle.std.specs.Prelude.{◌≡◌, ◌++◌, ℕ, List, Bool, Some};
+ghost use Rattle.std.specs.Prelude.{◌≡◌, ◌++◌, ℕ, List, Bool, Some, true};
 ghost use Rattle.mem_files.specs.Name.{Bytes, Name};
 ghost use Rattle.mem_files.specs.Listing.{AreFiles};
 ghost use Rattle.user_calls.specs.declared.calls.Call.{Call};
 ghost use Rattle.user_calls.specs.declared.calls.Reply.TheVariants.{Refused};
 ghost use Rattle.byte_pipe.specs.PipeState.{PipeState};
-ghost use Rattle.proc_table.specs.Slots.{at};
+ghost use Rattle.proc_table.specs.Slots.{at, is_running};
 ghost use Rattle.kernel_model.specs.declared.events.Event.{Event};
 ghost use Rattle.kernel_model.specs.KernelState.{KernelState};
 ghost use Rattle.kernel_model.specs.Boot.{boot_kernel};
 ghost use Rattle.kernel_model.specs.Pipes.{pipe_of};
 ghost use Rattle.kernel_model.specs.Replies.{answered};
 ghost use Rattle.kernel_model.specs.Events.{acted, run};
-ghost use Rattle.kernel_outcomes.specs.Outcome.{Outcome, with_mark};
-ghost use Rattle.kernel_outcomes.specs.Refused.{IsRefused};
+ghost use Rattle.kernel_outcomes.specs.Outcome.{Outcome};
+ghost use Rattle.kernel_outcomes.specs.Refused.{IsRefused, with_mark};
 ghost use Rattle.kernel_outcomes.specs.Flow.{put_by, taken_by, all_moved};
 ghost use Rattle.kernel_outcomes.specs.Asking.{AllAsk};
 ghost use Rattle.kernel_outcomes.specs.Limits.{IsWithin};
@@ -35,6 +35,12 @@ pub fn every_call_ends<M: Machine>()
 pub fn a_refused_call_changes_nothing<M: Machine>()
     ensures { (k : KernelState M.State) (pid : ℕ) (after : M.State) (call : Call) (memory : Bool) → IsRefused (at (acted k pid after call memory).table pid)
         → acted k pid after call memory ≡ with_mark (answered k pid after Refused) (acted k pid after call memory).full }
+{}
+
+/// Only a refused call marks the kernel: any other call of a running process leaves the mark as it was.
+pub fn only_a_refused_call_marks<M: Machine>()
+    ensures { (k : KernelState M.State) (pid : ℕ) (after : M.State) (call : Call) (memory : Bool) → is_running (at k.table pid) ≡ true
+        → (IsRefused (at (acted k pid after call memory).table pid) → ⊥) → (acted k pid after call memory).full ≡ k.full }
 {}
 
 /// What was put into a pipe is what was taken from it, in order, and then what it holds. A pipe that is given up may lose
