@@ -19,12 +19,12 @@ use Rattle.kernel_laws.proofs.Held.{open_while_held}
 use Rattle.kernel_laws.proofs.OnePipe.{small_found}
 use Rattle.kernel_laws.proofs.Runs.{every_run_rests}
 use Rattle.kernel_laws.proofs.SoundRuns.{every_run_is_sound}
-use Rattle.kernel_outcomes.specs.Asking.{AllAsk}
-use Rattle.kernel_outcomes.specs.Flow.{put_by, taken_by, all_moved}
-use Rattle.kernel_outcomes.specs.Limits.{IsWithin}
-use Rattle.kernel_outcomes.proofs.AskRuns.{every_run_asks}
-use Rattle.kernel_outcomes.proofs.EntriesLong.{every_run_has_entries}
-use Rattle.kernel_outcomes.proofs.FlowRuns.{put_is_taken_and_held}
+use Rattle.kernel_laws.specs.Asking.{AllAsk}
+use Rattle.kernel_laws.specs.Flow.{put_by, taken_by, all_moved}
+use Rattle.kernel_laws.specs.Limits.{IsWithin}
+use Rattle.kernel_laws.proofs.AskRuns.{every_run_asks}
+use Rattle.kernel_laws.proofs.EntriesLong.{every_run_has_entries}
+use Rattle.kernel_laws.proofs.FlowRuns.{put_is_taken_and_held}
 
 module _ {S : Type 0} (call : S → Reply → Call) (next : S → Reply → S) (boot now : KernelState S) (events : List Event) (notes : List Bool) (replays : run call next (Some boot) events notes ≡ Some now) (booted : IsBooted boot) where
   abbrev start : KernelState S

@@ -12,9 +12,9 @@ ghost use Rattle.kernel_model.specs.Sound.{IsSound};
 ghost use Rattle.kernel_laws.specs.Ends.{read_end_open, reads_pipe, write_end_open, writes_pipe};
 ghost use Rattle.kernel_laws.specs.Held.{IsHeld};
 ghost use Rattle.kernel_laws.specs.Sleeping.{AllWait, IsFamily};
-ghost use Rattle.kernel_outcomes.specs.Flow.{put_by, taken_by, all_moved};
-ghost use Rattle.kernel_outcomes.specs.Asking.{AllAsk};
-ghost use Rattle.kernel_outcomes.specs.Limits.{IsWithin};
+ghost use Rattle.kernel_laws.specs.Flow.{put_by, taken_by, all_moved};
+ghost use Rattle.kernel_laws.specs.Asking.{AllAsk};
+ghost use Rattle.kernel_laws.specs.Limits.{IsWithin};
 
 use kernel_core::Kernel;
 use std::alloc::Allocator;

@@ -4,7 +4,7 @@ ghost use Rattle.std.specs.Prelude.{IfOk, OnOk, All, ◌≡◌, false};
 ghost use Rattle.proc_table.specs.Slots.{is_running_on};
 ghost use Rattle.kernel_model.specs.Booted.{IsBooted};
 ghost use Rattle.kernel_laws.specs.Sleeping.{AllWait};
-ghost use Rattle.kernel_outcomes.specs.Limits.{IsWithin};
+ghost use Rattle.kernel_laws.specs.Limits.{IsWithin};
 
 use super::*;
 use kernel_core::Kernel;

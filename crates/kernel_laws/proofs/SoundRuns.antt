@@ -34,7 +34,7 @@ in_order_where : {S : Type 0} (b : Bool) (o : Option (KernelState S)) → (b ≡
 in_order_where true o s = s refl
 in_order_where false o s = tt
 
-hart_runs : (h : ℕ) (s : Status) → is_running_on_status h s ≡ true → is_running_status s ≡ true
+pub hart_runs : (h : ℕ) (s : Status) → is_running_on_status h s ≡ true → is_running_status s ≡ true
 hart_runs h Runnable e = e
 hart_runs h (Running other) e = refl
 hart_runs h (Asleep c) e = e
@@ -53,13 +53,13 @@ module _ {S : Type 0} (call : S → Reply → Call) (next : S → Reply → S) w
         files = acted_files pid after (counted k) (call p.machine p.reply) refused s.files;
       }
 
-  pub happens_in_order : (k : KernelState S) (e : Event) (refused : Bool) → InOrder k → InOrderIf (happens call next k e refused)
+  happens_in_order : (k : KernelState S) (e : Event) (refused : Bool) → InOrder k → InOrderIf (happens call next k e refused)
   happens_in_order k (Dispatch h pid) refused s =
       in_order_where (can_dispatch k.table h pid) (Some (record (counted k) { table = dispatched k.table pid h })) (λ _. record { sound = dispatch_sound k.table pid h k.entries s.sound; files = s.files })
   happens_in_order k (Trap h pid) refused s =
       in_order_where (is_running_on h (at k.table pid)) (trapped call next k pid (at k.table pid) refused) (λ runs. trap_in_order k pid h (at k.table pid) refused refl runs s)
 
-  then_in_order : (o : Option (KernelState S)) (e : Event) (refused : Bool) → InOrderIf o → InOrderIf (then_happens call next o e refused)
+  pub then_in_order : (o : Option (KernelState S)) (e : Event) (refused : Bool) → InOrderIf o → InOrderIf (then_happens call next o e refused)
   then_in_order None e refused s = tt
   then_in_order (Some k) e refused s = happens_in_order k e refused s
 

@@ -73,7 +73,7 @@ module _ {S : Type 0} (pid : ℕ) where
     unmarked (reads_input n r is) = marks_not _ is refl
     unmarked (reads_file name mode entry n got r is) = marks_not _ is refl
     unmarked (takes id n p r found is) = marks_not _ is refl
-    unmarked (waits_for_bytes id p r found w is) = marks_not _ is refl
+    unmarked (waits_for_bytes id p r found empty unshut is) = marks_not _ is refl
     unmarked (meets_end id p r found empty shut is) = marks_not _ is refl
     unmarked (tells b w is) = marks_not _ is refl
     unmarked (complains b w is) = marks_not _ is refl

@@ -20,7 +20,7 @@ use Rattle.kernel_model.specs.KernelState.{KernelState, fds_at, file_at}
 use Rattle.kernel_model.specs.Pipes.{Pipes, pipe_of, with_pipe}
 use Rattle.kernel_model.specs.Replies.{answered, sleeps}
 use Rattle.kernel_model.specs.Reading.{read_file, read_mode, read_by, read_pipe, read_object, read_entry, read_held, read}
-use Rattle.kernel_outcomes.specs.Outcome.{Outcome, IsRead, object_of, refused, lacks, reads_input, reads_file, takes, waits_for_bytes, meets_end}
+use Rattle.kernel_outcomes.specs.Outcome.{Outcome, IsRead, object_of, refused, reads_input, reads_file, takes, waits_for_bytes, meets_end}
 
 -- ---- a pipe that a call leaves as it was
 
@@ -75,7 +75,7 @@ module _ {S : Type 0} (k : KernelState S) (pid : ℕ) (after : S) (call : Call) 
     by false writer test w = takes id n p is found refl
     by true true test w =
         let none : p.bytes ≡ [] = no_bytes p.bytes (eqb-true (length p.bytes) 0 test) in
-        waits_for_bytes id p is found (record { empty = none; writer = w }) (ap (λ (l : Pipes). sleeps (record k { pipes = l }) pid (PipeBytes id) 0) (nothing_taken k.pipes id n p found none))
+        waits_for_bytes id p is found none w (ap (λ (l : Pipes). sleeps (record k { pipes = l }) pid (PipeBytes id) 0) (nothing_taken k.pipes id n p found none))
     by true false test w =
         let none : p.bytes ≡ [] = no_bytes p.bytes (eqb-true (length p.bytes) 0 test) in
         meets_end id p is found none w (ap (λ (l : Pipes). answered (record k { pipes = l }) pid after (Given [])) (nothing_taken k.pipes id n p found none))

@@ -92,7 +92,7 @@ module _ {S : Type 0} (k : KernelState S) (pid : ℕ) (after : S) (call : Call) 
   refused_same (reads_input n c is) = otherwise _ (Given _) is (λ e. cc)
   refused_same (reads_file name mode entry n got c is) = otherwise _ (Given got) is (λ e. cc)
   refused_same (takes id n p c found is) = woke _ (PipeRoom id) (Given _) is (λ e. cc)
-  refused_same (waits_for_bytes id p c found w is) = sleeping k (PipeBytes id) 0 is
+  refused_same (waits_for_bytes id p c found empty unshut is) = sleeping k (PipeBytes id) 0 is
   refused_same (meets_end id p c found none closed is) = otherwise k (Given _) is (λ e. cc)
   refused_same (tells b c is) = otherwise _ Done is (λ e. cc)
   refused_same (complains b c is) = otherwise _ Done is (λ e. cc)

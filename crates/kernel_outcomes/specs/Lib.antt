@@ -1,5 +1,2 @@
 pub mod Outcome
 pub mod Refused
-pub mod Flow
-pub mod Asking
-pub mod Limits

@@ -24,7 +24,6 @@ use Rattle.kernel_model.specs.Replies.{answered, refused_for, sleeps, wakes}
 use Rattle.kernel_model.specs.Descriptors.{closed, closed_below, copied, with_open, with_ends}
 use Rattle.kernel_model.specs.Processes.{ended}
 use Rattle.kernel_model.specs.Opening.{with_bytes}
-use Rattle.kernel_laws.specs.Sleeping.{WaitsForBytes}
 
 -- the object that an entry, if there is one, has open
 abbrev pub object_of : Option Entry → Option Object
@@ -67,7 +66,7 @@ pub data Outcome {S : Type 0} (k : KernelState S) (pid : ℕ) (after : S) (call 
   reads_input : (n : ℕ) → IsRead k pid call Input → new ≡ answered (record k { input = drop n k.input }) pid after (Given (take n k.input)) → Outcome k pid after call new
   reads_file : (name : Name) (mode : EntryMode) (entry n : ℕ) (got : Bytes) → IsRead k pid call (File name mode) → new ≡ answered (record k { entries = advanced k.entries entry n }) pid after (Given got) → Outcome k pid after call new
   takes : (id n : ℕ) (p : PipeState) → IsRead k pid call (PipeRead id) → pipe_of k.pipes id ≡ Some p → new ≡ wakes (PipeRoom id) (answered (record k { pipes = with_pipe k.pipes id (after_take p n) }) pid after (Given (take n p.bytes))) → Outcome k pid after call new
-  waits_for_bytes : (id : ℕ) (p : PipeState) → IsRead k pid call (PipeRead id) → pipe_of k.pipes id ≡ Some p → WaitsForBytes p → new ≡ sleeps k pid (PipeBytes id) 0 → Outcome k pid after call new
+  waits_for_bytes : (id : ℕ) (p : PipeState) → IsRead k pid call (PipeRead id) → pipe_of k.pipes id ≡ Some p → p.bytes ≡ [] → p.writer ≡ true → new ≡ sleeps k pid (PipeBytes id) 0 → Outcome k pid after call new
   meets_end : (id : ℕ) (p : PipeState) → IsRead k pid call (PipeRead id) → pipe_of k.pipes id ≡ Some p → p.bytes ≡ [] → p.writer ≡ false → new ≡ answered k pid after (Given []) → Outcome k pid after call new
   -- write
   tells : (b : Bytes) → IsWrite k pid call Out b → new ≡ answered (record k { out = k.out ++ b }) pid after Done → Outcome k pid after call new

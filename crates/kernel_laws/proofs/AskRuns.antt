@@ -4,9 +4,8 @@ use Rattle.std.specs.Prelude.{⊤, if◌then◌else◌}
 use Rattle.user_calls.specs.declared.calls.Call.{Call}
 use Rattle.user_calls.specs.declared.calls.Reply.{Reply}
 use Rattle.proc_table.specs.declared.states.Channel.{Channel}
-use Rattle.proc_table.specs.declared.states.Status.{Status}
-use Rattle.proc_table.specs.declared.states.Status.TheVariants.{Runnable, Running, Asleep, Zombie}
-use Rattle.proc_table.specs.Slots.{Slot, Process, at, is_running, is_running_status, is_running_on, is_running_on_status}
+use Rattle.proc_table.specs.declared.states.Status.TheVariants.{Runnable, Running, Asleep}
+use Rattle.proc_table.specs.Slots.{Slot, Process, at, is_running, is_running_on}
 use Rattle.proc_table.specs.Calls.{dispatched, with_status}
 use Rattle.mem_files.specs.Name.{Name, Bytes}
 use Rattle.mem_files.specs.Listing.{AreFiles}
@@ -18,19 +17,13 @@ use Rattle.kernel_model.specs.Events.{counted, trapped, can_dispatch, happens, t
 use Rattle.kernel_model.proofs.Offsets.{slot_cases}
 use Rattle.kernel_laws.specs.Sleeping.{SleepsOn}
 use Rattle.kernel_laws.proofs.Runs.{nobody_sleeps}
-use Rattle.kernel_laws.proofs.SoundRuns.{InOrder, InOrderIf, boot_in_order, happens_in_order}
-use Rattle.kernel_outcomes.specs.Asking.{AllAsk}
-use Rattle.kernel_outcomes.proofs.Others.{Kept, kept_same}
-use Rattle.kernel_outcomes.proofs.Leaves.{leaves, leaves_same}
-use Rattle.kernel_outcomes.proofs.Asking.{asks_still}
-use Rattle.kernel_outcomes.proofs.AskCalls.{outcome_asks}
+use Rattle.kernel_laws.proofs.SoundRuns.{InOrder, InOrderIf, hart_runs, boot_in_order, then_in_order}
+use Rattle.kernel_laws.specs.Asking.{AllAsk}
+use Rattle.kernel_laws.proofs.Others.{Kept, kept_same}
+use Rattle.kernel_laws.proofs.Leaves.{leaves, leaves_same}
+use Rattle.kernel_laws.proofs.Asking.{asks_still}
+use Rattle.kernel_laws.proofs.AskCalls.{outcome_asks}
 use Rattle.kernel_outcomes.proofs.Outcomes.{every_call_ends}
-
-hart_runs : (h : ℕ) (s : Status) → is_running_on_status h s ≡ true → is_running_status s ≡ true
-hart_runs h Runnable e = e
-hart_runs h (Running other) e = refl
-hart_runs h (Asleep c) e = e
-hart_runs h Zombie e = e
 
 given_awake : {S : Type 0} (h : ℕ) (x : Slot S) (now : Process S) (c : Channel) → with_status (Running h) x ≡ Some now → now.status ≡ Asleep c → ⊥
 given_awake h None now c is sleeps = cc
@@ -74,13 +67,9 @@ module _ {S : Type 0} (call : S → Reply → Call) (next : S → Reply → S) w
   then_asks None e refused order all = tt
   then_asks (Some k) e refused order all = happens_asks k e refused order all
 
-  then_order : (o : Option (KernelState S)) (e : Event) (refused : Bool) → InOrderIf o → InOrderIf (then_happens call next o e refused)
-  then_order None e refused order = tt
-  then_order (Some k) e refused order = happens_in_order call next k e refused order
-
   run_asks : (o : Option (KernelState S)) (events : List Event) (notes : List Bool) → InOrderIf o → AsksIf o → AsksIf (run call next o events notes)
   run_asks o [] [] order all = all
-  run_asks o (e ∷ es) (n ∷ ns) order all = run_asks (then_happens call next o e n) es ns (then_order o e n order) (then_asks o e n order all)
+  run_asks o (e ∷ es) (n ∷ ns) order all = run_asks (then_happens call next o e n) es ns (then_in_order call next o e n order) (then_asks o e n order all)
   run_asks o [] (n ∷ ns) order all = tt
   run_asks o (e ∷ es) [] order all = tt
 

@@ -1,5 +1,5 @@
 -- Over every run from the start: what was put into a pipe is what was taken from it, in order, and then what it holds.
-use Rattle.std.proofs.Common.{◌≡◌, ℕ, ◌+◌, ◌<◌, ◌≤◌, List, [], ◌∷◌, ◌++◌, Bool, true, false, Option, Some, None, refl, sym, ap, subst, ◌∙◌, arith}
+use Rattle.std.proofs.Common.{◌≡◌, ℕ, ◌+◌, ◌≤◌, List, [], ◌∷◌, ◌++◌, Bool, true, false, Option, Some, None, refl, sym, ap, subst, ◌∙◌, arith}
 use Rattle.std.specs.Prelude.{⊤, if◌then◌else◌}
 use Rattle.user_calls.specs.declared.calls.Call.{Call}
 use Rattle.user_calls.specs.declared.calls.Reply.{Reply}
@@ -15,10 +15,10 @@ use Rattle.kernel_model.specs.Boot.{boot_kernel}
 use Rattle.kernel_model.specs.Events.{acted, counted, trapped, can_dispatch, happens, run}
 use Rattle.kernel_model.proofs.Along.{acted_along}
 use Rattle.kernel_laws.proofs.EndsRuns.{InStep, InStepIf, boot_in_step, happens_in_step}
-use Rattle.kernel_outcomes.specs.Flow.{put_by, taken_by, moved_in_trap, moved_at, all_moved}
+use Rattle.kernel_laws.specs.Flow.{put_by, taken_by, moved_in_trap, moved_at, all_moved}
 use Rattle.kernel_outcomes.proofs.Outcomes.{every_call_ends}
-use Rattle.kernel_outcomes.proofs.Flowing.{Flows, IsNew, then_none, regroup, flow_on, counted_put, counted_taken}
-use Rattle.kernel_outcomes.proofs.Moves.{outcome_moves}
+use Rattle.kernel_laws.proofs.Flowing.{Flows, IsNew, then_none, regroup, flow_on, counted_put, counted_taken}
+use Rattle.kernel_laws.proofs.Moves.{outcome_moves}
 
 module _ {S : Type 0} (call : S → Reply → Call) (next : S → Reply → S) (id : ℕ) where
   module _ (k : KernelState S) (put taken : List ℕ) (step : InStep k) (f : Flows id k put taken) where

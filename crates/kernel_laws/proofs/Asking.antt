@@ -13,8 +13,8 @@ use Rattle.proc_table.specs.declared.states.Status.TheVariants.{Asleep}
 use Rattle.proc_table.specs.Slots.{Slot, Process, at}
 use Rattle.kernel_model.specs.KernelState.{KernelState, fds_of, file_at}
 use Rattle.kernel_outcomes.specs.Outcome.{object_of, object_at}
-use Rattle.kernel_outcomes.specs.Asking.{MaySleep, AllAsk}
-use Rattle.kernel_outcomes.proofs.Leaves.{Left, Leaves}
+use Rattle.kernel_laws.specs.Asking.{MaySleep, AllAsk}
+use Rattle.kernel_laws.proofs.Leaves.{Left, Leaves}
 
 -- ---- what a descriptor holds
 

@@ -24,8 +24,8 @@ use Rattle.kernel_laws.specs.Ends.{AreApart, reads_pipe, writes_pipe}
 use Rattle.kernel_laws.proofs.OnePipe.{found_now, others_found}
 use Rattle.kernel_laws.proofs.PipeNames.{new_other, new_self}
 use Rattle.kernel_outcomes.specs.Outcome.{Outcome, IsRead, IsWrite, object_at, left_of, refused, lacks, forks, runs, exits, reaps, waits, opens, opens_empty, closes, dups, pipes, reads_input, reads_file, takes, waits_for_bytes, meets_end, tells, complains, writes_over, appends, puts_all, puts_part}
-use Rattle.kernel_outcomes.specs.Flow.{got, went, passes, put_by, taken_by}
-use Rattle.kernel_outcomes.proofs.BytesKept.{closed_kept, closed_below_kept, open_pipes}
+use Rattle.kernel_laws.specs.Flow.{got, went, passes, put_by, taken_by}
+use Rattle.kernel_laws.proofs.BytesKept.{closed_kept, closed_below_kept, open_pipes}
 
 -- the bytes x come into a pipe and y leave it: it holds what it held, or it is made at this event, and nothing moves; or only
 -- one of the two is anything
@@ -201,7 +201,7 @@ module _ {S : Type 0} (id : ℕ) (k : KernelState S) (pid : ℕ) (after : S) (ca
   outcome_moves apart none (reads_file name mode entry n bytes r is) = other_read (File name mode) r refl (ap pipes_now is)
   outcome_moves apart none (takes other n p r found is) =
       take_step other n p r found (ap pipes_now is) (ap got (slot_now _ _ is (woken_slot (PipeRoom other) after (Given (take n p.bytes))))) (cases_eq id other)
-  outcome_moves apart none (waits_for_bytes other p r found w is) =
+  outcome_moves apart none (waits_for_bytes other p r found empty unshut is) =
       nothing_read other r (ap got (slot_now _ _ is (sleeping_slot (PipeBytes other) 0))) (ap pipes_now is)
   outcome_moves apart none (meets_end other p r found empty shut is) =
       nothing_read other r (ap got (slot_now _ _ is (ready_slot k.table after (Given []) (Some p0) there))) (ap pipes_now is)

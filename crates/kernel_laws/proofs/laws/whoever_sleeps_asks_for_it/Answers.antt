@@ -1,5 +1,5 @@
-use Rattle.kernel_outcomes.proofs.AskRuns.{every_run_asks}
-use Rattle.kernel_outcomes.proofs.laws.whoever_sleeps_asks_for_it.Goals as goal
+use Rattle.kernel_laws.proofs.AskRuns.{every_run_asks}
+use Rattle.kernel_laws.proofs.laws.whoever_sleeps_asks_for_it.Goals as goal
 
 pub returns : goal.returns
 returns g c = λ init shell input list m events notes are is.

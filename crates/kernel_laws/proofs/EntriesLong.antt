@@ -89,7 +89,7 @@ module _ {S : Type 0} (pid : ℕ) where
     by (reads_input n r is) = so _ is refl
     by (reads_file name mode entry n got r is) = so _ is (length-set k.entries entry _)
     by (takes id n p r found is) = so _ is refl
-    by (waits_for_bytes id p r found w is) = so _ is refl
+    by (waits_for_bytes id p r found empty unshut is) = so _ is refl
     by (meets_end id p r found empty shut is) = so _ is refl
     by (tells b w is) = so _ is refl
     by (complains b w is) = so _ is refl

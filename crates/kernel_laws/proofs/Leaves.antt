@@ -20,7 +20,7 @@ use Rattle.kernel_model.specs.Descriptors.{let_go, let_go_of, taken_away, closed
 use Rattle.kernel_model.proofs.Closing.{closed_below_mid}
 use Rattle.kernel_model.proofs.Held.{runs_within}
 use Rattle.kernel_outcomes.specs.Outcome.{object_of}
-use Rattle.kernel_outcomes.proofs.Others.{SlotKept, Kept, kept_same, slot_then, kept_then, woken_kept, given_kept, kept_if, Stay, close_stays, opened_stay}
+use Rattle.kernel_laws.proofs.Others.{SlotKept, Kept, kept_same, slot_then, kept_then, woken_kept, given_kept, kept_if, Stay, close_stays, opened_stay}
 
 -- if q sleeps now, it slept before, with the same call, and its descriptors hold the same objects
 pub record Left {S : Type 0} (t : Table S) (E F : Entries) (q : ℕ) (now : Process S) (c : Channel) : Type 0 where

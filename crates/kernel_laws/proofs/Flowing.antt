@@ -1,13 +1,13 @@
 -- What has passed through a pipe so far, and what one call adds to it.
-use Rattle.std.proofs.Common.{◌≡◌, ℕ, ◌+◌, ◌<◌, ◌≤◌, List, [], ◌∷◌, ◌++◌, Some, None, refl, sym, ap, ◌∙◌, arith}
+use Rattle.std.proofs.Common.{◌≡◌, ℕ, ◌<◌, ◌≤◌, List, [], ◌∷◌, ◌++◌, Some, None, refl, sym, ap, ◌∙◌, arith}
 use Rattle.user_calls.specs.declared.calls.Call.{Call}
 use Rattle.user_calls.specs.declared.calls.Call.TheVariants.{Fork, Exec, Exit, Wait, MakePipe, Read, Write, OpenFile, Close, Dup}
 use Rattle.byte_pipe.specs.PipeState.{PipeState}
 use Rattle.kernel_model.specs.KernelState.{KernelState}
 use Rattle.kernel_model.specs.Pipes.{pipe_of}
 use Rattle.kernel_model.specs.Events.{counted}
-use Rattle.kernel_outcomes.specs.Flow.{put_by, taken_by}
-use Rattle.kernel_outcomes.proofs.Moves.{Moves, stays, begins, comes, goes}
+use Rattle.kernel_laws.specs.Flow.{put_by, taken_by}
+use Rattle.kernel_laws.proofs.Moves.{Moves, stays, begins, comes, goes}
 
 -- ---- lists
 

@@ -16,7 +16,7 @@ use Rattle.kernel_model.specs.Boot.{boot_kernel}
 use Rattle.kernel_model.specs.Quiet.{no_refusals}
 use Rattle.kernel_model.specs.Descriptors.{closed_below}
 use Rattle.kernel_model.specs.Events.{run}
-use Rattle.kernel_outcomes.specs.Flow.{put_by, taken_by, all_moved}
+use Rattle.kernel_laws.specs.Flow.{put_by, taken_by, all_moved}
 
 -- ---- a machine that makes the calls of a list, and its child those of another
 

@@ -1,8 +1,8 @@
 use Rattle.kernel_laws.proofs.OnePipe.{small_found}
 use Rattle.kernel_laws.proofs.Runs.{every_run_rests}
 use Rattle.kernel_laws.proofs.SoundRuns.{every_run_is_sound}
-use Rattle.kernel_outcomes.proofs.EntriesLong.{every_run_has_entries}
-use Rattle.kernel_outcomes.proofs.laws.every_run_is_within_its_limits.Goals as goal
+use Rattle.kernel_laws.proofs.EntriesLong.{every_run_has_entries}
+use Rattle.kernel_laws.proofs.laws.every_run_is_within_its_limits.Goals as goal
 
 pub returns : goal.returns
 returns g c = λ init shell input list m events notes are is.

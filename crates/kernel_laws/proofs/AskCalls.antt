@@ -30,10 +30,10 @@ use Rattle.kernel_model.proofs.Keeps.{mid}
 use Rattle.kernel_model.proofs.Offsets.{slot_cases}
 use Rattle.kernel_outcomes.specs.Outcome.{Outcome, object_of, object_at, left_of, refused, lacks, forks, runs, exits, reaps, waits, opens, opens_empty, closes, dups, pipes, reads_input, reads_file, takes, waits_for_bytes, meets_end, tells, complains, writes_over, appends, puts_all, puts_part}
 use Rattle.kernel_outcomes.specs.Refused.{with_mark}
-use Rattle.kernel_outcomes.specs.Asking.{MaySleep, AllAsk}
-use Rattle.kernel_outcomes.proofs.Others.{Kept, kept_same, Stay, advanced_stay, moved_stay, dup_stay, fork_stay}
-use Rattle.kernel_outcomes.proofs.Leaves.{Leaves, leaves, leaves_same, leaves_then, leaves_slot, leaves_woken, leaves_exited, closed_leaves, closed_below_leaves, open_leaves}
-use Rattle.kernel_outcomes.proofs.Asking.{object_by, asks_still}
+use Rattle.kernel_laws.specs.Asking.{MaySleep, AllAsk}
+use Rattle.kernel_laws.proofs.Others.{Kept, kept_same, Stay, advanced_stay, moved_stay, dup_stay, fork_stay}
+use Rattle.kernel_laws.proofs.Leaves.{Leaves, leaves, leaves_same, leaves_then, leaves_slot, leaves_woken, leaves_exited, closed_leaves, closed_below_leaves, open_leaves}
+use Rattle.kernel_laws.proofs.Asking.{object_by, asks_still}
 
 -- ---- who is awake
 
@@ -177,7 +177,7 @@ module _ {S : Type 0} (call : S → Reply → Call) (k : KernelState S) (pid : �
         let l : KernelState S = record k { entries = advanced k.entries entry n } in
         so _ is (answered_asks after l (Given bytes) (λ q ne. leaves q k l (kept_same (at k.table q) (at k.table q) refl) (λ p at_q. advanced_stay k.entries p.fds entry n)))
     outcome_asks (takes id n p r found is) = so _ is (woke_asks after (record k { pipes = with_pipe k.pipes id (after_take p n) }) (PipeRoom id) (Given _) same)
-    outcome_asks (waits_for_bytes id p r found w is) =
+    outcome_asks (waits_for_bytes id p r found empty unshut is) =
         let l : KernelState S = record k { table = slept k.table pid (PipeBytes id) 0 } in
         so _ is (sleeping_asks l (PipeBytes id) 0 (λ q ne. slept_leaves l (PipeBytes id) 0 q ne refl refl) (slept_slot (PipeBytes id) 0) refl r)
     outcome_asks (meets_end id p r found empty shut is) = so _ is (answered_asks after k (Given []) same)

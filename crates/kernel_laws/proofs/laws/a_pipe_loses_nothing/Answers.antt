@@ -1,5 +1,5 @@
-use Rattle.kernel_outcomes.proofs.FlowRuns.{put_is_taken_and_held, taken_begins_put}
-use Rattle.kernel_outcomes.proofs.laws.a_pipe_loses_nothing.Goals as goal
+use Rattle.kernel_laws.proofs.FlowRuns.{put_is_taken_and_held, taken_begins_put}
+use Rattle.kernel_laws.proofs.laws.a_pipe_loses_nothing.Goals as goal
 
 pub returns-clause-holds : goal.returns-clause-holds
 returns-clause-holds g c = λ init shell input list m events notes id p is found.
