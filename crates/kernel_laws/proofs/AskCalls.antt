@@ -176,7 +176,7 @@ module _ {S : Type 0} (call : S → Reply → Call) (k : KernelState S) (pid : �
     outcome_asks (reads_file name mode entry n bytes r is) =
         let l : KernelState S = record k { entries = advanced k.entries entry n } in
         so _ is (answered_asks after l (Given bytes) (λ q ne. leaves q k l (kept_same (at k.table q) (at k.table q) refl) (λ p at_q. advanced_stay k.entries p.fds entry n)))
-    outcome_asks (takes id n p r found is) = so _ is (woke_asks after (record k { pipes = with_pipe k.pipes id (after_take p n) }) (PipeRoom id) (Given _) same)
+    outcome_asks (takes id n p r found some is) = so _ is (woke_asks after (record k { pipes = with_pipe k.pipes id (after_take p n) }) (PipeRoom id) (Given _) same)
     outcome_asks (waits_for_bytes id p r found empty unshut is) =
         let l : KernelState S = record k { table = slept k.table pid (PipeBytes id) 0 } in
         so _ is (sleeping_asks l (PipeBytes id) 0 (λ q ne. slept_leaves l (PipeBytes id) 0 q ne refl refl) (slept_slot (PipeBytes id) 0) refl r)
@@ -190,7 +190,7 @@ module _ {S : Type 0} (call : S → Reply → Call) (k : KernelState S) (pid : �
         let l : KernelState S = record k { files = with_entry k.files name bytes; entries = moved_to k.entries entry (length bytes) } in
         so _ is (answered_asks after l Done (λ q ne. leaves q k l (kept_same (at k.table q) (at k.table q) refl) (λ p at_q. moved_stay k.entries p.fds entry (length bytes))))
     outcome_asks (puts_all id p b w found put is) = so _ is (woke_asks after (record k { pipes = with_pipe k.pipes id (after_put p (left_of k pid b)) }) (PipeBytes id) Done same)
-    outcome_asks (puts_part id n p b w found part some is) =
+    outcome_asks (puts_part id n p b w found reads filled part some is) =
         let put : ℕ = put_of (at k.table pid) + n in
         let l : KernelState S = record k { table = slept k.table pid (PipeRoom id) put } in
         let m : KernelState S = record k { table = all_woken (PipeBytes id) l.table; pipes = with_pipe k.pipes id (after_put p (left_of k pid b)) } in

@@ -43,7 +43,7 @@ module _ {S : Type 0} (pid : ℕ) (after : S) where
     outcome_agrees (pipes reader writer c two is) = so _ is (ends_agree pid k k.events none a two)
     outcome_agrees (reads_input n r is) = so _ is a
     outcome_agrees (reads_file name mode entry n got r is) = so _ is (entries_agree k.entries (advanced k.entries entry n) k.pipes (λ test. advanced_count test k.entries entry n) a)
-    outcome_agrees (takes id n p r found is) = so _ is (bytes_agree k.entries k.pipes id p (after_take p n) found refl refl a)
+    outcome_agrees (takes id n p r found some is) = so _ is (bytes_agree k.entries k.pipes id p (after_take p n) found refl refl a)
     outcome_agrees (waits_for_bytes id p r found empty unshut is) = so _ is a
     outcome_agrees (meets_end id p r found empty shut is) = so _ is a
     outcome_agrees (tells b w is) = so _ is a
@@ -53,7 +53,7 @@ module _ {S : Type 0} (pid : ℕ) (after : S) where
     outcome_agrees (appends name mode entry b bytes w is) =
         so _ is (entries_agree k.entries (moved_to k.entries entry (length bytes)) k.pipes (λ test. moved_count test k.entries entry (length bytes)) a)
     outcome_agrees (puts_all id p b w found all is) = so _ is (bytes_agree k.entries k.pipes id p (after_put p (left_of k pid b)) found refl refl a)
-    outcome_agrees (puts_part id n p b w found part some is) = so _ is (bytes_agree k.entries k.pipes id p (after_put p (left_of k pid b)) found refl refl a)
+    outcome_agrees (puts_part id n p b w found reads filled part some is) = so _ is (bytes_agree k.entries k.pipes id p (after_put p (left_of k pid b)) found refl refl a)
 
   -- a pipe would be named by this event, whose name no pipe has yet
   pub acted_agrees : (k : KernelState S) (call : Call) (memory : Bool) → pipe_of k.pipes k.events ≡ None → Agrees k → Agrees (acted k pid after call memory)

@@ -88,7 +88,7 @@ module _ {S : Type 0} (pid : ℕ) where
         so _ is (open_long (with_reader k pid k.events) (PipeWrite k.events) ∙ open_long made (PipeRead k.events))
     by (reads_input n r is) = so _ is refl
     by (reads_file name mode entry n got r is) = so _ is (length-set k.entries entry _)
-    by (takes id n p r found is) = so _ is refl
+    by (takes id n p r found some is) = so _ is refl
     by (waits_for_bytes id p r found empty unshut is) = so _ is refl
     by (meets_end id p r found empty shut is) = so _ is refl
     by (tells b w is) = so _ is refl
@@ -96,7 +96,7 @@ module _ {S : Type 0} (pid : ℕ) where
     by (writes_over name mode entry b bytes w is) = so _ is (length-set k.entries entry _)
     by (appends name mode entry b bytes w is) = so _ is (length-set k.entries entry _)
     by (puts_all id p b w found all is) = so _ is refl
-    by (puts_part id n p b w found part some is) = so _ is refl
+    by (puts_part id n p b w found reads filled part some is) = so _ is refl
 
 module _ {S : Type 0} (call : S → Reply → Call) (next : S → Reply → S) (n : ℕ) where
   abbrev LongIf : Option (KernelState S) → Type 0

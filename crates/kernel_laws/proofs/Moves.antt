@@ -199,7 +199,7 @@ module _ {S : Type 0} (id : ℕ) (k : KernelState S) (pid : ℕ) (after : S) (ca
       pipe_step c none (ap pipes_now is ∙ open_pipes id pid (with_reader k pid k.events) (PipeWrite k.events) ∙ open_pipes id pid made (PipeRead k.events)) (cases_eq id k.events)
   outcome_moves apart none (reads_input n r is) = other_read Input r refl (ap pipes_now is)
   outcome_moves apart none (reads_file name mode entry n bytes r is) = other_read (File name mode) r refl (ap pipes_now is)
-  outcome_moves apart none (takes other n p r found is) =
+  outcome_moves apart none (takes other n p r found some is) =
       take_step other n p r found (ap pipes_now is) (ap got (slot_now _ _ is (woken_slot (PipeRoom other) after (Given (take n p.bytes))))) (cases_eq id other)
   outcome_moves apart none (waits_for_bytes other p r found empty unshut is) =
       nothing_read other r (ap got (slot_now _ _ is (sleeping_slot (PipeBytes other) 0))) (ap pipes_now is)
@@ -211,7 +211,7 @@ module _ {S : Type 0} (id : ℕ) (k : KernelState S) (pid : ℕ) (after : S) (ca
   outcome_moves apart none (appends name mode entry b bytes w is) = other_write (File name mode) b w refl (ap pipes_now is)
   outcome_moves apart none (puts_all other p b w found all is) =
       put_step other p b w found (ap pipes_now is) (ap (went (put_of (at k.table pid)) (left_of k pid b)) (slot_now _ _ is (woken_slot (PipeBytes other) after Done)) ∙ sym all) (cases_eq id other)
-  outcome_moves apart none (puts_part other n p b w found part some is) =
+  outcome_moves apart none (puts_part other n p b w found reads filled part some is) =
       let before = put_of (at k.table pid) in
       put_step other p b w found (ap pipes_now is)
       (ap (went before (left_of k pid b)) (slot_now _ _ is (put_slot other other (before + n))) ∙ ap (λ (m : ℕ). take m (left_of k pid b)) (less_again before n) ∙ sym part) (cases_eq id other)

@@ -72,7 +72,7 @@ module _ {S : Type 0} (pid : ℕ) where
         marks_not _ is (open_mark (with_reader k pid k.events) (PipeWrite k.events) ∙ open_mark made (PipeRead k.events))
     unmarked (reads_input n r is) = marks_not _ is refl
     unmarked (reads_file name mode entry n got r is) = marks_not _ is refl
-    unmarked (takes id n p r found is) = marks_not _ is refl
+    unmarked (takes id n p r found some is) = marks_not _ is refl
     unmarked (waits_for_bytes id p r found empty unshut is) = marks_not _ is refl
     unmarked (meets_end id p r found empty shut is) = marks_not _ is refl
     unmarked (tells b w is) = marks_not _ is refl
@@ -80,4 +80,4 @@ module _ {S : Type 0} (pid : ℕ) where
     unmarked (writes_over name mode entry b bytes w is) = marks_not _ is refl
     unmarked (appends name mode entry b bytes w is) = marks_not _ is refl
     unmarked (puts_all id p b w found all is) = marks_not _ is refl
-    unmarked (puts_part id n p b w found part some is) = marks_not _ is refl
+    unmarked (puts_part id n p b w found reads filled part some is) = marks_not _ is refl

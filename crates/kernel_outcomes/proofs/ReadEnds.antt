@@ -1,6 +1,6 @@
 -- How a read can end.
 use Rattle.std.proofs.Common.{◌≡◌, ℕ, zero, suc, List, [], ◌∷◌, Bool, true, false, Option, Some, None, length, drop, take, refl, sym, ap, ◌∙◌, arith}
-use Rattle.std.proofs.lemmas.Bool.{eqb-true}
+use Rattle.std.proofs.lemmas.Bool.{eqb-true, eqb-false}
 use Rattle.std.specs.Prelude.{◌==◌, min, if◌then◌else◌}
 use Rattle.user_calls.specs.declared.block.TheConstants.{BLOCK_SIZE}
 use Rattle.user_calls.specs.declared.calls.Call.{Call}
@@ -72,7 +72,7 @@ module _ {S : Type 0} (k : KernelState S) (pid : ℕ) (after : S) (call : Call) 
     now = record k { pipes = with_pipe k.pipes id (after_take p n) }
 
     by : (empty writer : Bool) → (length p.bytes == 0) ≡ empty → p.writer ≡ writer → Ends (read_by now pid after id (take n p.bytes) (if empty then (if writer then Empty else End) else Got (min (length p.bytes) n)))
-    by false writer test w = takes id n p is found refl
+    by false writer test w = takes id n p is found (λ none. let long : length p.bytes ≡ 0 = ap length none in eqb-false (length p.bytes) 0 test long) refl
     by true true test w =
         let none : p.bytes ≡ [] = no_bytes p.bytes (eqb-true (length p.bytes) 0 test) in
         waits_for_bytes id p is found none w (ap (λ (l : Pipes). sleeps (record k { pipes = l }) pid (PipeBytes id) 0) (nothing_taken k.pipes id n p found none))

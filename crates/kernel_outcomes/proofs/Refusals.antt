@@ -91,7 +91,7 @@ module _ {S : Type 0} (k : KernelState S) (pid : ℕ) (after : S) (call : Call) 
   refused_same (pipes reader writer c two is) = otherwise _ (Ends reader writer) is (λ e. cc)
   refused_same (reads_input n c is) = otherwise _ (Given _) is (λ e. cc)
   refused_same (reads_file name mode entry n got c is) = otherwise _ (Given got) is (λ e. cc)
-  refused_same (takes id n p c found is) = woke _ (PipeRoom id) (Given _) is (λ e. cc)
+  refused_same (takes id n p c found some is) = woke _ (PipeRoom id) (Given _) is (λ e. cc)
   refused_same (waits_for_bytes id p c found empty unshut is) = sleeping k (PipeBytes id) 0 is
   refused_same (meets_end id p c found none closed is) = otherwise k (Given _) is (λ e. cc)
   refused_same (tells b c is) = otherwise _ Done is (λ e. cc)
@@ -99,5 +99,5 @@ module _ {S : Type 0} (k : KernelState S) (pid : ℕ) (after : S) (call : Call) 
   refused_same (writes_over name mode entry b bytes c is) = otherwise _ Done is (λ e. cc)
   refused_same (appends name mode entry b bytes c is) = otherwise _ Done is (λ e. cc)
   refused_same (puts_all id p b c found all is) = woke _ (PipeBytes id) Done is (λ e. cc)
-  refused_same (puts_part id n p b c found part some is) =
+  refused_same (puts_part id n p b c found reads filled part some is) =
       absurd (no_answer_yet k.table pid id id _ (subst (λ (m : KernelState S). IsRefused (at m.table pid)) is was))

@@ -117,27 +117,27 @@ module _ {S : Type 0} (k : KernelState S) (pid : ℕ) (after : S) (call : Call) 
     now = record k { pipes = with_pipe k.pipes id (after_put p xs) }
 
     -- some bytes went
-    took : (n : ℕ) (all : Bool) → (n == length xs) ≡ all → n ≤ length xs → appended p xs ≡ take n xs → Ends (if all then wakes (PipeBytes id) (answered now pid after Done) else wakes (PipeBytes id) (sleeps now pid (PipeRoom id) (put + n)))
-    took n true test few are = puts_all id p b is found (are ∙ take_all n xs (omega (arith, eqb-true n (length xs) test))) refl
-    took n false test few are = puts_part id n p b is found are (by (eqb-false n (length xs) test)) refl where
+    took : (n : ℕ) (all : Bool) → (n == length xs) ≡ all → n ≤ length xs → (n < length xs → (p.reader ≡ true) × (room p ≡ n)) → appended p xs ≡ take n xs → Ends (if all then wakes (PipeBytes id) (answered now pid after Done) else wakes (PipeBytes id) (sleeps now pid (PipeRoom id) (put + n)))
+    took n true test few part are = puts_all id p b is found (are ∙ take_all n xs (omega (arith, eqb-true n (length xs) test))) refl
+    took n false test few part are = let some = by (eqb-false n (length xs) test) in puts_part id n p b is found (part some).0 (part some).1 are some refl where
       by : (n ≡ length xs → ⊥) → n < length xs
       by ne = omega (arith, few, ne)
 
     answers : (none reader full : Bool) → (length xs == 0) ≡ none → p.reader ≡ reader → (room p == 0) ≡ full
         → Ends (write_by now pid after id put (length xs) (if none then Took 0 else (if not reader then Closed else (if full then NoRoom else Took (min (room p) (length xs))))))
     answers true reader full test r f =
-        took 0 (0 == length xs) refl (omega arith) (ap (appended p) (no_bytes xs (eqb-true (length xs) 0 test)) ∙ appended_none p p.reader)
+        took 0 (0 == length xs) refl (omega arith) (λ some. absurd (omega (arith, some, eqb-true (length xs) 0 test))) (ap (appended p) (no_bytes xs (eqb-true (length xs) 0 test)) ∙ appended_none p p.reader)
     answers false false full test r f =
         refused (ap (λ (l : Pipes). answered (record k { pipes = l }) pid after Refused) (ap (with_pipe k.pipes id) (put_to_nobody p xs r) ∙ with_pipe_back k.pipes id p found))
     answers false true true test r f =
         let are : appended p xs ≡ take (room p) xs = ap (λ (o : Bool). if o then take (room p) xs else []) r in
         let nothing : take (room p) xs ≡ take 0 xs = ap (λ (n : ℕ). take n xs) (eqb-true (room p) 0 f) in
-        puts_part id 0 p b is found (are ∙ nothing) (by (eqb-false (length xs) 0 test)) (ap (λ (n : ℕ). wakes (PipeBytes id) (sleeps now pid (PipeRoom id) n)) (let same : put ≡ put + 0 = omega arith in same)) where
+        puts_part id 0 p b is found r (eqb-true (room p) 0 f) (are ∙ nothing) (by (eqb-false (length xs) 0 test)) (ap (λ (n : ℕ). wakes (PipeBytes id) (sleeps now pid (PipeRoom id) n)) (let same : put ≡ put + 0 = omega arith in same)) where
           by : (length xs ≡ 0 → ⊥) → 0 < length xs
           by ne = omega (arith, ne)
     answers false true false test r f =
         let are : appended p xs ≡ take (room p) xs = ap (λ (o : Bool). if o then take (room p) xs else []) r in
-        took (min (room p) (length xs)) (min (room p) (length xs) == length xs) refl (omega arith) (are ∙ take_fewer (room p) (min (room p) (length xs)) xs refl)
+        took (min (room p) (length xs)) (min (room p) (length xs) == length xs) refl (omega arith) (λ some. (r, omega (arith, some))) (are ∙ take_fewer (room p) (min (room p) (length xs)) xs refl)
 
     write_found : Ends (write_pipe k pid after id put xs (Some p))
     write_found = answers (length xs == 0) p.reader (room p == 0) refl refl refl

@@ -10,7 +10,7 @@ use Rattle.fd_table.specs.declared.names.Object.{Object}
 use Rattle.fd_table.specs.declared.names.Object.TheVariants.{Input, Out, Diag, File, PipeRead, PipeWrite}
 use Rattle.fd_table.specs.Entries.{OpenFile as Entry, advanced, moved_to, free_count}
 use Rattle.fd_table.specs.Descriptors.{entry_of, lowest_free, all_held}
-use Rattle.byte_pipe.specs.PipeState.{PipeState, after_put, after_take, appended}
+use Rattle.byte_pipe.specs.PipeState.{PipeState, after_put, after_take, appended, room}
 use Rattle.mem_files.specs.Name.{Name, Bytes}
 use Rattle.mem_files.specs.Listing.{with_entry}
 use Rattle.proc_table.specs.declared.states.Channel.TheVariants.{PipeBytes, PipeRoom, Children}
@@ -65,7 +65,7 @@ pub data Outcome {S : Type 0} (k : KernelState S) (pid : ℕ) (after : S) (call 
   -- read
   reads_input : (n : ℕ) → IsRead k pid call Input → new ≡ answered (record k { input = drop n k.input }) pid after (Given (take n k.input)) → Outcome k pid after call new
   reads_file : (name : Name) (mode : EntryMode) (entry n : ℕ) (got : Bytes) → IsRead k pid call (File name mode) → new ≡ answered (record k { entries = advanced k.entries entry n }) pid after (Given got) → Outcome k pid after call new
-  takes : (id n : ℕ) (p : PipeState) → IsRead k pid call (PipeRead id) → pipe_of k.pipes id ≡ Some p → new ≡ wakes (PipeRoom id) (answered (record k { pipes = with_pipe k.pipes id (after_take p n) }) pid after (Given (take n p.bytes))) → Outcome k pid after call new
+  takes : (id n : ℕ) (p : PipeState) → IsRead k pid call (PipeRead id) → pipe_of k.pipes id ≡ Some p → p.bytes ≢ [] → new ≡ wakes (PipeRoom id) (answered (record k { pipes = with_pipe k.pipes id (after_take p n) }) pid after (Given (take n p.bytes))) → Outcome k pid after call new
   waits_for_bytes : (id : ℕ) (p : PipeState) → IsRead k pid call (PipeRead id) → pipe_of k.pipes id ≡ Some p → p.bytes ≡ [] → p.writer ≡ true → new ≡ sleeps k pid (PipeBytes id) 0 → Outcome k pid after call new
   meets_end : (id : ℕ) (p : PipeState) → IsRead k pid call (PipeRead id) → pipe_of k.pipes id ≡ Some p → p.bytes ≡ [] → p.writer ≡ false → new ≡ answered k pid after (Given []) → Outcome k pid after call new
   -- write
@@ -75,5 +75,5 @@ pub data Outcome {S : Type 0} (k : KernelState S) (pid : ℕ) (after : S) (call 
   appends : (name : Name) (mode : EntryMode) (entry : ℕ) (b bytes : Bytes) → IsWrite k pid call (File name mode) b → new ≡ answered (record k { files = with_entry k.files name bytes; entries = moved_to k.entries entry (length bytes) }) pid after Done → Outcome k pid after call new
   puts_all : (id : ℕ) (p : PipeState) (b : Bytes) → IsWrite k pid call (PipeWrite id) b → pipe_of k.pipes id ≡ Some p → appended p (left_of k pid b) ≡ left_of k pid b
       → new ≡ wakes (PipeBytes id) (answered (record k { pipes = with_pipe k.pipes id (after_put p (left_of k pid b)) }) pid after Done) → Outcome k pid after call new
-  puts_part : (id n : ℕ) (p : PipeState) (b : Bytes) → IsWrite k pid call (PipeWrite id) b → pipe_of k.pipes id ≡ Some p → appended p (left_of k pid b) ≡ take n (left_of k pid b) → n < length (left_of k pid b)
+  puts_part : (id n : ℕ) (p : PipeState) (b : Bytes) → IsWrite k pid call (PipeWrite id) b → pipe_of k.pipes id ≡ Some p → p.reader ≡ true → room p ≡ n → appended p (left_of k pid b) ≡ take n (left_of k pid b) → n < length (left_of k pid b)
       → new ≡ wakes (PipeBytes id) (sleeps (record k { pipes = with_pipe k.pipes id (after_put p (left_of k pid b)) }) pid (PipeRoom id) (put_of (at k.table pid) + n)) → Outcome k pid after call new
