@@ -24,11 +24,11 @@ use Rattle.kernel_laws.proofs.EndsOpened.{other_agrees}
 use Rattle.kernel_laws.proofs.EndsCalls.{acted_agrees}
 
 -- the ends are in step, and no pipe has the name of an event to come
-record InStep {S : Type 0} (k : KernelState S) : Type 0 where
-  ends : EndsAgree k.entries k.pipes
-  names : (id : ℕ) → k.events < id → pipe_of k.pipes id ≡ None
+pub record InStep {S : Type 0} (k : KernelState S) : Type 0 where
+  pub ends : EndsAgree k.entries k.pipes
+  pub names : (id : ℕ) → k.events < id → pipe_of k.pipes id ≡ None
 
-abbrev InStepIf : {S : Type 0} → Option (KernelState S) → Type 0
+abbrev pub InStepIf : {S : Type 0} → Option (KernelState S) → Type 0
 InStepIf None = ⊤
 InStepIf (Some k) = InStep k
 
@@ -38,7 +38,7 @@ none_open : (test : Object → Bool) (n : ℕ) → count_by (has_object test) (r
 none_open test zero = refl
 none_open test (suc n) = omega (arith, sum_by-cons (λ (x : Option OpenFile). cond {A = ℕ} (has_object test x) 1 0) None (replicate n None), none_open test n)
 
-boot_in_step : {S : Type 0} (init shell : S) (input : Bytes) (list : List (Name × Bytes)) → InStep (boot_kernel init shell input list)
+pub boot_in_step : {S : Type 0} (init shell : S) (input : Bytes) (list : List (Name × Bytes)) → InStep (boot_kernel init shell input list)
 boot_in_step init shell input list =
     let k0 = closed_kernel init shell input list in
     let k1 = with_open k0 1 Input in
@@ -65,7 +65,7 @@ module _ {S : Type 0} (call : S → Reply → Call) (next : S → Reply → S) w
         names = λ id past. later.names id (omega (arith, past, later.events)) (s.names id (omega (arith, past, later.events)));
       }
 
-  happens_in_step : (k : KernelState S) (e : Event) (refused : Bool) → InStep k → InStepIf (happens call next k e refused)
+  pub happens_in_step : (k : KernelState S) (e : Event) (refused : Bool) → InStep k → InStepIf (happens call next k e refused)
   happens_in_step k (Dispatch h pid) refused s =
       in_step_where (can_dispatch k.table h pid) (Some (record (counted k) { table = dispatched k.table pid h })) (record { ends = s.ends; names = λ id past. s.names id (omega (arith, past)) })
   happens_in_step k (Trap h pid) refused s = in_step_where (is_running_on h (at k.table pid)) (trapped call next k pid (at k.table pid) refused) (trap_in_step k pid (at k.table pid) refused s)

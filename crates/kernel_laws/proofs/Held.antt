@@ -44,7 +44,7 @@ summed_is_there f (x ∷ xs) d some = by (cases_lt (f x) 1) (summed_is_there f x
 
 -- ---- who holds an entry
 
-table_of : {S : Type 0} (t : Table S) (pid : ℕ) (d : Descriptors) → pid < length (tables t) → get_or (tables t) pid d ≡ fds_of (at t pid)
+pub table_of : {S : Type 0} (t : Table S) (pid : ℕ) (d : Descriptors) → pid < length (tables t) → get_or (tables t) pid d ≡ fds_of (at t pid)
 table_of [] pid d within = absurd (omega arith)
 table_of (x ∷ t) zero d within = refl
 table_of (x ∷ t) (suc pid) d within = table_of t pid d (omega arith)

@@ -16,3 +16,14 @@ pub mod EndsRuns
 pub mod FilesKept
 pub mod SoundRuns
 pub mod Held
+mod BytesKept
+mod Moves
+mod Flowing
+pub mod FlowRuns
+mod Others
+mod Leaves
+mod Asking
+mod AskCalls
+pub mod AskRuns
+pub mod EntriesLong
+mod Worked

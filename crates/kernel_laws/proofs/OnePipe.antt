@@ -102,12 +102,6 @@ pipe_still t pipes id c p now is fair q (PipeBytes other) unlike w =
 pipe_still t pipes id c p now is fair q (PipeRoom other) unlike w =
     changed WaitsForRoom pipes id other p now is (λ same. fair.room (ap (λ (k : ℕ). same_channel c (PipeRoom k)) (sym same) ∙ unlike)) (cases_eq other id) w
 
--- nobody is woken for the change
-pub calm_still : {S : Type 0} (t : Table S) (pipes : Pipes) (id : ℕ) (p now : PipeState) → pipe_of pipes id ≡ Some p → (WaitsForBytes p → WaitsForBytes now) → (WaitsForRoom p → WaitsForRoom now) → (q : ℕ) (d : Channel) → Waits t pipes q d → Waits t (with_pipe pipes id now) q d
-calm_still t pipes id p now is bytes some_room q (Children r) w = w
-calm_still t pipes id p now is bytes some_room q (PipeBytes other) w = changed WaitsForBytes pipes id other p now is (λ same. bytes) (cases_eq other id) w
-calm_still t pipes id p now is bytes some_room q (PipeRoom other) w = changed WaitsForRoom pipes id other p now is (λ same. some_room) (cases_eq other id) w
-
 -- the pipe of that name is given up, and nobody waits for it but those of a channel that is woken
 kept_apart : (P : PipeState → Type 0) (pipes : Pipes) (id other : ℕ) → (other ≡ id → IsThere P pipes id → ⊥) → (other ≡ id) ⊎ (other ≢ id) → IsThere P pipes other → IsThere P (without_pipe pipes id) other
 kept_apart P pipes id other nobody (inl same) w = absurd (nobody same (subst (λ (i : ℕ). IsThere P pipes i) same w))

@@ -37,7 +37,7 @@ past_two S (suc n) zero = refl
 past_two S (suc n) (suc q) = past_two S n q
 
 module _ {S : Type 0} (init shell : S) where
-  nobody_sleeps : (q : ℕ) (c : Channel) → SleepsOn (at (boot_table init shell) q) c → ⊥
+  pub nobody_sleeps : (q : ℕ) (c : Channel) → SleepsOn (at (boot_table init shell) q) c → ⊥
   nobody_sleeps zero c sleeps = cc
   nobody_sleeps (suc zero) c sleeps = cc
   nobody_sleeps (suc (suc q)) c sleeps = subst (λ (x : Slot S). SleepsOn x c) (past_two S 62 q) sleeps

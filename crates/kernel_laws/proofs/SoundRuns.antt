@@ -22,11 +22,11 @@ use Rattle.kernel_model.proofs.Sound.{dispatch_sound}
 use Rattle.kernel_laws.proofs.FilesKept.{acted_files}
 
 -- counts and files are right
-record InOrder {S : Type 0} (k : KernelState S) : Type 0 where
-  sound : IsSound k.table k.entries
-  files : AreFiles k.files
+pub record InOrder {S : Type 0} (k : KernelState S) : Type 0 where
+  pub sound : IsSound k.table k.entries
+  pub files : AreFiles k.files
 
-abbrev InOrderIf : {S : Type 0} → Option (KernelState S) → Type 0
+abbrev pub InOrderIf : {S : Type 0} → Option (KernelState S) → Type 0
 InOrderIf None = ⊤
 InOrderIf (Some k) = InOrder k
 
@@ -34,11 +34,14 @@ in_order_where : {S : Type 0} (b : Bool) (o : Option (KernelState S)) → (b ≡
 in_order_where true o s = s refl
 in_order_where false o s = tt
 
-hart_runs : (h : ℕ) (s : Status) → is_running_on_status h s ≡ true → is_running_status s ≡ true
+pub hart_runs : (h : ℕ) (s : Status) → is_running_on_status h s ≡ true → is_running_status s ≡ true
 hart_runs h Runnable e = e
 hart_runs h (Running other) e = refl
 hart_runs h (Asleep c) e = e
 hart_runs h Zombie e = e
+
+pub boot_in_order : {S : Type 0} (init shell : S) (input : Bytes) (list : List (Name × Bytes)) → AreFiles list → InOrder (boot_kernel init shell input list)
+boot_in_order init shell input list are = record { sound = boot_sound init shell input list; files = are }
 
 module _ {S : Type 0} (call : S → Reply → Call) (next : S → Reply → S) where
   trap_in_order : (k : KernelState S) (pid h : ℕ) (x : Slot S) (refused : Bool) → at k.table pid ≡ x → is_running_on h x ≡ true → InOrder k → InOrderIf (trapped call next k pid x refused)
@@ -56,7 +59,7 @@ module _ {S : Type 0} (call : S → Reply → Call) (next : S → Reply → S) w
   happens_in_order k (Trap h pid) refused s =
       in_order_where (is_running_on h (at k.table pid)) (trapped call next k pid (at k.table pid) refused) (λ runs. trap_in_order k pid h (at k.table pid) refused refl runs s)
 
-  then_in_order : (o : Option (KernelState S)) (e : Event) (refused : Bool) → InOrderIf o → InOrderIf (then_happens call next o e refused)
+  pub then_in_order : (o : Option (KernelState S)) (e : Event) (refused : Bool) → InOrderIf o → InOrderIf (then_happens call next o e refused)
   then_in_order None e refused s = tt
   then_in_order (Some k) e refused s = happens_in_order k e refused s
 
@@ -69,7 +72,7 @@ module _ {S : Type 0} (call : S → Reply → Call) (next : S → Reply → S) w
   every_run_in_order : (init shell : S) (input : Bytes) (list : List (Name × Bytes)) (events : List Event) (notes : List Bool) (m : KernelState S)
       → AreFiles list → run call next (Some (boot_kernel init shell input list)) events notes ≡ Some m → InOrder m
   every_run_in_order init shell input list events notes m are is =
-      subst InOrderIf is (run_in_order (Some (boot_kernel init shell input list)) events notes (record { sound = boot_sound init shell input list; files = are }))
+      subst InOrderIf is (run_in_order (Some (boot_kernel init shell input list)) events notes (boot_in_order init shell input list are))
 
   pub every_run_is_sound : (init shell : S) (input : Bytes) (list : List (Name × Bytes)) (events : List Event) (notes : List Bool) (m : KernelState S)
       → AreFiles list → run call next (Some (boot_kernel init shell input list)) events notes ≡ Some m → IsSound m.table m.entries

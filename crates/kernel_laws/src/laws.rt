@@ -3,7 +3,7 @@
 //! The programs are any machines. `m` is the kernel after any events that can happen, with memory refused or not at
 //! each; the run need not be finished.
 
-ghost use Rattle.std.specs.Prelude.{◌≡◌, ◌≤◌, ◌↔◌, ℕ, List, Bool, Some, true, false, length};
+ghost use Rattle.std.specs.Prelude.{◌≡◌, ◌≤◌, ◌↔◌, ◌++◌, ℕ, List, Bool, Some, true, false, length};
 ghost use Rattle.mem_files.specs.Name.{Bytes, Name};
 ghost use Rattle.mem_files.specs.Listing.{AreFiles};
 ghost use Rattle.byte_pipe.specs.PipeState.{PipeState};
@@ -18,6 +18,9 @@ ghost use Rattle.kernel_model.specs.Sound.{IsSound};
 ghost use Rattle.kernel_laws.specs.Ends.{EndsAgree, read_end_open, reads_pipe, write_end_open, writes_pipe};
 ghost use Rattle.kernel_laws.specs.Held.{IsHeld};
 ghost use Rattle.kernel_laws.specs.Sleeping.{AllWait, Lives};
+ghost use Rattle.kernel_laws.specs.Flow.{put_by, taken_by, all_moved};
+ghost use Rattle.kernel_laws.specs.Asking.{AllAsk};
+ghost use Rattle.kernel_laws.specs.Limits.{IsWithin};
 
 use user_calls::Machine;
 
@@ -68,4 +71,30 @@ pub fn an_end_is_open_while_it_is_held<M: Machine>()
         → AreFiles list → run M.call_of M.next_of (Some (boot_kernel init shell input list)) events notes ≡ Some m → (read_end_open (pipe_of m.pipes id) ≡ true) ↔ IsHeld m (reads_pipe id) }
     ensures writer { (init shell : M.State) (input : Bytes) (list : List (Name × Bytes)) (m : KernelState M.State) (events : List Event) (notes : List Bool) (id : ℕ)
         → AreFiles list → run M.call_of M.next_of (Some (boot_kernel init shell input list)) events notes ≡ Some m → (write_end_open (pipe_of m.pipes id) ≡ true) ↔ IsHeld m (writes_pipe id) }
+{}
+
+/// What was put into a pipe is what was taken from it, in order, and then what it holds. A pipe that is given up may lose
+/// what it held; even so what was taken from it is the beginning of what was put.
+pub fn a_pipe_loses_nothing<M: Machine>()
+    ensures holds { (init shell : M.State) (input : Bytes) (list : List (Name × Bytes)) (m : KernelState M.State) (events : List Event) (notes : List Bool) (id : ℕ) (p : PipeState)
+        → run M.call_of M.next_of (Some (boot_kernel init shell input list)) events notes ≡ Some m → pipe_of m.pipes id ≡ Some p
+        → all_moved M.call_of M.next_of (put_by id) (Some (boot_kernel init shell input list)) events notes ≡ all_moved M.call_of M.next_of (taken_by id) (Some (boot_kernel init shell input list)) events notes ++ p.bytes }
+    ensures order { (init shell : M.State) (input : Bytes) (list : List (Name × Bytes)) (m : KernelState M.State) (events : List Event) (notes : List Bool) (id : ℕ)
+        → run M.call_of M.next_of (Some (boot_kernel init shell input list)) events notes ≡ Some m
+        → (rest : Bytes) × (all_moved M.call_of M.next_of (put_by id) (Some (boot_kernel init shell input list)) events notes ≡ all_moved M.call_of M.next_of (taken_by id) (Some (boot_kernel init shell input list)) events notes ++ rest) }
+{}
+
+/// There are never more than 64 processes, 100 open files and 16 descriptors a process, and no pipe holds more than 512
+/// bytes.
+pub fn every_run_is_within_its_limits<M: Machine>()
+    ensures { (init shell : M.State) (input : Bytes) (list : List (Name × Bytes)) (m : KernelState M.State) (events : List Event) (notes : List Bool)
+        → AreFiles list → run M.call_of M.next_of (Some (boot_kernel init shell input list)) events notes ≡ Some m → IsWithin m }
+{}
+
+/// Whoever sleeps makes a call that may sleep there, which it makes again once it runs. On a pipe's bytes it is a read
+/// through a descriptor that holds the read end of that pipe; on a pipe's room a write through one that holds the write
+/// end, of which some bytes are left; on children a wait for its own.
+pub fn whoever_sleeps_asks_for_it<M: Machine>()
+    ensures { (init shell : M.State) (input : Bytes) (list : List (Name × Bytes)) (m : KernelState M.State) (events : List Event) (notes : List Bool)
+        → AreFiles list → run M.call_of M.next_of (Some (boot_kernel init shell input list)) events notes ≡ Some m → AllAsk M.call_of m }
 {}

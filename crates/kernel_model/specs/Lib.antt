@@ -14,3 +14,4 @@ pub mod History
 pub mod Along
 pub mod Lasting
 pub mod Quiet
+pub mod Booted

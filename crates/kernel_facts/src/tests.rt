@@ -1,0 +1,81 @@
+//! Callers that use the facts: that they can is proved.
+
+ghost use Rattle.std.specs.Prelude.{IfOk, OnOk, All, ◌≡◌, false};
+ghost use Rattle.proc_table.specs.Slots.{is_running_on};
+ghost use Rattle.kernel_model.specs.Booted.{IsBooted};
+ghost use Rattle.kernel_laws.specs.Sleeping.{AllWait};
+ghost use Rattle.kernel_laws.specs.Limits.{IsWithin};
+
+use super::*;
+use kernel_core::Kernel;
+use mem_files::Files;
+use mem_files::laws::are_files;
+use std::alloc::{AllocError, Allocator};
+use std::test::Fail;
+use user_calls::{Call, Machine, Reply};
+
+/// It waits, whatever it is answered.
+#[derive(Drop)]
+struct Waiter {
+    state: u8,
+}
+
+impl Machine for Waiter {
+    ghost use Rattle.std.specs.Coded.{coded_ℕ};
+    ghost use Rattle.user_calls.specs.declared.calls.Call.TheVariants.{Wait};
+
+    type State = u8;
+
+    ghost view = { λ m. m.state };
+
+    ghost code = { coded_ℕ };
+
+    ghost call_of = { λ state reply. Wait };
+
+    ghost next_of = { λ state reply. state };
+
+    fn run(&mut self, _reply: &Reply) -> Call {
+        Call::Wait
+    }
+
+    fn twin(&self) -> Self {
+        Waiter { state: self.state }
+    }
+
+    fn same(&self, other: &Self) -> bool {
+        self.state == other.state
+    }
+}
+
+// A kernel of which init and the shell wait.
+fn boot<A: Allocator + Copy>(alloc: A) -> Result<Kernel<Waiter, A>, AllocError>
+    ensures booted { IfOk result (λ k. IsBooted k.boot) }
+    ensures within { IfOk result (λ k. IsWithin k.now) }
+{
+    let files = Files::new(alloc);
+    are_files(&files);
+    let kernel = Kernel::boot(alloc, Waiter { state: 0 }, Waiter { state: 1 }, b"", &files)?;
+    facts::it_is_within_its_limits(&kernel);
+    Ok(kernel)
+}
+
+// Two events on hart 0.
+fn goes_on<A: Allocator + Copy>(kernel: &mut Kernel<Waiter, A>) -> Result<bool, AllocError>
+    requires booted { IsBooted kernel.old.boot }
+    requires idle { All (λ slot. is_running_on 0 slot ≡ false) kernel.old.now.table }
+    ensures booted { OnOk result (IsBooted kernel.new.boot) }
+    ensures waits { OnOk result (AllWait kernel.new.now.table kernel.new.now.pipes) }
+{
+    let went = kernel.step(0)?;
+    facts::no_wake_up_is_lost(kernel);
+    Ok(went)
+}
+
+#[test]
+fn init_sleeps_while_it_has_a_child(rt: HostRuntime) -> Result<(), Fail> {
+    let mut kernel = boot(rt.alloc())?;
+    assert!(rt; kernel.is_idle(0));
+    assert!(rt; goes_on(&mut kernel)?);
+    assert!(rt; kernel.runnable() == 1);
+    Ok(())
+}

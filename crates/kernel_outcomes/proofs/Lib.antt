@@ -1,0 +1,6 @@
+mod ReadEnds
+mod WriteEnds
+mod OpenEnds
+pub mod Outcomes
+mod Refusals
+mod Marks
