@@ -2,10 +2,12 @@
 use Rattle.std.proofs.Common.{◌≡◌, ℕ, ◌+◌, ◌<◌, ◌≤◌, [], ◌∷◌, ◌++◌, Bool, true, false, Some, None, length, refl, sym, ap, subst, ◌∙◌, arith}
 use Rattle.std.specs.Prelude.{All, IfSome, count_by, if◌then◌else◌}
 use Rattle.std.proofs.lemmas.Bool.{eq-eqb}
+use Rattle.std.proofs.lemmas.List.Sums.{count_by-le-length}
 use Rattle.user_calls.specs.declared.calls.Call.{Call}
 use Rattle.user_calls.specs.declared.calls.Reply.{Reply}
 use Rattle.proc_table.specs.declared.states.Status.{Status}
 use Rattle.proc_table.specs.declared.states.Status.TheVariants.{Runnable, Running, Asleep, Zombie}
+use Rattle.proc_table.specs.declared.pid.TheConstants.{PROCS}
 use Rattle.proc_table.specs.declared.table.TheConstants.{HARTS}
 use Rattle.proc_table.specs.Slots.{Slot, Table, Process, at, is_runnable, is_running, is_running_on, is_running_status, is_runnable_status, tally}
 use Rattle.proc_table.specs.Calls.{dispatched, with_status}
@@ -38,6 +40,10 @@ one_by t pid h (Some p) is ready = omega (arith, status_counts is_running_status
   idle (Running other) r = absurd (let z : ⊥ = cc in z)
   idle (Asleep c) r = refl
   idle Zombie r = refl
+
+-- there are no more processes that run than slots
+pub all_fit : {S : Type 0} (t : Table S) → length t ≡ PROCS → count_by is_running t ≤ PROCS
+all_fit t slots = omega (arith, count_by-le-length is_running t, slots)
 
 -- a dispatch makes one process more run
 pub one_more_runs : {S : Type 0} (t : Table S) (pid h : ℕ) → is_runnable (at t pid) ≡ true → count_by is_running (dispatched t pid h) ≡ count_by is_running t + 1

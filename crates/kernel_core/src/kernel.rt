@@ -67,8 +67,7 @@ impl<M: Machine, A: Allocator> Kernel<M, A> {
         if self.state.runnable() == 0 {
             return Ok(None);
         }
-        let owed = self.state.running();
-        self.log.reserve(owed + 2)?;
+        self.log.reserve()?;
         self.log.fits();
         let Some(pid) = self.state.dispatch(hart) else {
             return Ok(None);
@@ -92,8 +91,7 @@ impl<M: Machine, A: Allocator> Kernel<M, A> {
         if !self.state.can_dispatch(hart, pid) {
             return Ok(None);
         }
-        let owed = self.state.running();
-        self.log.reserve(owed + 2)?;
+        self.log.reserve()?;
         self.log.fits();
         let (true, Some(slot)) = (self.state.dispatch_pid(hart, pid), Pid::new(pid)) else {
             return Ok(None);
@@ -246,8 +244,7 @@ impl<M: Machine, A: Allocator + Copy> Kernel<M, A> {
         if self.state.runnable() == 0 {
             return Ok(false);
         }
-        let owed = self.state.running();
-        self.log.reserve(owed + 2)?;
+        self.log.reserve()?;
         self.log.fits();
         let Some(pid) = self.state.dispatch(hart) else {
             return Ok(false);

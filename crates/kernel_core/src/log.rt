@@ -1,8 +1,10 @@
 //! The events so far.
 
 ghost use Rattle.std.specs.Prelude.{◌≡◌, ◌<◌, ◌≤◌, ◌+◌, ◌^◌, ◌++◌, [], ◌∷◌, OnErr, OnOk, length, vec_len, vec_capacity};
+ghost use Rattle.proc_table.specs.declared.pid.TheConstants.{PROCS};
 
 use kernel_model::Event;
+use proc_table::PROCS;
 use std::alloc::{AllocError, Allocator};
 use std::marker::Model;
 
@@ -33,15 +35,15 @@ impl<A: Allocator> Log<A> {
         }
     }
 
-    // Makes room for so many events more.
-    pub(crate) fn reserve(&mut self, more: usize) -> Result<(), AllocError>
+    // Makes room for a dispatch, and for the trap of each process that may run after it.
+    pub(crate) fn reserve(&mut self) -> Result<(), AllocError>
         ensures events { self.new.events ≡ self.old.events }
         ensures notes { self.new.notes ≡ self.old.notes }
-        ensures ok { OnOk result (more ≤ self.new.room) }
+        ensures ok { OnOk result (PROCS + 2 ≤ self.new.room) }
         ensures room { self.old.room ≤ self.new.room }
     {
-        self.events.reserve(more)?;
-        self.notes.reserve(more)?;
+        self.events.reserve(PROCS + 2)?;
+        self.notes.reserve(PROCS + 2)?;
         Ok(())
     }
 

@@ -4,7 +4,7 @@ use Rattle.proc_table.specs.Slots.{at, is_running_on}
 use Rattle.kernel_model.specs.KernelState.{KernelState}
 use Rattle.kernel_model.specs.declared.events.Event.TheVariants.{Dispatch, Trap}
 use Rattle.kernel_model.specs.History.{History, GoesOn, IsKept, Steps}
-use Rattle.kernel_core.proofs.Keeping.{dispatch_goes, dispatch_kept, kept_after, runs_there, trap_goes}
+use Rattle.kernel_core.proofs.Keeping.{all_fit, dispatch_goes, dispatch_kept, kept_after, runs_there, trap_goes}
 use Rattle.kernel_core.proofs.kernel.Kernel.step.Goals as goal
 
 pub trap-refused-requires-clause-sound : goal.trap-refused-requires-clause-sound
@@ -14,7 +14,7 @@ trap-refused-requires-clause-sound g c =
     c.self.inside.boot.value c.self.inside.log c.write.new.self c.self.invariant
     (c.write.ensures.events ∙ (λ i. c.in_ok-reserve.ensures.events i ++ Dispatch c.args.hart (c.index.ensures.value i) ∷ []))
     (c.write.ensures.notes ∙ ap (λ ns. ns ++ false ∷ []) c.in_ok-reserve.ensures.notes)
-    (omega (arith, c.in_ok-reserve.ensures.ok, c.running-owed.ensures.count, c.write.ensures.room))).sound
+    (omega (arith, c.in_ok-reserve.ensures.ok, all_fit c.self.inside.state.table c.self.invariant.sound.slots, c.write.ensures.room))).sound
 
 pub invariant_of-self-2 : goal.invariant_of-self-2
 invariant_of-self-2 g c =
@@ -24,7 +24,7 @@ invariant_of-self-2 g c =
     c.self.inside.boot.value c.self.inside.log c.write.new.self c.self.invariant
     (c.write.ensures.events ∙ (λ i. c.in_ok-reserve.ensures.events i ++ Dispatch c.args.hart (c.index.ensures.value i) ∷ []))
     (c.write.ensures.notes ∙ ap (λ ns. ns ++ false ∷ []) c.in_ok-reserve.ensures.notes)
-    (omega (arith, c.in_ok-reserve.ensures.ok, c.running-owed.ensures.count, c.write.ensures.room)) in
+    (omega (arith, c.in_ok-reserve.ensures.ok, all_fit c.self.inside.state.table c.self.invariant.sound.slots, c.write.ensures.room)) in
     let runs : is_running_on c.args.hart (at c.dispatch.new.self.table c.in-Some.pid) ≡ true
     = ap (λ (k : KernelState g.row.M-State.Denot). is_running_on c.args.hart (at k.table c.in-Some.pid)) c.in-Some.ensures.after ∙ runs_there c.self.inside.state.table c.in-Some.pid c.args.hart c.in-Some.ensures.was in
     kept_after g.M.Machine.call_of g.M.Machine.next_of c.self.inside.boot.value c.dispatch.new.self c.trap-refused.new.state c.write.new.self c.write-2.new.self (Trap c.args.hart c.in-Some.pid) c.trap-refused.result between

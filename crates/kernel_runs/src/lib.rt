@@ -1,0 +1,12 @@
+//! Tests alone: a kernel runs small scripts, one process after the other, in orders that are drawn, and where memory is
+//! refused.
+#![tactic(auto)]
+
+#[cfg(test)]
+mod driven;
+#[cfg(test)]
+mod memory;
+#[cfg(test)]
+mod schedules;
+#[cfg(test)]
+mod walker;
