@@ -26,6 +26,7 @@ use Rattle.kernel_model.proofs.Sound.{dispatch_sound}
 pub kept_after : {S : Type 0} (call : S → Reply → Call) (next : S → Reply → S) (boot old new : KernelState S) (before after : Written) (e : Event) (note : Bool) → IsKept call next boot old before → happens call next old e note ≡ Some new → after.events ≡ before.events ++ e ∷ [] → after.notes ≡ before.notes ++ note ∷ [] → count_by is_running new.table ≤ after.room → IsSound new.table new.entries → IsKept call next boot new after
 kept_after call next boot old new before after e note kept happened events notes owed sound =
     record {
+      begun = kept.begun;
       runs = (λ i. run call next (Some boot) (events i) (notes i)) ∙ run_more call next (Some boot) before.events before.notes old new e note kept.runs happened;
       owed = owed;
       counted = (happens_later call next old new e note happened).events ∙ ap (λ n. n + 1) kept.counted ∙ sym (ap length events ∙ length_more before.events e);

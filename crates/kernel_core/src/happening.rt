@@ -43,8 +43,7 @@ impl<M: Machine, A: Allocator + Copy> Kernel<M, A> {
         if !self.state.can_dispatch(hart, pid) {
             return Ok(false);
         }
-        let owed = self.state.running();
-        self.log.reserve(owed + 2)?;
+        self.log.reserve()?;
         self.log.fits();
         if !self.state.dispatch_pid(hart, pid) {
             return Ok(false);

@@ -14,6 +14,7 @@ use kernel_calls::trap;
 use kernel_model::{Event, Full};
 use kernel_state::{State, Task};
 use mem_files::Files;
+use mem_files::laws::are_files;
 use proc_table::Pid;
 use std::alloc::{AllocError, Allocator};
 use std::marker::Model;
@@ -46,6 +47,7 @@ impl<M: Machine, A: Allocator> Model for Kernel<M, A> {
 }
 
 impl<M: Machine, A: Allocator> Kernel<M, A> {
+    ghost use Rattle.kernel_model.specs.Booted.{IsBooted};
     ghost use Rattle.kernel_model.specs.Events.{run};
     ghost use Rattle.kernel_model.specs.History.{GoesOn, IsTask};
     ghost use Rattle.kernel_model.specs.declared.events.Event.TheVariants.{Dispatch};
@@ -158,6 +160,13 @@ impl<M: Machine, A: Allocator> Kernel<M, A> {
         let _ = &self.log;
     }
 
+    /// The run began with a kernel at its start.
+    pub fn is_booted(&self)
+        ensures { IsBooted self.now.boot }
+    {
+        let _ = &self.log;
+    }
+
     /// What the run leaves. Takes no memory.
     pub fn into_report(self) -> Report<A>
         ensures out { result.out.items ≡ self.now.out }
@@ -201,6 +210,7 @@ impl<M: Machine, A: Allocator + Copy> Kernel<M, A> {
     ) -> Result<Self, AllocError>
         ensures { IfOk result (λ k. k ≡ booted (boot_kernel (M.view init) (M.view shell) stdin.now files.now)) }
     {
+        are_files(files);
         let state = State::boot(alloc, init, shell, stdin, files)?;
         let boot = Snapshot::of(&state);
         let log = Log::new(alloc, alloc);

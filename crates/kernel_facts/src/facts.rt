@@ -1,12 +1,11 @@
 //! Laws of every run, of the state that a kernel is in: each function's contract is the law, and it changes nothing.
 //!
-//! They hold of a kernel whose boot state is one, which its `boot` tells and each event keeps.
+//! A kernel's type knows that it was booted, and that its schedule leads to its state; so they ask nothing.
 
 ghost use Rattle.std.specs.Prelude.{◌≡◌, ◌++◌, ◌↔◌, ℕ, List, Some, true, false};
 ghost use Rattle.mem_files.specs.Name.{Bytes};
 ghost use Rattle.mem_files.specs.Listing.{AreFiles};
 ghost use Rattle.byte_pipe.specs.PipeState.{PipeState};
-ghost use Rattle.kernel_model.specs.Booted.{IsBooted};
 ghost use Rattle.kernel_model.specs.Pipes.{pipe_of};
 ghost use Rattle.kernel_model.specs.Sound.{IsSound};
 ghost use Rattle.kernel_laws.specs.Ends.{read_end_open, reads_pipe, write_end_open, writes_pipe};
@@ -23,46 +22,52 @@ use user_calls::Machine;
 /// No wake-up is lost: whoever sleeps has to. For bytes of a pipe: it is empty, and its write end is open. For room in
 /// a pipe: it holds 512 bytes, and its read end is open. For its children: it has one, and none that is a zombie.
 pub fn no_wake_up_is_lost<M: Machine, A: Allocator>(kernel: &Kernel<M, A>)
-    ensures { IsBooted kernel.now.boot → AllWait kernel.now.now.table kernel.now.now.pipes }
+    ensures { AllWait kernel.now.now.table kernel.now.now.pipes }
 {
+    kernel.is_booted();
     kernel.replays();
 }
 
 /// Whoever sleeps makes a call that may sleep there: a read from that very pipe, a write to that very pipe of which some
 /// bytes are left, or a wait.
 pub fn whoever_sleeps_asks_for_it<M: Machine, A: Allocator>(kernel: &Kernel<M, A>)
-    ensures { IsBooted kernel.now.boot → AllAsk M.call_of kernel.now.now }
+    ensures { AllAsk M.call_of kernel.now.now }
 {
+    kernel.is_booted();
     kernel.replays();
 }
 
 /// Init lives and is nobody's child, nobody is its own child, and every parent lives.
 pub fn every_parent_lives<M: Machine, A: Allocator>(kernel: &Kernel<M, A>)
-    ensures { IsBooted kernel.now.boot → IsFamily kernel.now.now.table }
+    ensures { IsFamily kernel.now.now.table }
 {
+    kernel.is_booted();
     kernel.replays();
 }
 
 /// An end of a pipe is open exactly while some descriptor of some process holds it.
 pub fn an_end_is_open_while_it_is_held<M: Machine, A: Allocator>(kernel: &Kernel<M, A>)
-    ensures reader { (id : ℕ) → IsBooted kernel.now.boot → (read_end_open (pipe_of kernel.now.now.pipes id) ≡ true) ↔ IsHeld kernel.now.now (reads_pipe id) }
-    ensures writer { (id : ℕ) → IsBooted kernel.now.boot → (write_end_open (pipe_of kernel.now.now.pipes id) ≡ true) ↔ IsHeld kernel.now.now (writes_pipe id) }
+    ensures reader { (id : ℕ) → (read_end_open (pipe_of kernel.now.now.pipes id) ≡ true) ↔ IsHeld kernel.now.now (reads_pipe id) }
+    ensures writer { (id : ℕ) → (write_end_open (pipe_of kernel.now.now.pipes id) ≡ true) ↔ IsHeld kernel.now.now (writes_pipe id) }
 {
+    kernel.is_booted();
     kernel.replays();
 }
 
 /// What was put into a pipe is what was taken from it, in order, and then what it holds.
 pub fn a_pipe_loses_nothing<M: Machine, A: Allocator>(kernel: &Kernel<M, A>)
-    ensures { (id : ℕ) (p : PipeState) → IsBooted kernel.now.boot → pipe_of kernel.now.now.pipes id ≡ Some p
+    ensures { (id : ℕ) (p : PipeState) → pipe_of kernel.now.now.pipes id ≡ Some p
         → all_moved M.call_of M.next_of (put_by id) (Some kernel.now.boot) kernel.now.schedule kernel.now.notes ≡ all_moved M.call_of M.next_of (taken_by id) (Some kernel.now.boot) kernel.now.schedule kernel.now.notes ++ p.bytes }
 {
+    kernel.is_booted();
     kernel.replays();
 }
 
 /// There are never more than 64 processes, 100 open files and 16 descriptors a process, and no pipe holds more than 512
 /// bytes.
 pub fn it_is_within_its_limits<M: Machine, A: Allocator>(kernel: &Kernel<M, A>)
-    ensures { IsBooted kernel.now.boot → IsWithin kernel.now.now }
+    ensures { IsWithin kernel.now.now }
 {
+    kernel.is_booted();
     kernel.replays();
 }

@@ -2,14 +2,12 @@
 
 ghost use Rattle.std.specs.Prelude.{IfOk, OnOk, All, ◌≡◌, false};
 ghost use Rattle.proc_table.specs.Slots.{is_running_on};
-ghost use Rattle.kernel_model.specs.Booted.{IsBooted};
 ghost use Rattle.kernel_laws.specs.Sleeping.{AllWait};
 ghost use Rattle.kernel_laws.specs.Limits.{IsWithin};
 
 use super::*;
 use kernel_core::Kernel;
 use mem_files::Files;
-use mem_files::laws::are_files;
 use std::alloc::{AllocError, Allocator};
 use std::test::Fail;
 use user_calls::{Call, Machine, Reply};
@@ -49,11 +47,9 @@ impl Machine for Waiter {
 
 // A kernel of which init and the shell wait.
 fn boot<A: Allocator + Copy>(alloc: A) -> Result<Kernel<Waiter, A>, AllocError>
-    ensures booted { IfOk result (λ k. IsBooted k.boot) }
     ensures within { IfOk result (λ k. IsWithin k.now) }
 {
     let files = Files::new(alloc);
-    are_files(&files);
     let kernel = Kernel::boot(alloc, Waiter { state: 0 }, Waiter { state: 1 }, b"", &files)?;
     facts::it_is_within_its_limits(&kernel);
     Ok(kernel)
@@ -61,9 +57,7 @@ fn boot<A: Allocator + Copy>(alloc: A) -> Result<Kernel<Waiter, A>, AllocError>
 
 // Two events on hart 0.
 fn goes_on<A: Allocator + Copy>(kernel: &mut Kernel<Waiter, A>) -> Result<bool, AllocError>
-    requires booted { IsBooted kernel.old.boot }
     requires idle { All (λ slot. is_running_on 0 slot ≡ false) kernel.old.now.table }
-    ensures booted { OnOk result (IsBooted kernel.new.boot) }
     ensures waits { OnOk result (AllWait kernel.new.now.table kernel.new.now.pipes) }
 {
     let went = kernel.step(0)?;

@@ -9,6 +9,7 @@ use Rattle.kernel_model.specs.declared.events.Event.TheVariants.{Dispatch, Trap}
 use Rattle.kernel_model.specs.KernelState.{KernelState}
 use Rattle.kernel_model.specs.Events.{run, happens}
 use Rattle.kernel_model.specs.Sound.{IsSound}
+use Rattle.kernel_model.specs.Booted.{IsBooted}
 
 -- the state that a kernel was booted with and the one that it is in, the events between the two, and beside each a note: whether memory was refused
 pub record History (S : Type 0) : Type 0 where
@@ -27,8 +28,9 @@ pub record Written : Type 0 where
   pub notes : List Bool
   pub room : ℕ
 
--- the state is the one that the events lead to, and each running process has room for its trap
+-- the state is the one that the events lead to from a kernel at its start, and each running process has room for its trap
 pub record IsKept {S : Type 0} (call : S → Reply → Call) (next : S → Reply → S) (boot now : KernelState S) (log : Written) : Type 0 where
+  pub begun : IsBooted boot
   pub runs : run call next (Some boot) log.events log.notes ≡ Some now
   pub owed : count_by is_running now.table ≤ log.room
   pub counted : now.events ≡ length log.events

@@ -3,7 +3,7 @@ use Rattle.proc_table.specs.Calls.{CanDispatch, dispatched}
 use Rattle.kernel_model.specs.Events.{counted}
 use Rattle.kernel_model.specs.declared.events.Event.TheVariants.{Dispatch}
 use Rattle.kernel_model.specs.History.{History, GoesOn}
-use Rattle.kernel_core.proofs.Keeping.{dispatch_goes, dispatch_kept}
+use Rattle.kernel_core.proofs.Keeping.{all_fit, dispatch_goes, dispatch_kept}
 use Rattle.kernel_core.proofs.kernel.Kernel.begin.Goals as goal
 
 pub invariant_of-self-2 : goal.invariant_of-self-2
@@ -14,7 +14,7 @@ invariant_of-self-2 g c =
     c.self.inside.boot.value c.self.inside.log c.write.new.self c.self.invariant
     (c.write.ensures.events ∙ ap (λ es. es ++ Dispatch c.args.hart c.args.pid ∷ []) c.in_ok-reserve.ensures.events)
     (c.write.ensures.notes ∙ ap (λ ns. ns ++ false ∷ []) c.in_ok-reserve.ensures.notes)
-    (omega (arith, c.in_ok-reserve.ensures.ok, c.running-owed.ensures.count, c.write.ensures.room))
+    (omega (arith, c.in_ok-reserve.ensures.ok, all_fit c.self.inside.state.table c.self.invariant.sound.slots, c.write.ensures.room))
 
 pub returns-clause-event : goal.returns-clause-event
 returns-clause-event g c = λ _.
