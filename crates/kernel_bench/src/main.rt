@@ -68,7 +68,13 @@ const CASES: [Case; 4] = [
 // Init waits for ever; the shell is in this state.
 fn boot<A: Allocator + Copy>(alloc: A, shell: u32) -> Result<Kernel<Worker, A>, AllocError> {
     let files = Files::new(alloc);
-    Kernel::boot(alloc, Worker { state: 0 }, Worker { state: shell }, b"", &files)
+    Kernel::boot(
+        alloc,
+        Worker { state: 0 },
+        Worker { state: shell },
+        b"",
+        &files,
+    )
 }
 
 // Some Runnable process makes its call; tells whether there was one.
@@ -111,12 +117,7 @@ fn turns<A: Allocator + Copy>(
 }
 
 // The time of the fastest round of a case, and how many turns it had.
-fn time_of(
-    clock: &impl Clock,
-    alloc: Global,
-    case: Case,
-    way: Way,
-) -> io::Result<(Duration, u32)> {
+fn time_of(clock: &impl Clock, alloc: Global, case: Case, way: Way) -> io::Result<(Duration, u32)> {
     let mut fastest = Duration::MAX;
     let mut made = 0;
     for _ in 0..ROUNDS {
@@ -140,7 +141,9 @@ fn measure<R: Clock + Eprint>(rt: &R, alloc: Global, case: Case, way: Way) -> io
         Way::DispatchAndTrap => "dispatch and trap",
     };
     let name = case.name;
-    eprintln!(rt; "{name}, by {how}: {each} ns an event, {rate} thousand events a second, {made} turns")
+    eprintln!(rt;
+        "{name}, by {how}: {each} ns an event, {rate} thousand events a second, {made} turns"
+    )
 }
 
 // How many bytes of memory a slot of the table takes with the machine that is timed.

@@ -4,7 +4,6 @@ ghost use Rattle.user_calls.specs.declared.calls.Mode.TheVariants.{Input};
 ghost use Rattle.kernel_core.specs.Doer.{opens};
 
 use super::*;
-use linked_list_allocator::LocalHeap;
 use mem_files::Files;
 use proc_table::Pid;
 use std::alloc::Allocator;
@@ -257,54 +256,5 @@ fn the_63rd_fork_finds_no_slot(rt: HostRuntime) -> Result<(), Fail> {
     turn(&mut kernel, 1)?;
     assert_eq!(rt; kernel.full(), Some(Full::Procs));
     assert!(rt; matches!(reply_of(&mut kernel, 1)?, Reply::Refused));
-    Ok(())
-}
-
-// A pipe call of the shell: the mark after it, and the reply that waits then; `None` where there is no memory for
-// anything else.
-fn pipe_call<A: Allocator + Copy>(alloc: A) -> Option<(Option<Full>, Reply)> {
-    let files = Files::new(alloc);
-    let Ok(mut kernel) = Kernel::boot(alloc, Doer { state: 0 }, Doer { state: 4 }, b"", &files)
-    else {
-        return None;
-    };
-    let Ok(Some(task)) = kernel.dispatch_pid(0, 1) else {
-        return None;
-    };
-    let pid = task.pid;
-    let ran = Ran::make(task.machine, task.reply);
-    if kernel.trap(0, pid, ran).is_err() {
-        return None;
-    }
-    let full = kernel.full();
-    let Ok(Some(task)) = kernel.dispatch_pid(0, 1) else {
-        return None;
-    };
-    Some((full, task.reply))
-}
-
-#[test]
-fn a_pipe_that_gets_no_memory_is_marked_so(rt: HostRuntime) -> Result<(), Fail> {
-    let mut refused = 0usize;
-    let mut made = false;
-    for size in 0..2000usize {
-        if made {
-            continue;
-        }
-        let heap = LocalHeap::new(rt.alloc(), 1024 + 128 * size)?;
-        let Some((full, reply)) = pipe_call(&heap) else {
-            continue;
-        };
-        if full == Some(Full::Memory) {
-            assert!(rt; matches!(reply, Reply::Refused));
-            refused = refused.wrapping_add(1);
-        } else {
-            assert!(rt; full.is_none());
-            assert!(rt; matches!(reply, Reply::Ends(3, 4)));
-            made = true;
-        }
-    }
-    assert!(rt; refused > 0);
-    assert!(rt; made);
     Ok(())
 }

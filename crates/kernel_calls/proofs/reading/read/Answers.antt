@@ -1,12 +1,9 @@
-use Rattle.std.proofs.Common.{◌≡◌, ◌∙◌, ap, sym, subst, Option, Some, None, ℕ, true}
+use Rattle.std.proofs.Common.{◌≡◌, ◌∙◌, ap, Option, Some, None, ℕ}
 use Rattle.std.specs.Prelude.{IfSome, IsSome}
-use Rattle.fd_table.specs.Entries.{OpenFile, entry_at, IsInUse}
-use Rattle.fd_table.specs.Descriptors.{HoldsInUse, entry_of}
-use Rattle.proc_table.specs.Slots.{at, is_running}
+use Rattle.fd_table.specs.Entries.{OpenFile, entry_at}
+use Rattle.fd_table.specs.Descriptors.{entry_of}
 use Rattle.kernel_model.specs.KernelState.{KernelState, fds_at}
-use Rattle.kernel_model.specs.Sound.{IsSound}
 use Rattle.kernel_model.specs.Reading.{read_entry, read_object, read_held}
-use Rattle.kernel_model.proofs.Held.{held_in_use, runs_within}
 use Rattle.kernel_calls.proofs.InUse.{in_use}
 use Rattle.kernel_calls.proofs.reading.read.Goals as goal
 
