@@ -1,5 +1,5 @@
 -- Where no slot is used, the tree has no process, and so nothing is left.
-use Rattle.std.proofs.Common.{◌≡◌, ◌≢◌, ℕ, zero, suc, ◌≤◌, refl, sym, ap, ◌∙◌, arith}
+use Rattle.std.proofs.Common.{◌≡◌, ℕ, zero, suc, ◌≤◌, refl, sym, ap, ◌∙◌, arith}
 use Rattle.script_load.specs.declared.profile.Profile.{Profile}
 use Rattle.proc_table.specs.Slots.{IsAlone, at}
 use Rattle.kernel_model.specs.KernelState.{KernelState}

@@ -1,5 +1,5 @@
 -- At the start three entries have names, and the top shell is the one process in the tree.
-use Rattle.std.proofs.Common.{◌≡◌, ◌≢◌, ℕ, zero, suc, List, [], ◌∷◌, Option, Some, None, refl, sym, ap, ◌∙◌, subst, arith}
+use Rattle.std.proofs.Common.{◌≡◌, ℕ, zero, suc, List, ◌∷◌, Option, Some, None, refl, sym, ap, ◌∙◌, subst, arith}
 use Rattle.std.specs.Prelude.{replicate}
 use Rattle.mem_files.specs.Name.{Name, Bytes}
 use Rattle.mem_files.specs.Files.{files}
@@ -13,7 +13,7 @@ use Rattle.kernel_model.specs.Boot.{boot_kernel}
 use Rattle.tree_machine.specs.Runs.{first_stage}
 use Rattle.sh_machine.specs.State.{User, init, shell, top}
 use Rattle.sh_machine.specs.declared.state.Phase.TheVariants.{Starts}
-use Rattle.kernel_shape.specs.Seen.{Entry, input, out, diag, free, seen_slot, view}
+use Rattle.kernel_shape.specs.Seen.{input, out, diag, free, seen_slot, view}
 use Rattle.kernel_shape.specs.Shows.{IsNamed, first_name, first_names}
 use Rattle.kernel_shape.specs.Shape.{reads_lines, same, is_used}
 use Rattle.kernel_shape.specs.Standing.{Stands}

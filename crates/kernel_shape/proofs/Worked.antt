@@ -1,14 +1,11 @@
 -- The definitions at work, on a kernel that runs: why entries have names, and why what a pipe held is remembered.
-use Rattle.std.specs.Prelude.{◌≡◌, ℕ, zero, suc, Bool, true, false, List, [], ◌∷◌, ◌++◌, Option, Some, None, option_map, replicate, length, refl, codes}
-use Rattle.byte_pipe.specs.PipeState.{PipeState}
+use Rattle.std.specs.Prelude.{◌≡◌, ℕ, zero, suc, true, false, List, [], ◌∷◌, Option, Some, None, option_map, replicate, length, refl}
 use Rattle.fd_table.specs.Descriptors.{entry_of}
 use Rattle.sh_tree.specs.declared.tree.Mode.TheVariants.{Input}
 use Rattle.sh_tree.specs.Tree.{Tree, exec, redir, pipe}
 use Rattle.mem_files.specs.Name.{Name, Bytes}
-use Rattle.script_load.specs.Line.{ScriptLine, command}
+use Rattle.script_load.specs.Line.{command}
 use Rattle.script_load.specs.declared.profile.Profile.TheVariants.{Xv6}
-use Rattle.user_calls.specs.declared.calls.Call.{Call}
-use Rattle.proc_table.specs.Slots.{at}
 use Rattle.kernel_model.specs.declared.events.Event.{Event}
 use Rattle.kernel_model.specs.declared.events.Event.TheVariants.{Dispatch, Trap}
 use Rattle.kernel_model.specs.KernelState.{KernelState, fds_at}
@@ -18,8 +15,8 @@ use Rattle.kernel_model.specs.Pipes.{Pipes, pipe_of, reader_gone}
 use Rattle.sh_machine.specs.State.{User, init, shell, top}
 use Rattle.sh_machine.specs.Turn.{call_of, next_of}
 use Rattle.sh_machine.specs.declared.state.Phase.TheVariants.{Starts}
-use Rattle.kernel_shape.specs.Seen.{Entry, input, out, diag, reader, writer, file, Seen, free, zombie, live, seen}
-use Rattle.kernel_shape.specs.Phases.{Phase, at_lines, waits_line, begins, opens, forks_left, forks_right, has_forked, closes_read, closes_write, waits_two, on_left, on_right, closes_old, dups_kept, drops_read, drops_write, does, has_open}
+use Rattle.kernel_shape.specs.Seen.{Entry, input, out, diag, reader, writer, Seen, live, seen}
+use Rattle.kernel_shape.specs.Phases.{Phase, waits_line, begins, forks_left, forks_right, has_forked, closes_read, closes_write, waits_two, on_left, on_right, closes_old, dups_kept, drops_read, drops_write, does, has_open}
 
 -- both ends of a pipe are closed while it holds a byte that nobody read: it is given up, and its byte with it
 one_byte : Pipes

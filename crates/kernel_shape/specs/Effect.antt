@@ -1,5 +1,5 @@
 -- What each system call of a process does, as it is seen, where nothing is refused for want of room.
-use Rattle.std.specs.Prelude.{◌≡◌, ◌≢◌, ℕ, suc, ◌+◌, ◌≤◌, ◌==◌, min, nat_lt, Bool, true, false, if◌then◌else◌, [], ◌++◌, length, take, drop, Option, Some, None, position, slice_set}
+use Rattle.std.specs.Prelude.{◌≡◌, ◌≢◌, ℕ, ◌+◌, ◌≤◌, ◌==◌, min, nat_lt, Bool, true, false, if◌then◌else◌, [], ◌++◌, length, take, drop, Option, Some, None, position, slice_set}
 use Rattle.mem_files.specs.Name.{Name, Bytes, is_openable}
 use Rattle.mem_files.specs.Files.{FileMap, with_file}
 use Rattle.mem_files.specs.Overlay.{written}

@@ -1,5 +1,5 @@
 -- A program that runs: its descriptors, and the files of its own among them.
-use Rattle.std.specs.Prelude.{◌≡◌, ◌⊎◌, ℕ, suc, ◌<◌, ◌==◌, if◌then◌else◌, List, [], ◌∷◌, Option, Some, None}
+use Rattle.std.specs.Prelude.{◌≡◌, ◌⊎◌, ℕ, ◌<◌, ◌==◌, if◌then◌else◌, List, [], ◌∷◌, Option, Some, None}
 use Rattle.mem_files.specs.Name.{Bytes}
 use Rattle.prog_parts.specs.declared.program.Program.{Program}
 use Rattle.user_calls.specs.declared.calls.Call.TheVariants.{Write}
@@ -8,7 +8,7 @@ use Rattle.user_progs.specs.Turn.{Turn}
 use Rattle.prog_laws.specs.Alone.{OwnFile}
 use Rattle.prog_laws.specs.Tame.{AreTame}
 use Rattle.sh_machine.specs.State.{program}
-use Rattle.kernel_shape.specs.Seen.{Entry, input, out, diag, reader, writer, file, Fds, fd_at, Act, Seen, live, Place, View}
+use Rattle.kernel_shape.specs.Seen.{Entry, input, out, diag, reader, writer, file, Fds, fd_at, Act, live, Place, View}
 
 -- a file that a program holds open, and the name of its entry
 pub record Owned : Type 0 where

@@ -7,7 +7,7 @@ use Rattle.script_load.specs.declared.profile.Profile.{Profile}
 use Rattle.tree_machine.specs.Residual.{Residual}
 use Rattle.tree_machine.specs.Rules.{Label, silent, takes, meets_end, puts, refused, Steps, patched, is_gap}
 use Rattle.tree_machine.specs.Moving.{IsPlain}
-use Rattle.kernel_shape.specs.Seen.{Entry, input, out, diag, reader, writer, file, Place, View}
+use Rattle.kernel_shape.specs.Seen.{Entry, input, out, diag, reader, writer, file, View}
 use Rattle.kernel_shape.specs.Effect.{ParentIs, NoHolder, further}
 use Rattle.kernel_shape.specs.Shape.{Node, Has, same, occurs, names, is_there, is_up, is_used, stands_for}
 

@@ -1,14 +1,14 @@
 -- The table of phases: what each process of the shell does next, and what its first five descriptors are open on. It is
 -- to be read beside `runcmd` and `main` of user/sh.c. The sixteen places have no others open; 2 is always the diagnostics;
 -- a pipe's ends are at 3 and 4 wherever there is one, since those are the lowest that are free.
-use Rattle.std.specs.Prelude.{ℕ, List, [], ◌∷◌, replicate, Option, Some, None}
+use Rattle.std.specs.Prelude.{ℕ, List, ◌∷◌, replicate, Option, Some, None}
 use Rattle.sh_tree.specs.declared.tree.Mode.{Mode}
 use Rattle.sh_tree.specs.declared.tree.Mode.TheVariants.{Input, Fresh, Over}
 use Rattle.sh_tree.specs.Tree.{Tree}
 use Rattle.mem_files.specs.Name.{Name}
 use Rattle.script_load.specs.declared.profile.Profile.{Profile}
 use Rattle.script_load.specs.Line.{ScriptLine}
-use Rattle.user_calls.specs.declared.calls.Call.TheVariants.{Fork, Exit, Wait, OpenFile, Close, Dup}
+use Rattle.user_calls.specs.declared.calls.Call.TheVariants.{Fork, Wait, OpenFile, Close, Dup}
 use Rattle.user_progs.specs.Turn.{block}
 use Rattle.sh_machine.specs.declared.state.Phase.TheVariants.{Waits}
 use Rattle.sh_machine.specs.declared.state.Side.TheVariants.{Closes, Dups, ClosesReader, ClosesWriter}

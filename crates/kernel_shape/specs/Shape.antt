@@ -1,19 +1,19 @@
 -- The tree of processes: when the kernel has it, and what it stands for.
-use Rattle.std.specs.Prelude.{◌≡◌, ℕ, suc, ◌+◌, ◌<◌, ◌≤◌, Bool, false, ◌==◌, if◌then◌else◌, List, [], ◌∷◌, drop, Option, Some, None}
+use Rattle.std.specs.Prelude.{◌≡◌, ℕ, ◌+◌, ◌<◌, ◌≤◌, Bool, false, ◌==◌, if◌then◌else◌, List, [], ◌∷◌, drop, Some}
 use Rattle.sh_tree.specs.declared.tree.Mode.{Mode}
 use Rattle.sh_tree.specs.Tree.{Tree}
 use Rattle.mem_files.specs.Name.{Name, Bytes}
 use Rattle.script_load.specs.declared.profile.Profile.{Profile}
 use Rattle.script_load.specs.Line.{ScriptLine}
 use Rattle.sh_meaning.specs.Meaning.{script_tree}
-use Rattle.user_calls.specs.declared.calls.Mode.TheVariants.{Input as ToRead, Append as ToAppend}
+use Rattle.user_calls.specs.declared.calls.Mode.TheVariants.{Input as ToRead}
 use Rattle.user_calls.specs.declared.calls.Mode.{Mode as CallMode}
 use Rattle.user_calls.specs.declared.calls.Call.TheVariants.{Write}
 use Rattle.user_progs.specs.Turn.{Turn}
 use Rattle.sh_machine.specs.State.{told}
 use Rattle.sh_machine.specs.Turn.{calls, exits}
 use Rattle.tree_machine.specs.Residual.{Residual, done, todo, running, seq, piped, unopened, from, into}
-use Rattle.kernel_shape.specs.Seen.{Entry, input, out, diag, reader, writer, file, Fds, fd_at, Seen, free, zombie, live, Place, View}
+use Rattle.kernel_shape.specs.Seen.{Entry, input, out, diag, reader, writer, file, Fds, fd_at, Seen, free, zombie, live, View}
 use Rattle.kernel_shape.specs.Phases.{Stage, closes_read, closes_write, waits_two, waits_one, leaves_pipe, Step, Phase, at_lines, waits_line, begins, opens, waits_list, forks_left, forks_right, has_forked, on_left, on_right, shell_act, does, has_open}
 use Rattle.kernel_shape.specs.Own.{Owned, own_files, Works}
 

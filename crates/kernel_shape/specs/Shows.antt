@@ -1,7 +1,7 @@
 -- When names are right for a kernel: each entry in use has the name of what it has open.
-use Rattle.std.specs.Prelude.{◌≡◌, ℕ, zero, suc, ◌+◌, ◌<◌, true, List, [], Option, Some, None}
+use Rattle.std.specs.Prelude.{◌≡◌, ℕ, zero, suc, ◌+◌, ◌<◌, true, [], Some}
 use Rattle.std.specs.Option.{is_some}
-use Rattle.mem_files.specs.Name.{Name, Bytes}
+use Rattle.mem_files.specs.Name.{Name}
 use Rattle.mem_files.specs.Files.{FileMap, files}
 use Rattle.byte_pipe.specs.PipeState.{PipeState}
 use Rattle.user_calls.specs.declared.calls.Mode.{Mode}
@@ -14,7 +14,7 @@ use Rattle.kernel_model.specs.Modes.{entry_mode}
 use Rattle.kernel_model.specs.Pipes.{Pipes, pipe_of}
 use Rattle.kernel_model.specs.KernelState.{KernelState}
 use Rattle.sh_machine.specs.State.{User}
-use Rattle.kernel_shape.specs.Seen.{Entry, input, out, diag, reader, writer, file, Place, Names}
+use Rattle.kernel_shape.specs.Seen.{Entry, input, out, diag, reader, writer, file, Names}
 
 -- the place goes on at the entry's offset; one that appends has no use for its offset
 abbrev pub GoesOnAt : Mode → ℕ → ℕ → Type 0
