@@ -3,6 +3,8 @@ use Rattle.std.specs.Prelude.{◌≡◌, ◌⊎◌, ℕ, ◌<◌, ◌==◌, if�
 use Rattle.mem_files.specs.Name.{Bytes}
 use Rattle.prog_parts.specs.declared.program.Program.{Program}
 use Rattle.user_calls.specs.declared.calls.Call.TheVariants.{Write}
+use Rattle.user_calls.specs.declared.calls.Mode.{Mode}
+use Rattle.user_calls.specs.declared.calls.Mode.TheVariants.{Input, Fresh, Over, Append}
 use Rattle.user_calls.specs.declared.calls.Reply.{Reply}
 use Rattle.user_progs.specs.Turn.{Turn}
 use Rattle.prog_laws.specs.Alone.{OwnFile}
@@ -41,6 +43,17 @@ abbrev pub ArePlaced : View → List Owned → Type 0
 ArePlaced V [] = Unit {0}
 ArePlaced V (o ∷ later) = (V.places o.entry ≡ place_of o.own) × ArePlaced V later
 
+-- none of them appends: no program opens a file so
+abbrev pub Appends : Mode → Type 0
+Appends Input = ⊥
+Appends Fresh = ⊥
+Appends Over = ⊥
+Appends Append = Unit {0}
+
+abbrev pub NoneAppends : List Owned → Type 0
+NoneAppends [] = Unit {0}
+NoneAppends (o ∷ later) = (Appends o.own.mode → ⊥) × NoneAppends later
+
 -- the program's own files are all that is open above 2
 pub record OwnFds (a b : Entry) (owns : List Owned) (d : Fds) : Type 0 where
   pub input : fd_at d 0 ≡ Some a
@@ -78,3 +91,4 @@ pub record Works (V : View) (a b : Entry) (parent p : ℕ) (turn : Turn) (put : 
   pub placed : ArePlaced V owns
   pub fits : PutFits b turn put
   pub tame : IsTame turn owns
+  pub plain : NoneAppends owns

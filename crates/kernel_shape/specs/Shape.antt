@@ -4,9 +4,10 @@ use Rattle.sh_tree.specs.declared.tree.Mode.{Mode}
 use Rattle.sh_tree.specs.Tree.{Tree}
 use Rattle.mem_files.specs.Name.{Name, Bytes}
 use Rattle.script_load.specs.declared.profile.Profile.{Profile}
+use Rattle.script_load.specs.declared.profile.Profile.TheVariants.{Xv6, Append}
 use Rattle.script_load.specs.Line.{ScriptLine}
 use Rattle.sh_meaning.specs.Meaning.{script_tree}
-use Rattle.user_calls.specs.declared.calls.Mode.TheVariants.{Input as ToRead}
+use Rattle.user_calls.specs.declared.calls.Mode.TheVariants.{Input as ToRead, Fresh as ToFresh, Over as ToOver, Append as ToAppend}
 use Rattle.user_calls.specs.declared.calls.Mode.{Mode as CallMode}
 use Rattle.user_calls.specs.declared.calls.Call.TheVariants.{Write}
 use Rattle.user_progs.specs.Turn.{Turn}
@@ -63,6 +64,15 @@ awaited waits_two = 2
 awaited waits_one = 1
 awaited leaves_pipe = 0
 
+-- how `>` and `>>` open their files: in xv6 `>>` writes from the first byte on, in the other profile at the end
+abbrev pub OpensOutput : Profile → CallMode → Type 0
+OpensOutput profile ToRead = ⊥
+OpensOutput profile ToFresh = Unit {0}
+OpensOutput Xv6 ToOver = Unit {0}
+OpensOutput Append ToOver = ⊥
+OpensOutput Xv6 ToAppend = ⊥
+OpensOutput Append ToAppend = Unit {0}
+
 module _ (profile : Profile) where
   -- the process p of the shell is in this phase, in a command with a as its input and b as its output
   abbrev pub IsIn : View → Entry → Entry → Entry → ℕ → ℕ → Phase → Type 0
@@ -96,7 +106,7 @@ module _ (profile : Profile) where
   Has V a b old parent (under_input e name at x) =
       (V.places e ≡ record { name = name; mode = ToRead; at = at }) × (is_up x ≡ 1) × Has V (file e) b old parent x
   Has V a b old parent (under_output e mode name at x) =
-      (V.places e ≡ record { name = name; mode = mode; at = at }) × (is_up x ≡ 1) × Has V a (file e) old parent x
+      (V.places e ≡ record { name = name; mode = mode; at = at }) × (is_up x ≡ 1) × Has V a (file e) old parent x × OpensOutput profile mode
 
 -- ---- who occurs in a tree
 
