@@ -1,0 +1,4 @@
+pub mod Counts
+pub mod Start
+pub mod Finished
+mod Worked

@@ -1,0 +1,157 @@
+-- A part of the tree of processes, and what a call of one of its processes does to it.
+use Rattle.std.specs.Prelude.{◌≡◌, ℕ, ◌+◌, ◌<◌, ◌≤◌, true, [], ◌++◌, length, drop}
+use Rattle.mem_files.specs.Name.{Bytes}
+use Rattle.mem_files.specs.Files.{FileMap, bytes_of}
+use Rattle.byte_pipe.specs.declared.TheConstants.{PIPE_SIZE}
+use Rattle.script_load.specs.declared.profile.Profile.{Profile}
+use Rattle.tree_machine.specs.Residual.{Residual}
+use Rattle.tree_machine.specs.Rules.{Label, silent, takes, meets_end, puts, refused, Steps, patched, is_gap}
+use Rattle.tree_machine.specs.Moving.{IsPlain}
+use Rattle.kernel_shape.specs.Seen.{Entry, input, out, diag, reader, writer, file, View}
+use Rattle.kernel_shape.specs.Effect.{ParentIs, NoHolder, further}
+use Rattle.kernel_shape.specs.Shape.{Node, Has, same, occurs, names, is_there, is_up, is_used, stands_for}
+
+-- 1 where the entry has this name
+abbrev pub name_of : ℕ → Entry → ℕ
+name_of k input = 0
+name_of k out = 0
+name_of k diag = 0
+name_of k (reader i) = same k i
+name_of k (writer i) = same k i
+name_of k (file e) = same k e
+
+-- what a command can have as its input, and as its output
+abbrev pub CanBeInput : Entry → Type 0
+CanBeInput input = Unit {0}
+CanBeInput out = ⊥
+CanBeInput diag = ⊥
+CanBeInput (reader i) = Unit {0}
+CanBeInput (writer i) = ⊥
+CanBeInput (file e) = Unit {0}
+
+abbrev pub CanBeOutput : Entry → Type 0
+CanBeOutput input = ⊥
+CanBeOutput out = Unit {0}
+CanBeOutput diag = ⊥
+CanBeOutput (reader i) = ⊥
+CanBeOutput (writer i) = Unit {0}
+CanBeOutput (file e) = Unit {0}
+
+-- a part with a as its input and b as its output, under the process `parent`, in which p is
+pub record Part (profile : Profile) (V : View) (a b old : Entry) (parent p : ℕ) (t : Node) : Type 0 where
+  pub has : Has profile V a b old parent t
+  pub inside : 1 ≤ occurs p t
+  pub once : (q : ℕ) → occurs q t ≤ 1
+  pub above : occurs parent t ≡ 0
+  -- no name occurs twice, those of a and b among them, and each is older than the next event
+  pub apart : (k : ℕ) → names k t + name_of k a + name_of k b ≤ 1
+  pub known : (k : ℕ) → 1 ≤ names k t → k < V.next
+  pub ends_known : (k : ℕ) → 1 ≤ name_of k a + name_of k b → k < V.next
+  pub can_read : CanBeInput a
+  pub can_write : CanBeOutput b
+  -- the children of p are in it
+  pub kids : (c : ℕ) → ParentIs (V.slots c) p → 1 ≤ occurs c t
+  -- no command of it is behind &
+  pub plain : IsPlain (stands_for t)
+
+-- ---- what is done to the input and the output of a part
+
+-- nothing
+abbrev pub Same : View → View → Entry → Type 0
+Same V W input = W.input ≡ V.input
+Same V W out = W.out ≡ V.out
+Same V W diag = Unit {0}
+Same V W (reader i) = W.pipes i ≡ V.pipes i
+Same V W (writer i) = W.pipes i ≡ V.pipes i
+Same V W (file e) = W.places e ≡ V.places e
+
+-- these bytes are taken
+abbrev pub Takes : View → View → Entry → Bytes → Type 0
+Takes V W input c = V.input ≡ c ++ W.input
+Takes V W out c = ⊥
+Takes V W diag c = ⊥
+Takes V W (reader i) c = V.pipes i ≡ c ++ W.pipes i
+Takes V W (writer i) c = ⊥
+Takes V W (file e) c =
+    (W.places e ≡ further (V.places e) (length c)) × ((more : Bytes) × (drop (V.places e).at (bytes_of (V.files (V.places e).name)) ≡ c ++ more))
+
+-- its end is met
+abbrev pub MeetsEnd : View → Entry → Type 0
+MeetsEnd V input = V.input ≡ []
+MeetsEnd V out = ⊥
+MeetsEnd V diag = ⊥
+MeetsEnd V (reader i) = (V.pipes i ≡ []) × NoHolder V (writer i)
+MeetsEnd V (writer i) = ⊥
+MeetsEnd V (file e) = drop (V.places e).at (bytes_of (V.files (V.places e).name)) ≡ []
+
+-- these bytes are put, where the files were these
+abbrev pub Puts : View → View → FileMap → Entry → Bytes → Type 0
+Puts V W F input c = ⊥
+Puts V W F out c = (W.out ≡ V.out ++ c) × (W.files ≡ F)
+Puts V W F diag c = ⊥
+Puts V W F (reader i) c = ⊥
+Puts V W F (writer i) c = (W.pipes i ≡ V.pipes i ++ c) × (length (W.pipes i) ≤ PIPE_SIZE) × (W.files ≡ F)
+Puts V W F (file e) c =
+    (W.places e ≡ further (V.places e) (length c))
+    × (is_gap (V.files (V.places e).name) (V.places e).at ≡ true → c ≡ [])
+    × (W.files ≡ patched F (V.places e).name (V.places e).at c)
+
+-- a write is refused
+abbrev pub Refuses : View → Entry → Type 0
+Refuses V input = ⊥
+Refuses V out = ⊥
+Refuses V diag = ⊥
+Refuses V (reader i) = ⊥
+Refuses V (writer i) = NoHolder V (reader i)
+Refuses V (file e) = is_gap (V.files (V.places e).name) (V.places e).at ≡ true
+
+-- what the label of a step says of a and b
+abbrev pub Tells : View → View → FileMap → Entry → Entry → Label → Type 0
+Tells V W F a b silent = Same V W a × Same V W b × (W.files ≡ F)
+Tells V W F a b (takes c) = Takes V W a c × Same V W b × (W.files ≡ F)
+Tells V W F a b meets_end = MeetsEnd V a × Same V W a × Same V W b × (W.files ≡ F)
+Tells V W F a b (puts c) = Puts V W F b c × Same V W a
+Tells V W F a b refused = Refuses V b × Same V W a × Same V W b × (W.files ≡ F)
+
+-- ---- a call of p
+
+-- no step of the tree machine, one, or a few silent ones
+pub data Moves (profile : Profile) : Residual → FileMap → Label → Residual → FileMap → Type 0 where
+  stays : {X : Residual} {F : FileMap} → Moves profile X F silent X F
+  goes : {X Y : Residual} {F G : FileMap} {label : Label} → Steps profile X F label Y G → Moves profile X F label Y G
+  then_goes : {X Y Z : Residual} {F G H : FileMap} → Moves profile X F silent Y G → Steps profile Y G silent Z H → Moves profile X F silent Z H
+
+abbrev pub IsNotInput : Entry → Type 0
+IsNotInput input = ⊥
+IsNotInput out = Unit {0}
+IsNotInput diag = Unit {0}
+IsNotInput (reader i) = Unit {0}
+IsNotInput (writer i) = Unit {0}
+IsNotInput (file e) = Unit {0}
+
+abbrev pub IsNotOut : Entry → Type 0
+IsNotOut input = Unit {0}
+IsNotOut out = ⊥
+IsNotOut diag = Unit {0}
+IsNotOut (reader i) = Unit {0}
+IsNotOut (writer i) = Unit {0}
+IsNotOut (file e) = Unit {0}
+
+-- the part after it
+pub record After (profile : Profile) (V W : View) (a b old : Entry) (parent : ℕ) (t : Node) : Type 0 where
+  pub to : Node
+  pub label : Label
+  pub files : FileMap
+  pub has : Has profile W a b old parent to
+  pub moves : Moves profile (stands_for t) V.files label (stands_for to) files
+  pub tells : Tells V W files a b label
+  -- it has the processes that came and went, and at most the name of this event more
+  pub pids : (q : ℕ) → occurs q to + is_used (V.slots q) ≡ occurs q t + is_used (W.slots q)
+  pub ids : (k : ℕ) → names k to ≤ names k t + same k V.next
+  -- what it doesn't name stays
+  pub others : (k : ℕ) → name_of k a ≡ 0 → name_of k b ≡ 0 → k < V.next → names k t ≡ 0 → (W.pipes k ≡ V.pipes k) × (W.places k ≡ V.places k)
+  pub input_stays : IsNotInput a → W.input ≡ V.input
+  pub out_stays : IsNotOut b → W.out ≡ V.out
+  -- it isn't reaped, and where it is over the step was silent
+  pub there : is_there to ≡ is_there t
+  pub over : is_up to ≡ 0 → label ≡ silent
