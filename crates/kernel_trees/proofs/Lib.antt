@@ -25,3 +25,4 @@ pub mod Reaching
 pub mod WholeTree
 pub mod RunsStand
 pub mod RunsEnd
+pub mod OneFurther

@@ -44,7 +44,7 @@ module _ (first : Stage) (plain : Rattle.tree_machine.specs.Moving.IsPlain first
   goes_with : (names : Names) → ShowsIn names l → IsInit l → Goes Xv6 (view s.names k) (view names l) s.tree → IsOnWay first l
   goes_with names shows has_init g = record { names = names; tree = g.to; shows = shows; shape = g.shape; has_init = has_init; way = reaches_on Xv6 s.way g.reaches }
 
-  event_goes : (e : Event) (n : Bool) → happens call_of next_of k e n ≡ Some l → IsOnWay first l
+  pub event_goes : (e : Event) (n : Bool) → happens call_of next_of k e n ≡ Some l → IsOnWay first l
   event_goes (Dispatch h p) n happened =
       let d = dispatch_quiet s.names k l h p n s.shows happened in
       goes_with s.names d.0 (event_keeps_init k l (Dispatch h p) n settled s.has_init happened) (nothing_goes (view s.names k) (view s.names l) s.tree refl s.shape (ap (λ c. c + 1) d.2) d.1)

@@ -19,7 +19,7 @@ ghost use Rattle.tree_machine.specs.Tidy.{HasShortCommands};
 ghost use Rattle.proc_table.specs.Slots.{IsAlone};
 ghost use Rattle.kernel_model.specs.declared.events.Event.{Event};
 ghost use Rattle.kernel_model.specs.Boot.{boot_kernel};
-ghost use Rattle.kernel_model.specs.Events.{run};
+ghost use Rattle.kernel_model.specs.Events.{happens, run};
 ghost use Rattle.kernel_model.specs.KernelState.{KernelState};
 ghost use Rattle.sh_machine.specs.State.{User, init, shell, top};
 ghost use Rattle.sh_machine.specs.Turn.{call_of, next_of};
@@ -40,8 +40,17 @@ pub fn every_run_stands_for_the_tree_machine_under_xv6s_profile()
         → (stage : Stage) × Reaches Xv6 (first_stage (script_tree lines) input (files list)) stage × Stands Xv6 m stage }
 {}
 
-/// So where such a run of a settled script is finished, that is, no process but init is there, its output, its files but for
-/// soft names, and what it leaves of the input unless that is loose, are what the script means.
+/// Each event of such a run is steps of the machine, however many, or none: there are a stage that the kernel stands for before it and
+/// one after it, and the machine comes from the one to the other.
+pub fn each_event_is_steps_of_the_machine_or_none_under_xv6s_profile()
+    ensures { (lines : List ScriptLine) (input : Bytes) (list : List (Name × Bytes)) (events : List Event) (notes : List Bool) (k : KernelState User) (e : Event) (n : Bool) (l : KernelState User)
+        → AreFiles list → has_back (script_tree lines) ≡ false
+        → run call_of next_of (Some (boot_kernel init (shell Xv6 (top Starts lines)) input list)) events notes ≡ Some k → happens call_of next_of k e n ≡ Some l → l.full ≡ None
+        → (before : Stage) × ((after : Stage) × (Reaches Xv6 (first_stage (script_tree lines) input (files list)) before × Stands Xv6 k before × Reaches Xv6 before after × Stands Xv6 l after)) }
+{}
+
+/// Where a run of a settled script in which nothing was full is finished, that is, no process but init is there, its output,
+/// its files but for soft names, and what it leaves of the input unless that is loose, are what the script means.
 pub fn a_finished_run_gives_the_meaning_under_xv6s_profile()
     ensures { (lines : List ScriptLine) (input : Bytes) (list : List (Name × Bytes)) (events : List Event) (notes : List Bool) (m : KernelState User)
         → AreFiles list → IsSettledScript Xv6 lines input (files list) → HasShortCommands (script_tree lines)
