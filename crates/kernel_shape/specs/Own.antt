@@ -1,12 +1,14 @@
 -- A program that runs: its descriptors, and the files of its own among them.
-use Rattle.std.specs.Prelude.{◌≡◌, ◌⊎◌, ℕ, ◌<◌, ◌==◌, if◌then◌else◌, List, [], ◌∷◌, Option, Some, None}
+use Rattle.std.specs.Prelude.{◌≡◌, ◌⊎◌, ℕ, ◌<◌, ◌≤◌, ◌==◌, if◌then◌else◌, List, [], ◌∷◌, length, Option, Some, None}
 use Rattle.mem_files.specs.Name.{Bytes}
 use Rattle.prog_parts.specs.declared.program.Program.{Program}
 use Rattle.user_calls.specs.declared.calls.Call.TheVariants.{Write}
 use Rattle.user_calls.specs.declared.calls.Mode.{Mode}
 use Rattle.user_calls.specs.declared.calls.Mode.TheVariants.{Input, Fresh, Over, Append}
 use Rattle.user_calls.specs.declared.calls.Reply.{Reply}
-use Rattle.user_progs.specs.Turn.{Turn}
+use Rattle.user_calls.specs.declared.calls.Reply.TheVariants.{Done, Refused}
+use Rattle.user_progs.specs.State.{Tee, tee_opens, tee_reads, tee_writes, tee_gives, State, begins, echo_word, echo_space, opens, works, closes, tees, told, ended}
+use Rattle.user_progs.specs.Turn.{Turn, turn as turn_on}
 use Rattle.prog_laws.specs.Alone.{OwnFile}
 use Rattle.prog_laws.specs.Tame.{AreTame}
 use Rattle.sh_machine.specs.State.{program}
@@ -30,10 +32,10 @@ abbrev pub owned_at : List Owned → ℕ → Option Entry
 owned_at [] fd = None
 owned_at (o ∷ later) fd = if o.own.fd == fd then Some (file o.entry) else owned_at later fd
 
--- no two of them have one descriptor
+-- no two of them have one descriptor, and each is above 2
 abbrev pub AreApart : List Owned → Type 0
 AreApart [] = Unit {0}
-AreApart (o ∷ later) = (owned_at later o.own.fd ≡ None) × AreApart later
+AreApart (o ∷ later) = (2 < o.own.fd) × (owned_at later o.own.fd ≡ None) × AreApart later
 
 -- each goes on where its entry does
 abbrev pub place_of : OwnFile → Place
@@ -79,6 +81,30 @@ pub record IsTame (turn : Turn) (owns : List Owned) : Type 0 where
   pub arguments : List Bytes
   pub calls : (replies : List Reply) → AreTame which arguments turn.next turn.call (own_fds owns) replies
 
+-- what tee read and has still to write is never nothing
+abbrev pub TeeHoldsSome : Tee → Type 0
+TeeHoldsSome (tee_opens fds name later) = Unit {0}
+TeeHoldsSome (tee_reads fds) = Unit {0}
+TeeHoldsSome (tee_writes fds bytes) = 1 ≤ length bytes
+TeeHoldsSome (tee_gives fds at bytes) = 1 ≤ length bytes
+
+abbrev pub HoldsSome : State → Type 0
+HoldsSome (begins which arguments) = Unit {0}
+HoldsSome (echo_word later) = Unit {0}
+HoldsSome (echo_space later) = Unit {0}
+HoldsSome (opens filter name later) = Unit {0}
+HoldsSome (works work source) = Unit {0}
+HoldsSome (closes filter later) = Unit {0}
+HoldsSome (tees tee) = TeeHoldsSome tee
+HoldsSome told = Unit {0}
+HoldsSome ended = Unit {0}
+
+-- a write of no bytes, as echo's of an empty argument, is all the same to it whether it is done or refused: behind a gap in
+-- a file the kernel refuses it
+pub record IsSteady (turn : Turn) : Type 0 where
+  pub holds : HoldsSome turn.next
+  pub passes : turn.call ≡ Write 1 [] → turn_on turn.next Refused ≡ turn_on turn.next Done
+
 abbrev pub program_act : Turn → Act
 program_act turn = record { call = turn.call; next = program turn.next }
 
@@ -92,3 +118,4 @@ pub record Works (V : View) (a b : Entry) (parent p : ℕ) (turn : Turn) (put : 
   pub fits : PutFits b turn put
   pub tame : IsTame turn owns
   pub plain : NoneAppends owns
+  pub steady : IsSteady turn

@@ -4,12 +4,13 @@ use Rattle.mem_files.specs.Name.{Bytes}
 use Rattle.mem_files.specs.Files.{FileMap, bytes_of}
 use Rattle.byte_pipe.specs.declared.TheConstants.{PIPE_SIZE}
 use Rattle.script_load.specs.declared.profile.Profile.{Profile}
+use Rattle.user_calls.specs.declared.calls.Mode.TheVariants.{Input as ToRead}
 use Rattle.tree_machine.specs.Residual.{Residual}
 use Rattle.tree_machine.specs.Rules.{Label, silent, takes, meets_end, puts, refused, Steps, patched, is_gap}
 use Rattle.tree_machine.specs.Moving.{IsPlain}
 use Rattle.kernel_shape.specs.Seen.{Entry, input, out, diag, reader, writer, file, View}
 use Rattle.kernel_shape.specs.Effect.{ParentIs, NoHolder, further}
-use Rattle.kernel_shape.specs.Shape.{Node, Has, same, occurs, names, is_there, is_up, is_used, stands_for}
+use Rattle.kernel_shape.specs.Shape.{Node, OpensOutput, Has, same, occurs, names, is_there, is_up, is_used, stands_for}
 
 -- 1 where the entry has this name
 abbrev pub name_of : ℕ → Entry → ℕ
@@ -37,6 +38,23 @@ CanBeOutput (reader i) = ⊥
 CanBeOutput (writer i) = Unit {0}
 CanBeOutput (file e) = Unit {0}
 
+-- a file that is the input was opened to be read, and one that is the output as `>` and `>>` open theirs
+abbrev pub OpenedToRead : View → Entry → Type 0
+OpenedToRead V input = Unit {0}
+OpenedToRead V out = Unit {0}
+OpenedToRead V diag = Unit {0}
+OpenedToRead V (reader i) = Unit {0}
+OpenedToRead V (writer i) = Unit {0}
+OpenedToRead V (file e) = (V.places e).mode ≡ ToRead
+
+abbrev pub OpenedToWrite : Profile → View → Entry → Type 0
+OpenedToWrite profile V input = Unit {0}
+OpenedToWrite profile V out = Unit {0}
+OpenedToWrite profile V diag = Unit {0}
+OpenedToWrite profile V (reader i) = Unit {0}
+OpenedToWrite profile V (writer i) = Unit {0}
+OpenedToWrite profile V (file e) = OpensOutput profile (V.places e).mode
+
 -- a part with a as its input and b as its output, under the process `parent`, in which p is
 pub record Part (profile : Profile) (V : View) (a b old : Entry) (parent p : ℕ) (t : Node) : Type 0 where
   pub has : Has profile V a b old parent t
@@ -49,6 +67,8 @@ pub record Part (profile : Profile) (V : View) (a b old : Entry) (parent p : ℕ
   pub ends_known : (k : ℕ) → 1 ≤ name_of k a + name_of k b → k < V.next
   pub can_read : CanBeInput a
   pub can_write : CanBeOutput b
+  pub to_read : OpenedToRead V a
+  pub to_write : OpenedToWrite profile V b
   -- the children of p are in it
   pub kids : (c : ℕ) → ParentIs (V.slots c) p → 1 ≤ occurs c t
   -- no command of it is behind &

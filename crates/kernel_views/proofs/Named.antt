@@ -135,11 +135,11 @@ event_keeps k l (Trap h p) n settled happened full named = (by (cases_eq p 0), e
         let w = init_seen named.0.0 k settled named.0.1 h l n named.1 (subst (λ q. happens call_of next_of k (Trap h q) n ≡ Some l) same happened) in
         (named.0.0, w.0)
 
+pub start_init : (profile : Profile) (lines : List ScriptLine) (input : Bytes) (list : List (Name × Bytes)) → IsInit (boot_kernel init (shell profile (top Starts lines)) input list)
+start_init profile lines input list p at_it = let z : Some p.machine ≡ Some init = sym (ap machine_of at_it) in let w : p.machine ≡ init = cc in w
+
 pub every_run_is_named : (profile : Profile) (lines : List ScriptLine) (input : Bytes) (list : List (Name × Bytes)) (events : List Event) (notes : List Bool) (m : KernelState User) → AreFiles list → run call_of next_of (Some (boot_kernel init (shell profile (top Starts lines)) input list)) events notes ≡ Some m → m.full ≡ None → IsNamed m
 every_run_is_named profile lines input list events notes m are is full =
     let first = shell profile (top Starts lines) in
     runs.every_run_keeps init first input list IsNamed (λ k l e n r happened was now named. event_keeps k l e n (runs.settled init first input list are k r) happened now named)
-    (((start_stands profile lines input list).names, (start_stands profile lines input list).shows), start_init) events notes m is full
-  where
-    start_init : IsInit (boot_kernel init (shell profile (top Starts lines)) input list)
-    start_init p at_it = let z : Some p.machine ≡ Some init = sym (ap machine_of at_it) in let w : p.machine ≡ init = cc in w
+    (((start_stands profile lines input list).names, (start_stands profile lines input list).shows), start_init profile lines input list) events notes m is full

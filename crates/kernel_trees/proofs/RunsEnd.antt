@@ -1,0 +1,43 @@
+-- A finished run of a settled script gives what the script means.
+use Rattle.std.proofs.Common.{◌≡◌, Bool, List, Some, None, ap, ◌∙◌}
+use Rattle.mem_files.specs.Name.{Name, Bytes}
+use Rattle.mem_files.specs.Files.{FileMap, files}
+use Rattle.mem_files.specs.Listing.{AreFiles}
+use Rattle.script_load.specs.Line.{ScriptLine}
+use Rattle.script_load.specs.declared.profile.Profile.TheVariants.{Xv6}
+use Rattle.sh_meaning.specs.Meaning.{script_tree, script_meaning}
+use Rattle.sh_meaning.specs.Settled.{IsSettledScript}
+use Rattle.sh_meaning.specs.Value.{Value}
+use Rattle.tree_machine.specs.Residual.{done}
+use Rattle.tree_machine.specs.Runs.{Stage, Agrees}
+use Rattle.tree_machine.specs.Tidy.{HasShortCommands}
+use Rattle.tree_machine.proofs.OneAnswer.{reaches_way, first_way, done_agrees}
+use Rattle.proc_table.specs.Slots.{IsAlone}
+use Rattle.kernel_model.specs.declared.events.Event.{Event}
+use Rattle.kernel_model.specs.KernelState.{KernelState}
+use Rattle.kernel_model.specs.Boot.{boot_kernel}
+use Rattle.kernel_model.specs.Events.{run}
+use Rattle.sh_machine.specs.State.{User, init, shell, top}
+use Rattle.sh_machine.specs.Turn.{call_of, next_of}
+use Rattle.sh_machine.specs.declared.state.Phase.TheVariants.{Starts}
+use Rattle.kernel_shape.specs.Standing.{Stands}
+use Rattle.kernel_shape.proofs.Finished.{finished}
+use Rattle.kernel_trees.proofs.RunsStand.{stands_then}
+
+abbrev ended : KernelState User → Stage
+ended m = record { left = done; input = m.input; out = m.out; files = files m.files }
+
+-- what the stage agrees with, the kernel does
+seen_agrees : (value : Value) (m : KernelState User) (stage : Stage) → Stands Xv6 m stage → Agrees stage value → Agrees (ended m) value
+seen_agrees value m stage s a = record {
+  out = s.out ∙ a.out;
+  files = λ name hard. ap (λ (F : FileMap). F name) s.files ∙ a.files name hard;
+  rest = λ fixed. s.input ∙ a.rest fixed;
+}
+
+pub finished_means : (lines : List ScriptLine) (input : Bytes) (list : List (Name × Bytes)) (events : List Event) (notes : List Bool) (m : KernelState User) → AreFiles list → IsSettledScript Xv6 lines input (files list) → HasShortCommands (script_tree lines)
+    → run call_of next_of (Some (boot_kernel init (shell Xv6 (top Starts lines)) input list)) events notes ≡ Some m → m.full ≡ None → IsAlone m.table → Agrees (ended m) (script_meaning Xv6 lines input (files list))
+finished_means lines input list events notes m are settled short is full alone =
+    let s = stands_then lines input list events notes m are settled.0 is full in
+    let value = script_meaning Xv6 lines input (files list) in
+    seen_agrees value m s.0 s.2 (done_agrees Xv6 value s.0 (reaches_way Xv6 value s.1 (first_way Xv6 lines input (files list) settled short)) (finished Xv6 m s.0 s.2 alone))
