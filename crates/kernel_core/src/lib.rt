@@ -11,11 +11,13 @@ mod kernel;
 mod log;
 mod report;
 mod run;
+mod status;
 #[cfg(test)]
 mod tests;
 
 pub use kernel::{Kernel, Stranger};
 pub use kernel_model::{Event, Full};
+pub use kernel_pipes::PipeStatus;
 pub use kernel_state::Task;
 pub use report::{Report, Schedule};
 pub use run::{MAX_TURNS, RunOneFault, run_one};

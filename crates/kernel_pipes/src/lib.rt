@@ -10,4 +10,5 @@ mod pipes;
 mod tests;
 
 pub use blocks::first_block;
+pub use named::PipeStatus;
 pub use pipes::Pipes;

@@ -6,6 +6,15 @@ use std::alloc::Allocator;
 use std::marker::Model;
 use user_calls::{BLOCK_SIZE, Block};
 
+/// How full a pipe is, and which of its ends are open.
+#[derive(Clone, Copy, Debug, PartialEq, Eq)]
+pub struct PipeStatus {
+    /// How many bytes it holds.
+    pub held: usize,
+    pub reader_open: bool,
+    pub writer_open: bool,
+}
+
 // A pipe with its name.
 #[derive(Drop)]
 pub struct NamedPipe<A: Allocator> {
@@ -27,6 +36,7 @@ impl<A: Allocator> NamedPipe<A> {
     ghost use Rattle.user_calls.specs.declared.block.TheConstants.{BLOCK_SIZE};
     ghost use Rattle.byte_pipe.specs.PipeState.{after_close_read, after_close_write, after_put, after_take, put_answer, take_answer};
     ghost use Rattle.kernel_pipes.specs.Placed.{is_named};
+    ghost use Rattle.kernel_pipes.specs.Status.{status_of};
 
     pub(crate) fn new(name: u64, pipe: Pipe<A>) -> Self
         ensures { result ≡ (name, pipe) }
@@ -78,5 +88,15 @@ impl<A: Allocator> NamedPipe<A> {
         ensures { result ≡ (self.now.1.reader || self.now.1.writer) }
     {
         self.pipe.reader_open() || self.pipe.writer_open()
+    }
+
+    pub(crate) fn status(&self) -> PipeStatus
+        ensures { result ≡ status_of self.now.1 }
+    {
+        PipeStatus {
+            held: self.pipe.held(),
+            reader_open: self.pipe.reader_open(),
+            writer_open: self.pipe.writer_open(),
+        }
     }
 }

@@ -5,8 +5,9 @@ ghost use Rattle.user_calls.specs.declared.block.TheConstants.{BLOCK_SIZE};
 ghost use Rattle.byte_pipe.specs.PipeState.{put_answer, take_answer};
 ghost use Rattle.kernel_model.specs.Pipes.{pipe_of, put_into, reader_gone, taken_from, with_new, writer_gone};
 ghost use Rattle.kernel_pipes.specs.Placed.{IsPlaced, is_named};
+ghost use Rattle.kernel_pipes.specs.Status.{status_of};
 
-use crate::named::NamedPipe;
+use crate::named::{NamedPipe, PipeStatus};
 use byte_pipe::{Pipe, Put, Take};
 use std::alloc::{AllocError, Allocator};
 use std::marker::Model;
@@ -63,6 +64,16 @@ impl<A: Allocator> Pipes<A> {
         };
         let pipe = &mut self.list[at];
         Some(pipe.take(count))
+    }
+
+    /// How full the pipe of that name is, and which of its ends are open; `None` where there is no such pipe.
+    pub fn status(&self, name: u64) -> Option<PipeStatus>
+        ensures { result ≡ option_map status_of (pipe_of self.now name) }
+    {
+        let Some(at) = self.place(name) else {
+            return None;
+        };
+        Some(self.list[at].status())
     }
 
     /// Closes the read end of the pipe of that name, if there is one; with the second end the pipe is given up

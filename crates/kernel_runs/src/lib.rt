@@ -8,5 +8,6 @@ mod driven;
 mod memory;
 #[cfg(test)]
 mod schedules;
+pub mod sleepers;
 #[cfg(test)]
 mod walker;

@@ -3,6 +3,7 @@
 ghost use Rattle.std.specs.Prelude.{◌<◌};
 
 use crate::driven::boot;
+use crate::sleepers::whoever_sleeps_has_to;
 use crate::walker::Walker;
 use kernel_core::{Kernel, Task};
 use std::alloc::Allocator;
@@ -104,6 +105,9 @@ fn run_script<A: Allocator + Copy>(
         }
         if kernel.full().is_some() {
             return Err(Fail::from("something was full"));
+        }
+        if !whoever_sleeps_has_to(&kernel) {
+            return Err(Fail::from("a wake-up is lost"));
         }
     }
     Err(Fail::from("it has no end"))

@@ -1,5 +1,5 @@
 -- The parts of a command stand at the places behind its own.
-use Rattle.std.proofs.Common.{◌≡◌, ◌+◌, ◌-◌, ℕ, suc, List, [], ◌∷◌, Option, Some, None, ap, ◌∙◌, arith, drop, length}
+use Rattle.std.proofs.Common.{◌≡◌, ◌+◌, ◌-◌, ◌^◌, ◌≤◌, ℕ, suc, List, [], ◌∷◌, Option, Some, None, ap, ◌∙◌, arith, drop, length}
 use Rattle.std.specs.Prelude.{slice_get}
 use Rattle.sh_tree.specs.declared.tree.Mode.{Mode}
 use Rattle.sh_tree.specs.Tree.{Tree, redir, pipe, list, back}
@@ -20,8 +20,11 @@ placed_later script (Some place) s k u (Some later) part placed is =
     ∙ line_part_later (drop (length script - place.lines) script) place.before s k u part placed
 
 -- two steps are one
-later_twice : (place : Option Place) (m : ℕ) (next : Option Place) (n : ℕ) (later : Option Place) → IsLater place m next → IsLater next n later → IsLater place (m + n) later
-later_twice place m next n None one two = tt
+pub later_twice : (place : Option Place) (m : ℕ) (next : Option Place) (n : ℕ) (later : Option Place) → IsLater place m next → IsLater next n later → IsLater place (m + n) later
+later_twice None m None n None one two = tt
+later_twice None m (Some next) n None one two = absurd one
+later_twice (Some place) m None n None one two = let far : 2 ^ 64 ≤ place.before + (m + n) = omega (arith, one) in far
+later_twice (Some place) m (Some next) n None one two = let far : 2 ^ 64 ≤ place.before + (m + n) = omega (arith, one.1, two) in far
 later_twice place m None n (Some later) one two = absurd two
 later_twice None m (Some next) n (Some later) one two = absurd one
 later_twice (Some place) m (Some next) n (Some later) one two = (two.0 ∙ one.0, omega arith)

@@ -1,5 +1,5 @@
 -- Commands by their places in a script.
-use Rattle.std.specs.Prelude.{◌≡◌, ℕ, zero, suc, ◌+◌, ◌-◌, List, [], ◌∷◌, length, drop, Option, Some, None, nat_lt, if◌then◌else◌, refl}
+use Rattle.std.specs.Prelude.{◌≡◌, ℕ, zero, suc, ◌+◌, ◌-◌, ◌^◌, ◌≤◌, List, [], ◌∷◌, length, drop, Option, Some, None, nat_lt, if◌then◌else◌, refl}
 use Rattle.std.specs.Coded.{Coded-set, coded_option}
 use Rattle.sh_tree.specs.Codes.{tree_code}
 use Rattle.sh_tree.specs.Tree.{Tree, exec, redir, pipe, list, back}
@@ -48,9 +48,11 @@ pub placed_fact : (script : List ScriptLine) (place : Option Place) (tree : Tree
 placed_fact script None tree = λ x y. refl
 placed_fact script (Some place) tree = Coded-set (coded_option tree_code) (part_at script place) (Some tree)
 
--- the second place, if it is known, is so many commands after the first in its line
+-- the second place is so many commands after the first in its line; it is unknown where the first one is, or where a number
+-- can't count so far
 abbrev pub IsLater : Option Place → ℕ → Option Place → Type 0
-IsLater place count None = Unit {0}
+IsLater None count None = Unit {0}
+IsLater (Some place) count None = 2 ^ 64 ≤ place.before + count
 IsLater None count (Some later) = ⊥
 IsLater (Some place) count (Some later) = (later.lines ≡ place.lines) × (later.before ≡ place.before + count)
 

@@ -1,5 +1,5 @@
 -- The states of users over a borrowed script, as plain data.
-use Rattle.std.specs.Prelude.{List, map}
+use Rattle.std.specs.Prelude.{◌+◌, List, map, Option}
 use Rattle.sh_tree.specs.Tree.{Tree, exec, redir, pipe, list, back, tree_of}
 use Rattle.script_load.specs.Line.{ScriptLine, line_of}
 use Rattle.user_progs.specs.View.{state_of}
@@ -17,6 +17,8 @@ use Rattle.sh_machine.specs.declared.state.Turn.{Turn as Turn'}
 use Rattle.sh_machine.specs.declared.user.User.{User as User'}
 use Rattle.sh_machine.specs.declared.user.Kind.{Kind}
 use Rattle.sh_machine.specs.declared.user.Kind.TheVariants.{Init, Shell as Shell', Program}
+use Rattle.sh_machine.specs.declared.place.Place.{Place}
+use Rattle.sh_machine.specs.Place.{IsLater, size_of}
 use Rattle.sh_machine.specs.State.{Parent, makes, forks_writer, forks_reader, closes_reader, closes_writer, waits_first, waits_second, Shell, top, unknown, closes_old, opens_file, forks_left, waits_left, pipes, side, forks_back, told, ended, User, init, shell, program}
 use Rattle.sh_machine.specs.Turn.{Next, stays, becomes, Turn}
 
@@ -32,6 +34,14 @@ opened_of (Redir' mode name body) = redir mode name.now (node_of body)
 opened_of (Pipe' left right) = pipe (node_of left) (node_of right)
 opened_of (List' left right) = list (node_of left) (node_of right)
 opened_of (Back' body) = back (node_of body)
+
+-- each part of a command at this place stands right behind it, but a right part behind the left one
+abbrev pub ArePlaced : {A N g : _} → Option Place → Opened A N g → Type 0
+ArePlaced place (Exec' words) = Unit {0}
+ArePlaced place (Redir' mode name body) = IsLater place 1 body.place
+ArePlaced place (Pipe' left right) = IsLater place 1 left.place × IsLater place (1 + size_of (node_of left)) right.place
+ArePlaced place (List' left right) = IsLater place 1 left.place × IsLater place (1 + size_of (node_of left)) right.place
+ArePlaced place (Back' body) = IsLater place 1 body.place
 
 abbrev pub parent_of : {A N g : _} → Parent' A N g → Parent
 parent_of (Makes left right) = makes (node_of left) (node_of right)

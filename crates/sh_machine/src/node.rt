@@ -36,7 +36,7 @@ impl<'t, A: Allocator, N: Naming> Node<'t, A, N> {
     ghost use Rattle.sh_tree.specs.Tree.{tree_of};
     ghost use Rattle.script_load.specs.Line.{command};
     ghost use Rattle.sh_machine.specs.Place.{IsPlaced};
-    ghost use Rattle.sh_machine.specs.View.{rest_of, node_of, opened_of};
+    ghost use Rattle.sh_machine.specs.View.{ArePlaced, rest_of, node_of, opened_of};
 
     // The command of the first of these lines.
     pub fn first(rest: &Rest<'t, A, N>, tree: &'t Cmd<A>) -> Self
@@ -61,7 +61,8 @@ impl<'t, A: Allocator, N: Naming> Node<'t, A, N> {
 
     // The command by its kind. The right part's place is found by counting the left part's commands.
     pub fn open(&self) -> Opened<'t, A, N>
-        ensures { opened_of result ≡ node_of self.now }
+        ensures tree { opened_of result ≡ node_of self.now }
+        ensures places { ArePlaced self.now.place result }
     {
         let next = Place::later(self.place, 1);
         match self.tree {

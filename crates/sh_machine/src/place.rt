@@ -13,7 +13,7 @@ pub struct Place {
 }
 
 impl Place {
-    ghost use Rattle.std.specs.Prelude.{◌≡◌, ◌↔◌, IsTrue, IfSome};
+    ghost use Rattle.std.specs.Prelude.{◌≡◌, ◌↔◌, ◌^◌, ◌≤◌, IsTrue, IfSome, IfNone};
     ghost use Rattle.sh_tree.specs.Tree.{tree_of};
     ghost use Rattle.sh_machine.specs.Place.{IsLater, SamePlace, size_of};
 
@@ -42,7 +42,7 @@ impl Place {
 
     // Whether both places are known, and one.
     pub fn is_known_as(place: Option<Place>, other: Option<Place>) -> bool
-        ensures { IsTrue result → SamePlace place other }
+        ensures { IsTrue result ↔ SamePlace place other }
     {
         match (place, other) {
             (Some(place), Some(other)) => {
@@ -64,7 +64,8 @@ impl Place {
 
     // How many commands a tree has.
     fn size<A: Allocator>(tree: &Cmd<A>) -> Option<usize>
-        ensures { IfSome result (λ size. size ≡ size_of (tree_of tree.now)) }
+        ensures value { IfSome result (λ size. size ≡ size_of (tree_of tree.now)) }
+        ensures far { IfNone result (2 ^ 64 ≤ size_of (tree_of tree.now)) }
     {
         match tree {
             Cmd::Exec(_) => Some(1),
