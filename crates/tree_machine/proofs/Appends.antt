@@ -40,11 +40,11 @@ b_first = after_steps Append (all_open ++ writing on_right ++ writing on_left ++
 b_then_a : b_first.files (codes "f") ≡ Some (codes "b\na\n")
 b_then_a = refl
 
--- whatever the order, the file holds both words and both newlines
+-- whatever the order of all their steps, the file holds both words and both newlines
 abbrev is_whole : Bytes → Bool
 is_whole held = bytes_eq held (codes "a\nb\n") || bytes_eq held (codes "b\na\n") || bytes_eq held (codes "ab\n\n") || bytes_eq held (codes "ba\n\n")
 
-none_lost : all_end Append (λ last. is_whole (bytes_of (last.files (codes "f")))) 12 (after_steps Append all_open (first_stage both_add [] no_files)) ≡ true
+none_lost : all_end Append (λ last. is_whole (bytes_of (last.files (codes "f")))) 20 (first_stage both_add [] no_files) ≡ true
 none_lost = refl
 
 -- in xv6's profile the second writes over what the first wrote
