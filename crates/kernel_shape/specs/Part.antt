@@ -10,7 +10,7 @@ use Rattle.tree_machine.specs.Rules.{Label, silent, takes, meets_end, puts, refu
 use Rattle.tree_machine.specs.Moving.{IsPlain}
 use Rattle.kernel_shape.specs.Seen.{Entry, input, out, diag, reader, writer, file, View}
 use Rattle.kernel_shape.specs.Effect.{ParentIs, NoHolder, further}
-use Rattle.kernel_shape.specs.Shape.{Node, OpensOutput, Has, same, occurs, names, is_there, is_up, is_used, stands_for}
+use Rattle.kernel_shape.specs.Shape.{Node, OpensOutput, Has, same, occurs, names, is_there, is_up, is_used, position_of, stands_for}
 
 -- 1 where the entry has this name
 abbrev pub name_of : ℕ → Entry → ℕ
@@ -113,8 +113,8 @@ Puts V W F (reader i) c = ⊥
 Puts V W F (writer i) c = (W.pipes i ≡ V.pipes i ++ c) × (length (W.pipes i) ≤ PIPE_SIZE) × (W.files ≡ F)
 Puts V W F (file e) c =
     (W.places e ≡ further (V.places e) (length c))
-    × (is_gap (V.files (V.places e).name) (V.places e).at ≡ true → c ≡ [])
-    × (W.files ≡ patched F (V.places e).name (V.places e).at c)
+    × (is_gap (V.files (V.places e).name) (position_of (V.places e)) ≡ true → c ≡ [])
+    × (W.files ≡ patched F (V.places e).name (position_of (V.places e)) c)
 
 -- a write is refused
 abbrev pub Refuses : View → Entry → Type 0
@@ -123,7 +123,7 @@ Refuses V out = ⊥
 Refuses V diag = ⊥
 Refuses V (reader i) = ⊥
 Refuses V (writer i) = NoHolder V (reader i)
-Refuses V (file e) = is_gap (V.files (V.places e).name) (V.places e).at ≡ true
+Refuses V (file e) = is_gap (V.files (V.places e).name) (position_of (V.places e)) ≡ true
 
 -- what the label of a step says of a and b
 abbrev pub Tells : View → View → FileMap → Entry → Entry → Label → Type 0

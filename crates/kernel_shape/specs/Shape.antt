@@ -13,8 +13,8 @@ use Rattle.user_calls.specs.declared.calls.Call.TheVariants.{Write}
 use Rattle.user_progs.specs.Turn.{Turn}
 use Rattle.sh_machine.specs.State.{told}
 use Rattle.sh_machine.specs.Turn.{calls, exits}
-use Rattle.tree_machine.specs.Residual.{Residual, done, todo, running, seq, piped, unopened, from, into}
-use Rattle.kernel_shape.specs.Seen.{Entry, input, out, diag, reader, writer, file, Fds, fd_at, Seen, free, zombie, live, View}
+use Rattle.tree_machine.specs.Residual.{Residual, done, todo, running, seq, piped, unopened, from, into, Position, at_byte, at_file_end}
+use Rattle.kernel_shape.specs.Seen.{Entry, input, out, diag, reader, writer, file, Fds, fd_at, Seen, free, zombie, live, Place, View}
 use Rattle.kernel_shape.specs.Phases.{Stage, closes_read, closes_write, waits_two, waits_one, leaves_pipe, Step, Phase, at_lines, waits_line, begins, opens, waits_list, forks_left, forks_right, has_forked, on_left, on_right, shell_act, does, has_open}
 use Rattle.kernel_shape.specs.Own.{Owned, own_files, Works}
 
@@ -173,6 +173,16 @@ pub record IsShape (profile : Profile) (V : View) (t : Node) : Type 0 where
 
 -- ---- what it stands for
 
+-- where an entry that was opened so goes on: one that appends at its file's end, whatever its offset
+abbrev pub position : CallMode → ℕ → Position
+position ToRead at = at_byte at
+position ToFresh at = at_byte at
+position ToOver at = at_byte at
+position ToAppend at = at_file_end
+
+abbrev pub position_of : Place → Position
+position_of place = position place.mode place.at
+
 abbrev pub stands_for : Node → Residual
 stands_for reaped = done
 stands_for (gone p) = done
@@ -190,4 +200,4 @@ stands_for (left_child p step tree) = todo tree
 stands_for (right_child p step tree) = todo tree
 stands_for (opening p mode name body) = unopened mode name body
 stands_for (under_input e name at x) = from name at (stands_for x)
-stands_for (under_output e mode name at x) = into name at (stands_for x)
+stands_for (under_output e mode name at x) = into name (position mode at) (stands_for x)

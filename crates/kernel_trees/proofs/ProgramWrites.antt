@@ -3,19 +3,21 @@ use Rattle.std.proofs.Common.{◌≡◌, inl, inr, ℕ, ◌+◌, ◌≤◌, Bool
 use Rattle.std.specs.Prelude.{nat_lt}
 use Rattle.std.proofs.lemmas.Bool.{both_ways}
 use Rattle.mem_files.specs.Name.{Bytes}
+use Rattle.mem_files.specs.Files.{with_file}
+use Rattle.mem_files.specs.Overlay.{written}
+use Rattle.mem_files.proofs.Overlays.{written_end}
 use Rattle.script_load.specs.declared.profile.Profile.{Profile}
-use Rattle.script_load.specs.declared.profile.Profile.TheVariants.{Xv6}
 use Rattle.user_calls.specs.declared.calls.Call.TheVariants.{Write}
 use Rattle.user_calls.specs.declared.calls.Mode.{Mode}
 use Rattle.user_calls.specs.declared.calls.Mode.TheVariants.{Input as ToRead, Fresh, Over, Append}
 use Rattle.user_calls.specs.declared.calls.Reply.TheVariants.{Done, Refused}
 use Rattle.user_progs.specs.State.{State}
-use Rattle.tree_machine.specs.Residual.{running}
-use Rattle.tree_machine.specs.Rules.{puts, refused, is_gap, writes_all, writes_some, write_refused}
+use Rattle.tree_machine.specs.Residual.{running, Position, at_byte, at_file_end, byte_in}
+use Rattle.tree_machine.specs.Rules.{puts, refused, is_gap, patched, writes_all, writes_some, write_refused}
 use Rattle.kernel_shape.specs.Seen.{Entry, input, out, diag, reader, writer, file, Fds, fd_at, live, Place, View}
 use Rattle.kernel_shape.specs.Own.{Owned, own_files, PutFits, program_act}
-use Rattle.kernel_shape.specs.Shape.{works, same, OpensOutput}
-use Rattle.kernel_shape.specs.Effect.{Answers, IsCall, WritesPipe, puts_all, puts_some, has_no_reader, finds_it_full, WritesHere, WritesOver, WritesFile, WritesAt}
+use Rattle.kernel_shape.specs.Shape.{works, same, OpensOutput, position, position_of}
+use Rattle.kernel_shape.specs.Effect.{Sets, Answers, IsCall, PlaceChanges, further, answered, WritesPipe, puts_all, puts_some, has_no_reader, finds_it_full, WritesHere, WritesOver, WritesBehind, WritesFile, WritesAt}
 use Rattle.kernel_shape.specs.Part.{goes}
 use Rattle.kernel_shape.proofs.Counts.{same_self}
 use Rattle.kernel_trees.proofs.Frame.{held_stay}
@@ -84,70 +86,85 @@ module _ (profile : Profile) (V W : View) (a old : Entry) (parent p : ℕ) (next
   nothing_put e (inl none) = none
   nothing_put e (inr some) = absurd some.0
 
--- a write of bytes behind a gap is refused, and one of none passes
+-- to its file, which holds this
 module _ (profile : Profile) (V W : View) (a old : Entry) (parent p : ℕ) (next : State) (put : ℕ) (owns : List Owned) (e : ℕ) (held : Bytes) (there : V.files (V.places e).name ≡ Some held) where
-  behind_gap : (bytes : Bytes) (g : Before profile V W a old parent p next put owns bytes (file e)) → nat_lt (length held) (V.places e).at ≡ true → Answers V W p parent (act profile V W a old parent p next put owns bytes) Refused g.has.fds → Afterwards profile V W a old parent p next put owns bytes (file e)
-  behind_gap [] g gap f =
+  -- a write of bytes behind a gap is refused, and one of none passes
+  behind_gap : position_of (V.places e) ≡ at_byte (V.places e).at → (bytes : Bytes) (g : Before profile V W a old parent p next put owns bytes (file e)) → nat_lt (length held) (V.places e).at ≡ true → Answers V W p parent (act profile V W a old parent p next put owns bytes) Refused g.has.fds → Afterwards profile V W a old parent p next put owns bytes (file e)
+  behind_gap sits [] g gap f =
       goes_on.goes_alike profile V W a (file e) old parent p (Write 1 []) next put owns Refused (puts []) V.files g f.slots (λ k l. f.rest.places k) refl
       (writes_all [] refl (ap (λ n. drop {A = ℕ} n []) (sym (nothing_put profile V W a old parent p next put owns [] e g.has.fits))) (ap (λ t. running (record { turn = t; own = own_files owns; put = 0 })) (g.has.steady.passes refl))) (
         (
           f.rest.places e ∙ ap (λ n. record (V.places e) { at = n }) (let z : (V.places e).at ≡ (V.places e).at + 0 = omega arith in z),
           (λ is. refl),
-          f.rest.files ∙ patched_none V.files (V.places e).name held (V.places e).at there gap,
+          f.rest.files ∙ patched_none V.files (V.places e).name held (V.places e).at there gap ∙ ap (λ at. patched V.files (V.places e).name at []) (sym sits),
         ),
         kinds.same_of V W f.rest a,
       )
       (goes_on.all_leave profile V W a (file e) old parent p (Write 1 []) next put owns f.rest)
-  behind_gap (byte ∷ bytes) g gap f =
+  behind_gap sits (byte ∷ bytes) g gap f =
       goes_on.goes_alike profile V W a (file e) old parent p (Write 1 (byte ∷ bytes)) next put owns Refused refused V.files g f.slots (λ k l. f.rest.places k) refl
       (write_refused (byte ∷ bytes) refl (subst (λ n. 1 ≤ length (drop n (byte ∷ bytes))) (sym (nothing_put profile V W a old parent p next put owns (byte ∷ bytes) e g.has.fits)) (omega arith)) refl)
-      (ap (λ o. is_gap o (V.places e).at) there ∙ gap, kinds.same_of V W f.rest a, f.rest.places e, f.rest.files)
+      ((λ t. is_gap (there t) (sits t)) ∙ gap, kinds.same_of V W f.rest a, f.rest.places e, f.rest.files)
       (goes_on.all_leave profile V W a (file e) old parent p (Write 1 (byte ∷ bytes)) next put owns f.rest)
 
-  written_over : (bytes : Bytes) (g : Before profile V W a old parent p next put owns bytes (file e)) → nat_lt (length held) (V.places e).at ≡ false → WritesHere V W p parent (act profile V W a old parent p next put owns bytes) g.has.fds bytes e held false → Afterwards profile V W a old parent p next put owns bytes (file e)
-  written_over bytes g fits (slots, change) =
+  -- one from this position on, which leaves no gap
+  written_from : (at : Position) → position_of (V.places e) ≡ at → is_gap (Some held) at ≡ false → (bytes : Bytes) (g : Before profile V W a old parent p next put owns bytes (file e))
+      → Sets V W p (answered parent (act profile V W a old parent p next put owns bytes) Done g.has.fds) → PlaceChanges V W e (further (V.places e) (length bytes)) (with_file V.files (V.places e).name (written held (byte_in at held) bytes)) → Afterwards profile V W a old parent p next put owns bytes (file e)
+  written_from at sits fits bytes g slots change =
       goes_on.goes_alike profile V W a (file e) old parent p (Write 1 bytes) next put owns Done (puts bytes) V.files g slots
       (λ k l. change.places k (λ is. absurd (omega (arith, l, g.apart k, same_self k, ap (λ n. same k n) is)))) refl
       (writes_all bytes refl (ap (λ n. drop n bytes) (sym (nothing_put profile V W a old parent p next put owns bytes e g.has.fits))) refl) (
         (
           change.place,
-          (λ gap. absurd (both_ways (nat_lt (length held) (V.places e).at) fits (sym (ap (λ o. is_gap o (V.places e).at) there) ∙ gap))),
-          change.files ∙ sym (patched_is V.files (V.places e).name held there (V.places e).at bytes),
+          (λ gap. absurd (both_ways (is_gap (Some held) at) fits ((λ t. is_gap (sym there t) (sym sits t)) ∙ gap))),
+          change.files ∙ sym (patched_is V.files (V.places e).name held there at bytes) ∙ ap (λ q. patched V.files (V.places e).name q bytes) (sym sits),
         ),
         kinds.in_beside V W a g.can_read change.input (λ k l. (change.pipes k, change.places k (λ is. absurd (omega (arith, l, g.apart k, same_self k, ap (λ n. same k n) is))))),
       )
       (record { others = λ k na nb lt none. (change.pipes k, change.places k (λ is. absurd (omega (arith, nb, same_self k, ap (λ n. same k n) is)))); input_stays = λ n. change.input; out_stays = λ n. change.out })
 
-  to_held : (bytes : Bytes) (g : Before profile V W a old parent p next put owns bytes (file e)) → WritesHere V W p parent (act profile V W a old parent p next put owns bytes) g.has.fds bytes e held (nat_lt (length held) (V.places e).at) → Afterwards profile V W a old parent p next put owns bytes (file e)
-  to_held bytes g f = by (nat_lt (length held) (V.places e).at) refl f
+  -- from its offset on
+  to_held : position_of (V.places e) ≡ at_byte (V.places e).at → (bytes : Bytes) (g : Before profile V W a old parent p next put owns bytes (file e)) → WritesHere V W p parent (act profile V W a old parent p next put owns bytes) g.has.fds bytes e held (nat_lt (length held) (V.places e).at) → Afterwards profile V W a old parent p next put owns bytes (file e)
+  to_held sits bytes g f = by (nat_lt (length held) (V.places e).at) refl f
     where
       by : (gap : Bool) → nat_lt (length held) (V.places e).at ≡ gap → WritesHere V W p parent (act profile V W a old parent p next put owns bytes) g.has.fds bytes e held gap → Afterwards profile V W a old parent p next put owns bytes (file e)
-      by true is f = behind_gap bytes g is f
-      by false is f = written_over bytes g is f
+      by true is f = behind_gap sits bytes g is f
+      by false is f = written_from (at_byte (V.places e).at) sits is bytes g f.0 f.1
 
--- ---- by what its output is; in xv6's profile no output appends
+  -- behind its end
+  to_end : position_of (V.places e) ≡ at_file_end → (bytes : Bytes) (g : Before profile V W a old parent p next put owns bytes (file e)) → WritesBehind V W p parent (act profile V W a old parent p next put owns bytes) g.has.fds bytes e (Some held) → Afterwards profile V W a old parent p next put owns bytes (file e)
+  to_end sits bytes g f = written_from at_file_end sits refl bytes g f.0 (subst (λ now. PlaceChanges V W e (further (V.places e) (length bytes)) (with_file V.files (V.places e).name now)) (sym (written_end held bytes)) f.1)
 
-module _ (V W : View) (a old : Entry) (parent p : ℕ) (next : State) (put : ℕ) (owns : List Owned) (bytes : Bytes) where
-  to_file : (e : ℕ) (g : Before Xv6 V W a old parent p next put owns bytes (file e)) → WritesFile V W p parent (act Xv6 V W a old parent p next put owns bytes) g.has.fds bytes e (V.places e).mode → Afterwards Xv6 V W a old parent p next put owns bytes (file e)
-  to_file e g f = by (V.places e).mode g.to_write f
+-- ---- by what its output is
+
+module _ (profile : Profile) (V W : View) (a old : Entry) (parent p : ℕ) (next : State) (put : ℕ) (owns : List Owned) (bytes : Bytes) where
+  to_file : (e : ℕ) (g : Before profile V W a old parent p next put owns bytes (file e)) → WritesFile V W p parent (act profile V W a old parent p next put owns bytes) g.has.fds bytes e (V.places e).mode → Afterwards profile V W a old parent p next put owns bytes (file e)
+  to_file e g f = by (V.places e).mode refl g.to_write f
     where
-      over : (o : Option Bytes) → V.files (V.places e).name ≡ o → WritesOver V W p parent (act Xv6 V W a old parent p next put owns bytes) g.has.fds bytes e o → Afterwards Xv6 V W a old parent p next put owns bytes (file e)
-      over None there f = absurd f
-      over (Some held) there f = to_held Xv6 V W a old parent p next put owns e held there bytes g f
+      sits_so : (mode : Mode) → (V.places e).mode ≡ mode → position_of (V.places e) ≡ position mode (V.places e).at
+      sits_so mode is = ap (λ m. position m (V.places e).at) is
 
-      by : (mode : Mode) → OpensOutput Xv6 mode → WritesFile V W p parent (act Xv6 V W a old parent p next put owns bytes) g.has.fds bytes e mode → Afterwards Xv6 V W a old parent p next put owns bytes (file e)
-      by ToRead ok f = absurd ok
-      by Fresh ok f = over (V.files (V.places e).name) refl f
-      by Over ok f = over (V.files (V.places e).name) refl f
-      by Append ok f = absurd ok
+      over : position_of (V.places e) ≡ at_byte (V.places e).at → (o : Option Bytes) → V.files (V.places e).name ≡ o → WritesOver V W p parent (act profile V W a old parent p next put owns bytes) g.has.fds bytes e o → Afterwards profile V W a old parent p next put owns bytes (file e)
+      over sits None there f = absurd f
+      over sits (Some held) there f = to_held profile V W a old parent p next put owns e held there sits bytes g f
 
-  pub writes_output : (b : Entry) → IsCall V W p → Before Xv6 V W a old parent p next put owns bytes b → Afterwards Xv6 V W a old parent p next put owns bytes b
-  writes_output b ev g = by b g (subst (WritesAt V W p parent put (act Xv6 V W a old parent p next put owns bytes) g.has.fds bytes) g.has.opened.output (kinds.effect_at V W p parent put (act Xv6 V W a old parent p next put owns bytes) g.has.fds ev g.has.slot))
+      behind : position_of (V.places e) ≡ at_file_end → (o : Option Bytes) → V.files (V.places e).name ≡ o → WritesBehind V W p parent (act profile V W a old parent p next put owns bytes) g.has.fds bytes e o → Afterwards profile V W a old parent p next put owns bytes (file e)
+      behind sits None there f = absurd f
+      behind sits (Some held) there f = to_end profile V W a old parent p next put owns e held there sits bytes g f
+
+      by : (mode : Mode) → (V.places e).mode ≡ mode → OpensOutput profile mode → WritesFile V W p parent (act profile V W a old parent p next put owns bytes) g.has.fds bytes e mode → Afterwards profile V W a old parent p next put owns bytes (file e)
+      by ToRead is ok f = absurd ok
+      by Fresh is ok f = over (sits_so Fresh is) (V.files (V.places e).name) refl f
+      by Over is ok f = over (sits_so Over is) (V.files (V.places e).name) refl f
+      by Append is ok f = behind (sits_so Append is) (V.files (V.places e).name) refl f
+
+  pub writes_output : (b : Entry) → IsCall V W p → Before profile V W a old parent p next put owns bytes b → Afterwards profile V W a old parent p next put owns bytes b
+  writes_output b ev g = by b g (subst (WritesAt V W p parent put (act profile V W a old parent p next put owns bytes) g.has.fds bytes) g.has.opened.output (kinds.effect_at V W p parent put (act profile V W a old parent p next put owns bytes) g.has.fds ev g.has.slot))
     where
-      by : (b : Entry) (g : Before Xv6 V W a old parent p next put owns bytes b) → WritesAt V W p parent put (act Xv6 V W a old parent p next put owns bytes) g.has.fds bytes (Some b) → Afterwards Xv6 V W a old parent p next put owns bytes b
+      by : (b : Entry) (g : Before profile V W a old parent p next put owns bytes b) → WritesAt V W p parent put (act profile V W a old parent p next put owns bytes) g.has.fds bytes (Some b) → Afterwards profile V W a old parent p next put owns bytes b
       by input g f = absurd g.can_write
-      by out g f = to_out Xv6 V W a old parent p next put owns bytes g f
+      by out g f = to_out profile V W a old parent p next put owns bytes g f
       by diag g f = absurd g.can_write
       by (reader i) g f = absurd g.can_write
-      by (writer i) g f = to_pipe Xv6 V W a old parent p next put owns bytes i g f
+      by (writer i) g f = to_pipe profile V W a old parent p next put owns bytes i g f
       by (file e) g f = to_file e g f

@@ -4,7 +4,7 @@ use Rattle.mem_files.specs.Name.{Name, Bytes}
 use Rattle.mem_files.specs.Files.{FileMap, files}
 use Rattle.mem_files.specs.Listing.{AreFiles}
 use Rattle.script_load.specs.Line.{ScriptLine}
-use Rattle.script_load.specs.declared.profile.Profile.TheVariants.{Xv6}
+use Rattle.script_load.specs.declared.profile.Profile.{Profile}
 use Rattle.sh_meaning.specs.Meaning.{script_tree, script_meaning}
 use Rattle.sh_meaning.specs.Settled.{IsSettledScript}
 use Rattle.sh_meaning.specs.Value.{Value}
@@ -28,16 +28,16 @@ abbrev ended : KernelState User → Stage
 ended m = record { left = done; input = m.input; out = m.out; files = files m.files }
 
 -- what the stage agrees with, the kernel does
-seen_agrees : (value : Value) (m : KernelState User) (stage : Stage) → Stands Xv6 m stage → Agrees stage value → Agrees (ended m) value
-seen_agrees value m stage s a = record {
+seen_agrees : (profile : Profile) (value : Value) (m : KernelState User) (stage : Stage) → Stands profile m stage → Agrees stage value → Agrees (ended m) value
+seen_agrees profile value m stage s a = record {
   out = s.out ∙ a.out;
   files = λ name hard. ap (λ (F : FileMap). F name) s.files ∙ a.files name hard;
   rest = λ fixed. s.input ∙ a.rest fixed;
 }
 
-pub finished_means : (lines : List ScriptLine) (input : Bytes) (list : List (Name × Bytes)) (events : List Event) (notes : List Bool) (m : KernelState User) → AreFiles list → IsSettledScript Xv6 lines input (files list) → HasShortCommands (script_tree lines)
-    → run call_of next_of (Some (boot_kernel init (shell Xv6 (top Starts lines)) input list)) events notes ≡ Some m → m.full ≡ None → IsAlone m.table → Agrees (ended m) (script_meaning Xv6 lines input (files list))
-finished_means lines input list events notes m are settled short is full alone =
-    let s = stands_then lines input list events notes m are settled.0 is full in
-    let value = script_meaning Xv6 lines input (files list) in
-    seen_agrees value m s.0 s.2 (done_agrees Xv6 value s.0 (reaches_way Xv6 value s.1 (first_way Xv6 lines input (files list) settled short)) (finished Xv6 m s.0 s.2 alone))
+pub finished_means : (profile : Profile) (lines : List ScriptLine) (input : Bytes) (list : List (Name × Bytes)) (events : List Event) (notes : List Bool) (m : KernelState User) → AreFiles list → IsSettledScript profile lines input (files list) → HasShortCommands (script_tree lines)
+    → run call_of next_of (Some (boot_kernel init (shell profile (top Starts lines)) input list)) events notes ≡ Some m → m.full ≡ None → IsAlone m.table → Agrees (ended m) (script_meaning profile lines input (files list))
+finished_means profile lines input list events notes m are settled short is full alone =
+    let s = stands_then profile lines input list events notes m are settled.0 is full in
+    let value = script_meaning profile lines input (files list) in
+    seen_agrees profile value m s.0 s.2 (done_agrees profile value s.0 (reaches_way profile value s.1 (first_way profile lines input (files list) settled short)) (finished profile m s.0 s.2 alone))

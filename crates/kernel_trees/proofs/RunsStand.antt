@@ -6,7 +6,7 @@ use Rattle.mem_files.specs.Files.{files}
 use Rattle.mem_files.specs.Listing.{AreFiles}
 use Rattle.conflict_check.specs.Clear.{has_back}
 use Rattle.script_load.specs.Line.{ScriptLine}
-use Rattle.script_load.specs.declared.profile.Profile.TheVariants.{Xv6}
+use Rattle.script_load.specs.declared.profile.Profile.{Profile}
 use Rattle.sh_meaning.specs.Meaning.{script_tree}
 use Rattle.tree_machine.specs.Runs.{Stage, first_stage, Reaches, reached}
 use Rattle.kernel_model.specs.declared.events.Event.{Event}
@@ -32,58 +32,58 @@ use Rattle.kernel_trees.proofs.Reaching.{stage_with, reaches_on, reaches_plain}
 use Rattle.kernel_trees.proofs.WholeTree.{Goes, call_goes, nothing_goes, init_goes}
 
 -- under some names the kernel has a tree, whose stage is reached from the first
-pub record IsOnWay (first : Stage) (k : KernelState User) : Type 0 where
+pub record IsOnWay (profile : Profile) (first : Stage) (k : KernelState User) : Type 0 where
   pub names : Names
   pub tree : Node
   pub shows : ShowsIn names k
-  pub shape : IsShape Xv6 (view names k) tree
+  pub shape : IsShape profile (view names k) tree
   pub has_init : IsInit k
-  pub way : Reaches Xv6 first (stage_with (stands_for tree) k.input k.out (files k.files))
+  pub way : Reaches profile first (stage_with (stands_for tree) k.input k.out (files k.files))
 
-module _ (first : Stage) (plain : Rattle.tree_machine.specs.Moving.IsPlain first.left) (k l : KernelState User) (settled : IsSettled k) (full : l.full ≡ None) (s : IsOnWay first k) where
-  goes_with : (names : Names) → ShowsIn names l → IsInit l → Goes Xv6 (view s.names k) (view names l) s.tree → IsOnWay first l
-  goes_with names shows has_init g = record { names = names; tree = g.to; shows = shows; shape = g.shape; has_init = has_init; way = reaches_on Xv6 s.way g.reaches }
+module _ (profile : Profile) (first : Stage) (plain : Rattle.tree_machine.specs.Moving.IsPlain first.left) (k l : KernelState User) (settled : IsSettled k) (full : l.full ≡ None) (s : IsOnWay profile first k) where
+  goes_with : (names : Names) → ShowsIn names l → IsInit l → Goes profile (view s.names k) (view names l) s.tree → IsOnWay profile first l
+  goes_with names shows has_init g = record { names = names; tree = g.to; shows = shows; shape = g.shape; has_init = has_init; way = reaches_on profile s.way g.reaches }
 
-  pub event_goes : (e : Event) (n : Bool) → happens call_of next_of k e n ≡ Some l → IsOnWay first l
+  pub event_goes : (e : Event) (n : Bool) → happens call_of next_of k e n ≡ Some l → IsOnWay profile first l
   event_goes (Dispatch h p) n happened =
       let d = dispatch_quiet s.names k l h p n s.shows happened in
-      goes_with s.names d.0 (event_keeps_init k l (Dispatch h p) n settled s.has_init happened) (nothing_goes (view s.names k) (view s.names l) s.tree refl s.shape (ap (λ c. c + 1) d.2) d.1)
+      goes_with s.names d.0 (event_keeps_init k l (Dispatch h p) n settled s.has_init happened) (nothing_goes profile (view s.names k) (view s.names l) s.tree refl s.shape (ap (λ c. c + 1) d.2) d.1)
   event_goes (Trap h p) n happened = by (cases_eq p 0)
     where
       has_init : IsInit l
       has_init = event_keeps_init k l (Trap h p) n settled s.has_init happened
 
-      by : (p ≡ 0) ⊎ (p ≢ 0) → IsOnWay first l
+      by : (p ≡ 0) ⊎ (p ≢ 0) → IsOnWay profile first l
       by (inr up) =
           let seen = trap_seen s.names k l h p n up settled s.shows happened full in
-          goes_with seen.names seen.shows has_init (call_goes (view s.names k) (view seen.names l) s.tree refl s.shape p seen.call (reaches_plain Xv6 s.way plain))
+          goes_with seen.names seen.shows has_init (call_goes profile (view s.names k) (view seen.names l) s.tree refl s.shape p seen.call (reaches_plain profile s.way plain))
       by (inl same) =
           let w = init_seen s.names k settled s.shows h l n s.has_init (subst (λ q. happens call_of next_of k (Trap h q) n ≡ Some l) same happened) in
           goes_with s.names w.0 has_init (waited w.1 w.2)
         where
-          waited : InitWaits (view s.names k) (view s.names l) → l.events ≡ k.events + 1 → Goes Xv6 (view s.names k) (view s.names l) s.tree
-          waited (takes_away z) next = init_goes (view s.names k) (view s.names l) s.tree refl s.shape z
-          waited (waits_on quiet) next = nothing_goes (view s.names k) (view s.names l) s.tree refl s.shape (ap (λ c. c + 1) next) quiet
+          waited : InitWaits (view s.names k) (view s.names l) → l.events ≡ k.events + 1 → Goes profile (view s.names k) (view s.names l) s.tree
+          waited (takes_away z) next = init_goes profile (view s.names k) (view s.names l) s.tree refl s.shape z
+          waited (waits_on quiet) next = nothing_goes profile (view s.names k) (view s.names l) s.tree refl s.shape (ap (λ c. c + 1) next) quiet
 
 -- what stands for a stage is reached from it by no step
-at_first : (stage : Stage) (k : KernelState User) (s : Stands Xv6 k stage) → Reaches Xv6 stage (stage_with (stands_for s.tree) k.input k.out (files k.files))
-at_first stage k s =
-    subst (λ X. Reaches Xv6 stage (stage_with X k.input k.out (files k.files))) (sym s.left)
-    (subst (λ i. Reaches Xv6 stage (stage_with stage.left i k.out (files k.files))) (sym s.input)
-    (subst (λ o. Reaches Xv6 stage (stage_with stage.left stage.input o (files k.files))) (sym s.out)
-    (subst (λ F. Reaches Xv6 stage (stage_with stage.left stage.input stage.out F)) (sym s.files) reached)))
+at_first : (profile : Profile) (stage : Stage) (k : KernelState User) (s : Stands profile k stage) → Reaches profile stage (stage_with (stands_for s.tree) k.input k.out (files k.files))
+at_first profile stage k s =
+    subst (λ X. Reaches profile stage (stage_with X k.input k.out (files k.files))) (sym s.left)
+    (subst (λ i. Reaches profile stage (stage_with stage.left i k.out (files k.files))) (sym s.input)
+    (subst (λ o. Reaches profile stage (stage_with stage.left stage.input o (files k.files))) (sym s.out)
+    (subst (λ F. Reaches profile stage (stage_with stage.left stage.input stage.out F)) (sym s.files) reached)))
 
 -- ---- the law
 
-pub every_run_stands : (lines : List ScriptLine) (input : Bytes) (list : List (Name × Bytes)) (events : List Event) (notes : List Bool) (m : KernelState User) → AreFiles list → has_back (script_tree lines) ≡ false → run call_of next_of (Some (boot_kernel init (shell Xv6 (top Starts lines)) input list)) events notes ≡ Some m → m.full ≡ None → IsOnWay (first_stage (script_tree lines) input (files list)) m
-every_run_stands lines input list events notes m are plain is full =
-    let first = shell Xv6 (top Starts lines) in
+pub every_run_stands : (profile : Profile) (lines : List ScriptLine) (input : Bytes) (list : List (Name × Bytes)) (events : List Event) (notes : List Bool) (m : KernelState User) → AreFiles list → has_back (script_tree lines) ≡ false → run call_of next_of (Some (boot_kernel init (shell profile (top Starts lines)) input list)) events notes ≡ Some m → m.full ≡ None → IsOnWay profile (first_stage (script_tree lines) input (files list)) m
+every_run_stands profile lines input list events notes m are plain is full =
+    let first = shell profile (top Starts lines) in
     let stage = first_stage (script_tree lines) input (files list) in
-    let s = start_stands Xv6 lines input list in
-    runs.every_run_keeps init first input list (IsOnWay stage) (λ k l e n r happened was now on. event_goes stage plain k l (runs.settled init first input list are k r) now on e n happened)
-    (record { names = s.names; tree = s.tree; shows = s.shows; shape = s.shape; has_init = start_init Xv6 lines input list; way = at_first stage (boot_kernel init first input list) s }) events notes m is full
+    let s = start_stands profile lines input list in
+    runs.every_run_keeps init first input list (IsOnWay profile stage) (λ k l e n r happened was now on. event_goes profile stage plain k l (runs.settled init first input list are k r) now on e n happened)
+    (record { names = s.names; tree = s.tree; shows = s.shows; shape = s.shape; has_init = start_init profile lines input list; way = at_first profile stage (boot_kernel init first input list) s }) events notes m is full
 
-pub stands_then : (lines : List ScriptLine) (input : Bytes) (list : List (Name × Bytes)) (events : List Event) (notes : List Bool) (m : KernelState User) → AreFiles list → has_back (script_tree lines) ≡ false → run call_of next_of (Some (boot_kernel init (shell Xv6 (top Starts lines)) input list)) events notes ≡ Some m → m.full ≡ None → (stage : Stage) × Reaches Xv6 (first_stage (script_tree lines) input (files list)) stage × Stands Xv6 m stage
-stands_then lines input list events notes m are plain is full =
-    let s = every_run_stands lines input list events notes m are plain is full in
+pub stands_then : (profile : Profile) (lines : List ScriptLine) (input : Bytes) (list : List (Name × Bytes)) (events : List Event) (notes : List Bool) (m : KernelState User) → AreFiles list → has_back (script_tree lines) ≡ false → run call_of next_of (Some (boot_kernel init (shell profile (top Starts lines)) input list)) events notes ≡ Some m → m.full ≡ None → (stage : Stage) × Reaches profile (first_stage (script_tree lines) input (files list)) stage × Stands profile m stage
+stands_then profile lines input list events notes m are plain is full =
+    let s = every_run_stands profile lines input list events notes m are plain is full in
     (stage_with (stands_for s.tree) m.input m.out (files m.files), s.way, record { names = s.names; tree = s.tree; shows = s.shows; shape = s.shape; left = refl; files = refl; input = refl; out = refl })

@@ -19,7 +19,7 @@ use Rattle.tree_machine.specs.Rules.{silent, Steps, opens as opens_it}
 use Rattle.tree_machine.specs.Begin.{opens_file, open_from, open_into}
 use Rattle.kernel_shape.specs.Seen.{Entry, file, Fds, fd_at, Act, Seen, live, Place, View}
 use Rattle.kernel_shape.specs.Phases.{does, has_open, opens, plain_fds}
-use Rattle.kernel_shape.specs.Shape.{Node, starts, tells, opening, under_input, under_output, Has, same, occurs, names, is_there, is_up, is_used, stands_for}
+use Rattle.kernel_shape.specs.Shape.{Node, starts, tells, opening, under_input, under_output, Has, same, occurs, names, is_there, is_up, is_used, position, stands_for}
 use Rattle.kernel_shape.specs.Effect.{Sets, Answers, PlaceChanges, Opens, OpensBy, OpensNamed, files_opened, files_read, files_kept, first_byte, lowest, answered, IsCall}
 use Rattle.kernel_shape.specs.Part.{goes, Part, After}
 use Rattle.kernel_trees.proofs.Openable.{same_openable, whole}
@@ -80,7 +80,7 @@ module _ (profile : Profile) (V W : View) (a b old : Entry) (parent p : ℕ) (ev
   -- the file is opened, and its entry goes on at this byte
   write_opens : (mode : Mode) (way : CallMode) (name : Name) (body : Tree) (at : ℕ) (F : FileMap) → has_open (opens mode name body) a b old ≡ Rattle.kernel_shape.specs.Phases.fds (Some a) None None None → Rattle.kernel_shape.specs.Shape.OpensOutput profile way → at ≡ first_byte way (V.files name)
       → Rattle.kernel_shape.specs.Seen.act_of (does profile (opens mode name body)).next (Fd 1) ≡ does profile (Rattle.kernel_shape.specs.Phases.begins body)
-      → Opens V W p parent (does profile (opens mode name body)) (has_open (opens mode name body) a b old) name way F → Steps profile (unopened mode name body) V.files silent (into name at (todo body)) F → Part profile V a b old parent p (opening p mode name body) → After profile V W a b old parent (opening p mode name body)
+      → Opens V W p parent (does profile (opens mode name body)) (has_open (opens mode name body) a b old) name way F → Steps profile (unopened mode name body) V.files silent (into name (position way at) (todo body)) F → Part profile V a b old parent p (opening p mode name body) → After profile V W a b old parent (opening p mode name body)
   write_opens mode way name body at F fds ok byte runs_body f step g = by f.fd (ap lowest (sym fds) ∙ f.place) (subst (λ d. Sets V W p (answered parent (does profile (opens mode name body)) (Fd f.fd) (slice_set d f.fd (Some (file V.next))))) fds f.slots)
     where
       by : (fd : ℕ) → lowest (Rattle.kernel_shape.specs.Phases.fds (Some a) None None None) ≡ Some fd → Sets V W p (answered parent (does profile (opens mode name body)) (Fd fd) (slice_set (Rattle.kernel_shape.specs.Phases.fds (Some a) None None None) fd (Some (file V.next)))) → After profile V W a b old parent (opening p mode name body)

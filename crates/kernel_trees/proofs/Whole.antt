@@ -5,9 +5,11 @@ use Rattle.mem_files.specs.Files.{FileMap, bytes_of}
 use Rattle.sh_tree.specs.Tree.{Tree}
 use Rattle.script_load.specs.declared.profile.Profile.{Profile}
 use Rattle.user_calls.specs.declared.calls.Mode.{Mode}
-use Rattle.tree_machine.specs.Residual.{Residual, seq, piped, from, into, keeps_0, keeps_1}
+use Rattle.user_calls.specs.declared.calls.Mode.TheVariants.{Input as ToRead, Fresh as ToFresh, Over as ToOver, Append as ToAppend}
+use Rattle.tree_machine.specs.Residual.{Residual, seq, piped, from, into, moved_on, keeps_0, keeps_1}
 use Rattle.tree_machine.specs.Rules.{Label, silent, takes, meets_end, puts, refused, Steps, is_gap, patched, seq_steps, left_silent, left_takes, left_meets_end, left_puts, left_refused, right_silent, right_takes, right_meets_end, right_puts, right_refused, from_silent, from_takes, from_meets_end, from_puts, from_refused, into_silent, into_takes, into_meets_end, into_puts, into_refused}
 use Rattle.kernel_shape.specs.Seen.{Entry, reader, writer, file, Place, View}
+use Rattle.kernel_shape.specs.Shape.{position, position_of}
 use Rattle.kernel_shape.specs.Effect.{NoHolder, further}
 use Rattle.kernel_shape.specs.Part.{Same, Tells, Moves, stays, goes, then_goes}
 
@@ -66,9 +68,16 @@ module _ (profile : Profile) (V W : View) (a b : Entry) (e : ℕ) (mode : Mode) 
   input_whole X X' (puts c) (goes m) g ea = record { at = at; place = g.1 ∙ place; whole = record { label = puts c; files = G; moves = goes (from_puts m); tells = (g.0, ea) } }
   input_whole X X' refused (goes m) g ea = record { at = at; place = g.1 ∙ place; whole = record { label = refused; files = G; moves = goes (from_refused m); tells = (g.0, ea, g.2, g.3) } }
 
-  pub output_whole : (X X' : Residual) (l : Label) → Moves profile X V.files l X' G → Tells V W G a (file e) l → Same V W b → Redirected profile V W a b e mode f (into f at X) (λ n. into f n X')
-  output_whole X X' silent m g eb = record { at = at; place = g.1 ∙ place; whole = record { label = silent; files = G; moves = silent_moves profile (λ z. into f at z) X X' V.files G (λ y z h i s. into_silent s) m; tells = (g.0, eb, g.2) } }
+  -- behind what was put
+  position_on : (way : Mode) (count : ℕ) → position way (at + count) ≡ moved_on (position way at) count
+  position_on ToRead count = refl
+  position_on ToFresh count = refl
+  position_on ToOver count = refl
+  position_on ToAppend count = refl
+
+  pub output_whole : (X X' : Residual) (l : Label) → Moves profile X V.files l X' G → Tells V W G a (file e) l → Same V W b → Redirected profile V W a b e mode f (into f (position mode at) X) (λ n. into f (position mode n) X')
+  output_whole X X' silent m g eb = record { at = at; place = g.1 ∙ place; whole = record { label = silent; files = G; moves = silent_moves profile (λ z. into f (position mode at) z) X X' V.files G (λ y z h i s. into_silent s) m; tells = (g.0, eb, g.2) } }
   output_whole X X' (takes c) (goes m) g eb = record { at = at; place = g.1 ∙ place; whole = record { label = takes c; files = G; moves = goes (into_takes m); tells = (g.0, eb, g.2) } }
   output_whole X X' meets_end (goes m) g eb = record { at = at; place = g.2 ∙ place; whole = record { label = meets_end; files = G; moves = goes (into_meets_end m); tells = (g.0, g.1, eb, g.3) } }
-  output_whole X X' (puts c) (goes m) g eb = record { at = at + length c; place = g.0.0 ∙ ap (λ (x : Place). further x (length c)) place; whole = record { label = silent; files = W.files; moves = goes (into_puts m (λ gap. g.0.1 (ap (λ (x : Place). is_gap (V.files x.name) x.at) place ∙ gap)) refl (g.0.2 ∙ ap (λ (x : Place). patched G x.name x.at c) place)); tells = (g.1, eb, refl) } }
-  output_whole X X' refused (goes m) g eb = record { at = at; place = g.2 ∙ place; whole = record { label = silent; files = G; moves = goes (into_refused m (sym (ap (λ (x : Place). is_gap (V.files x.name) x.at) place) ∙ g.0)); tells = (g.1, eb, g.3) } }
+  output_whole X X' (puts c) (goes m) g eb = record { at = at + length c; place = g.0.0 ∙ ap (λ (x : Place). further x (length c)) place; whole = record { label = silent; files = W.files; moves = goes (into_puts m (λ gap. g.0.1 (ap (λ (x : Place). is_gap (V.files x.name) (position_of x)) place ∙ gap)) (position_on mode (length c)) (g.0.2 ∙ ap (λ (x : Place). patched G x.name (position_of x) c) place)); tells = (g.1, eb, refl) } }
+  output_whole X X' refused (goes m) g eb = record { at = at; place = g.2 ∙ place; whole = record { label = silent; files = G; moves = goes (into_refused m (sym (ap (λ (x : Place). is_gap (V.files x.name) (position_of x)) place) ∙ g.0)); tells = (g.1, eb, g.3) } }

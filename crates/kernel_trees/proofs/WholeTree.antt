@@ -1,7 +1,6 @@
 -- Every event of a kernel that has a tree of processes: it has one after it.
 use Rattle.std.proofs.Common.{◌≡◌, inl, inr, ℕ, ◌+◌, ◌<◌, ◌≤◌, refl, sym, ap, ◌∙◌, subst, arith}
 use Rattle.script_load.specs.declared.profile.Profile.{Profile}
-use Rattle.script_load.specs.declared.profile.Profile.TheVariants.{Xv6}
 use Rattle.tree_machine.specs.Moving.{IsPlain}
 use Rattle.tree_machine.specs.Runs.{Reaches, reached}
 use Rattle.kernel_shape.specs.Seen.{Seen, input, out, free, zombie, live, View}
@@ -31,16 +30,16 @@ kid_used free p kid = absurd kid
 kid_used (zombie q) p kid = refl
 kid_used (live q act put d) p kid = refl
 
-module _ (V W : View) (t : Node) (none : V.slots 0 ≡ free) (shape : IsShape Xv6 V t) where
+module _ (profile : Profile) (V W : View) (t : Node) (none : V.slots 0 ≡ free) (shape : IsShape profile V t) where
   -- a call
-  pub call_goes : (p : ℕ) → IsCall V W p → IsPlain (stands_for t) → Goes Xv6 V W t
+  pub call_goes : (p : ℕ) → IsCall V W p → IsPlain (stands_for t) → Goes profile V W t
   call_goes p ev plain = record {
     to = r.to;
     shape = record { has = r.has; all = λ q. omega (arith, r.pids q, shape.all q); once = once; known = known };
-    reaches = moves_reach Xv6 V W (stands_for t) (stands_for r.to) r.files r.label r.moves r.tells;
+    reaches = moves_reach profile V W (stands_for t) (stands_for r.to) r.files r.label r.moves r.tells;
   }
     where
-      whole : Part Xv6 V input out out 0 p t
+      whole : Part profile V input out out 0 p t
       whole = record {
         has = shape.has;
         inside = omega (arith, shape.all p, ap is_used ev.slot);
@@ -57,8 +56,8 @@ module _ (V W : View) (t : Node) (none : V.slots 0 ≡ free) (shape : IsShape Xv
         plain = plain;
       }
 
-      r : After Xv6 V W input out out 0 t
-      r = steps V W p ev input out out 0 t whole
+      r : After profile V W input out out 0 t
+      r = steps profile V W p ev input out out 0 t whole
 
       old : (k : ℕ) → V.next ≤ k → names k t ≡ 0
       old k le = elim (none_or_some (names k t)) [ inl z ↦ z | inr some ↦ absurd (omega (arith, shape.known k some, le)) ]
@@ -78,35 +77,35 @@ module _ (V W : View) (t : Node) (none : V.slots 0 ≡ free) (shape : IsShape Xv
           ]
 
   -- nothing
-  pub nothing_goes : W.next ≡ V.next + 1 → Quiet V W → Goes Xv6 V W t
+  pub nothing_goes : W.next ≡ V.next + 1 → Quiet V W → Goes profile V W t
   nothing_goes next quiet = record {
     to = t;
     shape = record {
-      has = stays Xv6 V W input out out 0 t (record { slots = λ q l. quiet.slots q; pipes = λ k l. quiet.rest.pipes k; places = λ k l. quiet.rest.places k }) shape.has;
+      has = stays profile V W input out out 0 t (record { slots = λ q l. quiet.slots q; pipes = λ k l. quiet.rest.pipes k; places = λ k l. quiet.rest.places k }) shape.has;
       all = λ q. shape.all q ∙ sym (ap is_used (quiet.slots q));
       once = shape.once;
       known = λ k l. omega (arith, shape.known k l, next);
     };
     reaches =
-        subst (λ i. Reaches Xv6 (stage_with (stands_for t) V.input V.out V.files) (stage_with (stands_for t) i W.out W.files)) (sym quiet.rest.input)
-        (subst (λ o. Reaches Xv6 (stage_with (stands_for t) V.input V.out V.files) (stage_with (stands_for t) V.input o W.files)) (sym quiet.rest.out)
-        (subst (λ F. Reaches Xv6 (stage_with (stands_for t) V.input V.out V.files) (stage_with (stands_for t) V.input V.out F)) (sym quiet.rest.files) reached));
+        subst (λ i. Reaches profile (stage_with (stands_for t) V.input V.out V.files) (stage_with (stands_for t) i W.out W.files)) (sym quiet.rest.input)
+        (subst (λ o. Reaches profile (stage_with (stands_for t) V.input V.out V.files) (stage_with (stands_for t) V.input o W.files)) (sym quiet.rest.out)
+        (subst (λ F. Reaches profile (stage_with (stands_for t) V.input V.out V.files) (stage_with (stands_for t) V.input V.out F)) (sym quiet.rest.files) reached));
   }
 
   -- init takes the last zombie away
-  pub init_goes : TakesAway V W → Goes Xv6 V W t
+  pub init_goes : TakesAway V W → Goes profile V W t
   init_goes z = record {
     to = reaped;
     shape = record { has = tt; all = unused; once = λ k. omega arith; known = λ k l. absurd (omega (arith, l)) };
     reaches =
-        subst (λ n. Reaches Xv6 (stage_with (stands_for n) V.input V.out V.files) (stage_with (stands_for reaped) W.input W.out W.files)) (sym is_gone)
-        (subst (λ i. Reaches Xv6 (stage_with (stands_for reaped) V.input V.out V.files) (stage_with (stands_for reaped) i W.out W.files)) (sym z.rest.input)
-        (subst (λ o. Reaches Xv6 (stage_with (stands_for reaped) V.input V.out V.files) (stage_with (stands_for reaped) V.input o W.files)) (sym z.rest.out)
-        (subst (λ F. Reaches Xv6 (stage_with (stands_for reaped) V.input V.out V.files) (stage_with (stands_for reaped) V.input V.out F)) (sym z.rest.files) reached)));
+        subst (λ n. Reaches profile (stage_with (stands_for n) V.input V.out V.files) (stage_with (stands_for reaped) W.input W.out W.files)) (sym is_gone)
+        (subst (λ i. Reaches profile (stage_with (stands_for reaped) V.input V.out V.files) (stage_with (stands_for reaped) i W.out W.files)) (sym z.rest.input)
+        (subst (λ o. Reaches profile (stage_with (stands_for reaped) V.input V.out V.files) (stage_with (stands_for reaped) V.input o W.files)) (sym z.rest.out)
+        (subst (λ F. Reaches profile (stage_with (stands_for reaped) V.input V.out V.files) (stage_with (stands_for reaped) V.input V.out F)) (sym z.rest.files) reached)));
   }
     where
       is_gone : t ≡ gone z.child
-      is_gone = zombie_kid Xv6 V 0 input out out t z.child shape.has (shape.all 0 ∙ ap is_used none) z.was (omega (arith, shape.all z.child, ap is_used z.was))
+      is_gone = zombie_kid profile V 0 input out out t z.child shape.has (shape.all 0 ∙ ap is_used none) z.was (omega (arith, shape.all z.child, ap is_used z.was))
 
       unused : (q : ℕ) → 0 ≡ is_used (W.slots q)
       unused q =

@@ -11,7 +11,7 @@ use Rattle.tree_machine.specs.Residual.{done, todo, from, into}
 use Rattle.tree_machine.specs.Rules.{silent, from_silent, into_silent, from_ends, into_ends}
 use Rattle.kernel_shape.specs.Seen.{Entry, reader, writer, file, Fds, Act, live, View}
 use Rattle.kernel_shape.specs.Phases.{Stage}
-use Rattle.kernel_shape.specs.Shape.{Node, reaped, gone, starts, works, tells, leaves, reads_lines, in_line, in_list, pipe_made, pipe_half, pipe_both, left_child, right_child, opening, under_input, under_output, Has, occurs, names, is_there, is_up, is_used, stands_for}
+use Rattle.kernel_shape.specs.Shape.{Node, reaped, gone, starts, works, tells, leaves, reads_lines, in_line, in_list, pipe_made, pipe_half, pipe_both, left_child, right_child, opening, under_input, under_output, Has, occurs, names, is_there, is_up, is_used, position, stands_for}
 use Rattle.kernel_shape.specs.Effect.{ParentIs}
 use Rattle.kernel_shape.specs.Part.{name_of, Tells, Moves, then_goes, Part, After}
 use Rattle.kernel_trees.proofs.Frame.{stays, up_there}
@@ -228,7 +228,7 @@ module _ (profile : Profile) (V W : View) (p : ℕ) (same_slot : (q : ℕ) → q
               label = silent;
               files = r.files;
               has = subst (λ n. Has profile W a (file e) old parent n) z.1 r.has;
-              moves = then_goes (silent_moves profile (λ y. into f at y) (stands_for x) done V.files r.files (λ y v i j s. into_silent s) m) into_ends;
+              moves = then_goes (silent_moves profile (λ y. into f (position mode at) y) (stands_for x) done V.files r.files (λ y v i j s. into_silent s) m) into_ends;
               pids = λ q. omega (arith, r.pids q, ap (occurs q) z.1);
               ids = λ k. omega arith;
               others = λ k na nb lt z. r.others k na (omega (arith, z)) lt (omega (arith, z));

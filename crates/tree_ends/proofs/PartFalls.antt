@@ -7,7 +7,7 @@ use Rattle.sh_tree.specs.Tree.{Tree}
 use Rattle.mem_files.specs.Name.{Name, Bytes}
 use Rattle.mem_files.specs.Files.{FileMap, bytes_of}
 use Rattle.prog_laws.specs.FilesAhead.{sizes}
-use Rattle.tree_machine.specs.Residual.{Residual, seq, piped, from, into, left_names, left_writes}
+use Rattle.tree_machine.specs.Residual.{Residual, seq, piped, from, into, Position, byte_in, left_names, left_writes}
 use Rattle.tree_machine.specs.Rules.{patch, patched}
 use Rattle.tree_machine.specs.Tidy.{IsTidy}
 use Rattle.tree_machine.proofs.Bools.{apart}
@@ -56,7 +56,7 @@ from_falls X X' name at at' F G n took wrote unwritten a is h =
 abbrev pub Made : Residual → FileMap → FileMap → FileMap → ℕ → Name → Type 0
 Made X' F G H wrote f = (H f ≡ G f) ⊎ ((left_names X' f ≡ false) × (sizes H f ≤ sizes F f + wrote))
 
-pub into_falls : (X X' : Residual) (name : Name) (at at' : ℕ) (F G H : FileMap) (n took wrote : ℕ) → ((f : Name) → Made X' F G H wrote f) → Falls X F n took wrote X' G → Falls (into name at X) F n took 0 (into name at' X') H
+pub into_falls : (X X' : Residual) (name : Name) (at at' : Position) (F G H : FileMap) (n took wrote : ℕ) → ((f : Name) → Made X' F G H wrote f) → Falls X F n took wrote X' G → Falls (into name at X) F n took 0 (into name at' X') H
 into_falls X X' name at at' F G H n took wrote made h =
     let x = left_more X' (n - took) (n - took) (sizes H) (sizes G) (omega arith) (λ f e. untouched f e (made f)) in
     record { bytes = omega (arith, h.bytes, x.bytes); grow = λ f. grow f x.bytes (made f); steps = omega (arith, h.steps, x.steps) }
@@ -72,12 +72,12 @@ into_falls X X' name at at' F G H n took wrote made h =
 pub as_it_was : (X' : Residual) (F G : FileMap) (f : Name) → Made X' F G G 0 f
 as_it_was X' F G f = inl refl
 
-pub one_patched : (X' : Residual) (name : Name) (at : ℕ) (bytes : Bytes) (F G : FileMap) → left_names X' name ≡ false → G name ≡ F name → (f : Name) → Made X' F G (patched G name at bytes) (length bytes) f
+pub one_patched : (X' : Residual) (name : Name) (at : Position) (bytes : Bytes) (F G : FileMap) → left_names X' name ≡ false → G name ≡ F name → (f : Name) → Made X' F G (patched G name at bytes) (length bytes) f
 one_patched X' name at bytes F G none same f = go (bytes_eq f name) (λ e. (bytes_eq-Decides f name).0 e)
   where
     larger : (o : Option Bytes) → length (bytes_of (patch o at bytes)) ≤ length (bytes_of o) + length bytes
     larger None = omega arith
-    larger (Some b) = written_size b at bytes
+    larger (Some b) = written_size b (byte_in at b) bytes
 
     go : (t : Bool) → (t ≡ true → f ≡ name) → ((if t then patch (G f) at bytes else G f) ≡ G f) ⊎ ((left_names X' f ≡ false) × (length (bytes_of (if t then patch (G f) at bytes else G f)) ≤ sizes F f + length bytes))
     go true e =

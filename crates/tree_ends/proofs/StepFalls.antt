@@ -66,7 +66,7 @@ open_into_falls : (profile : Profile) (b : Bool) (m : Mode) (f : Name) (T : Tree
 open_into_falls profile false m f T F n input small = even (unopened m f T) done F F n (omega arith) (omega arith) (λ g. omega arith)
 open_into_falls profile true m f T F n input small =
     let h = tree_more T n (input_under m n (sizes F f)) (sizes (opened m f F)) (sizes F) (omega (arith, input)) (λ g e. small g) in
-    even (unopened m f T) (into f (start_at profile m (bytes_of (F f))) (todo T)) F (opened m f F) n h.bytes (omega (arith, h.steps)) small
+    even (unopened m f T) (into f (start_at profile m) (todo T)) F (opened m f F) n h.bytes (omega (arith, h.steps)) small
 
 opens_falls : (profile : Profile) (m : Mode) (f : Name) (T : Tree) (F : FileMap) (n : ℕ) → Falls (unopened m f T) F n 0 0 (opens_file profile m f T F).next (opens_file profile m f T F).files
 opens_falls profile Input f T F n = open_from_falls (found F f) f T F n

@@ -9,7 +9,7 @@ use Rattle.mem_files.specs.Files.{FileMap, bytes_of}
 use Rattle.mem_files.proofs.Overlays.{written_none}
 use Rattle.script_load.specs.declared.profile.Profile.{Profile}
 use Rattle.user_calls.specs.declared.calls.Reply.TheVariants.{Bytes as Bytes'}
-use Rattle.tree_machine.specs.Residual.{Running, Residual, running, piped, from, into, keeps_0, keeps_1}
+use Rattle.tree_machine.specs.Residual.{Running, Residual, running, piped, from, into, Position, at_byte, at_file_end, byte_in, moved_on, keeps_0, keeps_1}
 use Rattle.tree_machine.specs.Answers.{Kind, leaves, reads_input, writes_output, asks, kind_of, resumed}
 use Rattle.tree_machine.specs.Rules.{Label, silent, takes, meets_end, puts, refused, patch, patched, is_gap, Steps, IsMet, taken, put_out, is_refused}
 use Rattle.tree_machine.specs.Rules.Steps.{begins, opens, exits, calls, reads, reads_end, writes_all, writes_some, write_refused, seq_ends, pipe_ends, from_ends, into_ends, seq_steps, left_silent, left_takes, left_meets_end, left_puts, left_refused, right_silent, right_takes, right_meets_end, right_puts, right_refused, from_silent, from_takes, from_meets_end, from_puts, from_refused, into_silent, into_takes, into_meets_end, into_puts, into_refused}
@@ -43,12 +43,16 @@ by_put run left now later cl F byte more is cut =
     ∙ (λ t. put_some run (byte ∷ take-append_seam more later t) (drop-append_seam more later t) F)
     ∙ ap (λ z. put_some run z later F) (sym is)
 
-patched_none : (F : FileMap) (f : Name) (at : ℕ) → patched F f at [] ≡ F
+moved_none : (at : Position) → moved_on at 0 ≡ at
+moved_none (at_byte n) = ap at_byte (add-zero n)
+moved_none at_file_end = refl
+
+patched_none : (F : FileMap) (f : Name) (at : Position) → patched F f at [] ≡ F
 patched_none F f at = fun_ext (λ n. go (bytes_eq n f) (F n))
   where
     same : (o : Option Bytes) → patch o at [] ≡ o
     same None = refl
-    same (Some b) = ap Some (written_none b at)
+    same (Some b) = ap Some (written_none b (byte_in at b))
 
     go : (b : Bool) (o : Option Bytes) → (if b then patch o at [] else o) ≡ o
     go true o = same o
@@ -161,16 +165,16 @@ module _ (profile : Profile) where
       (on_left a.0, ap (from_move f at) a.1 ∙ ap (λ n. move_by refused (from f n X') G) (add-zero at))
   chosen cl en i (into_silent {F = F} {G = G} {X' = X'} {file = f} {at = at} s) met =
       let a = chosen (is_gap (F f) at) en i s tt in
-      (on_left a.0, ap (into_move f at) a.1 ∙ (λ t. move_by silent (into f (add-zero at t) X') (patched_none G f at t)))
+      (on_left a.0, ap (into_move f at) a.1 ∙ (λ t. move_by silent (into f (moved_none at t) X') (patched_none G f at t)))
   chosen cl en i (into_takes {F = F} {G = G} {X' = X'} {file = f} {at = at} {bytes = b} s) met =
       let a = chosen (is_gap (F f) at) en i s met in
-      (on_left a.0, ap (into_move f at) a.1 ∙ (λ t. move_by (takes b) (into f (add-zero at t) X') (patched_none G f at t)))
+      (on_left a.0, ap (into_move f at) a.1 ∙ (λ t. move_by (takes b) (into f (moved_none at t) X') (patched_none G f at t)))
   chosen cl en i (into_meets_end {F = F} {G = G} {X' = X'} {file = f} {at = at} s) met =
       let a = chosen (is_gap (F f) at) en i s met in
-      (on_left a.0, ap (into_move f at) a.1 ∙ (λ t. move_by meets_end (into f (add-zero at t) X') (patched_none G f at t)))
+      (on_left a.0, ap (into_move f at) a.1 ∙ (λ t. move_by meets_end (into f (moved_none at t) X') (patched_none G f at t)))
   chosen cl en i (into_puts {F = F} {G = G} {X' = X'} {file = f} {at = at} s within e h) met =
       let a = chosen (is_gap (F f) at) en i s tt in
       (on_left a.0, ap (into_move f at) a.1 ∙ (λ t. move_by silent (into f (sym e t) X') (sym h t)))
   chosen cl en i (into_refused {F = F} {G = G} {X' = X'} {file = f} {at = at} s gap) met =
       let a = chosen (is_gap (F f) at) en i s gap in
-      (on_left a.0, ap (into_move f at) a.1 ∙ (λ t. move_by silent (into f (add-zero at t) X') (patched_none G f at t)))
+      (on_left a.0, ap (into_move f at) a.1 ∙ (λ t. move_by silent (into f (moved_none at t) X') (patched_none G f at t)))

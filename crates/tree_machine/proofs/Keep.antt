@@ -1,6 +1,6 @@
 -- Each step keeps the final value: what was to be written is what it writes and what is written after it, and the files that
 -- were not soft and the rest that was not loose are the same.
-use Rattle.std.proofs.Common.{◌≡◌, ℕ, ◌+◌, Bool, true, false, [], ◌++◌, Option, Some, None, drop, refl, sym, ap, ◌∙◌, subst, append-nil, drop-drop, arith}
+use Rattle.std.proofs.Common.{◌≡◌, ◌+◌, Bool, true, false, [], ◌++◌, Option, Some, None, drop, refl, sym, ap, ◌∙◌, subst, append-nil, drop-drop, arith}
 use Rattle.std.specs.Prelude.{◌&&◌, not}
 use Rattle.std.proofs.lemmas.Bool.Decides.{nat_tests}
 use mathlib.Core.Path.{transport}
@@ -8,7 +8,7 @@ use Rattle.sh_tree.specs.Tree.{Tree, exec, redir, pipe, list, back}
 use Rattle.conflict_check.specs.Names.{names, uses_input}
 use Rattle.sh_meaning.specs.Value.{seq_value}
 use Rattle.sh_meaning.specs.Meaning.{meaning}
-use Rattle.tree_machine.specs.Residual.{Residual, done, todo, running, seq, piped, unopened, from, into, left_writes, left_uses, keeps_0, keeps_1}
+use Rattle.tree_machine.specs.Residual.{Residual, done, todo, running, seq, piped, unopened, from, into, Position, at_byte, at_file_end, left_writes, left_uses, keeps_0, keeps_1}
 use Rattle.tree_machine.specs.Rules.{is_gap}
 use Rattle.tree_machine.specs.Step.{Choice, here, on_left, on_right, seq_end, piped_end, step}
 use Rattle.tree_machine.specs.Final.{final}
@@ -31,9 +31,10 @@ use Rattle.mem_files.specs.Files.{FileMap, bytes_of}
 use Rattle.script_load.specs.declared.profile.Profile.{Profile}
 use Rattle.sh_meaning.specs.Value.{Value}
 
-pub no_gap_there : (x : Option Bytes) (at : ℕ) → IsThere x at → is_gap x at ≡ false
+pub no_gap_there : (x : Option Bytes) (at : Position) → IsThere x at → is_gap x at ≡ false
 no_gap_there None at h = absurd h
-no_gap_there (Some b) at h = grind (arith, nat_tests)
+no_gap_there (Some b) (at_byte n) h = grind (arith, nat_tests)
+no_gap_there (Some b) at_file_end h = refl
 
 module _ (profile : Profile) where
   -- what follows, as a list or a script goes on

@@ -29,4 +29,5 @@ pub mod UncutKept
 pub mod PlainRuns
 pub mod RuleFrame
 pub mod Commuting
-mod Orders
+pub mod Orders
+mod Appends

@@ -7,7 +7,7 @@ use Rattle.mem_files.specs.Files.{FileMap, bytes_of}
 use Rattle.script_load.specs.declared.profile.Profile.{Profile}
 use Rattle.user_calls.specs.declared.calls.Call.TheVariants.{Read}
 use Rattle.prog_laws.specs.Calls.{MayCall}
-use Rattle.tree_machine.specs.Residual.{Running, alone, Residual, done, todo, running, seq, piped, unopened, from, into, keeps_0}
+use Rattle.tree_machine.specs.Residual.{Running, alone, Residual, done, todo, running, seq, piped, unopened, from, into, Position, keeps_0}
 use Rattle.tree_machine.specs.Answers.{Kind, leaves, reads_input, writes_output, asks, kind_of}
 use Rattle.tree_machine.specs.Rules.{puts, refused, PIPE_ROOM, is_gap}
 use Rattle.tree_machine.specs.Rules.Steps.{begins, opens, exits, calls, reads, reads_end, writes_all, writes_some, write_refused, seq_ends, pipe_ends, from_ends, into_ends, seq_steps, left_silent, left_takes, left_meets_end, left_puts, left_refused, right_silent, right_takes, right_meets_end, right_puts, right_refused, from_silent, from_takes, from_meets_end, from_puts, from_refused, into_silent, into_takes, into_meets_end, into_puts}
@@ -56,7 +56,7 @@ module _ (profile : Profile) where
   from_moves f at X F left cut (may_end_write p) = may_end_write (_, p.1, from_puts p.2)
   from_moves f at X F left cut (may_put byte p d) = may_put byte (_, p.1, from_puts p.2) (_, d.1, from_refused d.2)
 
-  into_moves : (f : Name) (at : ℕ) (X : Residual) (F : FileMap) → IsThere (F f) at → Moves profile X F → Moves profile (into f at X) F
+  into_moves : (f : Name) (at : Position) (X : Residual) (F : FileMap) → IsThere (F f) at → Moves profile X F → Moves profile (into f at X) F
   into_moves f at X F there (is_done e) = subst (λ Z. Moves profile (into f at Z) F) (sym e) (goes (done, F, into_ends))
   into_moves f at X F there (goes s) = goes (_, s.1, into_silent s.2)
   into_moves f at X F there (may_read r e) = may_read (λ byte. (_, (r byte).1, into_takes (r byte).2)) (_, e.1, into_meets_end e.2)

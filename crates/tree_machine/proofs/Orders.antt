@@ -5,6 +5,7 @@ use Rattle.std.specs.Str.{bytes_eq}
 use Rattle.sh_tree.specs.Tree.{Tree, exec, pipe}
 use Rattle.mem_files.specs.Name.{Bytes}
 use Rattle.mem_files.specs.Files.{FileMap, no_files, with_file, bytes_of}
+use Rattle.script_load.specs.declared.profile.Profile.{Profile}
 use Rattle.script_load.specs.declared.profile.Profile.TheVariants.{Xv6}
 use Rattle.sh_meaning.specs.Meaning.{meaning}
 use Rattle.tree_machine.specs.Residual.{Residual, done, todo, running, seq, piped, unopened, from, into, keeps_0, keeps_1}
@@ -57,12 +58,15 @@ abbrev if_done : Residual → Bool → Bool → Bool
 if_done done same later = same
 if_done left same later = later
 
-abbrev all_give : ℕ → Bytes → Stage → Bool
-all_give zero out stage = false
-all_give (suc more) out stage =
-    if_done stage.left (bytes_eq stage.out out)
+abbrev pub all_end : Profile → (Stage → Bool) → ℕ → Stage → Bool
+all_end profile is_right zero stage = false
+all_end profile is_right (suc more) stage =
+    if_done stage.left (is_right stage)
     (goes_on (choices stage.left false true stage.input stage.files)
-    && list_all (λ c. all_give more out (next_stage Xv6 stage c)) (choices stage.left false true stage.input stage.files))
+    && list_all (λ c. all_end profile is_right more (next_stage profile stage c)) (choices stage.left false true stage.input stage.files))
+
+abbrev all_give : ℕ → Bytes → Stage → Bool
+all_give most out stage = all_end Xv6 (λ last. bytes_eq last.out out) most stage
 
 -- echo a | cat
 abbrev echo_cat : Tree

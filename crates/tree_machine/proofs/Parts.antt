@@ -1,5 +1,5 @@
 -- Files and values of parts that are alike on some names, and what is opened or written at one name alone.
-use Rattle.std.proofs.Common.{◌≡◌, ℕ, Bool, true, false, [], Option, Some, None, refl, ap, subst}
+use Rattle.std.proofs.Common.{◌≡◌, Bool, true, false, [], Option, Some, None, refl, ap, subst}
 use Rattle.std.specs.Prelude.{◌||◌, if◌then◌else◌}
 use Rattle.std.specs.Str.{bytes_eq}
 use Rattle.std.proofs.lemmas.Bool.{or_left}
@@ -12,6 +12,7 @@ use Rattle.sh_meaning.specs.Inputs.{found}
 use Rattle.sh_meaning.specs.Value.{Value, into_value}
 use Rattle.sh_meaning.specs.Meaning.{input_value, output_value, opened}
 use Rattle.prog_laws.proofs.Framing.{itself}
+use Rattle.tree_machine.specs.Residual.{Position}
 use Rattle.tree_machine.specs.Rules.{patch, patched}
 use Rattle.tree_machine.specs.Final.{piped_value, patch_value}
 use Rattle.tree_machine.proofs.Values.{Agree, Alike, alike_nothing, alike_from}
@@ -27,10 +28,10 @@ agree_opened N Over F G f nf h = agree_with N F G f (bytes_of (F f)) (bytes_of (
 pub alike_into : (N : Name → Type 0) (f : Name) (b c : Bytes) (v w : Value) → b ≡ c → Alike N v w → Alike N (into_value f b v) (into_value f c w)
 alike_into N f b c v w e a = record { out = refl; rest = a.rest; files = agree_with N v.files w.files f b c a.files e; loose = a.loose; soft = a.soft; met = a.met }
 
-pub agree_patched : (N : Name → Type 0) (F G : FileMap) (f : Name) (at : ℕ) (o o' : Bytes) → Agree N F G → o ≡ o' → Agree N (patched F f at o) (patched G f at o')
+pub agree_patched : (N : Name → Type 0) (F G : FileMap) (f : Name) (at : Position) (o o' : Bytes) → Agree N F G → o ≡ o' → Agree N (patched F f at o) (patched G f at o')
 agree_patched N F G f at o o' h e = record { at = λ n hn t. if bytes_eq n f then patch (h.at n hn t) at (e t) else h.at n hn t }
 
-pub alike_patch : (N : Name → Type 0) (f : Name) (at : ℕ) (v w : Value) → Alike N v w → Alike N (patch_value f at v) (patch_value f at w)
+pub alike_patch : (N : Name → Type 0) (f : Name) (at : Position) (v w : Value) → Alike N v w → Alike N (patch_value f at v) (patch_value f at w)
 alike_patch N f at v w a = record { out = refl; rest = a.rest; files = agree_patched N v.files w.files f at v.out w.out a.files a.out; loose = a.loose; soft = a.soft; met = a.met }
 
 pub found_same : (f : Name) (F G : FileMap) → F f ≡ G f → found F f ≡ found G f
@@ -53,7 +54,7 @@ named_self f b = or_left (bytes_eq f f) b (itself f)
 pub with_other : (F : FileMap) (f n : Name) (b : Bytes) → bytes_eq n f ≡ false → with_file F f b n ≡ F n
 with_other F f n b e = ap (λ (t : Bool). if t then Some b else F n) e
 
-pub patched_other : (F : FileMap) (f n : Name) (at : ℕ) (o : Bytes) → bytes_eq n f ≡ false → patched F f at o n ≡ F n
+pub patched_other : (F : FileMap) (f n : Name) (at : Position) (o : Bytes) → bytes_eq n f ≡ false → patched F f at o n ≡ F n
 patched_other F f n at o e = ap (λ (t : Bool). if t then patch (F n) at o else F n) e
 
 pub opened_other : (m : Mode) (F : FileMap) (f n : Name) → bytes_eq n f ≡ false → opened m f F n ≡ F n

@@ -1,5 +1,5 @@
 -- A step by the rules can be made among other files, as long as these agree on the names of what is left.
-use Rattle.std.proofs.Common.{◌≡◌, ◌∙◌, ℕ, Bool, true, false, [], drop, refl, sym, ap, subst}
+use Rattle.std.proofs.Common.{◌≡◌, ◌∙◌, Bool, true, false, [], drop, refl, sym, ap, subst}
 use Rattle.std.specs.Prelude.{if◌then◌else◌}
 use Rattle.std.specs.Str.{bytes_eq}
 use Rattle.std.proofs.lemmas.Bool.{or_left, or_right}
@@ -8,7 +8,7 @@ use Rattle.mem_files.specs.Files.{FileMap, bytes_of, no_files}
 use Rattle.conflict_check.specs.Names.{names}
 use Rattle.script_load.specs.declared.profile.Profile.{Profile}
 use Rattle.prog_laws.proofs.Elsewhere.{depends_alike}
-use Rattle.tree_machine.specs.Residual.{alone, Residual, left_names}
+use Rattle.tree_machine.specs.Residual.{alone, Residual, Position, left_names}
 use Rattle.tree_machine.specs.Answers.{files_after, answer}
 use Rattle.tree_machine.specs.Begin.{run_left, opens_file}
 use Rattle.tree_machine.specs.Rules.{Label, patch, patched, is_gap, Steps}
@@ -44,7 +44,7 @@ module _ (profile : Profile) where
   own : {F : FileMap} (N : Name → Type 0) (X : Residual) (K : FileMap) → ((n : Name) → left_names X n ≡ true → N n) → Agree N F K → Agree (λ n. left_names X n ≡ true) F K
   own N X K sub h = record { at = λ n e. h.at n (sub n e) }
 
-  patch_alike : (N : Name → Type 0) (G H : FileMap) (f : Name) (at : ℕ) (b : Bytes) → Agree N G H → Agree N (patched G f at b) (patched H f at b)
+  patch_alike : (N : Name → Type 0) (G H : FileMap) (f : Name) (at : Position) (b : Bytes) → Agree N G H → Agree N (patched G f at b) (patched H f at b)
   patch_alike N G H f at b h = record { at = λ n e t. if bytes_eq n f then patch (h.at n e t) at b else h.at n e t }
 
   pub elsewhere : {X X' : Residual} {F G : FileMap} {l : Label} (N : Name → Type 0) (K : FileMap) → Steps profile X F l X' G → IsTidy X F → ((n : Name) → left_names X n ≡ true → N n) → Agree N F K → Elsewhere profile N X K l X' G

@@ -11,7 +11,7 @@ use Rattle.mem_files.specs.Files.{FileMap, bytes_of}
 use Rattle.conflict_check.specs.Names.{names, writes, uses_input}
 use Rattle.script_load.specs.declared.profile.Profile.{Profile}
 use Rattle.sh_meaning.specs.Inputs.{found}
-use Rattle.tree_machine.specs.Residual.{Running, Residual, done, todo, running, seq, piped, unopened, from, into, left_names, left_writes, left_uses, keeps_0, keeps_1}
+use Rattle.tree_machine.specs.Residual.{Running, Residual, done, todo, running, seq, piped, unopened, from, into, Position, left_names, left_writes, left_uses, keeps_0, keeps_1}
 use Rattle.tree_machine.specs.Begin.{run_left, unfolded, open_from, open_into, opens_file}
 use Rattle.tree_machine.specs.Rules.{is_gap}
 use Rattle.tree_machine.specs.Step.{Choice, here, on_left, on_right, acts, seq_end, piped_end, from_end, into_end, step}
@@ -55,7 +55,7 @@ smaller_from_end : (f : Name) (at : ℕ) (X : Residual) → Smaller (from_end f 
 smaller_from_end f at done = smaller_done (from f at done)
 smaller_from_end f at X = smaller_refl (from f at X)
 
-smaller_into_end : (f : Name) (at : ℕ) (X : Residual) → Smaller (into_end f at X) (into f at X)
+smaller_into_end : (f : Name) (at : Position) (X : Residual) → Smaller (into_end f at X) (into f at X)
 smaller_into_end f at done = smaller_done (into f at done)
 smaller_into_end f at X = smaller_refl (into f at X)
 
@@ -83,7 +83,7 @@ smaller_from f at to X Y a = record {
   keeps_0 = λ e. refl;
 }
 
-smaller_into : (f : Name) (at to : ℕ) (X Y : Residual) → Smaller Y X → Smaller (into f to Y) (into f at X)
+smaller_into : (f : Name) (at to : Position) (X Y : Residual) → Smaller Y X → Smaller (into f to Y) (into f at X)
 smaller_into f at to X Y a = record {
   names = λ n e. neither (bytes_eq n f) (left_names Y n) (not_left (bytes_eq n f) (left_names X n) e) (a.names n (not_right (bytes_eq n f) (left_names X n) e));
   writes = λ n e. neither (bytes_eq n f) (left_writes Y n) (not_left (bytes_eq n f) (left_writes X n) e) (a.writes n (not_right (bytes_eq n f) (left_writes X n) e));

@@ -13,7 +13,7 @@ use Rattle.conflict_check.specs.Names.{words_read, words_write, names, writes, u
 use Rattle.script_load.specs.declared.profile.Profile.{Profile}
 use Rattle.sh_meaning.specs.Inputs.{found}
 use Rattle.prog_laws.proofs.Elsewhere.{depends_alike, changes_alike}
-use Rattle.tree_machine.specs.Residual.{alone, Residual, done, todo, running, seq, piped, unopened, from, into, left_names, left_writes, left_uses, keeps_0, keeps_1}
+use Rattle.tree_machine.specs.Residual.{alone, Residual, done, todo, running, seq, piped, unopened, from, into, moved_on, left_names, left_writes, left_uses, keeps_0, keeps_1}
 use Rattle.tree_machine.specs.Begin.{run_left, unfolded, start_at, open_from, open_into, opens_file}
 use Rattle.tree_machine.specs.Rules.{is_gap}
 use Rattle.tree_machine.specs.Step.{Move, quiet, open_move, Choice, here, on_left, on_right, seq_end, piped_end, from_end, into_end, from_move, into_move, step}
@@ -67,7 +67,7 @@ module _ (profile : Profile) where
     wrote = refl;
     refused = refl;
     took = refl;
-    next = λ t. into f (start_at profile m (bytes_of (h.at f nf t))) (todo T);
+    next = λ t. into f (start_at profile m) (todo T);
     files = agree_opened N m F G f nf h;
   }
 
@@ -109,7 +109,7 @@ module _ (profile : Profile) where
       let e = h.at f (sub f (named_self f (left_names X f))) in
       let a = step_frame N X c (is_gap (F f) at) en i F G d.0 (λ n g. sub n (or_right (bytes_eq n f) (left_names X n) g)) h in
       subst (λ z. AlikeMove N (into_move f at (step profile X c (is_gap (F f) at) en i F)) (into_move f at (step profile X c z en i G))) (ap (λ b. is_gap b at) e)
-      (record { wrote = refl; refused = refl; took = a.took; next = λ t. into f (at + length (a.wrote t)) (a.next t); files = agree_patched N _ _ f at _ _ a.files a.wrote })
+      (record { wrote = refl; refused = refl; took = a.took; next = λ t. into f (moved_on at (length (a.wrote t))) (a.next t); files = agree_patched N _ _ f at _ _ a.files a.wrote })
   step_frame N (into f at X) (on_right c) cl en i F G d sub h = alike_stay N (into f at X) F G h
 
   -- the files that it changes

@@ -1,5 +1,5 @@
 -- What is tidy is tidy after a step.
-use Rattle.std.proofs.Common.{◌≡◌, ℕ, ◌+◌, ◌≤◌, Bool, true, false, [], Option, Some, None, length, drop, refl, sym, ap, subst, arith}
+use Rattle.std.proofs.Common.{◌≡◌, ℕ, ◌≤◌, Bool, true, false, [], Option, Some, None, length, drop, refl, sym, ap, subst, arith}
 use Rattle.std.specs.Prelude.{◌||◌, not, if◌then◌else◌}
 use Rattle.std.specs.Str.{bytes_eq}
 use Rattle.std.proofs.lemmas.Slice.Eq.{bytes_eq-Decides}
@@ -15,7 +15,7 @@ use Rattle.script_load.specs.declared.profile.Profile.TheVariants.{Xv6, Append}
 use Rattle.sh_meaning.specs.Inputs.{found}
 use Rattle.sh_meaning.specs.Meaning.{opened}
 use Rattle.prog_laws.proofs.Framing.{itself}
-use Rattle.tree_machine.specs.Residual.{Residual, done, todo, running, seq, piped, unopened, from, into, left_names, left_writes, keeps_0, keeps_1}
+use Rattle.tree_machine.specs.Residual.{Residual, done, todo, running, seq, piped, unopened, from, into, Position, at_byte, at_file_end, byte_in, moved_on, left_names, left_writes, keeps_0, keeps_1}
 use Rattle.tree_machine.specs.Begin.{unfolded, over_start, start_at, open_from, open_into, opens_file}
 use Rattle.tree_machine.specs.Rules.{patch, patched, is_gap}
 use Rattle.tree_machine.specs.Step.{Choice, here, on_left, on_right, seq_end, piped_end, from_end, into_end, step}
@@ -40,7 +40,7 @@ tidy_from_end : (f : Name) (at : ℕ) (X : Residual) (F : FileMap) → IsTidy (f
 tidy_from_end f at done F h = tt
 tidy_from_end f at X F h = h
 
-tidy_into_end : (f : Name) (at : ℕ) (X : Residual) (F : FileMap) → IsTidy (into f at X) F → IsTidy (into_end f at X) F
+tidy_into_end : (f : Name) (at : Position) (X : Residual) (F : FileMap) → IsTidy (into f at X) F → IsTidy (into_end f at X) F
 tidy_into_end f at done F h = tt
 tidy_into_end f at X F h = h
 
@@ -60,26 +60,27 @@ lost_before true r K f g e = f refl
 lost_before false r K f g e = g e
 
 -- a file that was opened to be written is there, and a write that goes on within it or at its end leaves it so
-there_with : (F : FileMap) (f : Name) (held : Bytes) (at : ℕ) → at ≤ length held → IsThere (with_file F f held f) at
+there_with : (F : FileMap) (f : Name) (held : Bytes) (at : Position) → byte_in at held ≤ length held → IsThere (with_file F f held f) at
 there_with F f held at few = subst (λ (b : Bool). IsThere (if b then Some held else F f) at) (sym (itself f)) few
 
-start_in : (profile : Profile) (held : Bytes) → over_start profile held ≤ length held
+start_in : (profile : Profile) (held : Bytes) → byte_in (over_start profile) held ≤ length held
 start_in Xv6 held = omega arith
 start_in Append held = omega arith
 
-patch_there : (x : Option Bytes) (at : ℕ) (bytes : Bytes) → IsThere x at → IsThere (patch x at bytes) (at + length bytes)
+patch_there : (x : Option Bytes) (at : Position) (bytes : Bytes) → IsThere x at → IsThere (patch x at bytes) (moved_on at (length bytes))
 patch_there None at bytes h = h
-patch_there (Some b) at bytes h = omega (arith, length-written b at bytes h)
+patch_there (Some b) (at_byte n) bytes h = omega (arith, length-written b n bytes h)
+patch_there (Some b) at_file_end bytes h = omega arith
 
 module _ (profile : Profile) where
-  tidy_open_into : (t : Bool) (m : Mode) (f : Name) (T : Tree) (F : FileMap) → IsTidyTree T → names T f ≡ false → IsThere (opened m f F f) (start_at profile m (bytes_of (F f))) → IsTidy (open_into profile t m f T F).next (open_into profile t m f T F).files
+  tidy_open_into : (t : Bool) (m : Mode) (f : Name) (T : Tree) (F : FileMap) → IsTidyTree T → names T f ≡ false → IsThere (opened m f F f) (start_at profile m) → IsTidy (open_into profile t m f T F).next (open_into profile t m f T F).files
   tidy_open_into false m f T F h g there = tt
   tidy_open_into true m f T F h g there = (h, g, there)
 
   tidy_opens : (m : Mode) (f : Name) (T : Tree) (F : FileMap) → IsTidyTree (redir m f T) → IsTidy (opens_file profile m f T F).next (opens_file profile m f T F).files
   tidy_opens Input f T F h = tidy_open_from (found F f) f T F h
-  tidy_opens Fresh f T F h = tidy_open_into (is_openable f) Fresh f T F (h.0.1, h.1) h.0.0 (there_with F f [] 0 (omega arith))
-  tidy_opens Over f T F h = tidy_open_into (is_openable f) Over f T F (h.0.1, h.1) h.0.0 (there_with F f (bytes_of (F f)) (over_start profile (bytes_of (F f))) (start_in profile (bytes_of (F f))))
+  tidy_opens Fresh f T F h = tidy_open_into (is_openable f) Fresh f T F (h.0.1, h.1) h.0.0 (there_with F f [] (at_byte 0) (omega arith))
+  tidy_opens Over f T F h = tidy_open_into (is_openable f) Over f T F (h.0.1, h.1) h.0.0 (there_with F f (bytes_of (F f)) (over_start profile) (start_in profile (bytes_of (F f))))
 
   pub step_tidy : (X : Residual) (c : Choice) (cl en : Bool) (i : Bytes) (F : FileMap) → IsTidy X F → IsTidy (step profile X c cl en i F).next (step profile X c cl en i F).files
   step_tidy (todo T) c cl en i F h = tidy_tree T F h
@@ -117,7 +118,7 @@ module _ (profile : Profile) where
       let same : m.files f ≡ F f = step_only profile X c cl' en i F f h.0 (named X f h.1) in (
         tidy_agree m.next m.files (patched m.files f at m.wrote) (λ n e. sym (patched_other m.files f n at m.wrote (unnamed m.next n e nf))) (step_tidy X c cl' en i F h.0),
         nf,
-        subst (λ x. IsThere x (at + length m.wrote)) (sym (ap (λ (b : Bool). if b then patch (m.files f) at m.wrote else m.files f) (itself f)))
+        subst (λ x. IsThere x (moved_on at (length m.wrote))) (sym (ap (λ (b : Bool). if b then patch (m.files f) at m.wrote else m.files f) (itself f)))
             (patch_there (m.files f) at m.wrote (subst (λ x. IsThere x at) (sym same) h.2)),
       )
     where

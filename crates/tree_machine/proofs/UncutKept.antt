@@ -15,7 +15,7 @@ use Rattle.sh_meaning.specs.Inputs.{found}
 use Rattle.sh_meaning.specs.Meaning.{opened}
 use Rattle.sh_meaning.specs.Value.{is_cut}
 use Rattle.prog_laws.proofs.Keeps.{found_is}
-use Rattle.tree_machine.specs.Residual.{Running, Residual, done, todo, running, seq, piped, unopened, from, into, left_names, left_writes, keeps_0, keeps_1}
+use Rattle.tree_machine.specs.Residual.{Running, Residual, done, todo, running, seq, piped, unopened, from, into, Position, left_names, left_writes, keeps_0, keeps_1}
 use Rattle.tree_machine.specs.Begin.{run_left, begun_words, unfolded, open_from, open_into, opens_file}
 use Rattle.tree_machine.specs.Rules.{patched, is_gap}
 use Rattle.tree_machine.specs.Step.{Choice, here, on_left, on_right, acts, seq_end, piped_end, from_end, into_end, step}
@@ -98,7 +98,7 @@ module _ (profile : Profile) where
   from_end_uncut f at done i F h = tt
   from_end_uncut f at X i F h = h
 
-  into_end_uncut : (f : Name) (at : ℕ) (X : Residual) (i : Bytes) (F : FileMap) → IsUncutLeft profile (into f at X) i F → IsUncutLeft profile (into_end f at X) i F
+  into_end_uncut : (f : Name) (at : Position) (X : Residual) (i : Bytes) (F : FileMap) → IsUncutLeft profile (into f at X) i F → IsUncutLeft profile (into_end f at X) i F
   into_end_uncut f at done i F h = tt
   into_end_uncut f at X i F h = h
 

@@ -1,6 +1,6 @@
 -- A command that doesn't use its input leaves it, and gives the same on any; so does what no longer holds descriptor 0. What
 -- no longer holds descriptor 1 writes nothing. Soft names are written.
-use Rattle.std.proofs.Common.{◌≡◌, ℕ, Bool, true, false, [], ◌++◌, Option, Some, None, drop, refl, sym, ap, ◌∙◌, subst}
+use Rattle.std.proofs.Common.{◌≡◌, Bool, true, false, [], ◌++◌, Option, Some, None, drop, refl, sym, ap, ◌∙◌, subst}
 use Rattle.std.specs.Prelude.{◌&&◌}
 use Rattle.std.specs.Str.{bytes_eq}
 use Rattle.sh_tree.specs.declared.tree.Mode.{Mode}
@@ -15,7 +15,7 @@ use Rattle.sh_meaning.specs.Inputs.{found}
 use Rattle.sh_meaning.specs.Value.{Value, seq_value, is_cut}
 use Rattle.sh_meaning.specs.Meaning.{input_value, output_value, opened, written_value, meaning}
 use Rattle.sh_meaning.proofs.Firm.{firm_words}
-use Rattle.tree_machine.specs.Residual.{Residual, done, todo, running, seq, piped, unopened, from, into, left_writes, left_uses, keeps_0, keeps_1}
+use Rattle.tree_machine.specs.Residual.{Residual, done, todo, running, seq, piped, unopened, from, into, Position, left_writes, left_uses, keeps_0, keeps_1}
 use Rattle.tree_machine.specs.Final.{piped_value, patch_value, final}
 use Rattle.tree_machine.specs.Tidy.{HasShortCommands, IsTidy}
 use Rattle.tree_machine.proofs.Bools.{not_left, not_right, neither, and_none, all3}
@@ -54,7 +54,7 @@ free_pipe false ws u v v' w w' i e a b =
 free_pipe true ws u v v' w w' i e a b =
     record { same = λ t. piped_value true ws u (a.same t) (b t); tight = e }
 
-free_patch : (f : Name) (at : ℕ) (v w : Value) (i : Bytes) → Free v w i → Free (patch_value f at v) (patch_value f at w) i
+free_patch : (f : Name) (at : Position) (v w : Value) (i : Bytes) → Free v w i → Free (patch_value f at v) (patch_value f at w) i
 free_patch f at v w i a = record { same = ap (patch_value f at) a.same; tight = a.tight }
 
 -- what comes after, on what is left, of something free

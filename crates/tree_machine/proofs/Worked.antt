@@ -8,7 +8,7 @@ use Rattle.script_load.specs.declared.profile.Profile.TheVariants.{Xv6, Append}
 use Rattle.sh_meaning.specs.Meaning.{meaning}
 use Rattle.user_calls.specs.declared.calls.Call.TheVariants.{Exit, Write}
 use Rattle.user_progs.specs.State.{told, ended}
-use Rattle.tree_machine.specs.Residual.{Residual, done, running, into}
+use Rattle.tree_machine.specs.Residual.{Residual, done, running, into, at_byte}
 use Rattle.tree_machine.specs.Step.{Choice, here, on_left, on_right, step}
 use Rattle.tree_machine.specs.Runs.{Stage, after_steps, first_stage}
 
@@ -88,9 +88,9 @@ append_writes = refl
 
 -- a write past the end of its file, as no clear script comes to it, is refused and leaves the file
 abbrev past : Residual
-past = into (codes "x") 5 (running (record { turn = record { call = Write 1 (codes "b"); next = told }; own = []; put = 0 }))
+past = into (codes "x") (at_byte 5) (running (record { turn = record { call = Write 1 (codes "b"); next = told }; own = []; put = 0 }))
 
-past_left : (step Xv6 past l false true [] lines).next ≡ into (codes "x") 5 (running (record { turn = record { call = Exit; next = ended }; own = []; put = 0 }))
+past_left : (step Xv6 past l false true [] lines).next ≡ into (codes "x") (at_byte 5) (running (record { turn = record { call = Exit; next = ended }; own = []; put = 0 }))
 past_left = refl
 
 past_files : (step Xv6 past l false true [] lines).files (codes "x") ≡ Some (codes "a\nc\n")

@@ -1,10 +1,10 @@
 -- How a command is begun: a simple command as its program, a redirection by opening its file.
-use Rattle.std.specs.Prelude.{ℕ, Bool, true, false, List, [], ◌∷◌, length, Option, Some, None}
+use Rattle.std.specs.Prelude.{Bool, true, false, List, [], ◌∷◌, Option, Some, None}
 use Rattle.sh_tree.specs.declared.tree.Mode.{Mode}
 use Rattle.sh_tree.specs.declared.tree.Mode.TheVariants.{Input, Fresh, Over}
 use Rattle.sh_tree.specs.Tree.{Tree, exec, redir, pipe, list, back}
 use Rattle.mem_files.specs.Name.{Name, Bytes, is_openable}
-use Rattle.mem_files.specs.Files.{FileMap, bytes_of}
+use Rattle.mem_files.specs.Files.{FileMap}
 use Rattle.prog_parts.specs.declared.program.Program.{Program}
 use Rattle.prog_parts.specs.Program.{program_of}
 use Rattle.user_calls.specs.declared.calls.Call.TheVariants.{Exec}
@@ -13,7 +13,7 @@ use Rattle.script_load.specs.declared.profile.Profile.TheVariants.{Xv6, Append}
 use Rattle.sh_meaning.specs.Inputs.{found}
 use Rattle.sh_meaning.specs.Meaning.{opened}
 use Rattle.user_progs.specs.State.{begins}
-use Rattle.tree_machine.specs.Residual.{Running, Residual, done, todo, running, seq, piped, unopened, from, into}
+use Rattle.tree_machine.specs.Residual.{Running, Residual, done, todo, running, seq, piped, unopened, from, into, Position, at_byte, at_file_end}
 
 -- a program that was found waits for the reply to the call that found it; without a program, or without words, nothing
 -- is left
@@ -37,16 +37,16 @@ unfolded (pipe left right) = piped false (todo left) [] (todo right)
 unfolded (list left right) = seq (todo left) right
 unfolded (back body) = todo (back body)
 
--- the byte at which a redirection begins to write a file that holds this: >> writes from the file's beginning on in xv6,
--- and at its end in the other profile (own)
-abbrev pub over_start : Profile → Bytes → ℕ
-over_start Xv6 held = 0
-over_start Append held = length held
+-- the position from which a redirection writes its file: >> writes from the file's beginning on in xv6, and each time at its
+-- end in the other profile (own)
+abbrev pub over_start : Profile → Position
+over_start Xv6 = at_byte 0
+over_start Append = at_file_end
 
-abbrev pub start_at : Profile → Mode → Bytes → ℕ
-start_at profile Input held = 0
-start_at profile Fresh held = 0
-start_at profile Over held = over_start profile held
+abbrev pub start_at : Profile → Mode → Position
+start_at profile Input = at_byte 0
+start_at profile Fresh = at_byte 0
+start_at profile Over = over_start profile
 
 -- what is left, and the files, once a redirection opened its file; where it can't, nothing is done
 pub record Opened : Type 0 where
@@ -59,7 +59,7 @@ open_from (Some bytes) file body F = record { next = from file 0 (todo body); fi
 
 abbrev pub open_into : Profile → Bool → Mode → Name → Tree → FileMap → Opened
 open_into profile false mode file body F = record { next = done; files = F }
-open_into profile true mode file body F = record { next = into file (start_at profile mode (bytes_of (F file))) (todo body); files = opened mode file F }
+open_into profile true mode file body F = record { next = into file (start_at profile mode) (todo body); files = opened mode file F }
 
 abbrev pub opens_file : Profile → Mode → Name → Tree → FileMap → Opened
 opens_file profile Input file body F = open_from (found F file) file body F

@@ -1,6 +1,6 @@
 -- The final value of what is left to do: what it still gives on an input and files, where in each pipe the left side runs to
 -- its end first and hands all its output to the right side, behind what the pipe holds.
-use Rattle.std.specs.Prelude.{ℕ, Bool, true, false, [], ◌++◌, drop}
+use Rattle.std.specs.Prelude.{Bool, true, false, [], ◌++◌, drop}
 use Rattle.sh_tree.specs.Tree.{redir}
 use Rattle.mem_files.specs.Name.{Name, Bytes}
 use Rattle.mem_files.specs.Files.{FileMap, bytes_of}
@@ -10,7 +10,7 @@ use Rattle.script_load.specs.declared.profile.Profile.{Profile}
 use Rattle.sh_meaning.specs.Value.{Value, nothing, seq_value, pipe_value, from_value}
 use Rattle.sh_meaning.specs.Meaning.{meaning}
 use Rattle.prog_laws.specs.Still.{left_of}
-use Rattle.tree_machine.specs.Residual.{Running, world_of, Residual, done, todo, running, seq, piped, unopened, from, into, left_writes, left_uses}
+use Rattle.tree_machine.specs.Residual.{Running, world_of, Residual, done, todo, running, seq, piped, unopened, from, into, Position, left_writes, left_uses}
 use Rattle.tree_machine.specs.Rules.{patched}
 
 -- a pipe, of whose left side a write was refused or not: where one was, nothing tells any more what this side would have left
@@ -19,8 +19,8 @@ abbrev pub piped_value : Bool → Names → Bool → Value → Value → Value
 piped_value false written uses left right = pipe_value written uses left right
 piped_value true written uses left right = record right { rest = left.rest; loose = uses; soft = both right.soft written }
 
--- a command whose output goes to the file of this name, from this byte on
-abbrev pub patch_value : Name → ℕ → Value → Value
+-- a command whose output goes to the file of this name, from this position on
+abbrev pub patch_value : Name → Position → Value → Value
 patch_value file at body = record body { out = []; files = patched body.files file at body.out }
 
 -- all that a program still does, the rest of a write that was put in part among it

@@ -1,5 +1,5 @@
 -- What is left to do of a command: its tree, cut up as far as it has been begun (own; xv6 keeps it in its processes).
-use Rattle.std.specs.Prelude.{ℕ, Bool, true, false, not, ◌||◌, List, []}
+use Rattle.std.specs.Prelude.{ℕ, ◌+◌, Bool, true, false, not, ◌||◌, List, [], length}
 use Rattle.std.specs.Str.{bytes_eq}
 use Rattle.sh_tree.specs.declared.tree.Mode.{Mode}
 use Rattle.sh_tree.specs.declared.tree.Mode.TheVariants.{Input, Fresh, Over}
@@ -27,6 +27,20 @@ world_of run input F = record { own = run.own; input = input; files = F }
 abbrev pub alone : Running → FileMap → World
 alone run F = world_of run [] F
 
+-- where a redirection of the output writes next: at a byte of its file, or wherever the file ends then
+pub data Position : Type 0 where
+  at_byte : ℕ → Position
+  at_file_end : Position
+
+-- that byte, in a file that holds this; and the position behind so many bytes that were written
+abbrev pub byte_in : Position → Bytes → ℕ
+byte_in (at_byte n) held = n
+byte_in at_file_end held = length held
+
+abbrev pub moved_on : Position → ℕ → Position
+moved_on (at_byte n) count = at_byte (n + count)
+moved_on at_file_end count = at_file_end
+
 pub data Residual : Type 0 where
   -- nothing is left
   done : Residual
@@ -42,8 +56,8 @@ pub data Residual : Type 0 where
   unopened : Mode → Name → Tree → Residual
   -- a command whose input is the file of this name, from this byte on
   from : Name → ℕ → Residual → Residual
-  -- a command whose output is the file of this name, from this byte on
-  into : Name → ℕ → Residual → Residual
+  -- a command whose output is the file of this name, from this position on
+  into : Name → Position → Residual → Residual
 
 -- the names of what is left: those of its trees and redirections, and those that its programs may still open or hold open
 abbrev pub left_names : Residual → Names

@@ -8,7 +8,7 @@ use Rattle.mem_files.specs.Files.{FileMap, bytes_of}
 use Rattle.mem_files.specs.Overlay.{written}
 use Rattle.user_calls.specs.declared.calls.Reply.TheVariants.{Done, Bytes as Bytes', Refused}
 use Rattle.script_load.specs.declared.profile.Profile.{Profile}
-use Rattle.tree_machine.specs.Residual.{Running, Residual, done, todo, running, seq, piped, unopened, from, into, keeps_0, keeps_1}
+use Rattle.tree_machine.specs.Residual.{Running, Residual, done, todo, running, seq, piped, unopened, from, into, Position, at_byte, at_file_end, byte_in, moved_on, keeps_0, keeps_1}
 use Rattle.tree_machine.specs.Answers.{leaves, reads_input, writes_output, asks, kind_of, resumed, replied, files_after, answer}
 use Rattle.tree_machine.specs.Begin.{unfolded, opens_file}
 
@@ -25,17 +25,18 @@ pub data Label : Type 0 where
 abbrev pub PIPE_ROOM : ℕ
 PIPE_ROOM = 512
 
--- the bytes written over a file from a byte on, if it is there
-abbrev pub patch : Option Bytes → ℕ → Bytes → Option Bytes
+-- the bytes written over a file from a position on, if it is there
+abbrev pub patch : Option Bytes → Position → Bytes → Option Bytes
 patch None at bytes = None
-patch (Some held) at bytes = Some (written held at bytes)
+patch (Some held) at bytes = Some (written held (byte_in at held) bytes)
 
-abbrev pub patched : FileMap → Name → ℕ → Bytes → FileMap
+abbrev pub patched : FileMap → Name → Position → Bytes → FileMap
 patched F file at bytes name = if bytes_eq name file then patch (F name) at bytes else F name
 
--- a write that goes on at this byte would leave a gap
-abbrev pub is_gap : Option Bytes → ℕ → Bool
-is_gap held at = nat_lt (length (bytes_of held)) at
+-- a write that goes on at this position would leave a gap
+abbrev pub is_gap : Option Bytes → Position → Bool
+is_gap held (at_byte n) = nat_lt (length (bytes_of held)) n
+is_gap held at_file_end = false
 
 pub data Steps (profile : Profile) : Residual → FileMap → Label → Residual → FileMap → Type 0 where
   -- a command is begun by its node; a redirection gives up its descriptor, and then opens its file or ends
@@ -53,7 +54,7 @@ pub data Steps (profile : Profile) : Residual → FileMap → Label → Residual
   seq_ends : {F : FileMap} {later : Tree} → Steps profile (seq done later) F silent (todo later) F
   pipe_ends : {F : FileMap} {lost : Bool} {bytes : Bytes} → Steps profile (piped lost done bytes done) F silent done F
   from_ends : {F : FileMap} {file : Name} {at : ℕ} → Steps profile (from file at done) F silent done F
-  into_ends : {F : FileMap} {file : Name} {at : ℕ} → Steps profile (into file at done) F silent done F
+  into_ends : {F : FileMap} {file : Name} {at : Position} → Steps profile (into file at done) F silent done F
   -- a step inside a list
   seq_steps : {F G : FileMap} {X X' : Residual} {later : Tree} {label : Label} → Steps profile X F label X' G → Steps profile (seq X later) F label (seq X' later) G
   -- steps of the left side of a pipe: what it puts, the pipe holds, within its room; a write is refused only where the right
@@ -77,11 +78,11 @@ pub data Steps (profile : Profile) : Residual → FileMap → Label → Residual
   from_puts : {F G : FileMap} {X X' : Residual} {file : Name} {at : ℕ} {bytes : Bytes} → Steps profile X F (puts bytes) X' G → Steps profile (from file at X) F (puts bytes) (from file at X') G
   from_refused : {F G : FileMap} {X X' : Residual} {file : Name} {at : ℕ} → Steps profile X F refused X' G → Steps profile (from file at X) F refused (from file at X') G
   -- steps under a redirection of the output, whose writes are refused exactly where they would leave a gap
-  into_silent : {F G : FileMap} {X X' : Residual} {file : Name} {at : ℕ} → Steps profile X F silent X' G → Steps profile (into file at X) F silent (into file at X') G
-  into_takes : {F G : FileMap} {X X' : Residual} {file : Name} {at : ℕ} {bytes : Bytes} → Steps profile X F (takes bytes) X' G → Steps profile (into file at X) F (takes bytes) (into file at X') G
-  into_meets_end : {F G : FileMap} {X X' : Residual} {file : Name} {at : ℕ} → Steps profile X F meets_end X' G → Steps profile (into file at X) F meets_end (into file at X') G
-  into_puts : {F G H : FileMap} {X X' : Residual} {file : Name} {at at' : ℕ} {bytes : Bytes} → Steps profile X F (puts bytes) X' G → (is_gap (F file) at ≡ true → bytes ≡ []) → at' ≡ at + length bytes → H ≡ patched G file at bytes → Steps profile (into file at X) F silent (into file at' X') H
-  into_refused : {F G : FileMap} {X X' : Residual} {file : Name} {at : ℕ} → Steps profile X F refused X' G → is_gap (F file) at ≡ true → Steps profile (into file at X) F silent (into file at X') G
+  into_silent : {F G : FileMap} {X X' : Residual} {file : Name} {at : Position} → Steps profile X F silent X' G → Steps profile (into file at X) F silent (into file at X') G
+  into_takes : {F G : FileMap} {X X' : Residual} {file : Name} {at : Position} {bytes : Bytes} → Steps profile X F (takes bytes) X' G → Steps profile (into file at X) F (takes bytes) (into file at X') G
+  into_meets_end : {F G : FileMap} {X X' : Residual} {file : Name} {at : Position} → Steps profile X F meets_end X' G → Steps profile (into file at X) F meets_end (into file at X') G
+  into_puts : {F G H : FileMap} {X X' : Residual} {file : Name} {at at' : Position} {bytes : Bytes} → Steps profile X F (puts bytes) X' G → (is_gap (F file) at ≡ true → bytes ≡ []) → at' ≡ moved_on at (length bytes) → H ≡ patched G file at bytes → Steps profile (into file at X) F silent (into file at' X') H
+  into_refused : {F G : FileMap} {X X' : Residual} {file : Name} {at : Position} → Steps profile X F refused X' G → is_gap (F file) at ≡ true → Steps profile (into file at X) F silent (into file at X') G
 
 -- where a label can be met: by these bytes of the input, whether these are all that ever come, and whether nobody reads the
 -- output any more

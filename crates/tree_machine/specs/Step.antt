@@ -5,7 +5,7 @@ use Rattle.mem_files.specs.Name.{Name, Bytes}
 use Rattle.mem_files.specs.Files.{FileMap, bytes_of}
 use Rattle.user_calls.specs.declared.calls.Reply.TheVariants.{Done, Bytes as Bytes', Refused}
 use Rattle.script_load.specs.declared.profile.Profile.{Profile}
-use Rattle.tree_machine.specs.Residual.{Running, Residual, done, todo, running, seq, piped, unopened, from, into, keeps_0, keeps_1}
+use Rattle.tree_machine.specs.Residual.{Running, Residual, done, todo, running, seq, piped, unopened, from, into, Position, moved_on, keeps_0, keeps_1}
 use Rattle.tree_machine.specs.Answers.{Kind, leaves, reads_input, writes_output, asks, kind_of, resumed, replied, files_after, answer}
 use Rattle.tree_machine.specs.Begin.{run_left, unfolded, opens_file, Opened}
 use Rattle.tree_machine.specs.Rules.{patched, is_gap}
@@ -76,7 +76,7 @@ abbrev pub from_end : Name → ℕ → Residual → Residual
 from_end file at done = done
 from_end file at X = from file at X
 
-abbrev pub into_end : Name → ℕ → Residual → Residual
+abbrev pub into_end : Name → Position → Residual → Residual
 into_end file at done = done
 into_end file at X = into file at X
 
@@ -99,12 +99,12 @@ right_move lost X bytes move = record move { took = 0; next = piped lost X (drop
 abbrev pub from_move : Name → ℕ → Move Residual → Move Residual
 from_move file at move = record move { took = 0; next = from file (at + move.took) move.next }
 
-abbrev pub into_move : Name → ℕ → Move Residual → Move Residual
+abbrev pub into_move : Name → Position → Move Residual → Move Residual
 into_move file at move = record {
   wrote = [];
   refused = false;
   took = move.took;
-  next = into file (at + length move.wrote) move.next;
+  next = into file (moved_on at (length move.wrote)) move.next;
   files = patched move.files file at move.wrote;
 }
 

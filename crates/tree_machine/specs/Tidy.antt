@@ -1,5 +1,5 @@
 -- What is tidy: a command whose sides come upon each other at no file, and what is left of one, with its open files in place.
-use Rattle.std.specs.Prelude.{◌≡◌, ℕ, ◌≤◌, true, false, List, [], ◌∷◌, length, Option, Some, None}
+use Rattle.std.specs.Prelude.{◌≡◌, ◌≤◌, true, false, List, [], ◌∷◌, length, Option, Some, None}
 use Rattle.sh_tree.specs.Tree.{Tree, exec, redir, pipe, list, back}
 use Rattle.mem_files.specs.Name.{Name, Bytes}
 use Rattle.mem_files.specs.Files.{FileMap}
@@ -9,7 +9,7 @@ use Rattle.script_load.specs.Line.{ScriptLine}
 use Rattle.sh_meaning.specs.Meaning.{script_tree}
 use Rattle.prog_laws.specs.Waits.{BeginsShort, Waits}
 use Rattle.prog_laws.specs.Fits.{Fits}
-use Rattle.tree_machine.specs.Residual.{alone, Residual, done, todo, running, seq, piped, unopened, from, into, left_names, left_writes, keeps_0}
+use Rattle.tree_machine.specs.Residual.{alone, Residual, done, todo, running, seq, piped, unopened, from, into, Position, byte_in, left_names, left_writes, keeps_0}
 
 -- commands short enough that each program does what its function says: echo writes an argument by one call, and tee holds at
 -- most 16 files
@@ -34,10 +34,10 @@ pub record IsClearScript (lines : List ScriptLine) : Type 0 where
   pub clear : IsClear (script_tree lines)
   pub short : HasShortCommands (script_tree lines)
 
--- the file is there, with at least so many bytes
-abbrev pub IsThere : Option Bytes → ℕ → Type 0
+-- the file is there, and this position is within its bytes or at their end
+abbrev pub IsThere : Option Bytes → Position → Type 0
 IsThere None at = ⊥
-IsThere (Some bytes) at = at ≤ length bytes
+IsThere (Some bytes) at = byte_in at bytes ≤ length bytes
 
 -- so with what is left of one: its programs wait for the replies to their calls, their files and those of redirections go on
 -- within their bytes or at their end, and a pipe that lost a write has no reader
