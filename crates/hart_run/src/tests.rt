@@ -428,3 +428,42 @@ fn the_first_forged_event_is_told(rt: HostRuntime) -> Result<(), Fail> {
     }
     Ok(())
 }
+
+// A schedule of one hart on which the process of each of these slots is dispatched, and makes its call.
+fn turns_of(alloc: Global, slots: &[usize]) -> Result<Vec<Event>, std::alloc::AllocError> {
+    let mut events = Vec::new(alloc);
+    for slot in slots {
+        events.push(Event::Dispatch(0, *slot))?;
+        events.push(Event::Trap(0, *slot))?;
+    }
+    Ok(events)
+}
+
+// The schedule is one of a kernel that dispatched the lowest Runnable process; whatever order a kernel takes now, it
+// stays a schedule.
+#[test]
+fn a_schedule_that_was_kept_replays(rt: HostRuntime) -> Result<(), Fail> {
+    let alloc = rt.alloc();
+    let mut big = Vec::new(alloc);
+    for line in 0..130 {
+        let _ = line;
+        for byte in b"aaaaaaaaa\n".as_slice() {
+            big.push(*byte)?;
+        }
+    }
+    let given = files_of(alloc, &[("big", big.as_slice())])?;
+    let script = load(alloc, b"cat big | wc".as_slice())?;
+    let kept = turns_of(
+        alloc,
+        &[
+            0, 1, 1, 2, 2, 2, 2, 2, 2, 3, 3, 3, 3, 3, 3, 3, 3, 3, 3, 4, 4, 4, 4, 4, 4, 4, 3, 3, 3,
+            4, 3, 3, 3, 3, 2, 2, 4, 4, 4, 4, 2, 2, 1, 1, 0,
+        ],
+    )?;
+    let report = replay(alloc, &script, b"".as_slice(), &given, kept.as_slice())?;
+    assert!(rt; report.finished && report.full.is_none());
+    assert_eq!(rt; report.out.as_slice(), b"130 130 1300 \n".as_slice());
+    let fresh = run_one(alloc, &script, b"".as_slice(), &given, TURNS)?;
+    assert_eq!(rt; fresh.out.as_slice(), report.out.as_slice());
+    Ok(())
+}

@@ -13,12 +13,12 @@ use Rattle.proc_table.specs.declared.states.Status.{Status}
 use Rattle.proc_table.specs.declared.states.Status.TheVariants.{Runnable}
 use Rattle.proc_table.specs.Slots.{Process, Slot, Table, at, has_status, is_asleep_on, is_asleep_on_status, is_child_of, is_number}
 use Rattle.proc_table.specs.Calls.{all_woken, given, some_child, status_set, with_fds, with_status, woken}
-use Rattle.proc_table.specs.Heads.{AreHeads, head_at, head_has, head_of, to_init}
+use Rattle.proc_table.specs.Heads.{AreHeads, head_at, head_has, head_of, to_init, with_parent}
 use Rattle.fd_table.specs.Descriptors.{Descriptors}
 use Rattle.fd_table.proofs.Lists.{position_found}
 use Rattle.proc_table.proofs.Changes.{if_same}
 use Rattle.proc_table.proofs.Counts.{set_counts, used_within}
-use Rattle.proc_table.proofs.Searched.{status_there}
+use Rattle.proc_table.proofs.Searched.{head_there, status_there}
 
 pub set_kept : {S : Type 0} (t : Table S) (heads : List (Option Head)) (index : ℕ) (x : Slot S) → AreHeads t heads → AreHeads (set t index x) (set heads index (head_of x))
 set_kept t heads index x kept =
@@ -34,6 +34,14 @@ written_kept t heads after index place x head kept is same its =
     subst (λ (hs : List (Option Head)). AreHeads (set t index x) hs)
     (sym (is ∙ ap (λ (n : ℕ). set heads n head) same ∙ ap (set heads index) its))
     (set_kept t heads index x kept)
+
+-- a process is given to another, and its head
+pub given_kept : {S : Type 0} (t : Table S) (heads : List (Option Head)) (index parent : ℕ) (x now : Process S) → AreHeads t heads → at t index ≡ Some x
+    → (n : ℕ) → parent ≡ n → now ≡ record x { parent = Some n } → AreHeads (set t index (Some now)) (set heads index (with_parent parent (head_at heads index)))
+given_kept t heads index parent x now kept is n parent_is now_is =
+    let there : head_at heads index ≡ head_of (Some x) = ap (λ (hs : List (Option Head)). head_at hs index) kept.theirs ∙ head_there t index ∙ ap head_of is in
+    let same : head_of (Some now) ≡ with_parent parent (head_at heads index) = ap (λ (p : Process _). head_of (Some p)) now_is ∙ (λ i. with_parent (sym parent_is i) (sym there i)) in
+    subst (λ (head : Option Head). AreHeads (set t index (Some now)) (set heads index head)) same (set_kept t heads index (Some now) kept)
 
 any_default : {X : Type 0} (xs : List X) (k : ℕ) (d e : X) → k < length xs → get_or xs k d ≡ get_or xs k e
 any_default [] k d e lt = absurd (omega arith)
@@ -129,7 +137,7 @@ fewer_children pid t child ne found =
     let counts = set_counts (is_child_of pid) t child (to_init (at t child)) true false is.0 is.1 (of_init pid (at t child) ne) in
     omega arith
 
-all_fail : {X : Type 0} (p : Option X → Bool) (xs : List (Option X)) → p None ≡ false → length xs ≤ position_or_len p xs → (k : ℕ) → p (get_or xs k None) ≡ false
+pub all_fail : {X : Type 0} (p : Option X → Bool) (xs : List (Option X)) → p None ≡ false → length xs ≤ position_or_len p xs → (k : ℕ) → p (get_or xs k None) ≡ false
 all_fail p [] none long k = none
 all_fail p (x ∷ xs) none long k = by (p x) refl (all_fail p xs none) k where
   by : (b : Bool) → p x ≡ b → (length xs ≤ position_or_len p xs → (k : ℕ) → p (get_or xs k None) ≡ false) → (k : ℕ) → p (get_or (x ∷ xs) k None) ≡ false
@@ -139,7 +147,7 @@ all_fail p (x ∷ xs) none long k = by (p x) refl (all_fail p xs none) k where
       let next : position_or_len p (x ∷ xs) ≡ 1 + position_or_len p xs = ap (λ (b : Bool). cond (not b) (1 + position_or_len p xs) 0) is in
       rest (omega arith) k
 
-none_first : {X : Type 0} (p : Option X → Bool) (xs : List (Option X)) (b : Bool) → nat_lt (position_or_len p xs) (length xs) ≡ b
+pub none_first : {X : Type 0} (p : Option X → Bool) (xs : List (Option X)) (b : Bool) → nat_lt (position_or_len p xs) (length xs) ≡ b
     → cond b (Some (position_or_len p xs)) None ≡ None → length xs ≤ position_or_len p xs
 none_first p xs true test none = absurd (let no : ⊥ = cc in no)
 none_first p xs false test none = ltb-false (position_or_len p xs) (length xs) test

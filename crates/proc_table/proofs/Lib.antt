@@ -3,3 +3,5 @@ pub mod Counts
 mod Alone
 mod Searched
 mod Kept
+mod Queueing
+mod Grouping

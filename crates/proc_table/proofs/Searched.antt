@@ -4,6 +4,7 @@ use Rattle.std.proofs.lemmas.List.{length-map}
 use Rattle.std.proofs.lemmas.List.Sums.{sum_by-cons}
 use Rattle.std.specs.Prelude.{All, ◌↔◌, cond, map, count_by, position, nat_lt, not}
 use Rattle.std.specs.List.{position_or_len}
+use Rattle.slot_lists.proofs.Found.{counted_by, found_by}
 use Rattle.proc_table.specs.declared.heads.Head.{Head}
 use Rattle.proc_table.specs.declared.states.Status.{Status}
 use Rattle.proc_table.specs.Slots.{Slot, Table, at, has_status, is_child_of, is_free, is_zombie_child_of}
@@ -36,21 +37,6 @@ status_there test t pid = ap (head_has test) (head_there t pid) ∙ has test (at
 
 -- a test of heads that is a test of slots
 
-first_by : {X Y : Type 0} (f : X → Y) (p : Y → Bool) (q : X → Bool) → ((x : X) → p (f x) ≡ q x) → (xs : List X) → position_or_len p (map f xs) ≡ position_or_len q xs
-first_by f p q same [] = refl
-first_by f p q same (x ∷ xs) =
-    ap (λ (b : Bool). cond (not b) (1 + position_or_len p (map f xs)) 0) (same x) ∙ ap (λ (n : ℕ). cond (not (q x)) (1 + n) 0) (first_by f p q same xs)
-
-found_by : {X Y : Type 0} (f : X → Y) (p : Y → Bool) (q : X → Bool) → ((x : X) → p (f x) ≡ q x) → (xs : List X) → position p (map f xs) ≡ position q xs
-found_by f p q same xs =
-    ap (λ (n : ℕ). cond (nat_lt n (length (map f xs))) (Some n) None) (first_by f p q same xs)
-    ∙ ap (λ (l : ℕ). cond (nat_lt (position_or_len q xs) l) (Some (position_or_len q xs)) None) (length-map xs f)
-
-counted_by : {X Y : Type 0} (f : X → Y) (p : Y → Bool) (q : X → Bool) → ((x : X) → p (f x) ≡ q x) → (xs : List X) → count_by p (map f xs) ≡ count_by q xs
-counted_by f p q same [] = refl
-counted_by f p q same (x ∷ xs) =
-    omega (arith, sum_by-cons (λ y. cond {A = ℕ} (p y) 1 0) (f x) (map f xs), sum_by-cons (λ y. cond {A = ℕ} (q y) 1 0) x xs, counted_by f p q same xs, ap (λ (b : Bool). cond {A = ℕ} b 1 0) (same x))
-
 pub first_free : {S : Type 0} (t : Table S) → position head_is_free (map head_of t) ≡ position is_free t
 first_free t = found_by head_of head_is_free is_free free t
 
@@ -62,6 +48,9 @@ first_zombie_child pid t = found_by head_of (head_is_zombie_child_of pid) (is_zo
 
 pub first_with : {S : Type 0} (test : Status → Bool) (t : Table S) → position (head_has test) (map head_of t) ≡ position (has_status test) t
 first_with test t = found_by head_of (head_has test) (has_status test) (has test) t
+
+pub count_free : {S : Type 0} (t : Table S) → count_by head_is_free (map head_of t) ≡ count_by is_free t
+count_free t = counted_by head_of head_is_free is_free free t
 
 pub count_with : {S : Type 0} (test : Status → Bool) (t : Table S) → count_by (head_has test) (map head_of t) ≡ count_by (has_status test) t
 count_with test t = counted_by head_of (head_has test) (has_status test) (has test) t

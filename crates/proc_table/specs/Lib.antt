@@ -1,3 +1,5 @@
 pub mod Slots
 pub mod Calls
 pub mod Heads
+pub mod Queues
+pub mod Searched

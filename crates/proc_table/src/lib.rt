@@ -1,7 +1,8 @@
 //! The table of processes.
 //!
-//! The behaviour is that of xv6's `kernel/proc.c`: a process is a slot of a table of 64, and a call scans the slots.
-//! Here the states and the parents stand apart from the machines, and only they are searched. There are no locks and no
+//! The behaviour is that of xv6's `kernel/proc.c`: a process is a slot of a table of 64. Where xv6
+//! scans the slots, here the states and the parents stand apart from the machines, grouped by what is looked for, and
+//! those that wait stand in the queues of the harts and in the lists of what they sleep on, as numbers of slots. There are no locks and no
 //! contexts: a call is one step of the whole table. Only making the table takes memory.
 #![tactic(auto)]
 
@@ -9,10 +10,9 @@ mod heads;
 pub mod laws;
 mod pid;
 mod process;
+mod queues;
 mod states;
 mod table;
-#[cfg(test)]
-mod tests;
 
 pub use pid::{PROCS, Pid};
 pub use process::Process;

@@ -2,11 +2,10 @@
 
 ghost use Rattle.std.specs.Borrow.{Lends, sem};
 ghost use Rattle.std.specs.Prelude.{◌≡◌, IfSome, IsSome};
-ghost use Rattle.std.specs.List.{list_all};
 ghost use Rattle.std.specs.contracts.option.Option.{the_row as option_row};
 ghost use Rattle.fd_table.specs.contracts.descriptors.Fds.{the_row as fds_row};
 ghost use Rattle.proc_table.specs.contracts.process.Process.{the_row as process_row};
-ghost use Rattle.proc_table.specs.Slots.{is_free, is_runnable, is_running, is_running_on};
+ghost use Rattle.proc_table.specs.Slots.{is_runnable, is_running, is_running_on};
 ghost use Rattle.proc_table.specs.Calls.{with_fds};
 ghost use Rattle.proc_table.specs.Heads.{head_of};
 
@@ -121,13 +120,6 @@ pub(crate) fn head_of<M: Machine>(slot: &Option<Process<M>>) -> Option<Head>
         Some(process) => Some(process.head()),
         None => None,
     }
-}
-
-// Whether all these slots are free.
-pub(crate) fn are_free<M: Machine>(slots: &[Option<Process<M>>]) -> bool
-    ensures { result ≡ list_all is_free slots.now }
-{
-    slots.iter().all(|slot| slot.is_none())
 }
 
 pub(crate) fn is_runnable<M: Machine>(slot: &Option<Process<M>>) -> bool

@@ -1,7 +1,7 @@
 //! The table.
 
 use crate::heads::Heads;
-use crate::process::{are_free, fds_of, head_of, is_runnable, is_running, is_running_on};
+use crate::process::{fds_of, head_of, is_runnable, is_running, is_running_on};
 use crate::{Channel, PROCS, Pid, Process, State, Status};
 use fd_table::Fds;
 use std::alloc::{AllocError, Allocator};
@@ -58,7 +58,7 @@ impl<M: Machine, A: Allocator> Procs<M, A> {
     ghost use Rattle.proc_table.specs.declared.pid.TheConstants.{PROCS};
     ghost use Rattle.proc_table.specs.declared.table.TheConstants.{HARTS};
     ghost use Rattle.proc_table.specs.Slots.{IsAlone, at, is_asleep_on, is_child_of, is_runnable, is_running, is_running_on, parent_of, put_of, state_of};
-    ghost use Rattle.proc_table.specs.Heads.{to_init};
+    ghost use Rattle.proc_table.specs.Heads.{IsOnHart, hart_by, head_of, to_init};
     ghost use Rattle.proc_table.specs.Calls.{CanDispatch, all_woken, boot_table, dispatched, exited, fds_set, forked, given, lowest_free, readied, reaped, slept, some_child, status_set, wait_answer, zombie_child};
 
     /// The table with init in slot 0 and the top shell, its child, in slot 1, and room for 62 processes more
@@ -345,7 +345,11 @@ impl<M: Machine, A: Allocator> Procs<M, A> {
     pub fn is_alone(&self) -> bool
         ensures { IsTrue result ↔ IsAlone self.now }
     {
-        are_free(&self.slots[1..])
+        let free = self.heads.free_slots();
+        match &self.slots[0] {
+            Some(_init) => free == PROCS - 1,
+            None => free == PROCS,
+        }
     }
 
     // The number of the lowest free slot.
@@ -416,7 +420,8 @@ impl<M: Machine, A: Allocator> Procs<M, A> {
 
     // What is in the slot of this number.
     fn set(&mut self, index: usize, slot: Option<Process<M>>)
-        requires { index < PROCS }
+        requires within { index < PROCS }
+        requires on_hart { IsOnHart (head_of slot) }
         ensures { self.new ≡ slice_set self.old index slot }
     {
         self.heads.put(index, head_of(&slot));
@@ -424,6 +429,7 @@ impl<M: Machine, A: Allocator> Procs<M, A> {
     }
 
     fn set_status(&mut self, pid: Pid, status: Status)
+        requires { (hart : ℕ) → hart_by status ≡ Some hart → hart < HARTS }
         ensures { self.new ≡ status_set self.old pid status }
     {
         if let Some(process) = &mut self.slots[pid.index()] {
@@ -450,8 +456,7 @@ impl<M: Machine, A: Allocator> Procs<M, A> {
     {
         if let Some(process) = &mut self.slots[index] {
             process.set_parent(Pid::init());
-            let head = process.head();
-            self.heads.put(index, Some(head));
+            self.heads.give(index, Pid::init());
         }
     }
 }

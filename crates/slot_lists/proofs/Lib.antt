@@ -1,7 +1,10 @@
 mod Walks
 mod Links
 mod Pushing
-mod Pushed
+pub mod Pushed
 mod Removing
-mod Removed
+pub mod Removed
 mod New
+mod Flags
+mod Grouping
+pub mod Found

@@ -7,14 +7,14 @@ use Rattle.slot_lists.specs.Links.{end_of, list_of, Path, has, without, Linked, 
 use Rattle.slot_lists.proofs.Walks.{walked, walk_is, path_short, suffix, not_stuck}
 use Rattle.slot_lists.proofs.Removing.{removed, after}
 
-has_not : (xs : List ℕ) (slot : ℕ) → has (without slot xs) slot ≡ false
+pub has_not : (xs : List ℕ) (slot : ℕ) → has (without slot xs) slot ≡ false
 has_not [] slot = refl
 has_not (x ∷ xs) slot = by (x == slot) refl (has_not xs slot) where
   by : (b : Bool) → (x == slot) ≡ b → has (without slot xs) slot ≡ false → has (cond b (without slot xs) (x ∷ without slot xs)) slot ≡ false
   by true is rest = rest
   by false is rest = ap (λ (b : Bool). b || has (without slot xs) slot) (ne_eqb slot x (λ same. let one : (x == slot) ≡ true = eq-eqb x slot (sym same) in let no : ⊥ = cc in no)) ∙ rest
 
-has_still : (xs : List ℕ) (slot s : ℕ) → s ≢ slot → has (without slot xs) s ≡ has xs s
+pub has_still : (xs : List ℕ) (slot s : ℕ) → s ≢ slot → has (without slot xs) s ≡ has xs s
 has_still [] slot s ne = refl
 has_still (x ∷ xs) slot s ne = by (x == slot) refl (has_still xs slot s ne) where
   by : (b : Bool) → (x == slot) ≡ b → has (without slot xs) s ≡ has xs s → has (cond b (without slot xs) (x ∷ without slot xs)) s ≡ ((s == x) || has xs s)

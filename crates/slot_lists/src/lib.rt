@@ -4,8 +4,13 @@
 //! out of any place, in a few steps. Nothing here takes memory.
 #![tactic(auto)]
 
+mod groups;
 mod lists;
+
+mod sets;
 #[cfg(test)]
 mod tests;
 
 pub use lists::{LISTS, SLOTS, SlotLists};
+pub use groups::SlotGroups;
+pub use sets::SlotSet;

@@ -32,7 +32,7 @@ impl Model for SlotLists {
 }
 
 impl SlotLists {
-    ghost use Rattle.std.specs.Prelude.{◌≡◌, ◌≢◌, ℕ, ◌<◌, [], ◌∷◌, ◌++◌, true, false, IfSome, IfNone, slice_get};
+    ghost use Rattle.std.specs.Prelude.{◌≡◌, ◌≢◌, ℕ, ◌<◌, ◌≤◌, List, [], ◌∷◌, ◌++◌, true, false, IfSome, IfNone, length, slice_get};
     ghost use Rattle.slot_lists.specs.Links.{has, slots_of, without};
 
     /// No list has a slot.
@@ -80,9 +80,21 @@ impl SlotLists {
     /// The first slot of the list.
     pub fn first(&self, list: usize) -> Option<usize>
         requires { list < LISTS }
-        ensures { result ≡ slice_get (slots_of self.now list) 0 }
+        ensures value { result ≡ slice_get (slots_of self.now list) 0 }
+        ensures within { IfSome result (λ slot. slot < SLOTS) }
+        ensures short { length (slots_of self.now list) ≤ SLOTS }
     {
         let node = self.next[SLOTS + list];
+        if node < SLOTS { Some(node) } else { None }
+    }
+
+    /// The slot behind this one in the list that it stands in.
+    pub fn after(&self, slot: usize) -> Option<usize>
+        requires { slot < SLOTS }
+        ensures value { (list : ℕ) (before rest : List ℕ) → list < LISTS → slots_of self.now list ≡ before ++ slot ∷ rest → result ≡ slice_get rest 0 }
+        ensures within { IfSome result (λ next. next < SLOTS) }
+    {
+        let node = self.next[slot];
         if node < SLOTS { Some(node) } else { None }
     }
 

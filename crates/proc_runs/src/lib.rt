@@ -1,0 +1,9 @@
+//! Tests alone: the table of processes, call by call, and the order in which it dispatches.
+#![tactic(auto)]
+
+#[cfg(test)]
+mod orders;
+#[cfg(test)]
+mod table;
+#[cfg(test)]
+mod waiters;
