@@ -295,6 +295,3 @@ pub fn plain<A: Allocator + Copy, B: Allocator, C: Allocator>(
         soft: Words::from_vec(in_order(alloc, ran.verdict.soft.as_slice())?),
     })
 }
-
-#[cfg(test)]
-mod tests;

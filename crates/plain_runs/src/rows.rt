@@ -1,6 +1,6 @@
-use super::*;
 use linked_list_allocator::LocalHeap;
-use mem_files::{FilesFault, MAX_FILES, MAX_SIZE};
+use mem_files::{Files, FilesFault, MAX_FILES, MAX_SIZE};
+use plain_run::{Plain, PlainFault, plain};
 use script_load::{Profile, load, load_with};
 use std::alloc::Global;
 use std::process::Abort;
