@@ -5,3 +5,4 @@ pub mod Begins
 pub mod Holders
 pub mod Waiting
 pub mod Never
+pub mod Turns

@@ -1,1 +1,2 @@
 pub mod Awake
+pub mod Plain

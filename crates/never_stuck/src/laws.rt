@@ -14,6 +14,7 @@ ghost use Rattle.kernel_model.specs.declared.events.Event.{Event};
 ghost use Rattle.kernel_model.specs.Boot.{boot_kernel};
 ghost use Rattle.kernel_model.specs.Events.{run};
 ghost use Rattle.kernel_model.specs.KernelState.{KernelState};
+ghost use Rattle.kernel_core.specs.ScriptRun.{IsSpentFrom, script_kernel};
 ghost use Rattle.never_stuck.specs.Awake.{IsAwake};
 
 /// In every run from the start of a script without `&` in which nothing was full, some process is Runnable or Running: never
@@ -26,3 +27,10 @@ pub fn no_run_is_stuck()
         → run call_of next_of (Some (boot_kernel init (shell profile (top Starts lines)) input list)) events notes ≡ Some m → m.full ≡ None → IsAwake m.table }
 {}
 
+/// Where a run of such a script is given up, as `run_one` does with its fault `Spent`, and nothing was full, its turns were
+/// spent: fewer than two of them are left.
+pub fn a_run_spends_its_turns()
+    ensures { (profile : Profile) (lines : List ScriptLine) (input : Bytes) (list : List (Name × Bytes)) (turns : ℕ)
+        → AreFiles list → has_back (script_tree lines) ≡ false
+        → (s : IsSpentFrom (script_kernel profile lines input list) turns) → s.last.full ≡ None → turns < length s.events + 2 }
+{}
