@@ -25,7 +25,7 @@ use Rattle.kernel_trees.proofs.Reaching.{stage_with, reach, reaches_plain}
 use Rattle.kernel_trees.proofs.RunsStand.{IsOnWay, event_goes, every_run_stands}
 
 -- nothing was full before, where nothing is now
-none_full : (k l : KernelState User) (e : Event) (n : Bool) → happens call_of next_of k e n ≡ Some l → l.full ≡ None → k.full ≡ None
+pub none_full : (k l : KernelState User) (e : Event) (n : Bool) → happens call_of next_of k e n ≡ Some l → l.full ≡ None → k.full ≡ None
 none_full k l e n happened full = by k.full refl
   where
     by : (o : Option Full) → k.full ≡ o → k.full ≡ None

@@ -1,2 +1,3 @@
+mod OneEvent
 mod Counted
 mod Bounded

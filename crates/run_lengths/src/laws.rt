@@ -20,10 +20,22 @@ ghost use Rattle.sh_machine.specs.Turn.{call_of, next_of};
 ghost use Rattle.sh_machine.specs.declared.state.Phase.TheVariants.{Starts};
 ghost use Rattle.kernel_model.specs.declared.events.Event.{Event};
 ghost use Rattle.kernel_model.specs.Boot.{boot_kernel};
-ghost use Rattle.kernel_model.specs.Events.{run};
+ghost use Rattle.kernel_model.specs.Events.{happens, run};
 ghost use Rattle.kernel_model.specs.KernelState.{KernelState};
 ghost use Rattle.kernel_shape.specs.Standing.{Stands};
 ghost use Rattle.kernel_trees.specs.Walks.{calls_made};
+ghost use Rattle.run_lengths.specs.Paid.{IsPaidFor};
+
+/// Each event of a run of a script without `&` in which nothing was full is so many steps of the tree machine, between stages
+/// that the kernel stands for before it and after it. Where it is a call that is carried out and no step, one call fewer is left
+/// to the processes of the shell, which have only so many until the machine makes a step (`calls_left`, told by the tree of
+/// processes); and a step leaves them at most fourteen more.
+pub fn each_call_is_paid_for()
+    ensures { (profile : Profile) (lines : List ScriptLine) (input : Bytes) (list : List (Name × Bytes)) (events : List Event) (notes : List Bool) (k : KernelState User) (e : Event) (n : Bool) (l : KernelState User)
+        → AreFiles list → has_back (script_tree lines) ≡ false
+        → run call_of next_of (Some (boot_kernel init (shell profile (top Starts lines)) input list)) events notes ≡ Some k → happens call_of next_of k e n ≡ Some l → l.full ≡ None
+        → IsPaidFor profile k e l }
+{}
 
 /// In every run from the start of a script without `&` in which nothing was full, at most fifteen times as many calls were
 /// carried out as the tree machine makes steps to a stage that the kernel stands for.
