@@ -8,7 +8,7 @@ use Rattle.tree_machine.specs.Rules.{silent}
 use Rattle.kernel_shape.specs.Seen.{Entry, input, out, diag, reader, writer, file, Fds, Act, Seen, free, zombie, live, View}
 use Rattle.kernel_shape.specs.Shape.{Node, Has, same, occurs, names, is_there, is_up, is_used, stands_for}
 use Rattle.kernel_shape.specs.Effect.{ParentIs, Sets, Rest, Quiet, Forks, Exits, Reaps, given, EffectBy, IsCall}
-use Rattle.kernel_shape.specs.Part.{name_of, CanBeInput, CanBeOutput, Same, Moves, stays as stay, calls_left, called, After}
+use Rattle.kernel_shape.specs.Part.{name_of, CanBeInput, CanBeOutput, Same, Moves, stays as stay, calls_left, After}
 use Rattle.kernel_shape.proofs.Counts.{same_self, same_cases, called_once, not_called}
 use Rattle.kernel_trees.proofs.Frame.{stays}
 

@@ -1,9 +1,9 @@
 -- Somebody is awake, or nobody is.
-use Rattle.std.proofs.Common.{◌≡◌, ◌⊎◌, inl, inr, ℕ, ◌≤◌, Bool, true, false, ◌||◌, Option, Some, None, refl, ap, ◌∙◌, arith}
+use Rattle.std.proofs.Common.{◌≡◌, ◌⊎◌, inl, inr, ℕ, ◌≤◌, Bool, true, false, Some, None, refl, ap, ◌∙◌, arith}
 use Rattle.std.specs.Prelude.{count_by}
 use Rattle.proc_table.specs.declared.states.Status.{Status}
 use Rattle.proc_table.specs.declared.states.Status.TheVariants.{Runnable, Running, Asleep, Zombie}
-use Rattle.proc_table.specs.Slots.{Table, Slot, Process, at, has_status, is_runnable, is_running, is_runnable_status, is_running_status}
+use Rattle.proc_table.specs.Slots.{Table, Slot, at, has_status, is_runnable, is_running, is_runnable_status, is_running_status}
 use Rattle.proc_table.proofs.Counts.{used_within}
 use Rattle.kernel_laws.proofs.Held.{counted_is_there, there_is_counted}
 use Rattle.kernel_shape.proofs.Counts.{none_or_some}

@@ -1,5 +1,5 @@
 -- Where all are blocked, who in a part holds an end of a pipe: it is the part's input or output, or the pipe is inside.
-use Rattle.std.proofs.Common.{◌≡◌, ◌⊎◌, inl, inr, ℕ, zero, suc, ◌+◌, ◌<◌, ◌≤◌, List, [], ◌∷◌, Bool, true, false, ◌==◌, Option, Some, None, refl, sym, ap, ◌∙◌, subst, arith}
+use Rattle.std.proofs.Common.{◌≡◌, ◌⊎◌, inl, inr, ℕ, zero, suc, ◌≤◌, List, [], ◌∷◌, Bool, true, false, ◌==◌, Some, None, sym, ap, ◌∙◌, subst, arith}
 use Rattle.std.specs.Prelude.{if◌then◌else◌, replicate}
 use Rattle.script_load.specs.declared.profile.Profile.{Profile}
 use Rattle.kernel_shape.specs.Seen.{Entry, diag, reader, writer, file, Fds, fd_at, Act, Seen, live, View}
@@ -9,7 +9,7 @@ use Rattle.kernel_shape.specs.Effect.{HasOpen, Holds}
 use Rattle.kernel_shape.specs.Shape.{Node, reaped, gone, starts, works, tells, leaves, reads_lines, in_line, in_list, pipe_made, pipe_half, pipe_both, left_child, right_child, opening, under_input, under_output, Has, same, occurs, names}
 use Rattle.kernel_shape.specs.Part.{name_of}
 use Rattle.kernel_shape.proofs.Counts.{same_self, same_cases, same_yes, none_or_some}
-use Rattle.never_stuck.proofs.Blocked.{Blocked, AllBlocked, IsEnd}
+use Rattle.never_stuck.proofs.Blocked.{AllBlocked, IsEnd}
 use Rattle.never_stuck.proofs.Begins.{begins_now, takes_now}
 
 none_held : (n fd : ℕ) (e : Entry) → fd_at (replicate n None) fd ≡ Some e → ⊥

@@ -1,9 +1,8 @@
 -- Nobody awake can't be: the tree would be over, and init would sleep without a child that lives.
-use Rattle.std.proofs.Common.{◌≡◌, ◌≢◌, ◌⊎◌, inl, inr, ℕ, ◌+◌, ◌≤◌, Bool, true, false, List, Option, Some, None, refl, sym, ap, ◌∙◌, arith}
+use Rattle.std.proofs.Common.{◌≡◌, ◌≢◌, ◌⊎◌, inl, inr, ℕ, Bool, true, false, List, Some, None, refl, sym, ap, ◌∙◌, arith}
 use Rattle.std.specs.Prelude.{◌&&◌}
 use Rattle.std.proofs.lemmas.Bool.{both_ways}
 use Rattle.mem_files.specs.Name.{Name, Bytes}
-use Rattle.mem_files.specs.Files.{files}
 use Rattle.mem_files.specs.Listing.{AreFiles}
 use Rattle.conflict_check.specs.Clear.{has_back}
 use Rattle.script_load.specs.Line.{ScriptLine}
@@ -20,7 +19,7 @@ use Rattle.kernel_laws.proofs.AskRuns.{every_run_asks}
 use Rattle.sh_machine.specs.State.{User, init, shell, top}
 use Rattle.sh_machine.specs.Turn.{call_of, next_of}
 use Rattle.sh_machine.specs.declared.state.Phase.TheVariants.{Starts}
-use Rattle.kernel_shape.specs.Seen.{Entry, input, out, Seen, free, zombie, live, seen_by, seen_slot, Names, View, view}
+use Rattle.kernel_shape.specs.Seen.{Entry, input, out, Seen, free, zombie, live, seen_by, seen_slot, Names, view}
 use Rattle.kernel_shape.specs.Shows.{ShowsIn}
 use Rattle.kernel_shape.specs.Effect.{Holds}
 use Rattle.kernel_shape.specs.Shape.{Node, reaped, gone, Has, IsShape, occurs, is_up, is_used}

@@ -1,8 +1,8 @@
 -- Where nobody is awake each process has to wait for what its call asks for, and init has a child that lives.
-use Rattle.std.proofs.Common.{◌≡◌, ◌≢◌, ℕ, zero, suc, ◌+◌, Bool, true, false, Option, Some, None, length, refl, sym, ap, ◌∙◌, subst, arith}
+use Rattle.std.proofs.Common.{◌≡◌, ℕ, zero, suc, ◌+◌, Bool, true, false, Option, Some, None, length, refl, sym, ap, ◌∙◌, subst, arith}
 use Rattle.std.specs.Prelude.{option_map, ◌&&◌, replicate}
 use Rattle.std.proofs.lemmas.Bool.{eq-eqb, eqb-true, both_ways}
-use Rattle.mem_files.specs.Files.{FileMap, files}
+use Rattle.mem_files.specs.Files.{files}
 use Rattle.fd_table.specs.declared.names.Object.{Object}
 use Rattle.fd_table.specs.declared.names.Object.TheVariants.{Input, Out, Diag, File, PipeRead, PipeWrite}
 use Rattle.fd_table.specs.declared.descriptors.TheConstants.{DESCRIPTORS}
@@ -14,7 +14,7 @@ use Rattle.proc_table.specs.declared.states.Channel.{Channel}
 use Rattle.proc_table.specs.declared.states.Channel.TheVariants.{PipeBytes, PipeRoom, Children}
 use Rattle.proc_table.specs.declared.states.Status.{Status}
 use Rattle.proc_table.specs.declared.states.Status.TheVariants.{Runnable, Running, Asleep, Zombie}
-use Rattle.proc_table.specs.Slots.{Slot, Process, at, is_free, is_number, is_child_of, is_zombie, is_zombie_child_of, is_zombie_status, parent_or_init}
+use Rattle.proc_table.specs.Slots.{Slot, Process, at, is_free, is_number, is_zombie, is_zombie_child_of, is_zombie_status, parent_or_init}
 use Rattle.kernel_model.specs.KernelState.{KernelState, fds_of, fds_at, file_at}
 use Rattle.kernel_model.specs.Pipes.{pipe_of}
 use Rattle.kernel_outcomes.specs.Outcome.{object_of}
@@ -25,7 +25,7 @@ use Rattle.kernel_laws.specs.Sleeping.{Waits, SleepsOn, WaitsForChild}
 use Rattle.kernel_laws.proofs.Held.{open_while_held}
 use Rattle.sh_machine.specs.State.{User, init}
 use Rattle.sh_machine.specs.Turn.{call_of}
-use Rattle.kernel_shape.specs.Seen.{Entry, reader, writer, Fds, fd_at, Act, act_of, Seen, free, zombie, live, fds_seen, seen_by, seen_slot, Names, View, view}
+use Rattle.kernel_shape.specs.Seen.{Entry, reader, writer, Fds, fd_at, Act, act_of, free, zombie, live, fds_seen, seen_by, seen_slot, Names, view}
 use Rattle.kernel_shape.specs.Shows.{IsNamed, ShowsIn}
 use Rattle.kernel_shape.specs.Effect.{Holds}
 use Rattle.kernel_views.specs.Settled.{IsSettled}

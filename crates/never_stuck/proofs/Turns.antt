@@ -1,5 +1,5 @@
 -- Where nobody runs somebody is Runnable, so a run is spent only by its turns.
-use Rattle.std.proofs.Common.{◌≡◌, ◌⊎◌, inl, inr, ℕ, ◌+◌, ◌<◌, ◌≤◌, List, Bool, true, false, Option, Some, None, length, refl, sym, ap, ◌∙◌, subst, arith}
+use Rattle.std.proofs.Common.{◌≡◌, ◌⊎◌, inl, inr, ℕ, ◌+◌, ◌<◌, ◌≤◌, List, true, false, Some, None, length, refl, sym, ap, ◌∙◌, subst, arith}
 use Rattle.std.specs.Prelude.{All, count_by}
 use Rattle.std.proofs.lemmas.Bool.{both_ways}
 use Rattle.std.proofs.lemmas.List.Elements.{All-get_or}
@@ -9,7 +9,7 @@ use Rattle.conflict_check.specs.Clear.{has_back}
 use Rattle.script_load.specs.Line.{ScriptLine}
 use Rattle.script_load.specs.declared.profile.Profile.{Profile}
 use Rattle.sh_meaning.specs.Meaning.{script_tree}
-use Rattle.proc_table.specs.Slots.{Table, Slot, Process, at, is_runnable, is_running}
+use Rattle.proc_table.specs.Slots.{Table, Slot, at, is_runnable, is_running}
 use Rattle.proc_table.proofs.Counts.{used_within}
 use Rattle.kernel_model.specs.KernelState.{KernelState}
 use Rattle.kernel_model.specs.Boot.{boot_kernel}

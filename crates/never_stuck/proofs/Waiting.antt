@@ -1,23 +1,20 @@
 -- Where all are blocked, a part is over or waits for its own input or output: by induction on the tree.
-use Rattle.std.proofs.Common.{◌≡◌, ◌≢◌, ◌⊎◌, inl, inr, ℕ, ◌+◌, ◌≤◌, [], Some, Bool, length, refl, sym, ap, ◌∙◌, subst, arith}
+use Rattle.std.proofs.Common.{◌≡◌, ◌⊎◌, inl, inr, ℕ, ◌+◌, ◌≤◌, [], Some, Bool, length, refl, sym, ap, ◌∙◌, subst, arith}
 use Rattle.byte_pipe.specs.declared.TheConstants.{PIPE_SIZE}
 use Rattle.mem_files.specs.Name.{Bytes}
 use Rattle.prog_parts.specs.declared.program.Program.{Program}
 use Rattle.std.specs.Prelude.{List}
-use Rattle.sh_tree.specs.Tree.{Tree}
-use Rattle.script_load.specs.Line.{ScriptLine}
 use Rattle.script_load.specs.declared.profile.Profile.{Profile}
 use Rattle.user_calls.specs.declared.calls.Call.{Call}
 use Rattle.user_calls.specs.declared.calls.Call.TheVariants.{Fork, Exec, Exit, Wait, MakePipe, Read, Write, OpenFile, Close, Dup}
 use Rattle.user_progs.specs.Turn.{Turn}
 use Rattle.prog_laws.specs.Tame.{Among, IsTame}
-use Rattle.kernel_shape.specs.Seen.{Entry, input, out, diag, reader, writer, file, Fds, fd_at, Act, zombie, live, View}
+use Rattle.kernel_shape.specs.Seen.{Entry, diag, reader, writer, file, fd_at, Act, zombie, live, View}
 use Rattle.kernel_shape.specs.Own.{Owned, own_fds, Works}
 use Rattle.kernel_shape.specs.Phases.{Stage, closes_read, closes_write, waits_two, waits_one, leaves_pipe, closes_old, dups_kept, drops_read, drops_write, plain_fds}
 use Rattle.kernel_shape.specs.Effect.{Holds}
 use Rattle.kernel_shape.specs.Shape.{Node, reaped, gone, starts, works, tells, leaves, reads_lines, in_line, in_list, pipe_made, pipe_half, pipe_both, left_child, right_child, opening, under_input, under_output, Has, same, occurs, names, is_there, is_up, awaited}
-use Rattle.kernel_shape.specs.Part.{name_of}
-use Rattle.kernel_shape.proofs.Counts.{same_self, same_other, same_cases, none_or_some}
+use Rattle.kernel_shape.proofs.Counts.{same_self, same_cases, none_or_some}
 use Rattle.kernel_trees.proofs.OwnFiles.{found}
 use Rattle.never_stuck.proofs.Blocked.{IsHeld, Blocked, AllBlocked, WaitsIn, WaitsOut, Waits, is_over, on_input, on_output, IsEnd, Whole}
 use Rattle.never_stuck.proofs.Begins.{begins_now, takes_now}

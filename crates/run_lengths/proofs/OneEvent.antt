@@ -1,5 +1,5 @@
 -- One event of a run: the machine's steps pay for it.
-use Rattle.std.proofs.Common.{◌≡◌, ◌+◌, Bool, false, List, Some, None, refl, arith}
+use Rattle.std.proofs.Common.{◌≡◌, Bool, false, List, Some, None, refl, arith}
 use Rattle.mem_files.specs.Name.{Name, Bytes}
 use Rattle.mem_files.specs.Files.{files}
 use Rattle.mem_files.specs.Listing.{AreFiles}
