@@ -1,10 +1,11 @@
 -- Where all are blocked, who in a part holds an end of a pipe: it is the part's input or output, or the pipe is inside.
-use Rattle.std.proofs.Common.{◌≡◌, ◌⊎◌, inl, inr, ℕ, zero, suc, ◌≤◌, List, [], ◌∷◌, Bool, true, false, ◌==◌, Some, None, sym, ap, ◌∙◌, subst, arith}
+use Rattle.std.proofs.Common.{◌≡◌, ◌⊎◌, inl, inr, ℕ, zero, suc, ◌+◌, ◌≤◌, List, [], ◌∷◌, Bool, true, false, ◌==◌, Some, None, sym, ap, ◌∙◌, subst, arith}
 use Rattle.std.specs.Prelude.{if◌then◌else◌, replicate}
 use Rattle.script_load.specs.declared.profile.Profile.{Profile}
 use Rattle.kernel_shape.specs.Seen.{Entry, diag, reader, writer, file, Fds, fd_at, Act, Seen, live, View}
 use Rattle.kernel_shape.specs.Own.{Owned, owned_at, OwnFds}
-use Rattle.kernel_shape.specs.Phases.{closes_read, closes_write, waits_two, waits_one, leaves_pipe, closes_old, dups_kept, drops_read, drops_write, plain_fds}
+use Rattle.mem_files.specs.Name.{Bytes}
+use Rattle.kernel_shape.specs.Phases.{Stage, closes_read, closes_write, waits_two, waits_one, leaves_pipe, closes_old, dups_kept, drops_read, drops_write, plain_fds}
 use Rattle.kernel_shape.specs.Effect.{HasOpen, Holds}
 use Rattle.kernel_shape.specs.Shape.{Node, reaped, gone, starts, works, tells, leaves, reads_lines, in_line, in_list, pipe_made, pipe_half, pipe_both, left_child, right_child, opening, under_input, under_output, Has, same, occurs, names}
 use Rattle.kernel_shape.specs.Part.{name_of}
@@ -84,6 +85,19 @@ pub tells_not : (d : Fds) → fd_at d 2 ≡ Some diag → ((i : ℕ) × (fd_at d
 tells_not d two w = let y : Some diag ≡ Some (writer w.0) = sym two ∙ w.1 in let z : ⊥ = cc in z
 
 module _ (profile : Profile) (V : View) (all : AllBlocked V) where
+  -- a pipe whose process waits: it, its left side, or its right side
+  pipe_at : (a b : Entry) (parent p i : ℕ) (stage : Stage) (lost : Bool) (x y : Node) (bytes : Bytes) (act : Act) (q k : ℕ) (e : Entry) → V.slots p ≡ live parent act 0 (plain_fds a b) → IsEnd e k → 1 ≤ same q p + occurs q x + occurs q y → Holds (V.slots q) e
+      → (1 ≤ occurs q x → At a (writer i) x e k) → (1 ≤ occurs q y → At (reader i) b y e k) → At a b (pipe_both p i stage lost x bytes y) e k
+  pipe_at a b parent p i stage lost x y bytes act q k e own end l w left right =
+      elim (same_cases q p) [
+        | inl is ↦ at_either a b e (pipe_both p i stage lost x bytes y) k (plain_holds (V.slots q) a b e _ k _ _ (ap V.slots is.0 ∙ own) end w)
+        | inr ne ↦
+            elim (none_or_some (occurs q x)) [
+              | inl none ↦ wider a b (reader i) b e (pipe_both p i stage lost x bytes y) y k (λ is. at_inside (let n = end_named e (reader i) k end is in omega (arith, n))) at_output (λ m. omega (arith, m)) (right (omega (arith, l, ne.1, none)))
+              | inr some ↦ wider a b a (writer i) e (pipe_both p i stage lost x bytes y) x k at_input (λ is. at_inside (let n = end_named e (writer i) k end is in omega (arith, n))) (λ m. omega (arith, m)) (left some)
+            ]
+      ]
+
   pub held_at : (a b old : Entry) (parent : ℕ) (t : Node) → Has profile V a b old parent t → (q k : ℕ) (e : Entry) → IsEnd e k → 1 ≤ occurs q t → Holds (V.slots q) e → At a b t e k
   held_at a b old parent reaped h q k e end l w = absurd (omega (arith, l))
   held_at a b old parent (gone p) h q k e end l w = absurd (subst (λ s. Holds s e) (ap V.slots (same_yes q p l) ∙ h) w)
@@ -108,23 +122,9 @@ module _ (profile : Profile) (V : View) (all : AllBlocked V) where
   held_at a b old parent (pipe_both p i closes_write lost x bytes y) h q k e end l w = absurd (all p _ _ _ _ h.0)
   held_at a b old parent (pipe_both p i leaves_pipe lost x bytes y) h q k e end l w = absurd (all p _ _ _ _ h.0)
   held_at a b old parent (pipe_both p i waits_two lost x bytes y) h q k e end l w =
-      elim (same_cases q p) [
-        | inl is ↦ at_either a b e (pipe_both p i waits_two lost x bytes y) k (plain_holds (V.slots q) a b e _ k _ _ (ap V.slots is.0 ∙ h.0) end w)
-        | inr ne ↦
-            elim (none_or_some (occurs q x)) [
-              | inl none ↦ wider a b (reader i) b e (pipe_both p i waits_two lost x bytes y) y k (λ is. at_inside (let n = end_named e (reader i) k end is in omega (arith, n))) at_output (λ m. omega (arith, m)) (held_at (reader i) b a p y h.4 q k e end (omega (arith, l, ne.1, none)) w)
-              | inr some ↦ wider a b a (writer i) e (pipe_both p i waits_two lost x bytes y) x k at_input (λ is. at_inside (let n = end_named e (writer i) k end is in omega (arith, n))) (λ m. omega (arith, m)) (held_at a (writer i) b p x h.3 q k e end some w)
-            ]
-      ]
+      pipe_at a b parent p i waits_two lost x y bytes _ q k e h.0 end l w (λ some. held_at a (writer i) b p x h.3 q k e end some w) (λ some. held_at (reader i) b a p y h.4 q k e end some w)
   held_at a b old parent (pipe_both p i waits_one lost x bytes y) h q k e end l w =
-      elim (same_cases q p) [
-        | inl is ↦ at_either a b e (pipe_both p i waits_one lost x bytes y) k (plain_holds (V.slots q) a b e _ k _ _ (ap V.slots is.0 ∙ h.0) end w)
-        | inr ne ↦
-            elim (none_or_some (occurs q x)) [
-              | inl none ↦ wider a b (reader i) b e (pipe_both p i waits_one lost x bytes y) y k (λ is. at_inside (let n = end_named e (reader i) k end is in omega (arith, n))) at_output (λ m. omega (arith, m)) (held_at (reader i) b a p y h.4 q k e end (omega (arith, l, ne.1, none)) w)
-              | inr some ↦ wider a b a (writer i) e (pipe_both p i waits_one lost x bytes y) x k at_input (λ is. at_inside (let n = end_named e (writer i) k end is in omega (arith, n))) (λ m. omega (arith, m)) (held_at a (writer i) b p x h.3 q k e end some w)
-            ]
-      ]
+      pipe_at a b parent p i waits_one lost x y bytes _ q k e h.0 end l w (λ some. held_at a (writer i) b p x h.3 q k e end some w) (λ some. held_at (reader i) b a p y h.4 q k e end some w)
   held_at a b old parent (left_child p closes_old tree) h q k e end l w = absurd (all p _ _ _ _ h)
   held_at a b old parent (left_child p dups_kept tree) h q k e end l w = absurd (all p _ _ _ _ h)
   held_at a b old parent (left_child p drops_read tree) h q k e end l w = absurd (all p _ _ _ _ h)
