@@ -1,8 +1,10 @@
--- Ones that count occurrences.
-use Rattle.std.proofs.Common.{◌≡◌, ◌≢◌, ◌⊎◌, inl, inr, ℕ, zero, suc, ◌≤◌, Bool, refl, ap, ◌∙◌, arith}
+-- Ones that count occurrences, and calls.
+use Rattle.std.proofs.Common.{◌≡◌, ◌≢◌, ◌⊎◌, inl, inr, ℕ, zero, suc, ◌≤◌, Bool, true, false, refl, ap, ◌∙◌, arith}
 use Rattle.std.specs.Prelude.{if◌then◌else◌}
 use Rattle.std.proofs.lemmas.Bool.{cases_eq, eq-eqb, ne_eqb}
+use Rattle.kernel_shape.specs.Seen.{View}
 use Rattle.kernel_shape.specs.Shape.{same}
+use Rattle.kernel_shape.specs.Part.{called}
 
 pub same_self : (p : ℕ) → same p p ≡ 1
 unfolding same
@@ -21,3 +23,15 @@ same_yes q p some = elim (same_cases q p) [ inl is ↦ is.0 | inr ne ↦ absurd 
 pub none_or_some : (n : ℕ) → (n ≡ 0) ⊎ (1 ≤ n)
 none_or_some zero = inl refl
 none_or_some (suc n) = inr (omega arith)
+
+at_most_one : (b : Bool) → (if b then 0 else 1) ≤ 1
+at_most_one true = omega arith
+at_most_one false = omega arith
+
+pub called_once : (W : View) (p : ℕ) → called W p ≤ 1
+unfolding called
+called_once W p = at_most_one (W.asleep p)
+
+pub not_called : (W : View) (p : ℕ) → W.asleep p ≡ true → called W p ≡ 0
+unfolding called
+not_called W p asleep = ap (λ (b : Bool). if b then 0 else 1) asleep

@@ -17,6 +17,7 @@ use Rattle.kernel_shape.specs.Seen.{input, out, diag, free, seen_slot, view}
 use Rattle.kernel_shape.specs.Shows.{IsNamed, first_name, first_names}
 use Rattle.kernel_shape.specs.Shape.{reads_lines, same, is_used}
 use Rattle.kernel_shape.specs.Standing.{Stands}
+use Rattle.kernel_shape.specs.Part.{calls_left}
 use Rattle.kernel_shape.proofs.Counts.{same_self, same_other}
 
 abbrev first_entries : ℕ → Entries
@@ -77,3 +78,8 @@ start_stands profile lines bytes list = record {
     used zero = same_other 0 1 (λ e. absurd (omega (arith, e)))
     used (suc zero) = same_self 1
     used (suc (suc q)) = same_other (suc (suc q)) 1 (λ e. absurd (omega (arith, e))) ∙ sym (ap is_used (none_seen 62 q))
+
+-- and its shell has nothing to do yet but what the machine does
+pub start_calls : (profile : Profile) (lines : List ScriptLine) (bytes : Bytes) (list : List (Name × Bytes)) → calls_left (start_stands profile lines bytes list).tree ≡ 0
+unfolding start_stands
+start_calls profile lines bytes list = refl

@@ -131,7 +131,7 @@ pub data WaitsFor (V W : View) (p parent : ℕ) (act : Act) (d : Fds) : Type 0 w
   reaps : Reaps V W p parent act d → WaitsFor V W p parent act d
   has_none : ((q : ℕ) → ParentIs (V.slots q) p → ⊥) → Answers V W p parent act Refused d → WaitsFor V W p parent act d
   sleeps : (child : ℕ) → ParentIs (V.slots child) p → ((q : ℕ) → V.slots q ≡ zombie p → ⊥)
-      → Sets V W p (live parent act 0 d) → Rest V W → WaitsFor V W p parent act d
+      → Sets V W p (live parent act 0 d) → Rest V W → W.asleep p ≡ true → WaitsFor V W p parent act d
 
 -- pipe: an empty pipe, named by this event, with both its ends at the lowest free descriptors
 pub record MakesPipe (V W : View) (p parent : ℕ) (act : Act) (d : Fds) : Type 0 where
@@ -200,7 +200,7 @@ pub data ReadsPipe (V W : View) (p parent : ℕ) (act : Act) (d : Fds) (most i :
   gets : 1 ≤ length (V.pipes i) → W.pipes i ≡ drop most (V.pipes i) → PipeChanges V W i
       → Sets V W p (answered parent act (Bytes' (take most (V.pipes i))) d) → ReadsPipe V W p parent act d most i
   meets_end : V.pipes i ≡ [] → NoHolder V (writer i) → Answers V W p parent act (Bytes' []) d → ReadsPipe V W p parent act d most i
-  finds_none : V.pipes i ≡ [] → Sets V W p (live parent act 0 d) → Rest V W → ReadsPipe V W p parent act d most i
+  finds_none : V.pipes i ≡ [] → Sets V W p (live parent act 0 d) → Rest V W → W.asleep p ≡ true → ReadsPipe V W p parent act d most i
 
 -- of a file, from the place on, the bytes that are there; a file that is open is always there
 abbrev pub further : Place → ℕ → Place
@@ -237,7 +237,7 @@ pub data WritesPipe (V W : View) (p parent put : ℕ) (act : Act) (d : Fds) (byt
       → W.pipes i ≡ V.pipes i ++ now → length (W.pipes i) ≤ PIPE_SIZE → PipeChanges V W i
       → Sets V W p (live parent act (put + length now) d) → WritesPipe V W p parent put act d bytes i
   has_no_reader : 1 ≤ length (drop put bytes) → NoHolder V (reader i) → Answers V W p parent act Refused d → WritesPipe V W p parent put act d bytes i
-  finds_it_full : 1 ≤ length (drop put bytes) → Quiet V W → WritesPipe V W p parent put act d bytes i
+  finds_it_full : 1 ≤ length (drop put bytes) → Quiet V W → W.asleep p ≡ true → WritesPipe V W p parent put act d bytes i
 
 -- to a file: over its bytes from the place on, but not where that leaves a gap; or behind them
 abbrev pub WritesHere : View → View → ℕ → ℕ → Act → Fds → Bytes → ℕ → Bytes → Bool → Type 0

@@ -1,5 +1,5 @@
 -- A part of the tree of processes, and what a call of one of its processes does to it.
-use Rattle.std.specs.Prelude.{◌≡◌, ℕ, ◌+◌, ◌<◌, ◌≤◌, true, [], ◌++◌, length, drop}
+use Rattle.std.specs.Prelude.{◌≡◌, ℕ, suc, ◌+◌, ◌*◌, ◌<◌, ◌≤◌, true, if◌then◌else◌, [], ◌++◌, length, drop}
 use Rattle.mem_files.specs.Name.{Bytes}
 use Rattle.mem_files.specs.Files.{FileMap, bytes_of}
 use Rattle.byte_pipe.specs.declared.TheConstants.{PIPE_SIZE}
@@ -10,7 +10,8 @@ use Rattle.tree_machine.specs.Rules.{Label, silent, takes, meets_end, puts, refu
 use Rattle.tree_machine.specs.Moving.{IsPlain}
 use Rattle.kernel_shape.specs.Seen.{Entry, input, out, diag, reader, writer, file, View}
 use Rattle.kernel_shape.specs.Effect.{ParentIs, NoHolder, further}
-use Rattle.kernel_shape.specs.Shape.{Node, OpensOutput, Has, same, occurs, names, is_there, is_up, is_used, position_of, stands_for}
+use Rattle.kernel_shape.specs.Phases.{Stage, closes_read, closes_write, waits_two, waits_one, leaves_pipe, Step, closes_old, dups_kept, drops_read, drops_write}
+use Rattle.kernel_shape.specs.Shape.{Node, reaped, gone, starts, works, tells, leaves, reads_lines, in_line, in_list, pipe_made, pipe_half, pipe_both, left_child, right_child, opening, under_input, under_output, OpensOutput, Has, same, occurs, names, is_there, is_up, is_used, position_of, stands_for}
 
 -- 1 where the entry has this name
 abbrev pub name_of : ℕ → Entry → ℕ
@@ -135,11 +136,11 @@ Tells V W F a b refused = Refuses V b × Same V W a × Same V W b × (W.files �
 
 -- ---- a call of p
 
--- no step of the tree machine, one, or a few silent ones
-pub data Moves (profile : Profile) : Residual → FileMap → Label → Residual → FileMap → Type 0 where
-  stays : {X : Residual} {F : FileMap} → Moves profile X F silent X F
-  goes : {X Y : Residual} {F G : FileMap} {label : Label} → Steps profile X F label Y G → Moves profile X F label Y G
-  then_goes : {X Y Z : Residual} {F G H : FileMap} → Moves profile X F silent Y G → Steps profile Y G silent Z H → Moves profile X F silent Z H
+-- so many steps of the tree machine: none, one, or a few silent ones
+pub data Moves (profile : Profile) : ℕ → Residual → FileMap → Label → Residual → FileMap → Type 0 where
+  stays : {X : Residual} {F : FileMap} → Moves profile 0 X F silent X F
+  goes : {X Y : Residual} {F G : FileMap} {label : Label} → Steps profile X F label Y G → Moves profile 1 X F label Y G
+  then_goes : {n : ℕ} {X Y Z : Residual} {F G H : FileMap} → Moves profile n X F silent Y G → Steps profile Y G silent Z H → Moves profile (suc n) X F silent Z H
 
 abbrev pub IsNotInput : Entry → Type 0
 IsNotInput input = ⊥
@@ -157,13 +158,52 @@ IsNotOut (reader i) = Unit {0}
 IsNotOut (writer i) = Unit {0}
 IsNotOut (file e) = Unit {0}
 
+-- how many calls the shell's processes still make before the machine goes on: a message and an exit, those of a pipe's process
+-- and those of its children
+abbrev pub stage_calls : Stage → ℕ
+stage_calls closes_read = 4
+stage_calls closes_write = 3
+stage_calls waits_two = 2
+stage_calls waits_one = 1
+stage_calls leaves_pipe = 0
+
+abbrev pub step_calls : Step → ℕ
+step_calls closes_old = 4
+step_calls dups_kept = 3
+step_calls drops_read = 2
+step_calls drops_write = 1
+
+abbrev pub calls_left : Node → ℕ
+calls_left reaped = 0
+calls_left (gone p) = 0
+calls_left (starts p tree) = 0
+calls_left (works p turn put owns) = 0
+calls_left (tells p message) = 2
+calls_left (leaves p) = 1
+calls_left (reads_lines p lines) = 0
+calls_left (in_line p x lines) = calls_left x
+calls_left (in_list p x later) = calls_left x
+calls_left (pipe_made p i left right) = 14
+calls_left (pipe_half p i lost x bytes right) = 9 + calls_left x
+calls_left (pipe_both p i stage lost x bytes y) = stage_calls stage + calls_left x + calls_left y
+calls_left (left_child p step tree) = step_calls step
+calls_left (right_child p step tree) = step_calls step
+calls_left (opening p mode name body) = 0
+calls_left (under_input e name at x) = calls_left x
+calls_left (under_output e mode name at x) = calls_left x
+
+-- 1 where the call of p was carried out, and didn't put it to sleep
+unfoldable pub called : View → ℕ → ℕ
+called W p = if W.asleep p then 0 else 1
+
 -- the part after it
-pub record After (profile : Profile) (V W : View) (a b old : Entry) (parent : ℕ) (t : Node) : Type 0 where
+pub record After (profile : Profile) (V W : View) (p : ℕ) (a b old : Entry) (parent : ℕ) (t : Node) : Type 0 where
   pub to : Node
   pub label : Label
   pub files : FileMap
   pub has : Has profile W a b old parent to
-  pub moves : Moves profile (stands_for t) V.files label (stands_for to) files
+  pub steps : ℕ
+  pub moves : Moves profile steps (stands_for t) V.files label (stands_for to) files
   pub tells : Tells V W files a b label
   -- it has the processes that came and went, and at most the name of this event more
   pub pids : (q : ℕ) → occurs q to + is_used (V.slots q) ≡ occurs q t + is_used (W.slots q)
@@ -175,3 +215,5 @@ pub record After (profile : Profile) (V W : View) (a b old : Entry) (parent : �
   -- it isn't reaped, and where it is over the step was silent
   pub there : is_there to ≡ is_there t
   pub over : is_up to ≡ 0 → label ≡ silent
+  -- a step of the machine pays for a call and for those of the shell that follow it
+  pub pays : calls_left to + called W p ≤ calls_left t + 15 * steps

@@ -7,7 +7,7 @@ use Rattle.user_calls.specs.declared.calls.Call.{Call}
 use Rattle.user_calls.specs.declared.calls.Mode.{Mode}
 use Rattle.user_calls.specs.declared.calls.Reply.{Reply}
 use Rattle.fd_table.specs.Descriptors.{Descriptors}
-use Rattle.proc_table.specs.Slots.{Process, Slot, Table, at, parent_or_init, is_zombie_status}
+use Rattle.proc_table.specs.Slots.{Process, Slot, Table, at, parent_or_init, is_zombie_status, is_asleep}
 use Rattle.kernel_model.specs.KernelState.{KernelState}
 use Rattle.sh_machine.specs.State.{User}
 use Rattle.sh_machine.specs.Turn.{call_of, next_of}
@@ -72,6 +72,8 @@ pub record Place : Type 0 where
 -- what the tree of processes is read from
 pub record View : Type 0 where
   pub slots : ℕ → Seen
+  -- which processes sleep
+  pub asleep : ℕ → Bool
   -- what each pipe holds, or held when it was given up
   pub pipes : ℕ → Bytes
   -- where each file's entry goes on, or went on when it was closed
@@ -93,6 +95,7 @@ abbrev pub view : Names → KernelState User → View
 view g k =
     record {
       slots = seen g.name k.table;
+      asleep = λ p. is_asleep (at k.table p);
       pipes = g.pipes;
       places = g.places;
       files = files k.files;

@@ -49,7 +49,7 @@ module _ (V W : View) (p parent put : ℕ) (act : Act) (d : Fds) where
   pipe_alone : (most i : ℕ) → ReadsPipe V W p parent act d most i → Alone
   pipe_alone most i (gets some now rest slots) = slots.others
   pipe_alone most i (meets_end none nobody c) = c.slots.others
-  pipe_alone most i (finds_none none slots rest) = slots.others
+  pipe_alone most i (finds_none none slots rest asleep) = slots.others
 
   read_alone : (most : ℕ) (x : Option Entry) → ReadsAt V W p parent act d most x → Alone
   read_alone most None c = c.slots.others
@@ -82,7 +82,7 @@ module _ (V W : View) (p parent put : ℕ) (act : Act) (d : Fds) where
   put_alone bytes i (puts_all now fits rest slots) = slots.others
   put_alone bytes i (puts_some first later parts some more now fits rest slots) = slots.others
   put_alone bytes i (has_no_reader some nobody c) = c.slots.others
-  put_alone bytes i (finds_it_full some quiet) = λ q ne. quiet.slots q
+  put_alone bytes i (finds_it_full some quiet asleep) = λ q ne. quiet.slots q
 
   write_alone : (bytes : Bytes) (x : Option Entry) → WritesAt V W p parent put act d bytes x → Alone
   write_alone bytes None c = c.slots.others
@@ -106,7 +106,7 @@ module _ (V W : View) (p parent put : ℕ) (act : Act) (d : Fds) where
   by_call Exit c = λ q ne none used. c.others q ne ∙ Rattle.kernel_trees.proofs.CallKinds.not_given V W p (V.slots q) none
   by_call Wait (reaps r) = λ q ne none used. r.others q ne (λ e. none (subst (λ s. ParentIs s p) (sym (ap V.slots e ∙ r.was)) refl))
   by_call Wait (has_none n c) = others_stay c.slots.others
-  by_call Wait (sleeps child kid n slots rest) = others_stay slots.others
+  by_call Wait (sleeps child kid n slots rest asleep) = others_stay slots.others
   by_call MakePipe c = others_stay c.slots.others
   by_call (Read fd most) c = others_stay (read_alone _ (fd_at d fd) c)
   by_call (Write fd bytes) c = others_stay (write_alone bytes (fd_at d fd) c)

@@ -1,6 +1,6 @@
 -- Kinds of calls at a process's own place: one that changes its slot alone, one that makes a child, one that takes one
 -- away, and one that changes nothing.
-use Rattle.std.proofs.Common.{◌≡◌, ◌≢◌, inl, inr, ℕ, ◌+◌, ◌≤◌, Bool, arith, refl, sym, ap, ◌∙◌, subst}
+use Rattle.std.proofs.Common.{◌≡◌, ◌≢◌, inl, inr, ℕ, ◌+◌, ◌*◌, ◌≤◌, Bool, true, arith, refl, sym, ap, ◌∙◌, subst}
 use Rattle.std.specs.Prelude.{if◌then◌else◌}
 use Rattle.std.proofs.lemmas.Bool.{ne_eqb}
 use Rattle.script_load.specs.declared.profile.Profile.{Profile}
@@ -8,8 +8,8 @@ use Rattle.tree_machine.specs.Rules.{silent}
 use Rattle.kernel_shape.specs.Seen.{Entry, input, out, diag, reader, writer, file, Fds, Act, Seen, free, zombie, live, View}
 use Rattle.kernel_shape.specs.Shape.{Node, Has, same, occurs, names, is_there, is_up, is_used, stands_for}
 use Rattle.kernel_shape.specs.Effect.{ParentIs, Sets, Rest, Quiet, Forks, Exits, Reaps, given, EffectBy, IsCall}
-use Rattle.kernel_shape.specs.Part.{name_of, CanBeInput, CanBeOutput, Same, Moves, stays as stay, After}
-use Rattle.kernel_shape.proofs.Counts.{same_self, same_cases}
+use Rattle.kernel_shape.specs.Part.{name_of, CanBeInput, CanBeOutput, Same, Moves, stays as stay, calls_left, After}
+use Rattle.kernel_shape.proofs.Counts.{same_self, same_cases, called_once, not_called}
 use Rattle.kernel_trees.proofs.Frame.{stays}
 
 -- p's slot, with the effect of its call
@@ -110,12 +110,13 @@ module _ (V W : View) where
 
   module _ (profile : Profile) (a b old : Entry) (parent : ℕ) where
     -- only the slot of p changes
-    pub calm : (p : ℕ) (s s' : Seen) (t to : Node) → V.slots p ≡ s → Sets V W p s' → Rest V W → is_used s ≡ is_used s' → Has profile W a b old parent to → Moves profile (stands_for t) V.files silent (stands_for to) V.files → ((q : ℕ) → occurs q to ≡ occurs q t) → ((k : ℕ) → names k to ≤ names k t) → is_there to ≡ is_there t → After profile V W a b old parent t
-    calm p s s' t to e z r u h m oc nm l = record {
+    pub calm : (p : ℕ) (s s' : Seen) (t to : Node) → V.slots p ≡ s → Sets V W p s' → Rest V W → is_used s ≡ is_used s' → Has profile W a b old parent to → {n : ℕ} → Moves profile n (stands_for t) V.files silent (stands_for to) V.files → ((q : ℕ) → occurs q to ≡ occurs q t) → ((k : ℕ) → names k to ≤ names k t) → is_there to ≡ is_there t → calls_left to + 1 ≤ calls_left t + 15 * n → After profile V W p a b old parent t
+    calm p s s' t to e z r u h {n} m oc nm l pays = record {
       to = to;
       label = silent;
       files = V.files;
       has = h;
+      steps = n;
       moves = m;
       tells = (same_of r a, same_of r b, r.files);
       pids = λ q. omega (arith, oc q, sets_used p s s' e z u q);
@@ -125,15 +126,17 @@ module _ (V W : View) where
       out_stays = λ n. r.out;
       there = l;
       over = λ z. refl;
+      pays = omega (arith, pays, called_once W p);
     }
 
-    -- nothing changes
-    pub nothing : (t : Node) → Has profile V a b old parent t → Quiet V W → After profile V W a b old parent t
-    nothing t h z = record {
+    -- nothing changes, and p sleeps
+    pub nothing : (p : ℕ) → W.asleep p ≡ true → (t : Node) → Has profile V a b old parent t → Quiet V W → After profile V W p a b old parent t
+    nothing p asleep t h z = record {
       to = t;
       label = silent;
       files = V.files;
       has = stays profile V W a b old parent t (record { slots = λ q l. z.slots q; pipes = λ k l. z.rest.pipes k; places = λ k l. z.rest.places k }) h;
+      steps = 0;
       moves = stay;
       tells = (same_of z.rest a, same_of z.rest b, z.rest.files);
       pids = λ q. omega (arith, ap is_used (z.slots q));
@@ -143,15 +146,17 @@ module _ (V W : View) where
       out_stays = λ n. z.rest.out;
       there = refl;
       over = λ z. refl;
+      pays = omega (arith, not_called W p asleep);
     }
 
     -- a child is made
-    pub forked : (p : ℕ) (act : Act) (d : Fds) (s : Seen) (t to : Node) → V.slots p ≡ s → is_used s ≡ 1 → (f : Forks V W p parent act d) → Has profile W a b old parent to → Moves profile (stands_for t) V.files silent (stands_for to) V.files → ((q : ℕ) → occurs q to ≡ occurs q t + same q f.child) → ((k : ℕ) → names k to ≤ names k t) → is_there to ≡ is_there t → After profile V W a b old parent t
-    forked p act d s t to e u f h m oc nm l = record {
+    pub forked : (p : ℕ) (act : Act) (d : Fds) (s : Seen) (t to : Node) → V.slots p ≡ s → is_used s ≡ 1 → (f : Forks V W p parent act d) → Has profile W a b old parent to → {n : ℕ} → Moves profile n (stands_for t) V.files silent (stands_for to) V.files → ((q : ℕ) → occurs q to ≡ occurs q t + same q f.child) → ((k : ℕ) → names k to ≤ names k t) → is_there to ≡ is_there t → calls_left to + 1 ≤ calls_left t + 15 * n → After profile V W p a b old parent t
+    forked p act d s t to e u f h {n} m oc nm l pays = record {
       to = to;
       label = silent;
       files = V.files;
       has = h;
+      steps = n;
       moves = m;
       tells = (same_of f.rest a, same_of f.rest b, f.rest.files);
       pids = λ q. omega (arith, oc q, forks_used p parent act d s e u f q);
@@ -161,15 +166,17 @@ module _ (V W : View) where
       out_stays = λ n. f.rest.out;
       there = l;
       over = λ z. refl;
+      pays = omega (arith, pays, called_once W p);
     }
 
     -- a child is taken away
-    pub reaped_one : (p : ℕ) (act : Act) (d : Fds) (s : Seen) (t to : Node) → V.slots p ≡ s → is_used s ≡ 1 → (f : Reaps V W p parent act d) → Has profile W a b old parent to → Moves profile (stands_for t) V.files silent (stands_for to) V.files → ((q : ℕ) → occurs q to + same q f.child ≡ occurs q t) → ((k : ℕ) → names k to ≤ names k t) → is_there to ≡ is_there t → After profile V W a b old parent t
-    reaped_one p act d s t to e u f h m oc nm l = record {
+    pub reaped_one : (p : ℕ) (act : Act) (d : Fds) (s : Seen) (t to : Node) → V.slots p ≡ s → is_used s ≡ 1 → (f : Reaps V W p parent act d) → Has profile W a b old parent to → {n : ℕ} → Moves profile n (stands_for t) V.files silent (stands_for to) V.files → ((q : ℕ) → occurs q to + same q f.child ≡ occurs q t) → ((k : ℕ) → names k to ≤ names k t) → is_there to ≡ is_there t → calls_left to + 1 ≤ calls_left t + 15 * n → After profile V W p a b old parent t
+    reaped_one p act d s t to e u f h {n} m oc nm l pays = record {
       to = to;
       label = silent;
       files = V.files;
       has = h;
+      steps = n;
       moves = m;
       tells = (same_of f.rest a, same_of f.rest b, f.rest.files);
       pids = λ q. omega (arith, oc q, reaps_used p parent act d s e u f q);
@@ -179,9 +186,10 @@ module _ (V W : View) where
       out_stays = λ n. f.rest.out;
       there = l;
       over = λ z. refl;
+      pays = omega (arith, pays, called_once W p);
     }
 
     -- p, whose children are all gone, ends
-    pub ended : (p : ℕ) (act : Act) (d : Fds) (t : Node) → V.slots p ≡ live parent act 0 d → Exits V W p parent → ((q : ℕ) → q ≢ p → ParentIs (V.slots q) p → ⊥) → Moves profile (stands_for t) V.files silent (stands_for (Rattle.kernel_shape.specs.Shape.gone p)) V.files → ((q : ℕ) → same q p ≡ occurs q t) → is_there t ≡ 1 → After profile V W a b old parent t
-    ended p act d t e x none m oc l =
-        calm p (live parent act 0 d) (zombie parent) t (Rattle.kernel_shape.specs.Shape.gone p) e (record { here = x.here; others = λ q ne. x.others q ne ∙ not_given p (V.slots q) (none q ne) }) x.rest refl x.here m oc (λ k. omega arith) (sym l)
+    pub ended : (p : ℕ) (act : Act) (d : Fds) (t : Node) → V.slots p ≡ live parent act 0 d → Exits V W p parent → ((q : ℕ) → q ≢ p → ParentIs (V.slots q) p → ⊥) → {n : ℕ} → Moves profile n (stands_for t) V.files silent (stands_for (Rattle.kernel_shape.specs.Shape.gone p)) V.files → ((q : ℕ) → same q p ≡ occurs q t) → is_there t ≡ 1 → 1 ≤ calls_left t + 15 * n → After profile V W p a b old parent t
+    ended p act d t e x none {n} m oc l pays =
+        calm p (live parent act 0 d) (zombie parent) t (Rattle.kernel_shape.specs.Shape.gone p) e (record { here = x.here; others = λ q ne. x.others q ne ∙ not_given p (V.slots q) (none q ne) }) x.rest refl x.here {n = n} m oc (λ k. omega arith) (sym l) (omega (arith, pays))

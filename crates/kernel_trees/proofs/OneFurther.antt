@@ -7,7 +7,7 @@ use Rattle.conflict_check.specs.Clear.{has_back}
 use Rattle.script_load.specs.Line.{ScriptLine}
 use Rattle.script_load.specs.declared.profile.Profile.{Profile}
 use Rattle.sh_meaning.specs.Meaning.{script_tree}
-use Rattle.tree_machine.specs.Runs.{Stage, first_stage, Reaches, reached}
+use Rattle.tree_machine.specs.Runs.{Stage, first_stage, Reaches}
 use Rattle.kernel_model.specs.declared.events.Event.{Event}
 use Rattle.kernel_model.specs.declared.events.Full.{Full}
 use Rattle.kernel_model.specs.KernelState.{KernelState}
@@ -20,11 +20,12 @@ use Rattle.sh_machine.specs.declared.state.Phase.TheVariants.{Starts}
 use Rattle.kernel_shape.specs.Shape.{stands_for}
 use Rattle.kernel_shape.specs.Standing.{Stands}
 use Rattle.kernel_views.proofs.Runs as runs
-use Rattle.kernel_trees.proofs.Reaching.{stage_with, reaches_plain}
+use Rattle.kernel_trees.specs.Walks.{stands}
+use Rattle.kernel_trees.proofs.Reaching.{stage_with, reach, reaches_plain}
 use Rattle.kernel_trees.proofs.RunsStand.{IsOnWay, event_goes, every_run_stands}
 
 -- nothing was full before, where nothing is now
-none_full : (k l : KernelState User) (e : Event) (n : Bool) → happens call_of next_of k e n ≡ Some l → l.full ≡ None → k.full ≡ None
+pub none_full : (k l : KernelState User) (e : Event) (n : Bool) → happens call_of next_of k e n ≡ Some l → l.full ≡ None → k.full ≡ None
 none_full k l e n happened full = by k.full refl
   where
     by : (o : Option Full) → k.full ≡ o → k.full ≡ None
@@ -41,6 +42,6 @@ pub goes_further : (profile : Profile) (lines : List ScriptLine) (input : Bytes)
 goes_further profile lines input list events notes k e n l are plain is happened full =
     let s = every_run_stands profile lines input list events notes k are plain is (none_full k l e n happened full) in
     let before = stage_with (stands_for s.tree) k.input k.out (files k.files) in
-    let here : IsOnWay profile before k = record { names = s.names; tree = s.tree; shows = s.shows; shape = s.shape; has_init = s.has_init; way = reached } in
-    let t = event_goes profile before (reaches_plain profile s.way plain) k l (runs.settled init (shell profile (top Starts lines)) input list are k (record { events = events; notes = notes; runs = is })) full here e n happened in
-    (before, (stage_with (stands_for t.tree) l.input l.out (files l.files), (s.way, stands_so profile (first_stage (script_tree lines) input (files list)) k s, t.way, stands_so profile before l t)))
+    let here : IsOnWay profile before k = record { names = s.names; tree = s.tree; shows = s.shows; shape = s.shape; has_init = s.has_init; steps = 0; way = stands } in
+    let t = (event_goes profile before (reaches_plain profile (reach profile s.way) plain) k l (runs.settled init (shell profile (top Starts lines)) input list are k (record { events = events; notes = notes; runs = is })) full here e n happened).to in
+    (before, (stage_with (stands_for t.tree) l.input l.out (files l.files), (reach profile s.way, stands_so profile (first_stage (script_tree lines) input (files list)) k s, reach profile t.way, stands_so profile before l t)))

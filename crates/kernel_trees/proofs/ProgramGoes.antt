@@ -14,6 +14,7 @@ use Rattle.kernel_shape.specs.Own.{Owned, own_files, own_fds, AreApart, ArePlace
 use Rattle.kernel_shape.specs.Shape.{works, same, owned_names}
 use Rattle.kernel_shape.specs.Effect.{Sets, Rest, answered}
 use Rattle.kernel_shape.specs.Part.{name_of, Tells, IsNotInput, IsNotOut, goes, Part, After}
+use Rattle.kernel_shape.proofs.Counts.{called_once}
 use Rattle.kernel_trees.proofs.Frame.{held_stay}
 use Rattle.kernel_trees.proofs.Steady.{steady_next}
 use Rattle.kernel_trees.proofs.CallKinds as kinds
@@ -41,7 +42,7 @@ module _ (profile : Profile) (V W : View) (a b old : Entry) (parent p : ℕ) (ca
   Before = Part profile V a b old parent p (works p (waiting call next) put owns)
 
   abbrev pub Afterwards : Type 0
-  Afterwards = After profile V W a b old parent (works p (waiting call next) put owns)
+  Afterwards = After profile V W p a b old parent (works p (waiting call next) put owns)
 
   pub all_leave : Rest V W → Leaves V W a b owns
   all_leave r = record { others = λ k na nb lt none. (r.pipes k, r.places k); input_stays = λ n. r.input; out_stays = λ n. r.out }
@@ -65,6 +66,7 @@ module _ (profile : Profile) (V W : View) (a b old : Entry) (parent p : ℕ) (ca
       plain = plain;
       steady = steady_next next reply g.has.steady.holds;
     };
+    steps = 1;
     moves = goes step;
     tells = tells;
     pids = λ q. omega (arith, kinds.sets_used V W p _ _ g.has.slot slots refl q);
@@ -74,6 +76,7 @@ module _ (profile : Profile) (V W : View) (a b old : Entry) (parent p : ℕ) (ca
     out_stays = leaves.out_stays;
     there = refl;
     over = λ z. absurd (omega (arith, z));
+    pays = omega (arith, called_once W p);
   }
 
   -- with the files that it has, of which no entry changes

@@ -81,8 +81,8 @@ module _ (profile : Profile) (V W : View) (b old : Entry) (parent p : ℕ) (ev :
   reads_pipe i g (at_its_end none nobody f) =
       ends profile V W (reader i) b old parent p ev next put owns most some g f.slots (none, nobody) (f.rest.pipes i) (kinds.same_of V W f.rest b) f.rest.files (λ k l. f.rest.places k)
       (goes_on.all_leave profile V W (reader i) b old parent p (Read 0 most) next put owns f.rest)
-  reads_pipe i g (finds_none none slots rest) =
-      kinds.nothing V W profile (reader i) b old parent (works p (goes_on.waiting (Read 0 most) next) put owns) g.has (record { slots = λ q. by q (cases_eq q p); rest = rest })
+  reads_pipe i g (finds_none none slots rest asleep) =
+      kinds.nothing V W profile (reader i) b old parent p asleep (works p (goes_on.waiting (Read 0 most) next) put owns) g.has (record { slots = λ q. by q (cases_eq q p); rest = rest })
     where
       by : (q : ℕ) → (q ≡ p) ⊎ (q ≢ p) → W.slots q ≡ V.slots q
       by q (inr ne) = slots.others q ne

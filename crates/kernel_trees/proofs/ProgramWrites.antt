@@ -19,7 +19,7 @@ use Rattle.kernel_shape.specs.Own.{Owned, own_files, PutFits, program_act}
 use Rattle.kernel_shape.specs.Shape.{works, same, OpensOutput, position, position_of}
 use Rattle.kernel_shape.specs.Effect.{Sets, Answers, IsCall, PlaceChanges, further, answered, WritesPipe, puts_all, puts_some, has_no_reader, finds_it_full, WritesHere, WritesOver, WritesBehind, WritesFile, WritesAt}
 use Rattle.kernel_shape.specs.Part.{goes}
-use Rattle.kernel_shape.proofs.Counts.{same_self}
+use Rattle.kernel_shape.proofs.Counts.{same_self, called_once}
 use Rattle.kernel_trees.proofs.Frame.{held_stay}
 use Rattle.kernel_trees.proofs.Patched.{patched_is, patched_none}
 use Rattle.kernel_trees.proofs.CallKinds as kinds
@@ -66,6 +66,7 @@ module _ (profile : Profile) (V W : View) (a old : Entry) (parent p : ℕ) (next
       plain = g.has.plain;
       steady = g.has.steady;
     };
+    steps = 1;
     moves = goes (writes_some bytes later refl parts some more refl);
     tells = ((is, fits, rest.files), kinds.in_beside V W a g.can_read rest.input (λ k l. (rest.pipes k (λ is. absurd (omega (arith, l, g.apart k, same_self k, ap (λ n. same k n) is))), rest.places k)));
     pids = λ q. omega (arith, kinds.sets_used V W p _ _ g.has.slot slots refl q);
@@ -75,12 +76,13 @@ module _ (profile : Profile) (V W : View) (a old : Entry) (parent p : ℕ) (next
     out_stays = λ n. rest.out;
     there = refl;
     over = λ z. absurd (omega (arith, z));
+    pays = omega (arith, called_once W p);
   }
   to_pipe i g (has_no_reader some nobody f) =
       goes_on.goes_alike profile V W a (writer i) old parent p (Write 1 bytes) next put owns Refused refused V.files g f.slots (λ k l. f.rest.places k) refl
       (write_refused bytes refl some refl) (nobody, kinds.same_of V W f.rest a, f.rest.pipes i, f.rest.files)
       (goes_on.all_leave profile V W a (writer i) old parent p (Write 1 bytes) next put owns f.rest)
-  to_pipe i g (finds_it_full some quiet) = kinds.nothing V W profile a (writer i) old parent (works p (goes_on.waiting (Write 1 bytes) next) put owns) g.has quiet
+  to_pipe i g (finds_it_full some quiet asleep) = kinds.nothing V W profile a (writer i) old parent p asleep (works p (goes_on.waiting (Write 1 bytes) next) put owns) g.has quiet
 
   nothing_put : (e : ℕ) → PutFits (file e) (goes_on.waiting (Write 1 bytes) next) put → put ≡ 0
   nothing_put e (inl none) = none

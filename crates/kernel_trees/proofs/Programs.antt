@@ -51,7 +51,7 @@ module _ (profile : Profile) (V W : View) (a b old : Entry) (parent p : ℕ) (ev
   leaves : Before Exit → Afterwards Exit
   leaves g =
       kinds.ended V W profile a b old parent p (program_act (goes_on.waiting Exit next)) g.has.fds (works p (goes_on.waiting Exit next) put owns) slot
-      (kinds.effect_at V W p parent put (program_act (goes_on.waiting Exit next)) g.has.fds ev g.has.slot) (λ q ne kid. ne (same_yes q p (g.kids q kid))) (goes (exits refl)) (λ q. refl) refl
+      (kinds.effect_at V W p parent put (program_act (goes_on.waiting Exit next)) g.has.fds ev g.has.slot) (λ q ne kid. ne (same_yes q p (g.kids q kid))) (goes (exits refl)) (λ q. refl) refl (omega arith)
     where
       none : PutFits b (goes_on.waiting Exit next) put → put ≡ 0
       none (inl z) = z
@@ -97,5 +97,5 @@ module _ (profile : Profile) (V W : View) (a b old : Entry) (parent p : ℕ) (ev
   by_call (Close fd) g tame = closes_own profile V W a b old parent p ev next put owns fd (own (Close fd) fd g tame.1.1) g
   by_call (Dup fd) g tame = absurd tame.1.1
 
-pub program_goes : (profile : Profile) (V W : View) (a b old : Entry) (parent p : ℕ) (ev : IsCall V W p) (turn : Turn) (put : ℕ) (owns : List Owned) → Part profile V a b old parent p (works p turn put owns) → After profile V W a b old parent (works p turn put owns)
+pub program_goes : (profile : Profile) (V W : View) (a b old : Entry) (parent p : ℕ) (ev : IsCall V W p) (turn : Turn) (put : ℕ) (owns : List Owned) → Part profile V a b old parent p (works p turn put owns) → After profile V W p a b old parent (works p turn put owns)
 program_goes profile V W a b old parent p ev turn put owns g = by_call profile V W a b old parent p ev turn.next put owns turn.call g (g.has.tame.which, (g.has.tame.arguments, g.has.tame.calls []))

@@ -25,7 +25,7 @@ use Rattle.kernel_shape.specs.Own.{Works}
 use Rattle.kernel_shape.specs.Shape.{Node, starts, works, tells, in_list, pipe_made, opening, same, occurs}
 use Rattle.kernel_shape.specs.Effect.{ParentIs, Sets, Answers, MakesPipe, lowest, answered, IsCall}
 use Rattle.kernel_shape.specs.Part.{goes, then_goes, Part, After}
-use Rattle.kernel_shape.proofs.Counts.{same_yes}
+use Rattle.kernel_shape.proofs.Counts.{same_yes, called_once}
 use Rattle.kernel_trees.proofs.Steady.{steady_next}
 use Rattle.kernel_trees.proofs.CallKinds as kinds
 
@@ -49,22 +49,22 @@ module _ (profile : Profile) (V W : View) (a b old : Entry) (parent p : ℕ) (ev
   childless t one kids q ne kid = ne (same_yes q p (omega (arith, kids q kid, one q)))
 
   -- a command without words
-  begins_none : Part profile V a b old parent p (starts p (exec [])) → After profile V W a b old parent (starts p (exec []))
+  begins_none : Part profile V a b old parent p (starts p (exec [])) → After profile V W p a b old parent (starts p (exec []))
   begins_none g =
       kinds.ended V W profile a b old parent p (shell_act profile exits) (plain_fds a b) (starts p (exec [])) g.has (kinds.effect_at V W p parent 0 (shell_act profile exits) (plain_fds a b) ev g.has)
-      (childless (starts p (exec [])) (λ q. refl) g.kids) (goes (begins_it refl)) (λ q. refl) refl
+      (childless (starts p (exec [])) (λ q. refl) g.kids) (goes (begins_it refl)) (λ q. refl) refl (omega arith)
 
   -- a simple command, whose program is there or not
-  begins_words : (name : Bytes) (arguments : List Bytes) → Part profile V a b old parent p (starts p (exec (name ∷ arguments))) → After profile V W a b old parent (starts p (exec (name ∷ arguments)))
+  begins_words : (name : Bytes) (arguments : List Bytes) → Part profile V a b old parent p (starts p (exec (name ∷ arguments))) → After profile V W p a b old parent (starts p (exec (name ∷ arguments)))
   begins_words name arguments g = by (program_of name) refl
     where
-      by : (o : Option Program) → program_of name ≡ o → After profile V W a b old parent (starts p (exec (name ∷ arguments)))
+      by : (o : Option Program) → program_of name ≡ o → After profile V W p a b old parent (starts p (exec (name ∷ arguments)))
       by None none =
           let act : Act = shell_act profile (calls (Exec false) (unknown name)) in
           let slot : V.slots p ≡ live parent act 0 (plain_fds a b) = g.has ∙ ap (λ o. live parent (shell_act profile (execs_found (found_by o arguments) name)) 0 (plain_fds a b)) none in
           let f : Answers V W p parent act Refused (plain_fds a b) = kinds.effect_at V W p parent 0 act (plain_fds a b) ev slot in
           let left : done ≡ unfolded (exec (name ∷ arguments)) = sym (ap (λ o. run_left (begun o arguments)) none) in
-          kinds.calm V W profile a b old parent p (live parent act 0 (plain_fds a b)) _ (starts p (exec (name ∷ arguments))) (tells p (block (codes "exec " ++ (name ++ codes " failed\n")))) slot f.slots f.rest refl (plain_fds a b, f.slots.here, refl) (goes (begins_it left)) (λ q. refl) (λ k. omega arith) refl
+          kinds.calm V W profile a b old parent p (live parent act 0 (plain_fds a b)) _ (starts p (exec (name ∷ arguments))) (tells p (block (codes "exec " ++ (name ++ codes " failed\n")))) slot f.slots f.rest refl (plain_fds a b, f.slots.here, refl) (goes (begins_it left)) (λ q. refl) (λ k. omega arith) refl (omega arith)
       by (Some program) some =
           let state = begins_program program arguments in
           let act : Act = record { call = Exec true; next = Rattle.sh_machine.specs.State.program state } in
@@ -82,28 +82,28 @@ module _ (profile : Profile) (V W : View) (a b old : Entry) (parent p : ℕ) (ev
             plain = tt;
             steady = steady_next state Done tt;
           } in
-          kinds.calm V W profile a b old parent p (live parent act 0 (plain_fds a b)) _ (starts p (exec (name ∷ arguments))) (works p (turn state Done) 0 []) slot f.slots f.rest refl now (then_goes (goes (begins_it left)) (program_calls refl refl refl)) (λ q. refl) (λ k. omega arith) refl
+          kinds.calm V W profile a b old parent p (live parent act 0 (plain_fds a b)) _ (starts p (exec (name ∷ arguments))) (works p (turn state Done) 0 []) slot f.slots f.rest refl now (then_goes (goes (begins_it left)) (program_calls refl refl refl)) (λ q. refl) (λ k. omega arith) refl (omega arith)
 
   -- a redirection
-  begins_redir : (mode : Mode) (name : Name) (body : Tree) → Part profile V a b old parent p (starts p (redir mode name body)) → After profile V W a b old parent (starts p (redir mode name body))
+  begins_redir : (mode : Mode) (name : Name) (body : Tree) → Part profile V a b old parent p (starts p (redir mode name body)) → After profile V W p a b old parent (starts p (redir mode name body))
   begins_redir Input name body g =
       let f = kinds.effect_at V W p parent 0 _ (plain_fds a b) ev g.has in
-      kinds.calm V W profile a b old parent p _ _ (starts p (redir Input name body)) (opening p Input name body) g.has f.slots f.rest refl f.slots.here (goes (begins_it refl)) (λ q. refl) (λ k. omega arith) refl
+      kinds.calm V W profile a b old parent p _ _ (starts p (redir Input name body)) (opening p Input name body) g.has f.slots f.rest refl f.slots.here (goes (begins_it refl)) (λ q. refl) (λ k. omega arith) refl (omega arith)
   begins_redir Fresh name body g =
       let f = kinds.effect_at V W p parent 0 _ (plain_fds a b) ev g.has in
-      kinds.calm V W profile a b old parent p _ _ (starts p (redir Fresh name body)) (opening p Fresh name body) g.has f.slots f.rest refl f.slots.here (goes (begins_it refl)) (λ q. refl) (λ k. omega arith) refl
+      kinds.calm V W profile a b old parent p _ _ (starts p (redir Fresh name body)) (opening p Fresh name body) g.has f.slots f.rest refl f.slots.here (goes (begins_it refl)) (λ q. refl) (λ k. omega arith) refl (omega arith)
   begins_redir Over name body g =
       let f = kinds.effect_at V W p parent 0 _ (plain_fds a b) ev g.has in
-      kinds.calm V W profile a b old parent p _ _ (starts p (redir Over name body)) (opening p Over name body) g.has f.slots f.rest refl f.slots.here (goes (begins_it refl)) (λ q. refl) (λ k. omega arith) refl
+      kinds.calm V W profile a b old parent p _ _ (starts p (redir Over name body)) (opening p Over name body) g.has f.slots f.rest refl f.slots.here (goes (begins_it refl)) (λ q. refl) (λ k. omega arith) refl (omega arith)
 
   -- a list
-  begins_list : (left right : Tree) → Part profile V a b old parent p (starts p (list left right)) → After profile V W a b old parent (starts p (list left right))
+  begins_list : (left right : Tree) → Part profile V a b old parent p (starts p (list left right)) → After profile V W p a b old parent (starts p (list left right))
   begins_list left right g =
       let f = kinds.effect_at V W p parent 0 _ (plain_fds a b) ev g.has in
-      kinds.forked V W profile a b old parent p _ (plain_fds a b) _ (starts p (list left right)) (in_list p (starts f.child left) right) g.has refl f (f.here, refl, f.child_is) (goes (begins_it refl)) (λ q. refl) (λ k. omega arith) refl
+      kinds.forked V W profile a b old parent p _ (plain_fds a b) _ (starts p (list left right)) (in_list p (starts f.child left) right) g.has refl f (f.here, refl, f.child_is) (goes (begins_it refl)) (λ q. refl) (λ k. omega arith) refl (omega arith)
 
   -- a pipe
-  begins_pipe : (left right : Tree) → Part profile V a b old parent p (starts p (pipe left right)) → After profile V W a b old parent (starts p (pipe left right))
+  begins_pipe : (left right : Tree) → Part profile V a b old parent p (starts p (pipe left right)) → After profile V W p a b old parent (starts p (pipe left right))
   begins_pipe left right g =
       let f = kinds.effect_at V W p parent 0 _ (plain_fds a b) ev g.has in
       by f.read_fd f.write_fd f.read_end f.write_end f.slots
@@ -114,12 +114,13 @@ module _ (profile : Profile) (V W : View) (a b old : Entry) (parent p : ℕ) (ev
       fresh : (k : ℕ) → k < V.next → k ≢ V.next
       fresh k lt e = absurd (omega (arith, lt, e))
 
-      made : Sets V W p (answered parent (shell_act profile (runs (pipe left right))) (Ends 3 4) (pipe_fds a b V.next)) → After profile V W a b old parent (starts p (pipe left right))
+      made : Sets V W p (answered parent (shell_act profile (runs (pipe left right))) (Ends 3 4) (pipe_fds a b V.next)) → After profile V W p a b old parent (starts p (pipe left right))
       made slots = record {
         to = pipe_made p V.next left right;
         label = silent;
         files = V.files;
         has = (slots.here, f.empty);
+        steps = 1;
         moves = goes (begins_it refl);
         tells = (
           kinds.same_but V W f.others.input f.others.out a (λ k l. (f.others.pipes k (fresh k (g.ends_known k (omega (arith, l)))), f.others.places k)),
@@ -133,22 +134,23 @@ module _ (profile : Profile) (V W : View) (a b old : Entry) (parent p : ℕ) (ev
         out_stays = λ n. f.others.out;
         there = refl;
         over = λ z. refl;
+        pays = omega (arith, called_once W p);
       }
 
-      by : (r w : ℕ) → lowest (plain_fds a b) ≡ Some r → lowest (slice_set (plain_fds a b) r (Some (reader V.next))) ≡ Some w → Sets V W p (answered parent (shell_act profile (runs (pipe left right))) (Ends r w) (slice_set (slice_set (plain_fds a b) r (Some (reader V.next))) w (Some (writer V.next)))) → After profile V W a b old parent (starts p (pipe left right))
+      by : (r w : ℕ) → lowest (plain_fds a b) ≡ Some r → lowest (slice_set (plain_fds a b) r (Some (reader V.next))) ≡ Some w → Sets V W p (answered parent (shell_act profile (runs (pipe left right))) (Ends r w) (slice_set (slice_set (plain_fds a b) r (Some (reader V.next))) w (Some (writer V.next)))) → After profile V W p a b old parent (starts p (pipe left right))
       by r w first second slots = at_four (subst (λ r. lowest (slice_set (plain_fds a b) r (Some (reader V.next))) ≡ Some w) (sym three) second) (subst (λ r. Sets V W p (answered parent (shell_act profile (runs (pipe left right))) (Ends r w) (slice_set (slice_set (plain_fds a b) r (Some (reader V.next))) w (Some (writer V.next))))) (sym three) slots)
         where
           three : 3 ≡ r
           three = let z : Some 3 ≡ Some r = first in cc
 
-          at_four : lowest (slice_set (plain_fds a b) 3 (Some (reader V.next))) ≡ Some w → Sets V W p (answered parent (shell_act profile (runs (pipe left right))) (Ends 3 w) (slice_set (slice_set (plain_fds a b) 3 (Some (reader V.next))) w (Some (writer V.next)))) → After profile V W a b old parent (starts p (pipe left right))
+          at_four : lowest (slice_set (plain_fds a b) 3 (Some (reader V.next))) ≡ Some w → Sets V W p (answered parent (shell_act profile (runs (pipe left right))) (Ends 3 w) (slice_set (slice_set (plain_fds a b) 3 (Some (reader V.next))) w (Some (writer V.next)))) → After profile V W p a b old parent (starts p (pipe left right))
           at_four second slots = made (subst (λ w. Sets V W p (answered parent (shell_act profile (runs (pipe left right))) (Ends 3 w) (slice_set (slice_set (plain_fds a b) 3 (Some (reader V.next))) w (Some (writer V.next))))) (sym four) slots)
             where
               four : 4 ≡ w
               four = let z : Some 4 ≡ Some w = second in cc
 
   -- any command that isn't behind &
-  pub begins_command : (tree : Tree) → Part profile V a b old parent p (starts p tree) → After profile V W a b old parent (starts p tree)
+  pub begins_command : (tree : Tree) → Part profile V a b old parent p (starts p tree) → After profile V W p a b old parent (starts p tree)
   begins_command (exec []) g = begins_none g
   begins_command (exec (name ∷ arguments)) g = begins_words name arguments g
   begins_command (redir mode name body) g = begins_redir mode name body g

@@ -12,7 +12,7 @@ use Rattle.kernel_shape.specs.Seen.{Entry, reader, writer, Fds, Act, zombie, liv
 use Rattle.kernel_shape.specs.Phases.{Stage, closes_read, closes_write, waits_two, waits_one, leaves_pipe, waits_line, waits_list, has_forked, shell_act, does, has_open, plain_fds}
 use Rattle.kernel_shape.specs.Shape.{Node, reaped, gone, starts, works, tells, leaves, reads_lines, in_line, in_list, pipe_made, pipe_half, pipe_both, left_child, right_child, opening, under_input, under_output, Has, awaited, same, occurs, is_there}
 use Rattle.kernel_shape.specs.Effect.{ParentIs, Sets, Rest, Quiet, Reaps, WaitsFor, reaps, has_none, sleeps, IsCall}
-use Rattle.kernel_shape.specs.Part.{stays as stay, goes, Part, After}
+use Rattle.kernel_shape.specs.Part.{stays as stay, goes, stage_calls, Part, After}
 use Rattle.kernel_shape.proofs.Counts.{same_self, same_yes, same_cases, none_or_some}
 use Rattle.kernel_trees.proofs.Frame.{stays}
 use Rattle.kernel_trees.proofs.WaitsSeen.{zombie_kid, has_kid}
@@ -39,47 +39,47 @@ module _ (profile : Profile) (V W : View) (a b old : Entry) (parent p : ℕ) (ev
 
   -- ---- a list, and a line
 
-  pub list_waits : (x : Node) (later : Tree) → Part profile V a b old parent p (in_list p x later) → After profile V W a b old parent (in_list p x later)
+  pub list_waits : (x : Node) (later : Tree) → Part profile V a b old parent p (in_list p x later) → After profile V W p a b old parent (in_list p x later)
   list_waits x later g = by (kinds.effect_at V W p parent 0 _ (plain_fds a b) ev g.has.0)
     where
       act : Act
       act = does profile (waits_list later)
 
-      by : WaitsFor V W p parent (does profile (waits_list later)) (plain_fds a b) → After profile V W a b old parent (in_list p x later)
-      by (sleeps child kid none slots rest) = kinds.nothing V W profile a b old parent (in_list p x later) g.has (still _ _ g.has.0 slots rest)
+      by : WaitsFor V W p parent (does profile (waits_list later)) (plain_fds a b) → After profile V W p a b old parent (in_list p x later)
+      by (sleeps child kid none slots rest asleep) = kinds.nothing V W profile a b old parent p asleep (in_list p x later) g.has (still _ _ g.has.0 slots rest)
       by (has_none none f) = let k = has_kid profile V p a b old x g.has.2 g.has.1 in absurd (none k.0 k.1)
       by (reaps r) =
           let nx : occurs p x ≡ 0 = omega (arith, g.once p, same_self p) in
           let here = not_zombie r.child 0 _ _ g.has.0 r.was in
           let is_gone = zombie_kid profile V p a b old x r.child g.has.2 nx r.was (omega (arith, here, g.kids r.child (kid_is r.child r.was))) in
-          subst (λ y. After profile V W a b old parent (in_list p y later)) (sym is_gone)
-          (kinds.reaped_one V W profile a b old parent p _ (plain_fds a b) _ (in_list p (gone r.child) later) (starts p later) g.has.0 refl r r.here (goes seq_ends) (λ q. refl) (λ k. omega arith) refl)
+          subst (λ y. After profile V W p a b old parent (in_list p y later)) (sym is_gone)
+          (kinds.reaped_one V W profile a b old parent p _ (plain_fds a b) _ (in_list p (gone r.child) later) (starts p later) g.has.0 refl r r.here (goes seq_ends) (λ q. refl) (λ k. omega arith) refl (omega arith))
 
-  pub line_waits : (x : Node) (lines : List ScriptLine) → Part profile V a b old parent p (in_line p x lines) → After profile V W a b old parent (in_line p x lines)
+  pub line_waits : (x : Node) (lines : List ScriptLine) → Part profile V a b old parent p (in_line p x lines) → After profile V W p a b old parent (in_line p x lines)
   line_waits x lines g = by (kinds.effect_at V W p parent 0 _ (plain_fds a b) ev g.has.0)
     where
-      by : WaitsFor V W p parent (does profile (waits_line lines)) (plain_fds a b) → After profile V W a b old parent (in_line p x lines)
-      by (sleeps child kid none slots rest) = kinds.nothing V W profile a b old parent (in_line p x lines) g.has (still _ _ g.has.0 slots rest)
+      by : WaitsFor V W p parent (does profile (waits_line lines)) (plain_fds a b) → After profile V W p a b old parent (in_line p x lines)
+      by (sleeps child kid none slots rest asleep) = kinds.nothing V W profile a b old parent p asleep (in_line p x lines) g.has (still _ _ g.has.0 slots rest)
       by (has_none none f) = let k = has_kid profile V p a b old x g.has.2 g.has.1 in absurd (none k.0 k.1)
       by (reaps r) =
           let nx : occurs p x ≡ 0 = omega (arith, g.once p, same_self p) in
           let here = not_zombie r.child 0 _ _ g.has.0 r.was in
           let is_gone = zombie_kid profile V p a b old x r.child g.has.2 nx r.was (omega (arith, here, g.kids r.child (kid_is r.child r.was))) in
-          subst (λ y. After profile V W a b old parent (in_line p y lines)) (sym is_gone)
-          (kinds.reaped_one V W profile a b old parent p _ (plain_fds a b) _ (in_line p (gone r.child) lines) (reads_lines p (drop 1 lines)) g.has.0 refl r r.here (goes seq_ends) (λ q. refl) (λ k. omega arith) refl)
+          subst (λ y. After profile V W p a b old parent (in_line p y lines)) (sym is_gone)
+          (kinds.reaped_one V W profile a b old parent p _ (plain_fds a b) _ (in_line p (gone r.child) lines) (reads_lines p (drop 1 lines)) g.has.0 refl r r.here (goes seq_ends) (λ q. refl) (λ k. omega arith) refl (omega arith))
 
   -- ---- a pipe
 
   apart_from : (q : ℕ) (x : Node) → occurs p x ≡ 0 → 1 ≤ occurs q x → q ≢ p
   apart_from q x z l e = absurd (omega (arith, z, l, ap (λ r. occurs r x) e))
 
-  closes_end : (i : ℕ) (stage next : Stage) (lost : Bool) (x y : Node) (u : Bytes) → Sets V W p (live parent (does profile (has_forked next i)) 0 (has_open (has_forked next i) a b old)) → Rest V W → awaited stage ≡ awaited next → Part profile V a b old parent p (pipe_both p i stage lost x u y) → After profile V W a b old parent (pipe_both p i stage lost x u y)
-  closes_end i stage next lost x y u z r w g =
+  closes_end : (i : ℕ) (stage next : Stage) (lost : Bool) (x y : Node) (u : Bytes) → Sets V W p (live parent (does profile (has_forked next i)) 0 (has_open (has_forked next i) a b old)) → Rest V W → awaited stage ≡ awaited next → stage_calls stage ≡ stage_calls next + 1 → Part profile V a b old parent p (pipe_both p i stage lost x u y) → After profile V W p a b old parent (pipe_both p i stage lost x u y)
+  closes_end i stage next lost x y u z r w fewer g =
       let nx : occurs p x ≡ 0 = omega (arith, g.once p, same_self p) in
       let ny : occurs p y ≡ 0 = omega (arith, g.once p, same_self p) in
       let hx = stays profile V W a (writer i) b p x (record { slots = λ q l. z.others q (apart_from q x nx l); pipes = λ k l. r.pipes k; places = λ k l. r.places k }) g.has.3 in
       let hy = stays profile V W (reader i) b a p y (record { slots = λ q l. z.others q (apart_from q y ny l); pipes = λ k l. r.pipes k; places = λ k l. r.places k }) g.has.4 in
-      kinds.calm V W profile a b old parent p _ _ (pipe_both p i stage lost x u y) (pipe_both p i next lost x u y) g.has.0 z r refl (z.here, r.pipes i ∙ g.has.1, g.has.2 ∙ w, hx, hy) stay (λ q. refl) (λ k. omega arith) refl
+      kinds.calm V W profile a b old parent p _ _ (pipe_both p i stage lost x u y) (pipe_both p i next lost x u y) g.has.0 z r refl (z.here, r.pipes i ∙ g.has.1, g.has.2 ∙ w, hx, hy) stay (λ q. refl) (λ k. omega arith) refl (omega (arith, fewer))
 
   -- a part that was not the child's stays
   beside_reap : (act : Act) (d : Fds) (r : Reaps V W p parent act d) (α β o : Entry) (x : Node) → occurs p x ≡ 0 → occurs r.child x ≡ 0 → Has profile V α β o p x → Has profile W α β o p x
@@ -91,8 +91,8 @@ module _ (profile : Profile) (V W : View) (a b old : Entry) (parent p : ℕ) (ev
       }) h
 
   -- one child more is reaped, and the next stage follows
-  pipe_reaps : (i : ℕ) (stage next : Stage) (lost : Bool) (x y : Node) (u : Bytes) (r : Reaps V W p parent (does profile (has_forked stage i)) (plain_fds a b)) → has_open (has_forked stage i) a b old ≡ plain_fds a b → W.slots p ≡ live parent (does profile (has_forked next i)) 0 (has_open (has_forked next i) a b old) → awaited stage ≡ awaited next + 1 → Part profile V a b old parent p (pipe_both p i stage lost x u y) → After profile V W a b old parent (pipe_both p i stage lost x u y)
-  pipe_reaps i stage next lost x y u r fds here w g =
+  pipe_reaps : (i : ℕ) (stage next : Stage) (lost : Bool) (x y : Node) (u : Bytes) (r : Reaps V W p parent (does profile (has_forked stage i)) (plain_fds a b)) → has_open (has_forked stage i) a b old ≡ plain_fds a b → W.slots p ≡ live parent (does profile (has_forked next i)) 0 (has_open (has_forked next i) a b old) → awaited stage ≡ awaited next + 1 → stage_calls stage ≡ stage_calls next + 1 → Part profile V a b old parent p (pipe_both p i stage lost x u y) → After profile V W p a b old parent (pipe_both p i stage lost x u y)
+  pipe_reaps i stage next lost x y u r fds here w fewer g =
       elim (none_or_some (occurs r.child x)) [
         | inl none ↦ right_gone none
         | inr some ↦ left_gone some
@@ -110,23 +110,23 @@ module _ (profile : Profile) (V W : View) (a b old : Entry) (parent p : ℕ) (ev
       apart_p : same r.child p ≡ 0
       apart_p = not_zombie r.child 0 _ _ slot r.was
 
-      left_gone : 1 ≤ occurs r.child x → After profile V W a b old parent (pipe_both p i stage lost x u y)
+      left_gone : 1 ≤ occurs r.child x → After profile V W p a b old parent (pipe_both p i stage lost x u y)
       left_gone some =
           let is_gone = zombie_kid profile V p a (writer i) b x r.child g.has.3 nx r.was some in
           let not_y : occurs r.child y ≡ 0 = omega (arith, g.once r.child, some) in
           let one : 1 + is_there y ≡ awaited stage = ap (λ z. is_there z + is_there y) (sym is_gone) ∙ g.has.2 in
-          subst (λ z. After profile V W a b old parent (pipe_both p i stage lost z u y)) (sym is_gone)
+          subst (λ z. After profile V W p a b old parent (pipe_both p i stage lost z u y)) (sym is_gone)
           (kinds.reaped_one V W profile a b old parent p _ (plain_fds a b) _ (pipe_both p i stage lost (gone r.child) u y) (pipe_both p i next lost reaped u y) slot refl r
-          (here, r.rest.pipes i ∙ g.has.1, omega (arith, one, w), tt, beside_reap _ _ r (reader i) b a y ny not_y g.has.4) stay (λ q. omega arith) (λ k. omega arith) refl)
+          (here, r.rest.pipes i ∙ g.has.1, omega (arith, one, w), tt, beside_reap _ _ r (reader i) b a y ny not_y g.has.4) stay (λ q. omega arith) (λ k. omega arith) refl (omega (arith, fewer)))
 
-      right_gone : occurs r.child x ≡ 0 → After profile V W a b old parent (pipe_both p i stage lost x u y)
+      right_gone : occurs r.child x ≡ 0 → After profile V W p a b old parent (pipe_both p i stage lost x u y)
       right_gone none =
           let some : 1 ≤ occurs r.child y = omega (arith, none, apart_p, g.kids r.child (kid_is r.child r.was)) in
           let is_gone = zombie_kid profile V p (reader i) b a y r.child g.has.4 ny r.was some in
           let one : is_there x + 1 ≡ awaited stage = ap (λ z. is_there x + is_there z) (sym is_gone) ∙ g.has.2 in
-          subst (λ z. After profile V W a b old parent (pipe_both p i stage lost x u z)) (sym is_gone)
+          subst (λ z. After profile V W p a b old parent (pipe_both p i stage lost x u z)) (sym is_gone)
           (kinds.reaped_one V W profile a b old parent p _ (plain_fds a b) _ (pipe_both p i stage lost x u (gone r.child)) (pipe_both p i next lost x u reaped) slot refl r
-          (here, r.rest.pipes i ∙ g.has.1, omega (arith, one, w), beside_reap _ _ r a (writer i) b x nx none g.has.3, tt) stay (λ q. omega arith) (λ k. omega arith) refl)
+          (here, r.rest.pipes i ∙ g.has.1, omega (arith, one, w), beside_reap _ _ r a (writer i) b x nx none g.has.3, tt) stay (λ q. omega arith) (λ k. omega arith) refl (omega (arith, fewer)))
 
   -- some child is there, as long as one is awaited
   some_kid : (i : ℕ) (stage : Stage) (lost : Bool) (x y : Node) (u : Bytes) → 1 ≤ awaited stage → Part profile V a b old parent p (pipe_both p i stage lost x u y) → ((q : ℕ) → ParentIs (V.slots q) p → ⊥) → ⊥
@@ -178,30 +178,30 @@ module _ (profile : Profile) (V W : View) (a b old : Entry) (parent p : ℕ) (ev
   none_there (under_input n name at x) e = absurd (omega (arith, e))
   none_there (under_output n mode name at x) e = absurd (omega (arith, e))
 
-  pub pipe_goes : (i : ℕ) (stage : Stage) (lost : Bool) (x y : Node) (u : Bytes) → Part profile V a b old parent p (pipe_both p i stage lost x u y) → After profile V W a b old parent (pipe_both p i stage lost x u y)
-  pipe_goes i closes_read lost x y u g = let f = kinds.effect_at V W p parent 0 _ _ ev g.has.0 in closes_end i closes_read closes_write lost x y u f.slots f.rest refl g
-  pipe_goes i closes_write lost x y u g = let f = kinds.effect_at V W p parent 0 _ _ ev g.has.0 in closes_end i closes_write waits_two lost x y u f.slots f.rest refl g
+  pub pipe_goes : (i : ℕ) (stage : Stage) (lost : Bool) (x y : Node) (u : Bytes) → Part profile V a b old parent p (pipe_both p i stage lost x u y) → After profile V W p a b old parent (pipe_both p i stage lost x u y)
+  pipe_goes i closes_read lost x y u g = let f = kinds.effect_at V W p parent 0 _ _ ev g.has.0 in closes_end i closes_read closes_write lost x y u f.slots f.rest refl refl g
+  pipe_goes i closes_write lost x y u g = let f = kinds.effect_at V W p parent 0 _ _ ev g.has.0 in closes_end i closes_write waits_two lost x y u f.slots f.rest refl refl g
   pipe_goes i waits_two lost x y u g = by (kinds.effect_at V W p parent 0 _ _ ev g.has.0)
     where
-      by : WaitsFor V W p parent (does profile (has_forked waits_two i)) (plain_fds a b) → After profile V W a b old parent (pipe_both p i waits_two lost x u y)
-      by (sleeps child kid none slots rest) = kinds.nothing V W profile a b old parent (pipe_both p i waits_two lost x u y) g.has (still _ _ g.has.0 slots rest)
+      by : WaitsFor V W p parent (does profile (has_forked waits_two i)) (plain_fds a b) → After profile V W p a b old parent (pipe_both p i waits_two lost x u y)
+      by (sleeps child kid none slots rest asleep) = kinds.nothing V W profile a b old parent p asleep (pipe_both p i waits_two lost x u y) g.has (still _ _ g.has.0 slots rest)
       by (has_none none f) = absurd (some_kid i waits_two lost x y u (omega arith) g none)
-      by (reaps r) = pipe_reaps i waits_two waits_one lost x y u r refl r.here refl g
+      by (reaps r) = pipe_reaps i waits_two waits_one lost x y u r refl r.here refl refl g
   pipe_goes i waits_one lost x y u g = by (kinds.effect_at V W p parent 0 _ _ ev g.has.0)
     where
-      by : WaitsFor V W p parent (does profile (has_forked waits_one i)) (plain_fds a b) → After profile V W a b old parent (pipe_both p i waits_one lost x u y)
-      by (sleeps child kid none slots rest) = kinds.nothing V W profile a b old parent (pipe_both p i waits_one lost x u y) g.has (still _ _ g.has.0 slots rest)
+      by : WaitsFor V W p parent (does profile (has_forked waits_one i)) (plain_fds a b) → After profile V W p a b old parent (pipe_both p i waits_one lost x u y)
+      by (sleeps child kid none slots rest asleep) = kinds.nothing V W profile a b old parent p asleep (pipe_both p i waits_one lost x u y) g.has (still _ _ g.has.0 slots rest)
       by (has_none none f) = absurd (some_kid i waits_one lost x y u (omega arith) g none)
-      by (reaps r) = pipe_reaps i waits_one leaves_pipe lost x y u r refl r.here refl g
+      by (reaps r) = pipe_reaps i waits_one leaves_pipe lost x y u r refl r.here refl refl g
   pipe_goes i leaves_pipe lost x y u g = at_end x y (none_there x (omega (arith, g.has.2))) (none_there y (omega (arith, g.has.2))) g
     where
-      at_end : (x y : Node) → x ≡ reaped → y ≡ reaped → Part profile V a b old parent p (pipe_both p i leaves_pipe lost x u y) → After profile V W a b old parent (pipe_both p i leaves_pipe lost x u y)
+      at_end : (x y : Node) → x ≡ reaped → y ≡ reaped → Part profile V a b old parent p (pipe_both p i leaves_pipe lost x u y) → After profile V W p a b old parent (pipe_both p i leaves_pipe lost x u y)
       at_end x y ex ey g =
-          subst (λ z. After profile V W a b old parent (pipe_both p i leaves_pipe lost z u y)) (sym ex)
-          (subst (λ z. After profile V W a b old parent (pipe_both p i leaves_pipe lost reaped u z)) (sym ey)
+          subst (λ z. After profile V W p a b old parent (pipe_both p i leaves_pipe lost z u y)) (sym ex)
+          (subst (λ z. After profile V W p a b old parent (pipe_both p i leaves_pipe lost reaped u z)) (sym ey)
           (last (subst (λ z. Part profile V a b old parent p (pipe_both p i leaves_pipe lost reaped u z)) ey (subst (λ z. Part profile V a b old parent p (pipe_both p i leaves_pipe lost z u y)) ex g))))
         where
-          last : Part profile V a b old parent p (pipe_both p i leaves_pipe lost reaped u reaped) → After profile V W a b old parent (pipe_both p i leaves_pipe lost reaped u reaped)
+          last : Part profile V a b old parent p (pipe_both p i leaves_pipe lost reaped u reaped) → After profile V W p a b old parent (pipe_both p i leaves_pipe lost reaped u reaped)
           last g =
               kinds.ended V W profile a b old parent p (shell_act profile exits) (plain_fds a b) (pipe_both p i leaves_pipe lost reaped u reaped) g.has.0 (kinds.effect_at V W p parent 0 (shell_act profile exits) (plain_fds a b) ev g.has.0)
-              (λ q ne kid. ne (same_yes q p (omega (arith, g.kids q kid)))) (goes pipe_ends) (λ q. omega arith) refl
+              (λ q ne kid. ne (same_yes q p (omega (arith, g.kids q kid)))) (goes pipe_ends) (λ q. omega arith) refl (omega arith)

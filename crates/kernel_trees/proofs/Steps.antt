@@ -18,13 +18,13 @@ use Rattle.kernel_trees.proofs.CallKinds as kinds
 
 module _ (profile : Profile) (V W : View) (p : ℕ) (ev : IsCall V W p) where
   -- a call of the process at the root
-  at_root : (a b old : Entry) (parent q : ℕ) (f : ℕ → Node) → p ≡ q → (Part profile V a b old parent p (f p) → After profile V W a b old parent (f p)) → Part profile V a b old parent p (f q) → After profile V W a b old parent (f q)
-  at_root a b old parent q f is own g = subst (λ n. Part profile V a b old parent p (f n) → After profile V W a b old parent (f n)) is own g
+  at_root : (a b old : Entry) (parent q : ℕ) (f : ℕ → Node) → p ≡ q → (Part profile V a b old parent p (f p) → After profile V W p a b old parent (f p)) → Part profile V a b old parent p (f q) → After profile V W p a b old parent (f q)
+  at_root a b old parent q f is own g = subst (λ n. Part profile V a b old parent p (f n) → After profile V W p a b old parent (f n)) is own g
 
   elsewhere : (q : ℕ) → q ≢ p → (ParentIs (V.slots q) p → ⊥) → is_used (V.slots q) ≡ 1 → W.slots q ≡ V.slots q
   elsewhere = call_apart V W p ev
 
-  pub steps : (a b old : Entry) (parent : ℕ) (t : Node) → Part profile V a b old parent p t → After profile V W a b old parent t
+  pub steps : (a b old : Entry) (parent : ℕ) (t : Node) → Part profile V a b old parent p t → After profile V W p a b old parent t
   steps a b old parent reaped g = absurd (omega (arith, g.inside))
   steps a b old parent (gone q) g = absurd (kinds.lives V W p parent ev (ap V.slots (same_yes p q g.inside) ∙ g.has))
   steps a b old parent (starts q tree) g = at_root a b old parent q (λ n. starts n tree) (same_yes p q g.inside) (begins_command profile V W a b old parent p ev tree) g

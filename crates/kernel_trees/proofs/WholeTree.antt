@@ -1,24 +1,26 @@
 -- Every event of a kernel that has a tree of processes: it has one after it.
-use Rattle.std.proofs.Common.{◌≡◌, inl, inr, ℕ, ◌+◌, ◌<◌, ◌≤◌, refl, sym, ap, ◌∙◌, subst, arith}
+use Rattle.std.proofs.Common.{◌≡◌, inl, inr, ℕ, ◌+◌, ◌*◌, ◌<◌, ◌≤◌, refl, sym, ap, ◌∙◌, subst, arith}
 use Rattle.script_load.specs.declared.profile.Profile.{Profile}
 use Rattle.tree_machine.specs.Moving.{IsPlain}
-use Rattle.tree_machine.specs.Runs.{Reaches, reached}
+use Rattle.kernel_trees.specs.Walks.{Walks, stands}
 use Rattle.kernel_shape.specs.Seen.{Seen, input, out, free, zombie, live, View}
 use Rattle.kernel_shape.specs.Shape.{Node, reaped, gone, IsShape, occurs, names, is_used, stands_for}
 use Rattle.kernel_shape.specs.Effect.{ParentIs, Quiet, IsCall}
-use Rattle.kernel_shape.specs.Part.{Part, After}
+use Rattle.kernel_shape.specs.Part.{calls_left, called, Part, After}
 use Rattle.kernel_shape.proofs.Counts.{same_cases, none_or_some}
 use Rattle.kernel_views.specs.Seen.{TakesAway}
 use Rattle.kernel_trees.proofs.Frame.{stays}
 use Rattle.kernel_trees.proofs.WaitsSeen.{zombie_kid}
-use Rattle.kernel_trees.proofs.Reaching.{stage_with, moves_reach}
+use Rattle.kernel_trees.proofs.Reaching.{stage_with, moves_walk}
 use Rattle.kernel_trees.proofs.Steps.{steps}
 
--- the tree afterwards, and the machine's steps
-pub record Goes (profile : Profile) (V W : View) (t : Node) : Type 0 where
+-- the tree afterwards, and the machine's steps, which pay for so many calls
+pub record Goes (profile : Profile) (V W : View) (calls : ℕ) (t : Node) : Type 0 where
   pub to : Node
   pub shape : IsShape profile W to
-  pub reaches : Reaches profile (stage_with (stands_for t) V.input V.out V.files) (stage_with (stands_for to) W.input W.out W.files)
+  pub steps : ℕ
+  pub walks : Walks profile steps (stage_with (stands_for t) V.input V.out V.files) (stage_with (stands_for to) W.input W.out W.files)
+  pub pays : calls_left to + calls ≤ calls_left t + 15 * steps
 
 used_once : (s : Seen) → is_used s ≤ 1
 used_once free = omega arith
@@ -32,11 +34,13 @@ kid_used (live q act put d) p kid = refl
 
 module _ (profile : Profile) (V W : View) (t : Node) (none : V.slots 0 ≡ free) (shape : IsShape profile V t) where
   -- a call
-  pub call_goes : (p : ℕ) → IsCall V W p → IsPlain (stands_for t) → Goes profile V W t
+  pub call_goes : (p : ℕ) → IsCall V W p → IsPlain (stands_for t) → Goes profile V W (called W p) t
   call_goes p ev plain = record {
     to = r.to;
     shape = record { has = r.has; all = λ q. omega (arith, r.pids q, shape.all q); once = once; known = known };
-    reaches = moves_reach profile V W (stands_for t) (stands_for r.to) r.files r.label r.moves r.tells;
+    steps = r.steps;
+    walks = moves_walk profile V W (stands_for t) (stands_for r.to) r.files r.label r.moves r.tells;
+    pays = r.pays;
   }
     where
       whole : Part profile V input out out 0 p t
@@ -56,7 +60,7 @@ module _ (profile : Profile) (V W : View) (t : Node) (none : V.slots 0 ≡ free)
         plain = plain;
       }
 
-      r : After profile V W input out out 0 t
+      r : After profile V W p input out out 0 t
       r = steps profile V W p ev input out out 0 t whole
 
       old : (k : ℕ) → V.next ≤ k → names k t ≡ 0
@@ -77,7 +81,7 @@ module _ (profile : Profile) (V W : View) (t : Node) (none : V.slots 0 ≡ free)
           ]
 
   -- nothing
-  pub nothing_goes : W.next ≡ V.next + 1 → Quiet V W → Goes profile V W t
+  pub nothing_goes : W.next ≡ V.next + 1 → Quiet V W → Goes profile V W 0 t
   nothing_goes next quiet = record {
     to = t;
     shape = record {
@@ -86,22 +90,26 @@ module _ (profile : Profile) (V W : View) (t : Node) (none : V.slots 0 ≡ free)
       once = shape.once;
       known = λ k l. omega (arith, shape.known k l, next);
     };
-    reaches =
-        subst (λ i. Reaches profile (stage_with (stands_for t) V.input V.out V.files) (stage_with (stands_for t) i W.out W.files)) (sym quiet.rest.input)
-        (subst (λ o. Reaches profile (stage_with (stands_for t) V.input V.out V.files) (stage_with (stands_for t) V.input o W.files)) (sym quiet.rest.out)
-        (subst (λ F. Reaches profile (stage_with (stands_for t) V.input V.out V.files) (stage_with (stands_for t) V.input V.out F)) (sym quiet.rest.files) reached));
+    steps = 0;
+    walks =
+        subst (λ i. Walks profile 0 (stage_with (stands_for t) V.input V.out V.files) (stage_with (stands_for t) i W.out W.files)) (sym quiet.rest.input)
+        (subst (λ o. Walks profile 0 (stage_with (stands_for t) V.input V.out V.files) (stage_with (stands_for t) V.input o W.files)) (sym quiet.rest.out)
+        (subst (λ F. Walks profile 0 (stage_with (stands_for t) V.input V.out V.files) (stage_with (stands_for t) V.input V.out F)) (sym quiet.rest.files) stands));
+    pays = omega arith;
   }
 
   -- init takes the last zombie away
-  pub init_goes : TakesAway V W → Goes profile V W t
+  pub init_goes : TakesAway V W → Goes profile V W 0 t
   init_goes z = record {
     to = reaped;
     shape = record { has = tt; all = unused; once = λ k. omega arith; known = λ k l. absurd (omega (arith, l)) };
-    reaches =
-        subst (λ n. Reaches profile (stage_with (stands_for n) V.input V.out V.files) (stage_with (stands_for reaped) W.input W.out W.files)) (sym is_gone)
-        (subst (λ i. Reaches profile (stage_with (stands_for reaped) V.input V.out V.files) (stage_with (stands_for reaped) i W.out W.files)) (sym z.rest.input)
-        (subst (λ o. Reaches profile (stage_with (stands_for reaped) V.input V.out V.files) (stage_with (stands_for reaped) V.input o W.files)) (sym z.rest.out)
-        (subst (λ F. Reaches profile (stage_with (stands_for reaped) V.input V.out V.files) (stage_with (stands_for reaped) V.input V.out F)) (sym z.rest.files) reached)));
+    steps = 0;
+    walks =
+        subst (λ n. Walks profile 0 (stage_with (stands_for n) V.input V.out V.files) (stage_with (stands_for reaped) W.input W.out W.files)) (sym is_gone)
+        (subst (λ i. Walks profile 0 (stage_with (stands_for reaped) V.input V.out V.files) (stage_with (stands_for reaped) i W.out W.files)) (sym z.rest.input)
+        (subst (λ o. Walks profile 0 (stage_with (stands_for reaped) V.input V.out V.files) (stage_with (stands_for reaped) V.input o W.files)) (sym z.rest.out)
+        (subst (λ F. Walks profile 0 (stage_with (stands_for reaped) V.input V.out V.files) (stage_with (stands_for reaped) V.input V.out F)) (sym z.rest.files) stands)));
+    pays = omega arith;
   }
     where
       is_gone : t ≡ gone z.child

@@ -75,7 +75,7 @@ module _ (g : Names) (k : KernelState User) (settled : IsSettled k) (shows : Sho
       go : (x : Slot User) → at k.table 0 ≡ x → trapped call_of next_of k 0 x refused ≡ Some l → Waits l
       go None is e = absurd (let z : ⊥ = cc in z)
       go (Some q) is e =
-          let machine : q.machine ≡ init = is_init q is in
+          let machine : q.machine ≡ init = (is_init q is).0 in
           let m = wait (counted k) 0 init in
           let same : Some m ≡ Some l = sym (ap (λ u. Some (Rattle.kernel_model.specs.Events.acted (counted k) 0 (next_of u q.reply) (call_of u q.reply) refused)) machine) ∙ e in
           let is_l : m ≡ l = cc in

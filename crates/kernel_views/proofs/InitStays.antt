@@ -1,4 +1,4 @@
--- No call of another process changes init's machine.
+-- No call of another process changes init's machine or its descriptors.
 use Rattle.std.proofs.Common.{◌≡◌, ◌≢◌, ℕ, zero, suc, ◌+◌, [], ◌++◌, Bool, true, false, Option, Some, None, length, drop, take, refl, ap, ◌∙◌}
 use Rattle.std.proofs.lemmas.Bool.{both_ways, and_parts}
 use Rattle.std.proofs.Math.ListN.{set}
@@ -17,7 +17,7 @@ use Rattle.fd_table.specs.declared.faults.FdFault.{FdFault}
 use Rattle.fd_table.specs.declared.faults.FdFault.TheVariants.{BadFd, FullFds, FullOpen}
 use Rattle.fd_table.specs.declared.descriptors.TheConstants.{DESCRIPTORS}
 use Rattle.fd_table.specs.Entries.{OpenFile as Opened, free_count, lowest_free_entry, advanced, moved_to}
-use Rattle.fd_table.specs.Descriptors.{entry_of, lowest_free, close_answer, dup_answer}
+use Rattle.fd_table.specs.Descriptors.{Descriptors, entry_of, lowest_free, close_answer, dup_answer}
 use Rattle.byte_pipe.specs.declared.Take.{Take}
 use Rattle.byte_pipe.specs.declared.Take.TheVariants.{Got, Empty, End}
 use Rattle.byte_pipe.specs.declared.Put.{Put}
@@ -48,41 +48,48 @@ use Rattle.kernel_model.specs.Events.{acted}
 use Rattle.kernel_laws.specs.Sleeping.{IsFamily}
 use Rattle.sh_machine.specs.State.{User}
 
--- the machine of a slot's process
-abbrev pub machine_of : Slot User → Option User
-machine_of None = None
-machine_of (Some p) = Some p.machine
+-- the machine and the descriptors of a slot's process
+abbrev pub own_of : Slot User → Option (User × Descriptors)
+own_of None = None
+own_of (Some p) = Some (p.machine, p.fds)
 
--- init's slot has the same machine
+-- init's slot has the same
 abbrev pub Stays : Table User → Table User → Type 0
-Stays t u = machine_of (at u 0) ≡ machine_of (at t 0)
+Stays t u = own_of (at u 0) ≡ own_of (at t 0)
 
-machine_woken : (c : Channel) (x : Slot User) → machine_of (woken c x) ≡ machine_of x
-machine_woken c None = refl
-machine_woken c (Some p) = refl
+own_woken : (c : Channel) (x : Slot User) → own_of (woken c x) ≡ own_of x
+own_woken c None = refl
+own_woken c (Some p) = refl
 
-machine_given : (p : ℕ) (x : Slot User) → machine_of (given p x) ≡ machine_of x
-machine_given p None = refl
-machine_given p (Some q) = refl
+own_given : (p : ℕ) (x : Slot User) → own_of (given p x) ≡ own_of x
+own_given p None = refl
+own_given p (Some q) = refl
 
-machine_if : (b : Bool) (x y z : Slot User) → machine_of x ≡ machine_of z → machine_of y ≡ machine_of z → machine_of (if b then x else y) ≡ machine_of z
-machine_if true x y z e f = e
-machine_if false x y z e f = f
+own_if : (b : Bool) (x y z : Slot User) → own_of x ≡ own_of z → own_of y ≡ own_of z → own_of (if b then x else y) ≡ own_of z
+own_if true x y z e f = e
+own_if false x y z e f = f
 
 pub all_woken_stays : (t : Table User) (c : Channel) → Stays t (all_woken c t)
-all_woken_stays t c = ap machine_of (mapped (woken c) refl t 0) ∙ machine_woken c (at t 0)
+all_woken_stays t c = ap own_of (mapped (woken c) refl t 0) ∙ own_woken c (at t 0)
+
+-- who takes away a child leaves init
+pub reap_stays : (t : Table User) (p : ℕ) → IsFamily t → (o : Option ℕ) → zombie_child t p ≡ o → Stays t (reaped t p)
+reap_stays t p family None found = ap (λ u. own_of (at u 0)) (reaped_nothing t p found)
+reap_stays t p family (Some child) found =
+    let was = (and_parts (is_child_of p (at t child)) (is_zombie (at t child)) (was_zombie_child t p child found).1).0 in
+    ap own_of (reaped_others t p child 0 found (λ e. both_ways (is_child_of p (at t 0)) (family.eldest p) (ap (λ n. is_child_of p (at t n)) e ∙ was)))
 
 module _ (p : ℕ) (up : 0 ≢ p) where
   set_stays : (t : Table User) (x : Slot User) → Stays t (set t p x)
-  set_stays t x = ap machine_of (kept t p 0 x up)
+  set_stays t x = ap own_of (kept t p 0 x up)
 
   exit_stays : (t : Table User) → Stays t (exited t p)
   exit_stays t =
       let c = Children (parent_of (at t p)) in
       let x = given p (at t 0) in
-      ap machine_of (exit_other t p 0 up)
-      ∙ machine_if (is_some (zombie_child t p)) (woken (Children 0) (woken c x)) (woken c x) x (machine_woken (Children 0) (woken c x) ∙ machine_woken c x) (machine_woken c x)
-      ∙ machine_given p (at t 0)
+      ap own_of (exit_other t p 0 up)
+      ∙ own_if (is_some (zombie_child t p)) (woken (Children 0) (woken c x)) (woken c x) x (own_woken (Children 0) (woken c x) ∙ own_woken c x) (own_woken c x)
+      ∙ own_given p (at t 0)
 
   module _ (after : User) where
     -- the state l, some way into the call made in k
@@ -278,16 +285,10 @@ module _ (p : ℕ) (up : 0 ≢ p) where
       fork_same None low = answers k k _ refl
       fork_same (Some child) low =
           let not_it : 0 ≢ child = λ e. both_ways (is_free (at k.table 0)) family.init.used (ap (λ n. is_free (at k.table n)) e ∙ ap is_free (was_free k.table child low)) in
-          answers k (record k { table = forked k.table child p after (fds_at k p) }) Done (ap machine_of (kept k.table child 0 _ not_it))
-
-      reap_same : (o : Option ℕ) → zombie_child k.table p ≡ o → Stays k.table (reaped k.table p)
-      reap_same None found = ap (λ t. machine_of (at t 0)) (reaped_nothing k.table p found)
-      reap_same (Some child) found =
-          let was = (and_parts (is_child_of p (at k.table child)) (is_zombie (at k.table child)) (was_zombie_child k.table p child found).1).0 in
-          ap machine_of (reaped_others k.table p child 0 found (λ e. both_ways (is_child_of p (at k.table 0)) (family.eldest p) (ap (λ n. is_child_of p (at k.table n)) e ∙ was)))
+          answers k (record k { table = forked k.table child p after (fds_at k p) }) Done (ap own_of (kept k.table child 0 _ not_it))
 
       wait_same : (w : Waited) → Same k (wait_by k p after w)
-      wait_same (Reaped child) = answers k (record k { table = reaped k.table p }) Done (reap_same (zombie_child k.table p) refl)
+      wait_same (Reaped child) = answers k (record k { table = reaped k.table p }) Done (reap_stays k.table p family (zombie_child k.table p) refl)
       wait_same NoChildren = answers k k _ refl
       wait_same MustSleep = sleeps_on k k (Children p) 0 refl
 

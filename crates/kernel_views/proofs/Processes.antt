@@ -28,7 +28,7 @@ use Rattle.sh_machine.specs.State.{User}
 use Rattle.kernel_shape.specs.Seen.{Entry, zombie, live, act_of, fds_seen, seen_by, seen_slot, Names, view}
 use Rattle.kernel_shape.specs.Shows.{Shows, ShowsIn}
 use Rattle.kernel_shape.specs.Effect.{ParentIs, Sets, DupsAt, DupsTo, reaps, has_none, sleeps as sleeps_seen, answered as answered_seen}
-use Rattle.kernel_views.proofs.Tables.{At, at_fds, fds_others, at_ready, ready_others, at_slept, slept_others, seen_at, seen_up, seen_alike}
+use Rattle.kernel_views.proofs.Tables.{At, at_fds, fds_others, at_ready, ready_others, at_slept, slept_others, seen_at, seen_up, seen_alike, slept_sleeps}
 use Rattle.kernel_views.proofs.Fds.{seen_fd, seen_set, seen_lowest}
 use Rattle.kernel_views.proofs.Showing.{Kept, kept_pipes, shows_on}
 use Rattle.kernel_views.proofs.Mid as during
@@ -243,7 +243,7 @@ module _ (g : Names) (k : KernelState User) (p : ℕ) (q : Process User) (up : p
           shows = during.later_shows g k p q up is alive shows;
           effect = sleeps_seen child (subst (λ s. ParentIs s p) (sym (seen_up g.name k.table child not_init)) (seen_kid g.name p (at k.table child) kid)) no_zombie
               (during.sets g k p q up is alive shows g l q.machine q.reply q.fds 0 refl (at_slept k.table p q.parent q.machine q.reply q.fds q.put 0 (Children p) own) (slept_others g.name k.table p 0 (Children p)))
-              (during.rest g k p q up is alive shows l refl refl refl);
+              (during.rest g k p q up is alive shows l refl refl refl) (slept_sleeps k.table p 0 _ (Children p) own.is);
         }
       where
         no_zombie : (r : ℕ) → (view g k).slots r ≡ zombie p → ⊥

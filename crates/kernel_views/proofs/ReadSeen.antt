@@ -32,7 +32,7 @@ use Rattle.sh_machine.specs.State.{User}
 use Rattle.kernel_shape.specs.Seen.{Entry, out, diag, reader, writer, file, fds_seen, Names, view}
 use Rattle.kernel_shape.specs.Shows.{IsFile, IsNamed, GoesOnAt, Shows, ShowsIn}
 use Rattle.kernel_shape.specs.Effect.{NoHolder, Sets, Rest, Answers, PipeChanges, PlaceChanges, ReadsPipe, gets, meets_end, finds_none, ReadsBytes, ReadsFile, ReadsAt, further, answered as answered_seen}
-use Rattle.kernel_views.proofs.Tables.{At, others_then, at_ready, ready_others, at_slept, slept_others, at_woken, woken_others, others_refl}
+use Rattle.kernel_views.proofs.Tables.{At, others_then, at_ready, ready_others, at_slept, slept_others, at_woken, woken_others, others_refl, slept_sleeps}
 use Rattle.kernel_views.proofs.Fds.{seen_fd}
 use Rattle.kernel_views.proofs.Showing.{with_bytes, bytes_here, bytes_elsewhere, shows_bytes}
 use Rattle.kernel_views.proofs.Opened.{with_place, place_here, place_elsewhere, shows_moved}
@@ -122,7 +122,7 @@ module _ (g : Names) (k : KernelState User) (p : ℕ) (q : Process User) (up : p
     none_yet : pp.bytes ≡ [] → Read' Empty
     none_yet none =
         let l = sleeps m p (PipeBytes id) 0 in
-        finds_none (holds ∙ none) (during.sets g k p q up is alive shows h l q.machine q.reply q.fds 0 refl (at_slept k.table p q.parent q.machine q.reply q.fds q.put 0 (PipeBytes id) own) (slept_others g.name k.table p 0 (PipeBytes id))) (same_rest l none refl refl refl)
+        finds_none (holds ∙ none) (during.sets g k p q up is alive shows h l q.machine q.reply q.fds 0 refl (at_slept k.table p q.parent q.machine q.reply q.fds q.put 0 (PipeBytes id) own) (slept_others g.name k.table p 0 (PipeBytes id))) (same_rest l none refl refl refl) (slept_sleeps k.table p 0 _ (PipeBytes id) own.is)
 
     ended : pp.bytes ≡ [] → pp.writer ≡ false → Read' End
     ended none off =

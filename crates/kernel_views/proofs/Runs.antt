@@ -17,7 +17,7 @@ use Rattle.sh_machine.specs.State.{User}
 use Rattle.sh_machine.specs.Turn.{call_of, next_of}
 use Rattle.kernel_views.specs.Settled.{IsSettled}
 
-no_run : (es : List Event) (ns : List Bool) (m : KernelState User) → run call_of next_of None es ns ≡ Some m → ⊥
+pub no_run : (es : List Event) (ns : List Bool) (m : KernelState User) → run call_of next_of None es ns ≡ Some m → ⊥
 no_run [] [] m is = let z : ⊥ = cc in z
 no_run (e ∷ es) (n ∷ ns) m is = no_run es ns m is
 no_run [] (n ∷ ns) m is = let z : ⊥ = cc in z
@@ -27,7 +27,7 @@ appends_nothing : {X : Type 0} (xs : List X) (x : X) (ys : List X) → (xs ++ x 
 appends_nothing [] x ys = refl
 appends_nothing (y ∷ xs) x ys = ap (λ l. y ∷ l) (appends_nothing xs x ys)
 
-unmarked : (o : Option Full) → ((full : Full) → o ≡ Some full → ⊥) → o ≡ None
+pub unmarked : (o : Option Full) → ((full : Full) → o ≡ Some full → ⊥) → o ≡ None
 unmarked None h = refl
 unmarked (Some full) h = absurd (h full refl)
 

@@ -4,9 +4,10 @@ use Rattle.std.proofs.Math.ListN.{set}
 use Rattle.user_calls.specs.declared.calls.Reply.{Reply}
 use Rattle.fd_table.specs.Descriptors.{Descriptors}
 use Rattle.proc_table.specs.declared.states.Channel.{Channel}
+use Rattle.proc_table.specs.declared.states.Channel.TheVariants.{PipeBytes, PipeRoom}
 use Rattle.proc_table.specs.declared.states.Status.{Status}
 use Rattle.proc_table.specs.declared.states.Status.TheVariants.{Runnable, Running, Asleep, Zombie}
-use Rattle.proc_table.specs.Slots.{Process, Slot, Table, at, is_zombie_status, is_asleep_on_status, parent_or_init}
+use Rattle.proc_table.specs.Slots.{Process, Slot, Table, at, is_zombie_status, is_asleep_on_status, is_asleep, parent_or_init}
 use Rattle.proc_table.specs.Calls.{readied, made_ready, slept, put_to_sleep, fds_set, with_fds, all_woken, woken, woken_status, with_status, dispatched}
 use Rattle.proc_table.proofs.Changes.{written, kept, mapped}
 use Rattle.kernel_laws.proofs.Slots.{woken_or_not}
@@ -96,3 +97,11 @@ dispatch_seen name t p h alive q (inl is) =
     by : (x : Slot User) → ((q : Process User) → x ≡ Some q → is_zombie_status q.status ≡ false) → seen_slot name (with_status (Running h) x) ≡ seen_slot name x
     by None alive = refl
     by (Some q) alive = sym (ap (λ b. seen_by b name q) (alive q refl))
+
+-- who is put to sleep sleeps, also once those that wait for a pipe's bytes are woken
+pub slept_sleeps : (t : Table User) (p now : ℕ) (x : Process User) (c : Channel) → at t p ≡ Some x → is_asleep (at (slept t p c now) p) ≡ true
+slept_sleeps t p now x c is = ap is_asleep (written (put_to_sleep c now) refl t p ∙ ap (put_to_sleep c now) is)
+
+pub sleeps_for_room : (t : Table User) (p now id : ℕ) (x : Process User) → at t p ≡ Some x → is_asleep (at (all_woken (PipeBytes id) (slept t p (PipeRoom id) now)) p) ≡ true
+sleeps_for_room t p now id x is =
+    ap is_asleep (mapped (woken (PipeBytes id)) refl (slept t p (PipeRoom id) now) p ∙ ap (woken (PipeBytes id)) (written (put_to_sleep (PipeRoom id) now) refl t p ∙ ap (put_to_sleep (PipeRoom id) now) is))

@@ -40,7 +40,7 @@ use Rattle.sh_machine.specs.State.{User}
 use Rattle.kernel_shape.specs.Seen.{Entry, input, out, diag, reader, writer, file, Place, Seen, act_of, fds_seen, live, seen, Names, view}
 use Rattle.kernel_shape.specs.Shows.{IsFile, IsNamed, GoesOnAt, Shows, ShowsIn}
 use Rattle.kernel_shape.specs.Effect.{NoHolder, Sets, Rest, Answers, PipeChanges, PlaceChanges, WritesPipe, puts_all, puts_some, has_no_reader, finds_it_full, WritesHere, WritesOver, WritesBehind, WritesFile, WritesAt, further, answered as answered_seen}
-use Rattle.kernel_views.proofs.Tables.{At, others_then, at_ready, ready_others, at_slept, slept_others, at_woken, woken_others, others_refl}
+use Rattle.kernel_views.proofs.Tables.{At, others_then, at_ready, ready_others, at_slept, slept_others, at_woken, woken_others, others_refl, sleeps_for_room}
 use Rattle.kernel_views.proofs.Fds.{seen_fd}
 use Rattle.kernel_views.proofs.Showing.{Stay, with_bytes, bytes_here, bytes_elsewhere, shows_bytes}
 use Rattle.kernel_views.proofs.Opened.{with_place, place_here, place_elsewhere, shows_moved}
@@ -172,7 +172,7 @@ module _ (g : Names) (k : KernelState User) (p : ℕ) (q : Process User) (up : p
     asleep some none =
         let l = wakes (PipeBytes id) (sleeps m p (PipeRoom id) q.put) in
         let s = asleep_sets q.put in
-        finds_it_full some (record { slots = λ r. by r (cases_eq r p); rest = same_rest l none refl refl refl })
+        finds_it_full some (record { slots = λ r. by r (cases_eq r p); rest = same_rest l none refl refl refl }) (sleeps_for_room k.table p q.put id _ own.is)
       where
         by : (r : ℕ) → (r ≡ p) ⊎ (r ≢ p) → (view h (wakes (PipeBytes id) (sleeps m p (PipeRoom id) q.put))).slots r ≡ (view g k).slots r
         by r (inr ne) = (asleep_sets q.put).others r ne

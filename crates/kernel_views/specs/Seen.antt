@@ -1,5 +1,6 @@
 -- What an event does to a kernel, as it is seen.
-use Rattle.std.specs.Prelude.{◌≡◌, ◌≢◌, ℕ, Some}
+use Rattle.std.specs.Prelude.{◌≡◌, ◌≢◌, ℕ, Some, None, replicate}
+use Rattle.fd_table.specs.declared.descriptors.TheConstants.{DESCRIPTORS}
 use Rattle.proc_table.specs.Slots.{Process, at}
 use Rattle.kernel_model.specs.KernelState.{KernelState}
 use Rattle.sh_machine.specs.State.{User, init}
@@ -13,9 +14,9 @@ pub record IsSeen (g : Names) (k l : KernelState User) (p : ℕ) : Type 0 where
   pub shows : ShowsIn names l
   pub call : IsCall (view g k) (view names l) p
 
--- init's slot has init in it
+-- init's slot has init in it, which has nothing open
 abbrev pub IsInit : KernelState User → Type 0
-IsInit k = (p : Process User) → at k.table 0 ≡ Some p → p.machine ≡ init
+IsInit k = (p : Process User) → at k.table 0 ≡ Some p → (p.machine ≡ init) × (p.fds ≡ replicate DESCRIPTORS None)
 
 -- init, which waits, takes away one of its children that is a zombie, or nothing is seen
 pub record TakesAway (V W : View) : Type 0 where

@@ -1,0 +1,67 @@
+//! Runs of a script by a driver.
+
+ghost use Rattle.std.specs.Prelude.{◌≡◌};
+ghost use Rattle.script_load.specs.Line.{lines_of};
+
+use crate::drivers::{Order, as_drawn, on_eight_harts, on_one_hart};
+use kernel_core::{Kernel, Report};
+use mem_files::Files;
+use script_load::Script;
+use sh_machine::{Naming, User};
+use std::alloc::Allocator;
+use std::marker::Brand;
+use std::test::Fail;
+use user_calls::Machine;
+
+/// How the processes of a run are dispatched.
+#[derive(Clone, Copy)]
+pub(crate) enum Driver {
+    /// On hart 0, in this order.
+    One(Order),
+    /// On eight harts, which all dispatch before any call is made.
+    Eight,
+    /// On three harts, as it is drawn from this number on.
+    Drawn(u64),
+}
+
+/// Runs a script to its end.
+pub(crate) fn run_by<A: Allocator + Copy, B: Allocator, C: Allocator>(
+    alloc: A,
+    script: &Script<B>,
+    stdin: &[u8],
+    files: &Files<C>,
+    driver: Driver,
+) -> Result<Report<A>, Fail> {
+    run_named::<Brand, A, B, C>(alloc, script, stdin, files, driver)
+}
+
+// The run of the script that `N` names.
+fn run_named<N: Naming, A: Allocator + Copy, B: Allocator, C: Allocator>(
+    alloc: A,
+    script: &Script<B>,
+    stdin: &[u8],
+    files: &Files<C>,
+    driver: Driver,
+) -> Result<Report<A>, Fail>
+    requires { lines_of script.now.lines ≡ N.script }
+{
+    let init = User::<B, N>::init();
+    let kernel = Kernel::boot(alloc, init, User::shell(script), stdin, files)?;
+    run_kernel(alloc, kernel, driver)
+}
+
+fn run_kernel<M: Machine, A: Allocator + Copy>(
+    alloc: A,
+    mut kernel: Kernel<M, A>,
+    driver: Driver,
+) -> Result<Report<A>, Fail> {
+    match driver {
+        Driver::One(order) => on_one_hart(&mut kernel, order)?,
+        Driver::Eight => on_eight_harts(alloc, &mut kernel)?,
+        Driver::Drawn(first) => {
+            let mut seed = first;
+            as_drawn(alloc, &mut kernel, &mut seed)?;
+        }
+    }
+    Ok(kernel.into_report())
+}

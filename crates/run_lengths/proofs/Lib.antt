@@ -1,0 +1,3 @@
+mod OneEvent
+mod Counted
+mod Bounded

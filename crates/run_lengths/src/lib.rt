@@ -1,0 +1,4 @@
+//! How far a run of a script is: laws, no code.
+#![tactic(auto)]
+
+pub mod laws;
