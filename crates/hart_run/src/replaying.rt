@@ -2,12 +2,14 @@
 
 ghost use Rattle.std.specs.Prelude.{◌≡◌, IfErr, IfOk, OnOk, []};
 ghost use Rattle.script_load.specs.Line.{lines_of};
+ghost use Rattle.kernel_core.specs.Answer.{IsAnswerIfSettled};
 ghost use Rattle.kernel_core.specs.Reports.{IsReport};
 ghost use Rattle.kernel_core.specs.ScriptRun.{IsRunFrom, script_kernel};
 ghost use Rattle.hart_run.specs.Refused.{IsFaultFrom, IsReplayFault, StopsAt, refused_at};
 
 use kernel_core::{Event, Kernel, Report};
 use mem_files::Files;
+use mem_files::laws::are_files;
 use script_load::Script;
 use sh_machine::{Naming, User};
 use std::alloc::{AllocError, Allocator};
@@ -44,7 +46,9 @@ impl From<AllocError> for ReplayFault {
 }
 
 /// Runs a script by these events and no others, with this standard input and these files, and gives the report of that
-/// run. The events may be any: the fault is that of the first which can't take place.
+/// run. The events may be any: the fault is that of the first which can't take place. So whatever the events, the report of
+/// a settled script in which nothing was full tells what the script means (`answer`).
+#[tactic(auto, using(kernel_core::proofs::Answers::answered))]
 pub fn replay<A: Allocator + Copy, B: Allocator, C: Allocator>(
     alloc: A,
     script: &Script<B>,
@@ -53,9 +57,11 @@ pub fn replay<A: Allocator + Copy, B: Allocator, C: Allocator>(
     events: &[Event],
 ) -> Result<Report<A>, ReplayFault>
     ensures run { IfOk result (IsRunFrom (script_kernel script.now.profile (lines_of script.now.lines) stdin.now files.now)) }
+    ensures answer { IfOk result (IsAnswerIfSettled script.now.profile (lines_of script.now.lines) stdin.now files.now) }
     ensures schedule { IfOk result (λ report. report.schedule ≡ events.now) }
     ensures fault { IfErr result (IsReplayFault (script_kernel script.now.profile (lines_of script.now.lines) stdin.now files.now) events.now) }
 {
+    are_files(files);
     replay_named::<Brand, A, B, C>(alloc, script, stdin, files, events)
 }
 

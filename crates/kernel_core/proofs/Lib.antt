@@ -1,3 +1,4 @@
+pub mod Answers
 mod Keeping
 pub mod Scripts
 mod Turning

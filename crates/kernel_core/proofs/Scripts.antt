@@ -9,7 +9,7 @@ use Rattle.kernel_model.specs.Boot.{boot_kernel}
 use Rattle.kernel_model.specs.History.{History, booted}
 use Rattle.kernel_core.specs.ScriptRun.{script_kernel}
 
-whole : (profile : Profile) (lines : List ScriptLine) (input : Bytes) (files : List (Name × Bytes)) → boot_kernel init (shell profile (top Starts lines)) input files ≡ script_kernel profile lines input files
+pub whole : (profile : Profile) (lines : List ScriptLine) (input : Bytes) (files : List (Name × Bytes)) → boot_kernel init (shell profile (top Starts lines)) input files ≡ script_kernel profile lines input files
 unfolding script_kernel
 whole profile lines input files = refl
 

@@ -1,7 +1,7 @@
 pub mod Harts
-pub mod Doer
 pub mod Possible
 pub mod Reports
 pub mod ScriptRun
+pub mod Answer
 pub mod Turns
 pub mod Same

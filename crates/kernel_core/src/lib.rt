@@ -12,8 +12,6 @@ mod log;
 mod report;
 mod run;
 mod status;
-#[cfg(test)]
-mod tests;
 
 pub use kernel::{Kernel, Stranger};
 pub use kernel_model::{Event, Full};

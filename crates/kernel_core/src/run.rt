@@ -4,6 +4,7 @@ ghost use Rattle.std.specs.Prelude.{◌≡◌, ◌≤◌, ◌<◌, ◌⊎◌, �
 ghost use Rattle.proc_table.specs.Slots.{is_running};
 ghost use Rattle.script_load.specs.Line.{lines_of};
 ghost use Rattle.kernel_model.specs.Events.{IsFinished};
+ghost use Rattle.kernel_core.specs.Answer.{IsAnswerIfSettled};
 ghost use Rattle.kernel_core.specs.Harts.{is_of_hart};
 ghost use Rattle.kernel_core.specs.Reports.{IsReport};
 ghost use Rattle.kernel_core.specs.ScriptRun.{IsRunFrom, IsSpentFrom, script_kernel};
@@ -12,6 +13,7 @@ ghost use Rattle.kernel_core.specs.Turns.{IsSpent, IsSpentBy};
 use crate::kernel::Kernel;
 use crate::report::Report;
 use mem_files::Files;
+use mem_files::laws::are_files;
 use script_load::Script;
 use sh_machine::{Naming, User};
 use std::alloc::{AllocError, Allocator};
@@ -50,7 +52,10 @@ impl From<AllocError> for RunOneFault {
 /// which each event takes one: init and the top shell begin, and the run is finished once only init is left.
 ///
 /// Which Runnable process a turn goes to is the kernel's choice. A refused growth inside a call is answered to its
-/// process and marked in the report; elsewhere it is the fault `Memory`.
+/// process and marked in the report; elsewhere it is the fault `Memory`. That choice, and which memory is refused, doesn't
+/// matter to a settled script (`answer`): where nothing was full the report tells what the script means, each pipe's left
+/// side run to its end first.
+#[tactic(auto, using(crate::proofs::Answers::answered))]
 pub fn run_one<A: Allocator + Copy, B: Allocator, C: Allocator>(
     alloc: A,
     script: &Script<B>,
@@ -59,6 +64,7 @@ pub fn run_one<A: Allocator + Copy, B: Allocator, C: Allocator>(
     turns: u64,
 ) -> Result<Report<A>, RunOneFault>
     ensures run { IfOk result (IsRunFrom (script_kernel script.now.profile (lines_of script.now.lines) stdin.now files.now)) }
+    ensures answer { IfOk result (IsAnswerIfSettled script.now.profile (lines_of script.now.lines) stdin.now files.now) }
     ensures hart { IfOk result (λ report. All (λ event. is_of_hart 0 event ≡ true) report.schedule) }
     ensures turns { IfOk result (λ report. length report.schedule ≤ turns) }
     ensures bad_turns { (result ≡ Err RunOneFault.BadTurns) ↔ ((turns ≡ 0) ⊎ (MAX_TURNS < turns)) }
@@ -67,6 +73,7 @@ pub fn run_one<A: Allocator + Copy, B: Allocator, C: Allocator>(
     if turns == 0 || MAX_TURNS < turns {
         return Err(RunOneFault::BadTurns);
     }
+    are_files(files);
     run_named::<Brand, A, B, C>(alloc, script, stdin, files, turns)
 }
 

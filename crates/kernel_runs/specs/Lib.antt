@@ -1,1 +1,2 @@
+pub mod Doer
 pub mod Walker

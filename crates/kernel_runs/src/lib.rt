@@ -1,5 +1,5 @@
 //! Tests alone: a kernel runs small scripts, one process after the other, in orders that are drawn, and where memory is
-//! refused.
+//! refused or a table is full.
 #![tactic(auto)]
 
 #[cfg(test)]
@@ -9,5 +9,7 @@ mod memory;
 #[cfg(test)]
 mod schedules;
 pub mod sleepers;
+#[cfg(test)]
+mod tables;
 #[cfg(test)]
 mod walker;

@@ -11,8 +11,9 @@ ghost use Rattle.script_load.specs.declared.profile.Profile.{Profile};
 ghost use Rattle.script_load.specs.Line.{lines_of};
 ghost use Rattle.sh_meaning.specs.Meaning.{script_meaning};
 ghost use Rattle.sh_meaning.specs.Settled.{IsSettledScript};
+ghost use Rattle.kernel_core.specs.Answer.{IsAnswer};
 ghost use Rattle.kernel_core.specs.ScriptRun.{IsRunFrom, script_kernel};
-ghost use Rattle.one_answer.specs.Answer.{AreAlike, IsAnswer};
+ghost use Rattle.one_answer.specs.Alike.{AreAlike};
 
 use kernel_core::Report;
 use script_load::Script;

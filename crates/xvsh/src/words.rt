@@ -32,9 +32,9 @@ Examples:
   echo 'echo hello | cat > f; cat f' | xvsh
   xvsh plain --files script.sh notes/todo    # `todo` is a file of the script
 
-After a run one line goes to standard error: `settled` where no order of processes is meant to change
-what the script prints, and else `not settled`. `--files` marks as `soft` a file whose bytes may depend
-on that order.
+After a run one line goes to standard error: `settled` where the script prints the same in whatever
+order its processes run, and else `not settled`. `--files` marks as `soft` a file whose bytes may
+depend on that order.
 
 `xvsh check SCRIPT` writes, for the script's line N: `N fault K NAME at P` where it is no command,
 `N background` where it has a `&`, and `N clash KIND NAME` where two of its commands may come upon

@@ -1,4 +1,4 @@
--- The machine of the tests: its state is a number, which says what it calls. No public clause cites this module.
+-- A machine that makes calls of one kind: its state is a number, which says which.
 use Rattle.std.specs.Prelude.{ℕ, ◌==◌, Bool, true, false, if◌then◌else◌, [], ◌∷◌}
 use Rattle.user_calls.specs.declared.calls.Call.{Call}
 use Rattle.user_calls.specs.declared.calls.Call.TheVariants.{Fork, Exit, Wait, MakePipe, Write, OpenFile}

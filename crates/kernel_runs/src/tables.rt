@@ -1,9 +1,11 @@
+//! Tasks that are handed back, dispatches that can't take place, and tables that are full.
+
 ghost use Rattle.std.specs.Prelude.{◌≡◌, [], ◌∷◌};
 ghost use Rattle.user_calls.specs.declared.calls.Call.TheVariants.{OpenFile};
 ghost use Rattle.user_calls.specs.declared.calls.Mode.TheVariants.{Input};
-ghost use Rattle.kernel_core.specs.Doer.{opens};
+ghost use Rattle.kernel_runs.specs.Doer.{opens};
 
-use super::*;
+use kernel_core::{Event, Full, Kernel};
 use mem_files::Files;
 use proc_table::Pid;
 use std::alloc::Allocator;
@@ -18,7 +20,7 @@ struct Doer {
 
 impl Machine for Doer {
     ghost use Rattle.std.specs.Coded.{coded_ℕ};
-    ghost use Rattle.kernel_core.specs.Doer.{doer_call, doer_next};
+    ghost use Rattle.kernel_runs.specs.Doer.{doer_call, doer_next};
 
     type State = u8;
 

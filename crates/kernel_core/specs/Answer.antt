@@ -1,0 +1,20 @@
+-- The answer of a script: what the report of every finished run of it tells.
+use Rattle.std.specs.Prelude.{◌≡◌, false, List, None}
+use Rattle.mem_files.specs.Name.{Name, Bytes}
+use Rattle.mem_files.specs.Files.{files}
+use Rattle.script_load.specs.declared.profile.Profile.{Profile}
+use Rattle.script_load.specs.Line.{ScriptLine}
+use Rattle.sh_meaning.specs.Meaning.{script_meaning}
+use Rattle.sh_meaning.specs.Settled.{IsSettledScript}
+use Rattle.sh_meaning.specs.Value.{Value}
+use Rattle.kernel_core.specs.declared.report.Report.{Report}
+
+-- the report tells the output of the value, and its files but for soft ones: each name has in both the same bytes, or none
+pub record IsAnswer {A : _} (value : Value) (report : Report A) : Type 0 where
+  pub out : report.out.items ≡ value.out
+  pub files : (name : Name) → value.soft name ≡ false → files report.files name ≡ value.files name
+
+-- if the script is settled on this input and these files, and nothing was full, the report tells what the script means
+abbrev pub IsAnswerIfSettled : {A : _} → Profile → List ScriptLine → Bytes → List (Name × Bytes) → Report A → Type 0
+IsAnswerIfSettled profile lines input list report =
+    IsSettledScript profile lines input (files list) → report.full ≡ None → IsAnswer (script_meaning profile lines input (files list)) report

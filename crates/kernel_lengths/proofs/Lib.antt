@@ -1,0 +1,3 @@
+mod Asleep
+mod Falling
+mod Lengths
