@@ -1,18 +1,24 @@
 -- With what a run and a check end, of what they gave and what was told of it.
-use Rattle.std.proofs.Common.{◌≡◌, ◌≢◌, ℕ, Bool, true, false, List, [], codes, Option, Some, None, ◌⊎◌, inl, inr, refl, sym, ◌∙◌, ap, subst}
+use Rattle.std.proofs.Common.{◌≡◌, ◌≢◌, ℕ, Bool, true, false, List, [], codes, Option, Some, None, Result, Ok, Err, ◌⊎◌, inl, inr, refl, sym, ◌∙◌, ap, subst}
+use Rattle.std.specs.Prelude.{IfOk, IfErr}
 use Rattle.std.specs.Borrow.{Bor}
 use Rattle.std.specs.Io.KnownBytes.{Appends, Keeps}
 use Rattle.std.proofs.lemmas.List.{append-nil}
 use Rattle.script_load.specs.declared.profile.Profile.{Profile}
 use Rattle.script_load.specs.declared.profile.Profile.TheVariants.{Xv6}
+use Rattle.kernel_model.specs.declared.events.Full.{Full}
 use Rattle.mem_files.specs.Name.{Bytes}
-use Rattle.xvsh.specs.declared.fault.Fault.{Fault}
-use Rattle.xvsh.specs.declared.fault.Fault.TheVariants.{Unreadable, TooLong, LineTooLong, ByteZero, BadName, TooManyFiles, TooLarge, Memory, Unwritten}
+use Rattle.xvsh_read.specs.declared.fault.Fault.{Fault}
+use Rattle.xvsh_read.specs.declared.fault.Fault.TheVariants.{Unreadable, TooLong, LineTooLong, ByteZero, BadName, TooManyFiles, TooLarge, Memory, Unwritten}
 use Rattle.xvsh.specs.Drive.{RanCheck, IsCheckFault, WritesMeaning, verdict_text}
-use Rattle.xvsh.specs.Ends.{Request, asks_run, asks_check, misuse, help, Tells, Ends, ran, no_run, harmless, harmful, no_check, helped, misused, no_memory, unwritten}
-use Rattle.xvsh.specs.Path.{Path}
+use Rattle.xvsh_read.specs.Path.{Path}
+use Rattle.xvsh_read.specs.Status.{status_of, fault_told}
+use Rattle.xvsh_runs.specs.declared.fault.RunFault.{RunFault}
+use Rattle.xvsh_runs.specs.declared.fault.RunFault.TheVariants.{Common, BadTurns, Spent, SharedInput, NoEvent, NotRunnable, NotRunning, Unfinished}
+use Rattle.xvsh_runs.specs.declared.report.Lists.{Lists}
+use Rattle.xvsh_runs.specs.Status.{run_status, run_fault_told}
+use Rattle.xvsh.specs.Ends.{Request, asks_plain, asks_run, asks_check, misuse, help, How, Tells, TellsRan, RanBy, IsFaultBy, Ends, plain_ran, no_plain, ran, ran_full, no_run, harmless, harmful, no_check, helped, misused, no_memory, unwritten}
 use Rattle.xvsh.specs.Running.{RanPlain, IsPlainFault}
-use Rattle.xvsh.specs.Status.{status_of, fault_told}
 use Rattle.xvsh.proofs.Ran.{writes_meaning}
 
 -- what is known stays where nothing changes
@@ -35,6 +41,19 @@ unwritten_or TooLarge = inr (λ is. cc)
 unwritten_or Memory = inr (λ is. cc)
 unwritten_or Unwritten = inl (λ _. Unwritten)
 
+run_unwritten_or : (fault : RunFault) → (fault ≡ Common Unwritten) ⊎ (fault ≢ Common Unwritten)
+run_unwritten_or (Common fault) = elim (unwritten_or fault) [
+  | inl is ↦ inl (ap Common is)
+  | inr other ↦ inr (λ is. other cc)
+]
+run_unwritten_or BadTurns = inr (λ is. cc)
+run_unwritten_or Spent = inr (λ is. cc)
+run_unwritten_or SharedInput = inr (λ is. cc)
+run_unwritten_or (NoEvent path line) = inr (λ is. cc)
+run_unwritten_or (NotRunnable number pid) = inr (λ is. cc)
+run_unwritten_or (NotRunning number pid hart) = inr (λ is. cc)
+run_unwritten_or (Unfinished count) = inr (λ is. cc)
+
 -- no status of a fault is 0
 some_status : (fault : Fault) → status_of fault ≢ 0
 some_status (Unreadable path) is = cc
@@ -56,15 +75,15 @@ module _ (input : Option Bytes) (file : Path → Option Bytes) (out out' err err
   one : (request : Request) (status : ℕ) → status ≡ 1 → Ends input file out out' err err' request status
   one request status is = subst (Ends input file out out' err err' request) (sym is) (unwritten {request = request})
 
-  pub ended_run : (profile : Profile) (script : Path) (paths : List (Bor Path)) (lists is_settled : Bool) (status : ℕ) → RanPlain input file profile script paths lists is_settled out out' → Tells (verdict_text is_settled) 0 status err err' → Ends input file out out' err err' (asks_run profile script paths lists) status
-  ended_run profile script paths lists is_settled status gave (inl told) = subst (Ends input file out out' err err' (asks_run profile script paths lists)) (sym told.0) (ran is_settled gave told.1)
-  ended_run profile script paths lists is_settled status gave (inr untold) = one (asks_run profile script paths lists) status untold
+  pub ended_run : (profile : Profile) (script : Path) (paths : List (Bor Path)) (lists is_settled : Bool) (status : ℕ) → RanPlain input file profile script paths lists is_settled out out' → Tells (verdict_text is_settled) 0 status err err' → Ends input file out out' err err' (asks_plain profile script paths lists) status
+  ended_run profile script paths lists is_settled status gave (inl told) = subst (Ends input file out out' err err' (asks_plain profile script paths lists)) (sym told.0) (plain_ran is_settled gave told.1)
+  ended_run profile script paths lists is_settled status gave (inr untold) = one (asks_plain profile script paths lists) status untold
 
-  pub refused_run : (profile : Profile) (script : Path) (paths : List (Bor Path)) (lists : Bool) (fault : Fault) (status : ℕ) → IsPlainFault input file profile script paths fault → (fault ≢ Unwritten → out' ≡ out) → Tells (fault_told fault) (status_of fault) status err err' → Ends input file out out' err err' (asks_run profile script paths lists) status
-  refused_run profile script paths lists fault status due stays (inr untold) = one (asks_run profile script paths lists) status untold
+  pub refused_run : (profile : Profile) (script : Path) (paths : List (Bor Path)) (lists : Bool) (fault : Fault) (status : ℕ) → IsPlainFault input file profile script paths fault → (fault ≢ Unwritten → out' ≡ out) → Tells (fault_told fault) (status_of fault) status err err' → Ends input file out out' err err' (asks_plain profile script paths lists) status
+  refused_run profile script paths lists fault status due stays (inr untold) = one (asks_plain profile script paths lists) status untold
   refused_run profile script paths lists fault status due stays (inl told) = elim (unwritten_or fault) [
-    | inl is ↦ one (asks_run profile script paths lists) status (told.0 ∙ ap status_of is)
-    | inr other ↦ subst (Ends input file out out' err err' (asks_run profile script paths lists)) (sym told.0) (no_run fault due (keeps_equal out out' (stays other)) told.1)
+    | inl is ↦ one (asks_plain profile script paths lists) status (told.0 ∙ ap status_of is)
+    | inr other ↦ subst (Ends input file out out' err err' (asks_plain profile script paths lists)) (sym told.0) (no_plain fault due (keeps_equal out out' (stays other)) told.1)
   ]
 
   pub found_harmless : (script : Path) (is_harmless : Bool) → is_harmless ≡ true → RanCheck input file script is_harmless out out' → err' ≡ err → Ends input file out out' err err' (asks_check script) 0
@@ -98,14 +117,17 @@ module _ (input : Option Bytes) (file : Path → Option Bytes) (out out' err err
   told_help text status same (inl told) = (help, subst (Ends input file out out' err err' help) (sym told.0) (helped text told.1 (keeps_equal err err' same)))
 
   -- without words status 0 comes of a run alone, whose output is the meaning's
-  meaning_of : (request : Request) (status : ℕ) → Ends input file out out' err err' request status → request ≡ asks_run Xv6 (codes "-") [] false → status ≡ 0 → WritesMeaning input out out'
-  meaning_of request status (ran {profile = profile} {script = script} {paths = paths} {lists = lists} is_settled gave told) is zero =
+  meaning_of : (request : Request) (status : ℕ) → Ends input file out out' err err' request status → request ≡ asks_plain Xv6 (codes "-") [] false → status ≡ 0 → WritesMeaning input out out'
+  meaning_of request status (plain_ran {profile = profile} {script = script} {paths = paths} {lists = lists} is_settled gave told) is zero =
       let xv6 : profile ≡ Xv6 = cc in
       let own : script ≡ codes "-" = cc in
       let none : paths ≡ [] = cc in
       let unlisted : lists ≡ false = cc in
       writes_meaning input file is_settled out out' (subst (λ l. RanPlain input file Xv6 (codes "-") [] l is_settled out out') unlisted (subst (λ ps. RanPlain input file Xv6 (codes "-") ps lists is_settled out out') none (subst (λ s. RanPlain input file Xv6 s paths lists is_settled out out') own (subst (λ p. RanPlain input file p script paths lists is_settled out out') xv6 gave))))
-  meaning_of request status (no_run fault due keeps told) is zero = absurd (some_status fault zero)
+  meaning_of request status (no_plain fault due keeps told) is zero = absurd (some_status fault zero)
+  meaning_of request status (ran gave) is zero = cc
+  meaning_of request status (ran_full full diag gave told) is zero = cc
+  meaning_of request status (no_run fault due keeps told) is zero = cc
   meaning_of request status (harmless gave keeps) is zero = cc
   meaning_of request status (harmful gave keeps) is zero = cc
   meaning_of request status (no_check fault due keeps told) is zero = cc
@@ -114,5 +136,32 @@ module _ (input : Option Bytes) (file : Path → Option Bytes) (out out' err err
   meaning_of request status (no_memory keeps told) is zero = cc
   meaning_of request status unwritten is zero = cc
 
-  pub run_writes_meaning : (status : ℕ) → Ends input file out out' err err' (asks_run Xv6 (codes "-") [] false) status → status ≡ 0 → WritesMeaning input out out'
-  run_writes_meaning status ends zero = meaning_of (asks_run Xv6 (codes "-") [] false) status ends refl zero
+  pub run_writes_meaning : (status : ℕ) → Ends input file out out' err err' (asks_plain Xv6 (codes "-") [] false) status → status ≡ 0 → WritesMeaning input out out'
+  run_writes_meaning status ends zero = meaning_of (asks_plain Xv6 (codes "-") [] false) status ends refl zero
+
+-- a run by processes ends with what it came to
+module _ (input : Option Bytes) (file : Path → Option Bytes) (how : How) (profile : Profile) (script : Path) (paths : List (Bor Path)) (lists : Lists) (out out' err diag err' : Option Bytes) where
+  pub ended_ran : (result : Result (Option Full) RunFault) (status : ℕ) → IfOk result (λ full. RanBy input file how profile script paths lists full out out' err diag) → IfErr result (IsFaultBy input file how profile script paths) → IfErr result (λ fault. fault ≢ Common Unwritten → (out' ≡ out) × (diag ≡ err)) → TellsRan result status diag err' → Ends input file out out' err err' (asks_run profile script paths how lists) status
+  ended_ran (Ok None) status gave due stays told =
+      subst (Ends input file out out' err err' (asks_run profile script paths how lists)) (sym told.0) (ran (subst (λ e. RanBy input file how profile script paths lists None out out' err e) (sym told.1) gave))
+  ended_ran (Ok (Some full)) status gave due stays (inl told) =
+      subst (Ends input file out out' err err' (asks_run profile script paths how lists)) (sym told.0) (ran_full full diag gave told.1)
+  ended_ran (Ok (Some full)) status gave due stays (inr untold) = subst (Ends input file out out' err err' (asks_run profile script paths how lists)) (sym untold) unwritten
+  ended_ran (Err fault) status gave due stays (inr untold) = subst (Ends input file out out' err err' (asks_run profile script paths how lists)) (sym untold) unwritten
+  ended_ran (Err fault) status gave due stays (inl told) = elim (run_unwritten_or fault) [
+    | inl is ↦ subst (Ends input file out out' err err' (asks_run profile script paths how lists)) (sym (told.0 ∙ ap run_status is)) unwritten
+    | inr other ↦
+        let kept = stays other in
+        subst (Ends input file out out' err err' (asks_run profile script paths how lists)) (sym told.0) (no_run fault due (keeps_equal out out' kept.0) (subst (λ e. Appends e err' (run_fault_told fault)) kept.1 told.1))
+  ]
+
+-- but for what was full, and for an output that took no more, nothing is written with another status than 0
+pub nothing_ran : {X Y : Type 0} (x x' : X) (y y' : Y) (result : Result (Option Full) RunFault) (status : ℕ) (mid after : Option Bytes) → IfErr result (λ fault. fault ≢ Common Unwritten → (x' ≡ x) × (y' ≡ y)) → TellsRan result status mid after → status ≢ 0 → status ≢ 1 → status ≢ 4 → x' ≡ x
+nothing_ran x x' y y' (Ok None) status mid after stays told some one four = absurd (some told.0)
+nothing_ran x x' y y' (Ok (Some full)) status mid after stays (inl told) some one four = absurd (four told.0)
+nothing_ran x x' y y' (Ok (Some full)) status mid after stays (inr untold) some one four = absurd (one untold)
+nothing_ran x x' y y' (Err fault) status mid after stays (inr untold) some one four = absurd (one untold)
+nothing_ran x x' y y' (Err fault) status mid after stays (inl told) some one four = elim (run_unwritten_or fault) [
+  | inl is ↦ absurd (one (told.0 ∙ ap run_status is))
+  | inr other ↦ (stays other).0
+]

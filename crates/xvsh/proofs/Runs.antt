@@ -10,8 +10,8 @@ use Rattle.mem_files.specs.Name.{Name, Bytes}
 use Rattle.mem_files.specs.Files.{files}
 use Rattle.mem_files.specs.Listing.{AreFiles}
 use Rattle.sh_meaning.specs.Value.{Value}
+use Rattle.xvsh_read.specs.Listing.{file_text, list_text}
 use Rattle.xvsh.specs.Running.{WritesRun}
-use Rattle.xvsh.specs.Listing.{file_text, list_text}
 
 pub appends_twice : (old mid new : Option (List ℕ)) (a b : List ℕ) → Appends old mid a → Appends mid new b → Appends old new (a ++ b)
 appends_twice None mid new a b first second = tt

@@ -8,10 +8,10 @@ use Rattle.script_load.specs.Line.{ScriptLine}
 use Rattle.sh_meaning.specs.Meaning.{script_meaning}
 use Rattle.script_load.specs.Script.{IsScript}
 use Rattle.xvsh.specs.Check.{AreTold, AreHarmless}
-use Rattle.xvsh.specs.Path.{Path}
-use Rattle.xvsh.specs.Running.{AreLinesAt, IsScriptAtFault}
-use Rattle.xvsh.specs.declared.fault.Fault.{Fault}
-use Rattle.xvsh.specs.declared.fault.Fault.TheVariants.{Unreadable, TooLong, LineTooLong, ByteZero, BadName, TooManyFiles, TooLarge, Memory, Unwritten}
+use Rattle.xvsh_read.specs.declared.fault.Fault.{Fault}
+use Rattle.xvsh_read.specs.Path.{Path}
+use Rattle.xvsh_read.specs.Starting.{AreLinesAt, IsScriptAtFault}
+use Rattle.xvsh_read.specs.Status.{IsTellFault}
 
 -- where the host tells its input and the writer what it holds, the output of the input's script under
 -- xv6's profile, on an empty standard input and no files, is added to the writer, and nothing else
@@ -32,18 +32,6 @@ pub record RanCheck (input : Option Bytes) (file : Path → Option Bytes) (scrip
   pub told : AreTold 1 lines text
   pub writes : Appends old new text
   pub harmless : IsTrue is_harmless ↔ AreHarmless lines
-
--- what is told of a script's lines can't be made or written
-abbrev pub IsTellFault : Fault → Type 0
-IsTellFault Memory = Unit {0}
-IsTellFault Unwritten = Unit {0}
-IsTellFault (Unreadable path) = ⊥
-IsTellFault (TooLong path) = ⊥
-IsTellFault (LineTooLong n) = ⊥
-IsTellFault (ByteZero n) = ⊥
-IsTellFault (BadName path) = ⊥
-IsTellFault TooManyFiles = ⊥
-IsTellFault TooLarge = ⊥
 
 -- why nothing is told of the script at a path, or not all: there is no script, or it can't be told
 pub data IsCheckFault (input : Option Bytes) (file : Path → Option Bytes) (script : Path) : Fault → Type 0 where

@@ -1,26 +1,39 @@
 -- With which status the program ends, why, and what it wrote by then.
-use Rattle.std.specs.Prelude.{◌≡◌, ℕ, Bool, true, false, List, Option, ◌⊎◌}
+use Rattle.std.specs.Prelude.{◌≡◌, ℕ, Bool, true, false, List, Option, Some, None, Result, Ok, Err, ◌⊎◌}
 use Rattle.std.specs.Borrow.{Bor}
 use Rattle.std.specs.Io.KnownBytes.{Appends, Keeps}
 use Rattle.mem_files.specs.Name.{Bytes}
 use Rattle.script_load.specs.declared.profile.Profile.{Profile}
 use Rattle.script_load.specs.declared.profile.Profile.TheVariants.{Xv6, Append}
-use Rattle.xvsh.specs.declared.fault.Fault.{Fault}
-use Rattle.xvsh.specs.declared.fault.Fault.TheVariants.{Memory}
+use Rattle.kernel_model.specs.declared.events.Full.{Full}
+use Rattle.xvsh_read.specs.declared.fault.Fault.{Fault}
+use Rattle.xvsh_read.specs.declared.fault.Fault.TheVariants.{Memory}
+use Rattle.xvsh_read.specs.Path.{Path}
+use Rattle.xvsh_read.specs.Status.{status_of, fault_told}
+use Rattle.xvsh_runs.specs.declared.fault.RunFault.{RunFault}
+use Rattle.xvsh_runs.specs.declared.report.Lists.{Lists}
+use Rattle.xvsh_runs.specs.Runs.{RanRun, RanReplay}
+use Rattle.xvsh_runs.specs.Status.{run_status, run_fault_told, full_told}
+use Rattle.xvsh_runs.specs.Why.{IsRunFault, IsReplayingFault}
 use Rattle.xvsh.specs.Drive.{RanCheck, IsCheckFault, verdict_text}
-use Rattle.xvsh.specs.Path.{Path}
 use Rattle.xvsh.specs.Running.{RanPlain, IsPlainFault}
-use Rattle.xvsh.specs.Status.{status_of, fault_told}
 
 -- what >> means, by whether `--append` is given
 abbrev pub profile_of : Bool → Profile
 profile_of true = Append
 profile_of false = Xv6
 
--- what the words of the command line ask for: a run of the script at a path under a profile, on the files
--- at these paths, which are listed or not; a check of the script at a path; the help; or nothing that there is
+-- how a script is run by its processes: in at most so many turns, or by the schedule at a path
+pub data How : Type 0 where
+  in_turns : ℕ → How
+  by_schedule : Path → How
+
+-- what the words of the command line ask for: a run of the script at a path under a profile, on the files at these paths,
+-- by its meaning, with a list of the files or without, or by its processes, with lists or without; a check of the script
+-- at a path; the help; or nothing that there is
 pub data Request : Type 0 where
-  asks_run : Profile → Path → List (Bor Path) → Bool → Request
+  asks_plain : Profile → Path → List (Bor Path) → Bool → Request
+  asks_run : Profile → Path → List (Bor Path) → How → Lists → Request
   asks_check : Path → Request
   help : Request
   misuse : Request
@@ -29,14 +42,37 @@ pub data Request : Type 0 where
 abbrev pub Tells : Bytes → ℕ → ℕ → Option Bytes → Option Bytes → Type 0
 Tells text status result err err' = ((result ≡ status) × Appends err err' text) ⊎ (result ≡ 1)
 
--- what follows is said after what the host tells of standard input and of the files at paths, and after
--- what is known of standard output and of standard error, before and after
+-- what a run by processes came to was told: nothing more of one in which nothing was full, else what was, or why there is
+-- none
+abbrev pub TellsRan : Result (Option Full) RunFault → ℕ → Option Bytes → Option Bytes → Type 0
+TellsRan (Ok None) result err err' = (result ≡ 0) × (err' ≡ err)
+TellsRan (Ok (Some full)) result err err' = Tells (full_told full) 4 result err err'
+TellsRan (Err fault) result err err' = Tells (run_fault_told fault) (run_status fault) result err err'
+
+-- what follows is said after what the host tells of standard input and of the files at paths
+module _ (input : Option Bytes) (file : Path → Option Bytes) where
+  -- the script at a path was run so by its processes, and this was full and written
+  abbrev pub RanBy : How → Profile → Path → List (Bor Path) → Lists → Option Full → Option Bytes → Option Bytes → Option Bytes → Option Bytes → Type 0
+  RanBy (in_turns turns) profile script paths lists full out out' err err' = RanRun input file profile script paths turns lists full out out' err err'
+  RanBy (by_schedule schedule) profile script paths lists full out out' err err' = RanReplay input file profile script paths schedule lists full out out' err err'
+
+  -- why it wasn't
+  abbrev pub IsFaultBy : How → Profile → Path → List (Bor Path) → RunFault → Type 0
+  IsFaultBy (in_turns turns) profile script paths fault = IsRunFault input file profile script paths turns fault
+  IsFaultBy (by_schedule schedule) profile script paths fault = IsReplayingFault input file profile script paths schedule fault
+
+-- and of what is known of standard output and of standard error, before and after
 module _ (input : Option Bytes) (file : Path → Option Bytes) (out out' err err' : Option Bytes) where
   pub data Ends : Request → ℕ → Type 0 where
-    -- the script ran, and whether it is settled is told
-    ran : {profile : Profile} {script : Path} {paths : List (Bor Path)} {lists : Bool} (is_settled : Bool) → RanPlain input file profile script paths lists is_settled out out' → Appends err err' (verdict_text is_settled) → Ends (asks_run profile script paths lists) 0
+    -- the script ran by its meaning, and whether it is settled is told
+    plain_ran : {profile : Profile} {script : Path} {paths : List (Bor Path)} {lists : Bool} (is_settled : Bool) → RanPlain input file profile script paths lists is_settled out out' → Appends err err' (verdict_text is_settled) → Ends (asks_plain profile script paths lists) 0
     -- it didn't: a fault is due, nothing was written, and the fault is told
-    no_run : {profile : Profile} {script : Path} {paths : List (Bor Path)} {lists : Bool} (fault : Fault) → IsPlainFault input file profile script paths fault → Keeps out out' → Appends err err' (fault_told fault) → Ends (asks_run profile script paths lists) (status_of fault)
+    no_plain : {profile : Profile} {script : Path} {paths : List (Bor Path)} {lists : Bool} (fault : Fault) → IsPlainFault input file profile script paths fault → Keeps out out' → Appends err err' (fault_told fault) → Ends (asks_plain profile script paths lists) (status_of fault)
+    -- it ran by its processes, and nothing was full; or something was, which is told after its diagnostics
+    ran : {profile : Profile} {script : Path} {paths : List (Bor Path)} {how : How} {lists : Lists} → RanBy input file how profile script paths lists None out out' err err' → Ends (asks_run profile script paths how lists) 0
+    ran_full : {profile : Profile} {script : Path} {paths : List (Bor Path)} {how : How} {lists : Lists} (full : Full) (diag : Option Bytes) → RanBy input file how profile script paths lists (Some full) out out' err diag → Appends diag err' (full_told full) → Ends (asks_run profile script paths how lists) 4
+    -- it didn't, in the same way
+    no_run : {profile : Profile} {script : Path} {paths : List (Bor Path)} {how : How} {lists : Lists} (fault : RunFault) → IsFaultBy input file how profile script paths fault → Keeps out out' → Appends err err' (run_fault_told fault) → Ends (asks_run profile script paths how lists) (run_status fault)
     -- the script was checked, and holds no `&` and no clash, or some
     harmless : {script : Path} → RanCheck input file script true out out' → Keeps err err' → Ends (asks_check script) 0
     harmful : {script : Path} → RanCheck input file script false out out' → Keeps err err' → Ends (asks_check script) 3

@@ -1,21 +1,22 @@
 ghost use Rattle.std.specs.Prelude.{◌≡◌, ◌≢◌, ◌↔◌, ℕ, List, [], codes, OnOk, IfOk, IfErr, IsTrue, false, Option};
 ghost use Rattle.std.specs.Io.KnownBytes.{Appends};
 ghost use Rattle.script_load.specs.Line.{lines_of};
+ghost use Rattle.xvsh_read.specs.Status.{status_of, fault_told, IsTellFault};
 ghost use Rattle.xvsh.specs.Check.{AreTold, AreHarmless};
-ghost use Rattle.xvsh.specs.Drive.{WritesMeaning, RanCheck, IsTellFault, IsCheckFault, verdict_text};
-ghost use Rattle.xvsh.specs.Ends.{Ends, Request, asks_run, asks_check, profile_of, Tells};
-ghost use Rattle.xvsh.specs.Status.{status_of, fault_told};
+ghost use Rattle.xvsh.specs.Drive.{WritesMeaning, RanCheck, IsCheckFault, verdict_text};
+ghost use Rattle.xvsh.specs.Ends.{Ends, Request, asks_plain, asks_check};
 
 use crate::checking::check;
-use crate::fault::Fault;
-use crate::host::Host;
-use crate::running::{STDIN, read, run_plain, write};
-use crate::words::command_line;
+use crate::processes::{do_replay, do_run};
+use crate::running::run_plain;
+use crate::told::{tell, tell_text};
+use crate::words::{command_line, profile_of};
 use clap::ArgMatches;
 use clap::error::ErrorKind;
-use script_load::{Profile, Script, load};
+use script_load::{Profile, Script};
 use std::alloc::Global;
 use std::io::Write;
+use xvsh_read::{Fault, Host, STDIN, read_script, write};
 
 // Writes what is told of a script's lines, and returns whether they are harmless.
 fn check_script<'a, W: Write>(
@@ -45,8 +46,7 @@ fn run_check<'a, H: Host, W: Write>(
     ensures fault { IfErr result (IsCheckFault (H.input host.old) (H.file host.old) script.now) }
     ensures refusal { IfErr result (λ fault. fault ≢ Fault.Unwritten → out.new ≡ out.old) }
 {
-    let bytes = read(alloc, host, script)?;
-    let loaded = load(alloc, bytes.as_slice())?;
+    let loaded = read_script(alloc, host, Profile::Xv6, script)?;
     check_script(alloc, &loaded, out)
 }
 
@@ -58,40 +58,6 @@ fn verdict(is_settled: bool) -> &'static str
         "settled\n"
     } else {
         "not settled\n"
-    }
-}
-
-// Writes a text, and gives this status, or that of a failed write.
-fn tell_text<W: Write>(text: &str, status: u8, to: &mut W) -> u8
-    ensures { Tells text.now status result (W.contents to.old) (W.contents to.new) }
-{
-    match to.write_all(text.as_bytes()) {
-        Ok(()) => status,
-        Err(_) => Fault::Unwritten.status(),
-    }
-}
-
-// Tells a fault in one line, but for an output that took no more, and gives its status.
-fn tell<E: Write>(fault: Fault<'_>, err: &mut E) -> u8
-    ensures { Tells (fault_told fault.entry) (status_of fault.entry) result (E.contents err.old) (E.contents err.new) }
-{
-    if fault.is_unwritten() {
-        return fault.status();
-    }
-    match writeln!(err, "xvsh: {fault}") {
-        Ok(()) => fault.status(),
-        Err(_) => Fault::Unwritten.status(),
-    }
-}
-
-// What `>>` means, by whether `--append` is given.
-fn profile_of(appends: bool) -> Profile
-    ensures { result ≡ profile_of appends }
-{
-    if appends {
-        Profile::Append
-    } else {
-        Profile::Xv6
     }
 }
 
@@ -107,7 +73,7 @@ fn end_plain<'a, H: Host, W: Write, E: Write>(
     err: &mut E,
 ) -> u8
     ensures ends { Ends (H.input host.old) (H.file host.old) (W.contents out.old) (W.contents out.new)
-        (E.contents err.old) (E.contents err.new) (asks_run profile script.now paths.now lists_files) result }
+        (E.contents err.old) (E.contents err.new) (asks_plain profile script.now paths.now lists_files) result }
     ensures nothing_written { result ≢ 0 → result ≢ 1 → out.new ≡ out.old }
 {
     match run_plain(alloc, host, profile, script, paths, lists_files, out) {
@@ -134,6 +100,25 @@ fn end_check<H: Host, W: Write, E: Write>(
     }
 }
 
+// `plain` with these words.
+fn do_plain<'a, H: Host, W: Write, E: Write>(
+    alloc: Global,
+    words: &ArgMatches<'a>,
+    host: &mut H,
+    out: &mut W,
+    err: &mut E,
+) -> u8
+    ensures ends { (request : Request) × Ends (H.input host.old) (H.file host.old) (W.contents out.old) (W.contents out.new)
+        (E.contents err.old) (E.contents err.new) request result }
+    ensures nothing_written { result ≢ 0 → result ≢ 1 → out.new ≡ out.old }
+{
+    let script: &'a str = words.get_str("script").unwrap_or(STDIN);
+    let paths = words.get_strs("paths").unwrap_or(&[]);
+    let lists_files = words.get_flag("files");
+    let profile = profile_of(words.get_flag("append"));
+    end_plain(alloc, host, profile, script, paths, lists_files, out, err)
+}
+
 // Does what the command asks for that the words name, and gives its status.
 fn end_command<'a, H: Host, W: Write, E: Write>(
     alloc: Global,
@@ -144,14 +129,14 @@ fn end_command<'a, H: Host, W: Write, E: Write>(
 ) -> u8
     ensures ends { (request : Request) × Ends (H.input host.old) (H.file host.old) (W.contents out.old) (W.contents out.new)
         (E.contents err.old) (E.contents err.new) request result }
-    ensures nothing_written { result ≢ 0 → result ≢ 1 → result ≢ 3 → out.new ≡ out.old }
+    ensures nothing_written { result ≢ 0 → result ≢ 1 → result ≢ 3 → result ≢ 4 → out.new ≡ out.old }
 {
-    if let Some(words) = matches.subcommand_matches("plain") {
-        let script: &'a str = words.get_str("script").unwrap_or(STDIN);
-        let paths = words.get_strs("paths").unwrap_or(&[]);
-        let lists_files = words.get_flag("files");
-        let profile = profile_of(words.get_flag("append"));
-        end_plain(alloc, host, profile, script, paths, lists_files, out, err)
+    if let Some(words) = matches.subcommand_matches("run") {
+        do_run(alloc, words, host, out, err)
+    } else if let Some(words) = matches.subcommand_matches("replay") {
+        do_replay(alloc, words, host, out, err)
+    } else if let Some(words) = matches.subcommand_matches("plain") {
+        do_plain(alloc, words, host, out, err)
     } else if let Some(words) = matches.subcommand_matches("check") {
         let script: &'a str = words.get_str("script").unwrap_or(STDIN);
         end_check(alloc, host, script, out, err)
@@ -190,7 +175,7 @@ fn end_words<H: Host, W: Write, E: Write>(
 ) -> u8
     ensures ends { (request : Request) × Ends (H.input host.old) (H.file host.old) (W.contents out.old) (W.contents out.new)
         (E.contents err.old) (E.contents err.new) request result }
-    ensures nothing_written { result ≢ 0 → result ≢ 1 → result ≢ 3 → out.new ≡ out.old }
+    ensures nothing_written { result ≢ 0 → result ≢ 1 → result ≢ 3 → result ≢ 4 → out.new ≡ out.old }
 {
     let Ok(command) = command_line(alloc) else {
         return tell(Fault::Memory, err);
@@ -205,22 +190,25 @@ fn end_words<H: Host, W: Write, E: Write>(
 /// it ends.
 ///
 /// `plain [--append] [--files] SCRIPT [FILE]..` reads the script, loads it, reads the files in order, each
-/// before the next, and then standard input, runs the script, and writes its output and, with
+/// before the next, and then standard input, runs the script by its meaning, and writes its output and, with
 /// `--files`, all files, the soft ones marked. SCRIPT `-` is standard input, and the script's own input is then empty.
 /// With `--append` `>>` appends, and else it writes over a file from its beginning, as in xv6. Without
 /// words it is `plain -`. A script and a standard input have at most 1,048,576 bytes, and a
-/// file at most 274,432.
-///
-/// After a run `settled` or `not settled` goes to `err`: whether the script is settled, that is, whether
+/// file at most 274,432. Then `settled` or `not settled` goes to `err`: whether the script is settled, that is, whether
 /// its commands keep out of each other's way.
+///
+/// `run [--harts N] [--turns N] [--schedule] [--append] [--files] SCRIPT [FILE]..` reads the same and runs the script by
+/// its processes, on one hart, in at most 10,000,000 turns or N. It writes the output, with `--files` all files, and with
+/// `--schedule` a line an event, and to `err` the diagnostics, and then, where something was full, what. `replay
+/// [--append] [--files] SCHEDULE SCRIPT [FILE]..` does so by the events of a schedule in that form, which it reads first.
 ///
 /// `check SCRIPT` reads and loads the script, runs nothing, and writes the faults, the `&` and the
 /// first clash of each line.
 ///
 /// A fault goes to `err` as one line, and then nothing of the script was written: 1 for what can't be
-/// read or is refused, 2 for words that are no command line, 3 where
-/// `check` told of a clash or a `&`, 4 for a run that is too large or wants
-/// memory. `--help` goes to `out`. Where `out` or `err` fails, the status is 1 and nothing more is written.
+/// read or is refused, or is no schedule of a finished run, 2 for words that are no command line, 3 where
+/// `check` told of a clash or a `&`, 4 for a run that is too large, is past its turns, wants memory, or met something
+/// full, which alone is told after what it wrote. `--help` goes to `out`. Where `out` or `err` fails, the status is 1 and nothing more is written.
 pub fn drive<H: Host, W: Write, E: Write>(
     alloc: Global,
     words: Vec<String>,
@@ -230,10 +218,11 @@ pub fn drive<H: Host, W: Write, E: Write>(
 ) -> u8
     ensures meaning { words.items ≡ [] → result ≡ 0 → WritesMeaning (H.input host.old) (W.contents out.old) (W.contents out.new) }
     ensures no_words { words.items ≡ [] → Ends (H.input host.old) (H.file host.old) (W.contents out.old) (W.contents out.new)
-        (E.contents err.old) (E.contents err.new) (asks_run Profile.Xv6 (codes "-") [] false) result }
+        (E.contents err.old) (E.contents err.new) (asks_plain Profile.Xv6 (codes "-") [] false) result }
     ensures ends { (request : Request) × Ends (H.input host.old) (H.file host.old) (W.contents out.old) (W.contents out.new)
         (E.contents err.old) (E.contents err.new) request result }
-    ensures nothing_written { result ≢ 0 → result ≢ 1 → result ≢ 3 → out.new ≡ out.old }
+    ensures nothing_written { result ≢ 0 → result ≢ 1 → result ≢ 3 → result ≢ 4 → out.new ≡ out.old }
+    ensures no_words_written { words.items ≡ [] → result ≢ 0 → result ≢ 1 → out.new ≡ out.old }
 {
     if words.is_empty() {
         end_plain(alloc, host, Profile::Xv6, STDIN, &[], false, out, err)
@@ -241,6 +230,3 @@ pub fn drive<H: Host, W: Write, E: Write>(
         end_words(alloc, words.as_slice(), host, out, err)
     }
 }
-
-#[cfg(test)]
-mod tests;

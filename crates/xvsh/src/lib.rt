@@ -3,15 +3,13 @@
 
 mod checking;
 mod driver;
-mod fault;
-mod host;
-mod listing;
+mod processes;
 mod program;
 mod reading;
 mod running;
 mod system;
+mod told;
 mod words;
 
 pub use driver::drive;
-pub use host::{Host, HostFault};
 pub use program::run;

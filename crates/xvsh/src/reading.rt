@@ -1,8 +1,8 @@
 ghost use Rattle.std.specs.Prelude.{◌≡◌, ◌<◌, ◌≤◌, IfOk, IfSome, length, vec_len};
 
-use crate::host::HostFault;
 use std::alloc::Global;
 use std::io::{ErrorKind, Read};
+use xvsh_read::HostFault;
 
 /// All bytes that a reader gives, of which there may be as many as the limit. No more than one byte
 /// past the limit is asked for.

@@ -1,6 +1,11 @@
 //! The words that the program takes.
+ghost use Rattle.std.specs.Prelude.{◌≡◌};
+ghost use Rattle.xvsh.specs.Ends.{profile_of};
 
+use clap::builder::ValueParser;
 use clap::{Arg, ArgAction, Command};
+use kernel_core::MAX_TURNS;
+use script_load::Profile;
 use std::alloc::{AllocError, Global};
 
 const ABOUT: &str = "Runs scripts of xv6's shell";
@@ -30,9 +35,15 @@ most 274,432 bytes each. A script and a standard input have at most 1,048,576 by
 
 Examples:
   echo 'echo hello | cat > f; cat f' | xvsh
-  xvsh plain --files script.sh notes/todo    # `todo` is a file of the script
+  xvsh run script.sh notes/todo              # `todo` is a file of the script
+  xvsh plain --files script.sh notes/todo
 
-After a run one line goes to standard error: `settled` where the script prints the same in whatever
+`run` has xv6's processes take turns, each until its next system call, and tells what they tell, such
+as `open f failed`. Where something was full, as at a pipeline of more processes than there are, a
+last line `xvsh: full procs`, `open`, `descriptors`, `files`, `size` or `memory` says so. `run
+--schedule` ends its output with a line an event, and `replay` runs the script by those lines again.
+
+After `plain` one line goes to standard error: `settled` where the script prints the same in whatever
 order its processes run, and else `not settled`. `--files` marks as `soft` a file whose bytes may
 depend on that order.
 
@@ -40,49 +51,127 @@ depend on that order.
 `N background` where it has a `&`, and `N clash KIND NAME` where two of its commands may come upon
 each other at a file: at the two sides of a pipe (PipeSides), or inside a redirection (Enclosing).
 
-Status: 0 done; 1 something can't be read, is refused, or can't be written; 2 usage; 3 `check` told
-of a clash or a `&`; 4 too large, or no memory.";
+Status: 0 done; 1 something can't be read, is refused, or can't be written, or is no schedule of a
+whole run; 2 usage; 3 `check` told of a clash or a `&`; 4 full, spent, too large, or no memory.";
 
-const PLAIN_ABOUT: &str = "Runs a script, each pipe's left side to its end before its right side";
-
-fn plain_command<'a>(alloc: Global) -> Result<Command<'a>, AllocError> {
-    let lists_files = Arg::new(alloc, "files")
+// `--files`, which lists all files after the output.
+fn files_flag<'a>(alloc: Global, help: &'static str) -> Arg<'a> {
+    Arg::new(alloc, "files")
         .long("files")
-        .help(
-            "Write all files after the output: `-- NAME LENGTH`, `soft` if it is soft, the bytes, a line's end",
-        )
-        .action(ArgAction::SetTrue);
-    let appends = Arg::new(alloc, "append")
+        .help(help)
+        .action(ArgAction::SetTrue)
+}
+
+// `--append`, which names the profile.
+fn append_flag<'a>(alloc: Global) -> Arg<'a> {
+    Arg::new(alloc, "append")
         .long("append")
         .help("`>>` writes at a file's end; without it, from its beginning, as xv6 does")
-        .action(ArgAction::SetTrue);
-    let script = Arg::new(alloc, "script")
+        .action(ArgAction::SetTrue)
+}
+
+// SCRIPT.
+fn script_word<'a>(alloc: Global, help: &'static str) -> Arg<'a> {
+    Arg::new(alloc, "script")
         .value_name("SCRIPT")
-        .help("The script's path; `-` is standard input, and the script's own input is then empty")
+        .help(help)
         .required(true)
-        .action(ArgAction::Set);
-    let paths = Arg::new(alloc, "paths")
+        .action(ArgAction::Set)
+}
+
+// The files of the script.
+fn file_words<'a>(alloc: Global) -> Arg<'a> {
+    Arg::new(alloc, "paths")
         .value_name("FILE")
         .help("Files for the script, each under the part of its path after the last `/`")
         .num_args(0..)
-        .action(ArgAction::Append);
+        .action(ArgAction::Append)
+}
+
+const SCRIPT_HELP: &str =
+    "The script's path; `-` is standard input, and the script's own input is then empty";
+
+const RUN_ABOUT: &str = "Runs a script by its processes, as xv6 does, and tells their diagnostics";
+
+fn run_command<'a>(alloc: Global) -> Result<Command<'a>, AllocError> {
+    let harts = Arg::new(alloc, "harts")
+        .long("harts")
+        .value_name("N")
+        .help("On so many harts, 1 to 8; 1 without it, and more are not there yet")
+        .value_parser(ValueParser::unsigned(1, 8))
+        .action(ArgAction::Set);
+    let turns = Arg::new(alloc, "turns")
+        .long("turns")
+        .value_name("N")
+        .help("In at most so many events, 1 to 1000000000; 10000000 without it")
+        .value_parser(ValueParser::unsigned(1, MAX_TURNS))
+        .action(ArgAction::Set);
+    let lists_events = Arg::new(alloc, "schedule")
+        .long("schedule")
+        .help("Write the events after that: `D HART PROCESS` and `T HART PROCESS`")
+        .action(ArgAction::SetTrue);
+    Command::new(alloc, "run")
+        .about(RUN_ABOUT)
+        .arg(harts)?
+        .arg(turns)?
+        .arg(lists_events)?
+        .arg(append_flag(alloc))?
+        .arg(files_flag(alloc, RUN_FILES_HELP))?
+        .arg(script_word(alloc, SCRIPT_HELP))?
+        .arg(file_words(alloc))
+}
+
+const RUN_FILES_HELP: &str =
+    "Write all files after the output: `-- NAME LENGTH`, the bytes, a line's end";
+
+const REPLAY_ABOUT: &str = "Runs a script by the events that `run --schedule` wrote";
+
+fn replay_command<'a>(alloc: Global) -> Result<Command<'a>, AllocError> {
+    let schedule = Arg::new(alloc, "events")
+        .value_name("SCHEDULE")
+        .help("The schedule's path; `-` is standard input, and the script's own input is then empty")
+        .required(true)
+        .action(ArgAction::Set);
+    Command::new(alloc, "replay")
+        .about(REPLAY_ABOUT)
+        .arg(append_flag(alloc))?
+        .arg(files_flag(alloc, RUN_FILES_HELP))?
+        .arg(schedule)?
+        .arg(script_word(alloc, SCRIPT_HELP))?
+        .arg(file_words(alloc))
+}
+
+const PLAIN_ABOUT: &str = "Runs a script, each pipe's left side to its end before its right side";
+
+const PLAIN_FILES_HELP: &str =
+    "Write all files after the output: `-- NAME LENGTH`, `soft` if it is soft, the bytes, a line's end";
+
+fn plain_command<'a>(alloc: Global) -> Result<Command<'a>, AllocError> {
     Command::new(alloc, "plain")
         .about(PLAIN_ABOUT)
-        .arg(appends)?
-        .arg(lists_files)?
-        .arg(script)?
-        .arg(paths)
+        .arg(append_flag(alloc))?
+        .arg(files_flag(alloc, PLAIN_FILES_HELP))?
+        .arg(script_word(alloc, SCRIPT_HELP))?
+        .arg(file_words(alloc))
 }
 
 const CHECK_ABOUT: &str = "Tells where commands of a script may clash, and runs nothing";
 
 fn check_command<'a>(alloc: Global) -> Result<Command<'a>, AllocError> {
-    let script = Arg::new(alloc, "script")
-        .value_name("SCRIPT")
-        .help("The script's path; `-` is standard input")
-        .required(true)
-        .action(ArgAction::Set);
-    Command::new(alloc, "check").about(CHECK_ABOUT).arg(script)
+    Command::new(alloc, "check")
+        .about(CHECK_ABOUT)
+        .arg(script_word(alloc, "The script's path; `-` is standard input"))
+}
+
+/// What `>>` means, by whether `--append` is given.
+pub fn profile_of(appends: bool) -> Profile
+    ensures { result ≡ profile_of appends }
+{
+    if appends {
+        Profile::Append
+    } else {
+        Profile::Xv6
+    }
 }
 
 /// The command line of the program.
@@ -94,6 +183,8 @@ pub fn command_line<'a>(alloc: Global) -> Result<Command<'a>, AllocError> {
         .after_help(AFTER_HELP)
         .disable_help_subcommand(true)
         .subcommand_required(true)
+        .subcommand(run_command(alloc)?)?
+        .subcommand(replay_command(alloc)?)?
         .subcommand(plain_command(alloc)?)?
         .subcommand(check_command(alloc)?)
 }

@@ -1,0 +1,9 @@
+//! Tests alone: the program on hosts in memory.
+#![tactic(auto)]
+
+#[cfg(test)]
+mod hosts;
+#[cfg(test)]
+mod plain;
+#[cfg(test)]
+mod runs;

@@ -1,0 +1,4 @@
+pub mod Begins
+pub mod Names
+pub mod Places
+pub mod Putting

@@ -1,0 +1,5 @@
+pub mod Listing
+pub mod Path
+pub mod Reading
+pub mod Starting
+pub mod Status

@@ -1,0 +1,124 @@
+ghost use Rattle.std.specs.Prelude.{◌≡◌, ◌↔◌, IsTrue};
+ghost use Rattle.xvsh_read.specs.Status.{status_of, of_host, of_files};
+
+use crate::host::HostFault;
+use mem_files::FilesFault;
+use script_load::LoadFault;
+use std::alloc::AllocError;
+use std::fmt;
+
+/// Why the program fails. Each is told as one line on standard error after `xvsh: `, but for
+/// `Unwritten`, after which nothing more is written. A path is told as it was given, and `-` stands
+/// for standard input.
+#[derive(Clone, Copy, Debug)]
+pub enum Fault<'a> {
+    Unreadable(&'a str),
+    /// A script or a standard input of more than 1,048,576 bytes, or a file of more than 274,432.
+    TooLong(&'a str),
+    /// This line of the script, counted from 1.
+    LineTooLong(usize),
+    /// This line of the script, counted from 1.
+    ByteZero(usize),
+    BadName(&'a str),
+    TooManyFiles,
+    /// The script would make a file too large, or one too many.
+    TooLarge,
+    Memory,
+    /// Standard output, or standard error, took no more.
+    Unwritten,
+}
+
+impl<'a> Fault<'a> {
+    /// The status with which the program ends.
+    pub fn status(self) -> u8
+        ensures { result ≡ status_of self.entry }
+    {
+        match self {
+            Fault::TooLarge | Fault::Memory => 4,
+            Fault::Unreadable(_)
+            | Fault::TooLong(_)
+            | Fault::LineTooLong(_)
+            | Fault::ByteZero(_)
+            | Fault::BadName(_)
+            | Fault::TooManyFiles
+            | Fault::Unwritten => 1,
+        }
+    }
+
+    /// Whether it is the output that failed.
+    pub fn is_unwritten(&self) -> bool
+        ensures { IsTrue result ↔ (self.now ≡ Fault.Unwritten) }
+    {
+        matches!(self, Fault::Unwritten)
+    }
+
+    /// Why the bytes at this path can't be had.
+    pub fn at_path(path: &'a str, fault: HostFault) -> Self
+        ensures { result ≡ of_host path.entry fault }
+    {
+        match fault {
+            HostFault::Unreadable => Fault::Unreadable(path),
+            HostFault::TooLong => Fault::TooLong(path),
+            HostFault::Memory => Fault::Memory,
+        }
+    }
+
+    /// Why the file at this path can't be among the script's files.
+    pub fn of_file(path: &'a str, fault: FilesFault) -> Self
+        ensures { result ≡ of_files path.entry fault }
+    {
+        match fault {
+            FilesFault::BadName => Fault::BadName(path),
+            FilesFault::FullFiles => Fault::TooManyFiles,
+            FilesFault::FullSize => Fault::TooLong(path),
+            FilesFault::Missing | FilesFault::Memory | FilesFault::Gap => Fault::Memory,
+        }
+    }
+}
+
+impl fmt::Display for Fault<'_> {
+    ghost use Rattle.std.specs.Prelude.{Some};
+    ghost use Rattle.xvsh_read.specs.Status.{fault_words};
+
+    ghost output = { λ fault. Some (fault_words fault) };
+
+    fn fmt<W: fmt::Write>(&self, f: &mut fmt::Formatter<W>) -> fmt::Result {
+        match *self {
+            Fault::Unreadable(path) => write!(f, "cannot read {path}"),
+            Fault::TooLong(path) => write!(f, "{path} is too long"),
+            Fault::LineTooLong(n) => write!(f, "line {n} is too long"),
+            Fault::ByteZero(n) => write!(f, "line {n} holds a zero byte"),
+            Fault::BadName(path) => write!(f, "bad file name {path}"),
+            Fault::TooManyFiles => f.write_str("too many files"),
+            Fault::TooLarge => f.write_str("too large"),
+            Fault::Memory => f.write_str("no memory"),
+            Fault::Unwritten => f.write_str("cannot write"),
+        }
+    }
+}
+
+impl<'a> From<LoadFault> for Fault<'a> {
+    ghost use Rattle.std.specs.Prelude.{◌≡◌};
+    ghost use Rattle.xvsh_read.specs.Status.{of_load};
+
+    ghost from_gives = { λ fault given. given ≡ of_load fault };
+
+    fn from(fault: LoadFault) -> Fault<'a> {
+        match fault {
+            LoadFault::LineTooLong(n) => Fault::LineTooLong(n),
+            LoadFault::ByteZero(n) => Fault::ByteZero(n),
+            LoadFault::Memory => Fault::Memory,
+        }
+    }
+}
+
+impl<'a> From<AllocError> for Fault<'a> {
+    ghost use Rattle.std.specs.Prelude.{◌≡◌};
+    ghost use Rattle.xvsh_read.specs.declared.fault.Fault.TheVariants.{Memory};
+
+    ghost from_gives = { λ _ given. given ≡ Memory };
+
+    fn from(_error: AllocError) -> Fault<'a> {
+        Fault::Memory
+    }
+}

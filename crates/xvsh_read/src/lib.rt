@@ -1,0 +1,17 @@
+//! What all runs of the program share: its host and its faults, what is read before a script runs, and how bytes and
+//! files are written.
+#![tactic(auto)]
+
+mod fault;
+mod host;
+mod file_list;
+mod reading;
+mod starting;
+mod writing;
+
+pub use fault::Fault;
+pub use host::{Host, HostFault};
+pub use file_list::listing;
+pub use reading::{MAX_INPUT, STDIN, read};
+pub use starting::{Start, prepare, read_script};
+pub use writing::write;

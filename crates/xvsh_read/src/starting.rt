@@ -1,0 +1,81 @@
+//! What a run of a script begins with.
+ghost use Rattle.std.specs.Prelude.{◌≡◌, ◌≢◌, ◌⊎◌, codes, IfOk, IfErr, IsTrue, false};
+ghost use Rattle.script_load.specs.Line.{lines_of};
+ghost use Rattle.xvsh_read.specs.Reading.{max_input, IsReadFault};
+ghost use Rattle.xvsh_read.specs.Starting.{AreLinesAt, IsScriptAtFault, IsInputOf, IsStartFault, Starts};
+
+use crate::fault::Fault;
+use crate::host::Host;
+use crate::reading::{MAX_INPUT, STDIN, read, read_files};
+use mem_files::Files;
+use script_load::{Profile, Script, load_with};
+use std::alloc::Global;
+
+/// The script at a path, under this profile.
+pub fn read_script<'a, H: Host>(
+    alloc: Global,
+    host: &mut H,
+    profile: Profile,
+    path: &'a str,
+) -> Result<Script<Global>, Fault<'a>>
+    ensures lines { IfOk result (λ script. AreLinesAt (H.input host.old) (H.file host.old) path.now (lines_of script.lines)) }
+    ensures profile { IfOk result (λ script. script.profile ≡ profile) }
+    ensures fault { IfErr result (IsScriptAtFault (H.input host.old) (H.file host.old) path.now) }
+    ensures files_stay { H.file host.new ≡ H.file host.old }
+    ensures input_stays { path.now ≢ codes "-" → H.input host.new ≡ H.input host.old }
+{
+    let bytes = read(alloc, host, path, MAX_INPUT)?;
+    let script = load_with(alloc, bytes.as_slice(), profile)?;
+    Ok(script)
+}
+
+// The standard input of the script at a path, unless it was taken before.
+fn read_stdin<'a, H: Host>(
+    alloc: Global,
+    host: &mut H,
+    script: &str,
+    is_taken: bool,
+) -> Result<Vec<u8>, Fault<'a>>
+    ensures own { IfOk result (λ stdin. IsInputOf (H.input host.old) (H.file host.old) is_taken script.now stdin.items) }
+    ensures free { IfErr result (λ _. (is_taken ≡ false) × (script.now ≢ codes "-")) }
+    ensures fault { IfErr result (IsReadFault max_input (H.input host.old) (codes "-")) }
+{
+    if is_taken || script == STDIN {
+        return Ok(Vec::new(alloc));
+    }
+    read(alloc, host, STDIN, MAX_INPUT)
+}
+
+/// What a run begins with.
+#[derive(Drop)]
+pub struct Start {
+    pub script: Script<Global>,
+    /// The standard input.
+    pub stdin: Vec<u8>,
+    pub files: Files<Global>,
+}
+
+/// Reads the script at a path, the files in order, each under the part of its path after the last `/`, and standard
+/// input, of which none is left where it was taken before or is the script.
+pub fn prepare<'a, H: Host>(
+    alloc: Global,
+    host: &mut H,
+    profile: Profile,
+    script: &'a str,
+    paths: &[&'a str],
+    is_taken: bool,
+) -> Result<Start, Fault<'a>>
+    ensures prepared { IfOk result (λ start. Starts (H.input host.old) (H.file host.old) is_taken script.now paths.now
+        (lines_of start.script.lines) start.files start.stdin.items) }
+    ensures profile { IfOk result (λ start. start.script.profile ≡ profile) }
+    ensures fault { IfErr result (IsStartFault (H.input host.old) (H.file host.old) is_taken script.now paths.now) }
+{
+    let loaded = read_script(alloc, host, profile, script)?;
+    let files = read_files(alloc, host, paths)?;
+    let stdin = read_stdin(alloc, host, script, is_taken)?;
+    Ok(Start {
+        script: loaded,
+        stdin,
+        files,
+    })
+}

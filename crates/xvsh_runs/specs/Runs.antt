@@ -1,0 +1,43 @@
+-- What `run` and `replay` read, run and write.
+use Rattle.std.specs.Prelude.{◌≡◌, ◌≤◌, ℕ, true, false, List, Option, All, length, codes}
+use Rattle.std.specs.Borrow.{Bor}
+use Rattle.std.specs.Str.{bytes_eq}
+use Rattle.mem_files.specs.Name.{Name, Bytes}
+use Rattle.script_load.specs.declared.profile.Profile.{Profile}
+use Rattle.script_load.specs.Line.{ScriptLine}
+use Rattle.kernel_model.specs.declared.events.Event.{Event}
+use Rattle.kernel_model.specs.declared.events.Full.{Full}
+use Rattle.kernel_core.specs.Harts.{is_of_hart}
+use Rattle.kernel_core.specs.ScriptRun.{script_kernel}
+use Rattle.schedule_lines.specs.EventLines.{AreLinesOf}
+use Rattle.xvsh_read.specs.Path.{Path}
+use Rattle.xvsh_read.specs.Reading.{Agree, told_at}
+use Rattle.xvsh_read.specs.Starting.{Starts}
+use Rattle.xvsh_runs.specs.Lists.{IsWritten}
+use Rattle.xvsh_runs.specs.declared.report.Lists.{Lists}
+
+-- what follows is said after what the host tells of standard input and of the files at paths, of the script at a path
+-- under a profile and on the files at these paths
+module _ (input : Option Bytes) (file : Path → Option Bytes) (profile : Profile) (script : Path) (paths : List (Bor Path)) where
+  -- a finished run on hart 0 in at most so many turns was written
+  pub record RanRun (turns : ℕ) (lists : Lists) (full : Option Full) (out out' err err' : Option Bytes) : Type 0 where
+    pub lines : List ScriptLine
+    pub given : List (Name × Bytes)
+    pub stdin : Bytes
+    pub starts : Starts input file false script paths lines given stdin
+    pub events : List Event
+    pub hart : All (λ event. is_of_hart 0 event ≡ true) events
+    pub within : length events ≤ turns
+    pub written : IsWritten (script_kernel profile lines stdin given) events lists full out out' err err'
+
+  -- the finished run by the events of the schedule at a path was written
+  pub record RanReplay (schedule : Path) (lists : Lists) (full : Option Full) (out out' err err' : Option Bytes) : Type 0 where
+    pub bytes : Bytes
+    pub own : Agree (told_at input file schedule) bytes
+    pub lines : List ScriptLine
+    pub given : List (Name × Bytes)
+    pub stdin : Bytes
+    pub starts : Starts input file (bytes_eq schedule (codes "-")) script paths lines given stdin
+    pub events : List Event
+    pub listed : AreLinesOf bytes events
+    pub written : IsWritten (script_kernel profile lines stdin given) events lists full out out' err err'

@@ -1,0 +1,85 @@
+-- Why `run` and `replay` tell no run.
+use Rattle.std.specs.Prelude.{◌≡◌, ◌<◌, ◌-◌, ◌⊎◌, ℕ, Bool, true, false, List, Option, Some, slice_get, length, codes}
+use Rattle.std.specs.Borrow.{Bor}
+use Rattle.std.specs.Str.{bytes_eq}
+use Rattle.mem_files.specs.Name.{Name, Bytes}
+use Rattle.script_load.specs.declared.profile.Profile.{Profile}
+use Rattle.script_load.specs.Line.{ScriptLine}
+use Rattle.sh_machine.specs.State.{User}
+use Rattle.kernel_model.specs.declared.events.Event.{Event}
+use Rattle.kernel_model.specs.declared.events.Event.TheVariants.{Dispatch, Trap}
+use Rattle.kernel_model.specs.KernelState.{KernelState}
+use Rattle.kernel_core.specs.declared.run.TheConstants.{MAX_TURNS}
+use Rattle.kernel_core.specs.ScriptRun.{IsSpentFrom, script_kernel}
+use Rattle.hart_run.specs.Refused.{IsReplayFault}
+use Rattle.hart_run.specs.declared.replaying.ReplayFault.TheVariants.{NotRunnable as not_runnable, NotRunning as not_running, Unfinished as unfinished}
+use Rattle.schedule_lines.specs.EventLines.{AreLinesOf, IsNoEventAt}
+use Rattle.xvsh_read.specs.declared.fault.Fault.{Fault}
+use Rattle.xvsh_read.specs.Path.{Path}
+use Rattle.xvsh_read.specs.Reading.{Agree, told_at, IsReadFault}
+use Rattle.xvsh_read.specs.Starting.{Starts, IsStartFault}
+use Rattle.xvsh_read.specs.Status.{IsTellFault}
+use Rattle.xvsh_runs.specs.declared.fault.RunFault.{RunFault}
+use Rattle.xvsh_runs.specs.declared.fault.RunFault.TheVariants.{Common, BadTurns, Spent, SharedInput, NoEvent, NotRunnable, NotRunning, Unfinished}
+use Rattle.xvsh_runs.specs.declared.replaying.TheConstants.{MAX_SCHEDULE}
+
+-- no run of so many turns from this kernel is told: some run spends them, they are out of range, or it can't be told
+abbrev pub IsTurnsFault : KernelState User → ℕ → RunFault → Type 0
+IsTurnsFault start turns (Common fault) = IsTellFault fault
+IsTurnsFault start turns BadTurns = (turns ≡ 0) ⊎ (MAX_TURNS < turns)
+IsTurnsFault start turns Spent = IsSpentFrom start turns
+IsTurnsFault start turns SharedInput = ⊥
+IsTurnsFault start turns (NoEvent path line) = ⊥
+IsTurnsFault start turns (NotRunnable number pid) = ⊥
+IsTurnsFault start turns (NotRunning number pid hart) = ⊥
+IsTurnsFault start turns (Unfinished count) = ⊥
+
+-- the bytes of a schedule at a path are not read as events: a line is none
+abbrev pub IsLinesFault : Path → Bytes → RunFault → Type 0
+IsLinesFault path bytes (Common fault) = IsTellFault fault
+IsLinesFault path bytes BadTurns = ⊥
+IsLinesFault path bytes Spent = ⊥
+IsLinesFault path bytes SharedInput = ⊥
+IsLinesFault path bytes (NoEvent at line) = (at.now ≡ path) × IsNoEventAt bytes line
+IsLinesFault path bytes (NotRunnable number pid) = ⊥
+IsLinesFault path bytes (NotRunning number pid hart) = ⊥
+IsLinesFault path bytes (Unfinished count) = ⊥
+
+-- the event of this number, counted from 1
+abbrev pub IsEventAt : List Event → ℕ → Event → Type 0
+IsEventAt events number event = slice_get events (number - 1) ≡ Some event
+
+-- no run from this kernel by these events is told: an event can't take place, the run isn't finished then, or it can't be
+-- told
+abbrev pub IsEventsFault : KernelState User → List Event → RunFault → Type 0
+IsEventsFault start events (Common fault) = IsTellFault fault
+IsEventsFault start events BadTurns = ⊥
+IsEventsFault start events Spent = ⊥
+IsEventsFault start events SharedInput = ⊥
+IsEventsFault start events (NoEvent path line) = ⊥
+IsEventsFault start events (NotRunnable number pid) =
+    IsReplayFault start events (not_runnable number) × ((hart : ℕ) × IsEventAt events number (Dispatch hart pid))
+IsEventsFault start events (NotRunning number pid hart) =
+    IsReplayFault start events (not_running number) × IsEventAt events number (Trap hart pid)
+IsEventsFault start events (Unfinished count) = IsReplayFault start events unfinished × (count ≡ length events)
+
+-- no run from this kernel by the schedule at a path is told
+abbrev pub IsBytesFault : KernelState User → Path → Bytes → RunFault → Type 0
+IsBytesFault start path bytes fault =
+    IsLinesFault path bytes fault ⊎ ((events : List Event) × AreLinesOf bytes events × IsEventsFault start events fault)
+
+-- what follows is said after what the host tells of standard input and of the files at paths, of the script at a path
+-- under a profile and on the files at these paths
+module _ (input : Option Bytes) (file : Path → Option Bytes) (profile : Profile) (script : Path) (paths : List (Bor Path)) where
+  -- why `run` told no run: it couldn't begin, or there is none
+  pub data IsRunFault (turns : ℕ) : RunFault → Type 0 where
+    no_start : {fault : Fault} → IsStartFault input file false script paths fault → IsRunFault turns (Common fault)
+    no_run : {fault : RunFault} (lines : List ScriptLine) (given : List (Name × Bytes)) (stdin : Bytes) → Starts input file false script paths lines given stdin → IsTurnsFault (script_kernel profile lines stdin given) turns fault → IsRunFault turns fault
+
+  -- why `replay` told none: its schedule and its script are both standard input, its schedule can't be read, it can't
+  -- begin, or no run by its events is told
+  pub data IsReplayingFault (schedule : Path) : RunFault → Type 0 where
+    shared : schedule ≡ codes "-" → script ≡ codes "-" → IsReplayingFault schedule SharedInput
+    no_schedule : {fault : Fault} → IsReadFault MAX_SCHEDULE (told_at input file schedule) schedule fault → IsReplayingFault schedule (Common fault)
+    no_start_after : {fault : Fault} (bytes : Bytes) → Agree (told_at input file schedule) bytes → IsStartFault input file (bytes_eq schedule (codes "-")) script paths fault → IsReplayingFault schedule (Common fault)
+    no_replay : {fault : RunFault} (bytes : Bytes) (lines : List ScriptLine) (given : List (Name × Bytes)) (stdin : Bytes) → Agree (told_at input file schedule) bytes → Starts input file (bytes_eq schedule (codes "-")) script paths lines given stdin → IsBytesFault (script_kernel profile lines stdin given) schedule bytes fault → IsReplayingFault schedule fault

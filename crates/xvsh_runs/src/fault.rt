@@ -1,0 +1,109 @@
+//! Why a run by processes isn't told.
+ghost use Rattle.std.specs.Prelude.{◌≡◌, ◌↔◌, IsTrue};
+ghost use Rattle.xvsh_runs.specs.Status.{run_status};
+ghost use Rattle.xvsh_read.specs.declared.fault.Fault.TheVariants.{Unwritten};
+
+use kernel_core::RunOneFault;
+use std::fmt;
+use xvsh_read::Fault;
+
+/// Why `run` or `replay` fails. Each is told as one line on standard error after `xvsh: `, but for an output that took no
+/// more, after which nothing is written. Events, and a schedule's lines, are counted from 1.
+#[derive(Clone, Copy, Debug)]
+pub enum RunFault<'a> {
+    /// What any run of a script meets.
+    Common(Fault<'a>),
+    /// No turns, or more than 1,000,000,000.
+    BadTurns,
+    /// The turns are over before the run is finished, or nothing can run any more.
+    Spent,
+    /// The schedule and the script would both be read from standard input.
+    SharedInput,
+    /// This line of the schedule at this path is no event.
+    NoEvent(&'a str, usize),
+    /// This event dispatches this process, which isn't Runnable, or not on a hart that is free.
+    NotRunnable(usize, usize),
+    /// This event is a call of this process, which isn't running on this hart.
+    NotRunning(usize, usize, u8),
+    /// All these events took place, and the run isn't finished.
+    Unfinished(usize),
+}
+
+impl RunFault<'_> {
+    /// The status with which the program ends.
+    pub fn status(self) -> u8
+        ensures { result ≡ run_status self.entry }
+    {
+        match self {
+            RunFault::Common(fault) => fault.status(),
+            RunFault::Spent => 4,
+            RunFault::BadTurns | RunFault::SharedInput => 2,
+            RunFault::NoEvent(_, _)
+            | RunFault::NotRunnable(_, _)
+            | RunFault::NotRunning(_, _, _)
+            | RunFault::Unfinished(_) => 1,
+        }
+    }
+
+    /// Whether it is an output that failed.
+    pub fn is_unwritten(&self) -> bool
+        ensures { IsTrue result ↔ (self.now ≡ RunFault.Common Unwritten) }
+    {
+        match self {
+            RunFault::Common(fault) => fault.is_unwritten(),
+            _ => false,
+        }
+    }
+}
+
+impl fmt::Display for RunFault<'_> {
+    ghost use Rattle.std.specs.Prelude.{Some};
+    ghost use Rattle.xvsh_runs.specs.Status.{run_words};
+
+    ghost output = { λ fault. Some (run_words fault) };
+
+    fn fmt<W: fmt::Write>(&self, f: &mut fmt::Formatter<W>) -> fmt::Result {
+        match *self {
+            RunFault::Common(fault) => write!(f, "{fault}"),
+            RunFault::BadTurns => f.write_str("the turns are 1 to 1000000000"),
+            RunFault::Spent => f.write_str("spent"),
+            RunFault::SharedInput => {
+                f.write_str("the schedule and the script are both standard input")
+            }
+            RunFault::NoEvent(path, line) => write!(f, "{path} line {line} is no event"),
+            RunFault::NotRunnable(number, pid) => {
+                write!(f, "event {number}: process {pid} is not runnable")
+            }
+            RunFault::NotRunning(number, pid, hart) => {
+                write!(f, "event {number}: process {pid} is not running on hart {hart}")
+            }
+            RunFault::Unfinished(count) => write!(f, "unfinished after {count} events"),
+        }
+    }
+}
+
+impl<'a> From<Fault<'a>> for RunFault<'a> {
+    ghost use Rattle.std.specs.Prelude.{◌≡◌};
+    ghost use Rattle.xvsh_runs.specs.declared.fault.RunFault.TheVariants.{Common};
+
+    ghost from_gives = { λ fault given. given ≡ Common fault };
+
+    fn from(fault: Fault<'a>) -> RunFault<'a> {
+        RunFault::Common(fault)
+    }
+}
+
+impl<'a> From<RunOneFault> for RunFault<'a> {
+    ghost use Rattle.std.specs.Prelude.{◌≡◌};
+    ghost use Rattle.xvsh_runs.specs.Status.{of_one};
+
+    ghost from_gives = { λ fault given. given ≡ of_one fault };
+
+    fn from(fault: RunOneFault) -> RunFault<'a> {
+        match fault {
+            RunOneFault::BadTurns => RunFault::BadTurns,
+            RunOneFault::Spent => RunFault::Spent,
+            RunOneFault::Memory => RunFault::Common(Fault::Memory),
+        }
+    }
+}

@@ -1,0 +1,12 @@
+//! Runs of scripts by their processes: what `run` and `replay` read, run and write.
+#![tactic(auto)]
+
+mod fault;
+mod replaying;
+mod report;
+mod running;
+
+pub use fault::RunFault;
+pub use replaying::{MAX_SCHEDULE, run_replay};
+pub use report::{Lists, word_of};
+pub use running::run_run;
