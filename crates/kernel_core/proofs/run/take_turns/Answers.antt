@@ -1,4 +1,4 @@
-use Rattle.std.proofs.Common.{◌≡◌, ◌∙◌, arith, rules}
+use Rattle.std.proofs.Common.{◌∙◌, arith, rules}
 use Rattle.kernel_model.specs.History.{Steps}
 use Rattle.kernel_core.proofs.Turning.{turn_boot, turn_hart, turn_length}
 use Rattle.kernel_core.proofs.run.take_turns.Goals as goal

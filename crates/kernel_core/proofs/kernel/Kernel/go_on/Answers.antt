@@ -1,4 +1,4 @@
-use Rattle.std.proofs.Common.{◌≡◌, ◌∙◌, ◌++◌, ◌∷◌, [], true, sym, ap, subst, arith, Some, rules}
+use Rattle.std.proofs.Common.{◌≡◌, ◌∙◌, ◌++◌, ◌∷◌, [], true, sym, ap, arith, Some, rules}
 use Rattle.proc_table.specs.Slots.{at, is_running_on}
 use Rattle.kernel_model.specs.declared.events.Event.TheVariants.{Trap}
 use Rattle.kernel_core.proofs.Keeping.{kept_after, trap_goes}
