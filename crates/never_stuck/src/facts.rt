@@ -1,11 +1,12 @@
 //! What the laws say of a kernel that runs a script, and of its dispatches.
 
-ghost use Rattle.std.specs.Prelude.{◌≡◌, ◌<◌, false, None, Ok, All, IfOk, IfSome, OnErr, count_by};
-ghost use Rattle.proc_table.specs.Slots.{is_runnable, is_running, is_running_on};
+ghost use Rattle.std.specs.Prelude.{◌≡◌, ◌<◌, false, None, Ok, All, IfOk, IfSome, OnErr, IsErr, count_by};
+ghost use Rattle.proc_table.specs.Slots.{at, is_runnable, is_running, is_running_on};
 ghost use Rattle.proc_table.specs.declared.table.TheConstants.{HARTS};
-ghost use Rattle.kernel_model.specs.History.{GoesOn};
+ghost use Rattle.kernel_model.specs.History.{GoesOn, IsTask};
 ghost use Rattle.kernel_model.specs.declared.events.Event.TheVariants.{Dispatch};
 ghost use Rattle.sh_machine.specs.Turn.{call_of, next_of};
+ghost use Rattle.sh_machine.specs.View.{user_of};
 ghost use Rattle.never_stuck.specs.Awake.{IsAwake};
 ghost use Rattle.never_stuck.specs.Plain.{IsPlainRun};
 
@@ -45,7 +46,9 @@ pub fn dispatch<'t, B: Allocator, N: Naming, A: Allocator>(
     ensures none { result ≡ Ok None → IsPlainRun kernel.old → 0 < count_by is_running kernel.old.now.table }
     ensures same { result ≡ Ok None → kernel.new ≡ kernel.old }
     ensures err { OnErr result (kernel.new ≡ kernel.old) }
+    ensures could { IsErr result → 0 < count_by is_runnable kernel.old.now.table }
     ensures event { IfOk result (λ found. IfSome found (λ task. GoesOn call_of next_of kernel.old (Dispatch hart task.pid) kernel.new)) }
+    ensures task { IfOk result (λ found. IfSome found (λ task. IsTask (at kernel.old.now.table task.pid) (user_of task.machine) task.reply)) }
 {
     nothing_is_runnable_only_while_one_runs_elsewhere(kernel);
     kernel.dispatch(hart)
