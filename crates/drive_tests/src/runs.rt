@@ -36,7 +36,10 @@ fn scripts_run_by_their_processes(rt: HostRuntime) -> Result<(), Fail> {
         ("echo | wc", "0 0 0 \n"),
         ("cat big | wc", "100 100 1300 \n"),
         ("grep ^a*b$ p", "b\naab\n"),
-        ("cat big | (head -2; wc)", "0123456789ab\n0123456789ab\n98 98 1274 \n"),
+        (
+            "cat big | (head -2; wc)",
+            "0123456789ab\n0123456789ab\n98 98 1274 \n",
+        ),
         ("head -1\nwc", "a\n2 2 4 \n"),
         ("| echo a", "a\n"),
         ("()\n;;", ""),
@@ -51,7 +54,12 @@ fn scripts_run_by_their_processes(rt: HostRuntime) -> Result<(), Fail> {
     }
     let stages = " | cat".repeat(rt.alloc(), 30)?;
     let script = format!(in rt.alloc(); "echo a{}", stages.as_str())?;
-    expect_run(&rt, "--harts 1 --turns 1000000", script.as_str(), (0, "a\n", ""))?;
+    expect_run(
+        &rt,
+        "--harts 1 --turns 1000000",
+        script.as_str(),
+        (0, "a\n", ""),
+    )?;
     Ok(())
 }
 
@@ -94,7 +102,10 @@ fn files_and_events_are_listed(rt: HostRuntime) -> Result<(), Fail> {
     for (words, out) in rows {
         expect(&rt, words, &mut host, (0, out, ""))?;
     }
-    let alone = ["D 0 0\nT 0 0\nD 0 1\nT 0 1\nD 0 0\nT 0 0\n", "D 0 1\nT 0 1\nD 0 0\nT 0 0\n"];
+    let alone = [
+        "D 0 0\nT 0 0\nD 0 1\nT 0 1\nD 0 0\nT 0 0\n",
+        "D 0 1\nT 0 1\nD 0 0\nT 0 0\n",
+    ];
     let mut out = Vec::new(rt.alloc());
     let mut err = Vec::new(rt.alloc());
     let words = words_of(rt.alloc(), "run --schedule --files empty f")?;
@@ -132,7 +143,8 @@ fn what_was_full_is_told_last(rt: HostRuntime) -> Result<(), Fail> {
     let told = "fork\nxvsh: full procs\n";
     expect_run(&rt, "", over.as_str(), (4, "x\n", told))?;
     let told = "cat: write error\nxvsh: full size\n";
-    let grows = "cat big > f; cat f big > f; cat f f f f f f f f > g; cat g g g g g g g g > h; cat h h h h > i";
+    let grows =
+        "cat big > f; cat f big > f; cat f f f f f f f f > g; cat g g g g g g g g > h; cat h h h h > i";
     expect_run(&rt, "", grows, (4, "", told))?;
     expect_run(&rt, "--turns 1", "echo a", (4, "", "xvsh: spent\n"))
 }
@@ -191,8 +203,14 @@ fn schedules_are_replayed_or_refused(rt: HostRuntime) -> Result<(), Fail> {
             "D 0 1\nT 0 1\nD 0 40\n",
             (1, "", "xvsh: event 3: process 40 is not runnable\n"),
         ),
-        ("D 8 1\n", (1, "", "xvsh: event 1: process 1 is not runnable\n")),
-        ("D 0 64\n", (1, "", "xvsh: event 1: process 64 is not runnable\n")),
+        (
+            "D 8 1\n",
+            (1, "", "xvsh: event 1: process 1 is not runnable\n"),
+        ),
+        (
+            "D 0 64\n",
+            (1, "", "xvsh: event 1: process 64 is not runnable\n"),
+        ),
         (
             "D 0 1\nT 1 1\n",
             (1, "", "xvsh: event 2: process 1 is not running on hart 1\n"),

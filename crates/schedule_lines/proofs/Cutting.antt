@@ -51,7 +51,7 @@ module _ (bytes rest line after : List ℕ) (events : List Event) (so_far : Comp
   pub one_more : (event : Event) (more : List Event) → line ≡ event_text event → more ≡ events ++ event ∷ [] → Completes bytes after more
   one_more event more is added later cut =
       let texts : map event_text more ++ later ≡ map event_text events ++ line ∷ later =
-          ap (λ es. map event_text es ++ later) added ∙ ap (λ ts. ts ++ later) (map-append event_text events (event ∷ [])) ∙ append_assoc (map event_text events) (event_text event ∷ []) later ∙ ap (λ l. map event_text events ++ l ∷ later) (sym is) in
+      ap (λ es. map event_text es ++ later) added ∙ ap (λ ts. ts ++ later) (map-append event_text events (event ∷ [])) ∙ append_assoc (map event_text events) (event_text event ∷ []) later ∙ ap (λ l. map event_text events ++ l ∷ later) (sym is) in
       subst (AreLines bytes) (sym texts) (so_far (line ∷ later) (after, first, cut))
 
   pub no_event : (number : ℕ) → IsNoEvent line → number ≡ length events + 1 → IsNoEventAt bytes number

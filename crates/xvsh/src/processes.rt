@@ -50,7 +50,9 @@ fn end_replay<'a, H: Host, W: Write, E: Write>(
         (E.contents err.old) (E.contents err.new) (asks_run profile script.now paths.now (by_schedule schedule.now) lists) result }
     ensures nothing_written { result ≢ 0 → result ≢ 1 → result ≢ 4 → out.new ≡ out.old }
 {
-    let ran = run_replay(alloc, host, profile, schedule, script, paths, lists, out, err);
+    let ran = run_replay(
+        alloc, host, profile, schedule, script, paths, lists, out, err,
+    );
     tell_ran(ran, err)
 }
 
@@ -100,5 +102,7 @@ pub fn do_replay<'a, H: Host, W: Write, E: Write>(
         files: words.get_flag("files"),
         events: false,
     };
-    end_replay(alloc, host, profile, schedule, script, paths, lists, out, err)
+    end_replay(
+        alloc, host, profile, schedule, script, paths, lists, out, err,
+    )
 }

@@ -129,7 +129,9 @@ const REPLAY_ABOUT: &str = "Runs a script by the events that `run --schedule` wr
 fn replay_command<'a>(alloc: Global) -> Result<Command<'a>, AllocError> {
     let schedule = Arg::new(alloc, "events")
         .value_name("SCHEDULE")
-        .help("The schedule's path; `-` is standard input, and the script's own input is then empty")
+        .help(
+            "The schedule's path; `-` is standard input, and the script's own input is then empty",
+        )
         .required(true)
         .action(ArgAction::Set);
     Command::new(alloc, "replay")
@@ -158,9 +160,10 @@ fn plain_command<'a>(alloc: Global) -> Result<Command<'a>, AllocError> {
 const CHECK_ABOUT: &str = "Tells where commands of a script may clash, and runs nothing";
 
 fn check_command<'a>(alloc: Global) -> Result<Command<'a>, AllocError> {
-    Command::new(alloc, "check")
-        .about(CHECK_ABOUT)
-        .arg(script_word(alloc, "The script's path; `-` is standard input"))
+    Command::new(alloc, "check").about(CHECK_ABOUT).arg(script_word(
+        alloc,
+        "The script's path; `-` is standard input",
+    ))
 }
 
 /// What `>>` means, by whether `--append` is given.

@@ -3,15 +3,15 @@
 #![tactic(auto)]
 
 mod fault;
-mod host;
 mod file_list;
+mod host;
 mod reading;
 mod starting;
 mod writing;
 
 pub use fault::Fault;
-pub use host::{Host, HostFault};
 pub use file_list::listing;
+pub use host::{Host, HostFault};
 pub use reading::{MAX_INPUT, STDIN, read};
 pub use starting::{Start, prepare, read_script};
 pub use writing::write;

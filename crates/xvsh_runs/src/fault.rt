@@ -75,7 +75,10 @@ impl fmt::Display for RunFault<'_> {
                 write!(f, "event {number}: process {pid} is not runnable")
             }
             RunFault::NotRunning(number, pid, hart) => {
-                write!(f, "event {number}: process {pid} is not running on hart {hart}")
+                write!(
+                    f,
+                    "event {number}: process {pid} is not running on hart {hart}"
+                )
             }
             RunFault::Unfinished(count) => write!(f, "unfinished after {count} events"),
         }

@@ -5,8 +5,8 @@ ghost use Rattle.xvsh_read.specs.Status.{IsTellFault};
 ghost use Rattle.xvsh_runs.specs.Lists.{files_text, events_text, run_text};
 ghost use Rattle.xvsh_runs.specs.Status.{full_word};
 
-use kernel_model::{Event, Full};
 use kernel_core::Report;
+use kernel_model::{Event, Full};
 use mem_files::Files;
 use schedule_lines::schedule_text;
 use std::alloc::{AllocError, Global};
