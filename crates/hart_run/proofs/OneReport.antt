@@ -1,6 +1,5 @@
 -- Runs by one schedule in which nothing was full are reported alike.
-use Rattle.std.proofs.Common.{◌≡◌, ◌∙◌, ◌<◌, ℕ, Bool, true, false, List, Some, None, sym, ap, subst, refl, arith, length, slice_index, get_or}
-use Rattle.std.specs.Prelude.{IsTrue, count_by}
+use Rattle.std.proofs.Common.{◌≡◌, ◌∙◌, ℕ, List, Some, None, sym, ap, subst, arith}
 use Rattle.std.proofs.lemmas.Grind.{same_number_lists}
 use Rattle.user_calls.specs.declared.calls.Call.{Call}
 use Rattle.user_calls.specs.declared.calls.Reply.{Reply}
@@ -9,7 +8,7 @@ use Rattle.kernel_model.specs.KernelState.{KernelState}
 use Rattle.kernel_model.specs.Events.{run, IsFinished}
 use Rattle.kernel_model.proofs.Quiet.{one_run}
 use Rattle.kernel_core.specs.declared.report.Report.{Report}
-use Rattle.kernel_core.specs.Harts.{AreCounts, is_of_hart}
+use Rattle.kernel_core.specs.Harts.{AreCounts}
 use Rattle.kernel_core.specs.Reports.{IsReport, Tells}
 use Rattle.kernel_core.specs.Same.{AreSame}
 

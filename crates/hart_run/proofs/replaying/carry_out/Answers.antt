@@ -1,4 +1,4 @@
-use Rattle.std.proofs.Common.{◌≡◌, ◌<◌, ◌++◌, take, get_or, length, ap, rules}
+use Rattle.std.proofs.Common.{◌≡◌, ◌<◌, take, get_or, length, rules}
 use Rattle.kernel_model.specs.declared.events.Event.TheVariants.{Dispatch}
 use Rattle.kernel_core.specs.Possible.{CanHappen}
 use Rattle.hart_run.proofs.Stopping.{stops_at}

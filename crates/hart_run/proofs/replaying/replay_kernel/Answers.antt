@@ -1,8 +1,7 @@
-use Rattle.std.proofs.Common.{◌≡◌, ◌∙◌, sym, ap, subst, List, Some, Ok, Err, rules}
+use Rattle.std.proofs.Common.{◌≡◌, ◌∙◌, sym, ap, Some, rules}
 use Rattle.std.specs.Prelude.{IsTrue}
-use Rattle.kernel_model.specs.declared.events.Event.{Event}
 use Rattle.kernel_model.specs.Events.{run, IsFinished}
-use Rattle.hart_run.specs.Refused.{IsFaultFrom, StopsAt}
+use Rattle.hart_run.specs.Refused.{StopsAt}
 use Rattle.hart_run.proofs.Stopping.{fault_from}
 use Rattle.hart_run.proofs.replaying.replay_kernel.Goals as goal
 

@@ -1,4 +1,4 @@
-use Rattle.std.proofs.Common.{◌≡◌, subst}
+use Rattle.std.proofs.Common.{subst}
 use Rattle.std.specs.Prelude.{IfOk, IfErr}
 use Rattle.sh_machine.specs.State.{User}
 use Rattle.script_load.specs.Line.{lines_of}
