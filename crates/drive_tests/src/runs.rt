@@ -5,19 +5,18 @@ use std::process::Abort;
 use std::test::Fail;
 use xvsh::drive;
 
-const P: &[u8] = b"b\naab\naabc\ncb\n";
-
-// Runs a script on `p` and `big` with this standard input, and compares its status, its output and its diagnostics.
-fn expect_run(
+// Runs a script on `p` and `big` with a standard input of three lines, and compares its status, its output and its
+// diagnostics.
+fn expect_on_files<'a>(
     rt: &(impl Abort + AllocGlobal),
     options: &str,
-    script: &str,
+    script: &'a str,
+    big: &'a str,
     want: (u8, &str, &str),
 ) -> Result<(), Fail> {
-    let big = "0123456789ab\n".repeat(rt.alloc(), 100)?;
     let files = [
         ("s", script.as_bytes()),
-        ("in/p", P),
+        ("in/p", b"b\naab\naabc\ncb\n".as_slice()),
         ("in/big", big.as_bytes()),
     ];
     let mut host = Memory {
@@ -26,6 +25,17 @@ fn expect_run(
     };
     let words = format!(in rt.alloc(); "run {options} s in/p in/big")?;
     expect(rt, words.as_str(), &mut host, want)
+}
+
+// The same, where `big` is 100 lines.
+fn expect_run(
+    rt: &(impl Abort + AllocGlobal),
+    options: &str,
+    script: &str,
+    want: (u8, &str, &str),
+) -> Result<(), Fail> {
+    let big = "0123456789ab\n".repeat(rt.alloc(), 100)?;
+    expect_on_files(rt, options, script, big.as_str(), want)
 }
 
 #[test]
@@ -246,35 +256,57 @@ fn schedule_and_script_are_two(rt: HostRuntime) -> Result<(), Fail> {
     expect(&rt, "replay - -", &mut Broken, (2, "", told))
 }
 
-// What `run` writes of a script, pasted into `replay`, gives the same output, files and diagnostics.
-fn expect_again(rt: &(impl Abort + AllocGlobal), script: &str, input: &str) -> Result<(), Fail> {
-    let alloc = rt.alloc();
-    let big = "0123456789ab\n".repeat(alloc, 100)?;
-    let files = [("s", script.as_bytes()), ("p", P), ("big", big.as_bytes())];
+// What these words write to standard output and as diagnostics, with status 0.
+fn written(
+    rt: &(impl Abort + AllocGlobal),
+    words: &str,
+    host: &mut Memory<'_>,
+) -> Result<(Vec<u8>, Vec<u8>), Fail> {
+    let mut out = Vec::new(rt.alloc());
+    let mut err = Vec::new(rt.alloc());
+    let words = words_of(rt.alloc(), words)?;
+    assert_eq!(rt; drive(rt.alloc(), words, host, &mut out, &mut err), 0);
+    Ok((out, err))
+}
+
+// What a replay of these events writes of a script.
+fn replayed<'a>(
+    rt: &(impl Abort + AllocGlobal),
+    script: &'a str,
+    input: &'a str,
+    big: &'a str,
+    events: &'a [u8],
+) -> Result<(Vec<u8>, Vec<u8>), Fail> {
+    let files = [
+        ("s", script.as_bytes()),
+        ("big", big.as_bytes()),
+        ("e", events),
+    ];
     let mut host = Memory {
         input: input.as_bytes(),
         files: &files,
     };
-    let mut once = Vec::new(alloc);
-    let mut told = Vec::new(alloc);
-    let words = words_of(alloc, "run --files s p big")?;
-    assert_eq!(rt; drive(alloc, words, &mut host, &mut once, &mut told), 0);
-    let mut all = Vec::new(alloc);
-    let mut same = Vec::new(alloc);
-    let words = words_of(alloc, "run --files --schedule s p big")?;
-    assert_eq!(rt; drive(alloc, words, &mut host, &mut all, &mut same), 0);
+    written(rt, "replay --files e s big", &mut host)
+}
+
+// What `run` writes of a script, pasted into `replay`, gives the same output, files and diagnostics.
+fn expect_again<'a>(
+    rt: &(impl Abort + AllocGlobal),
+    script: &'a str,
+    input: &'a str,
+    big: &'a str,
+) -> Result<(), Fail> {
+    let files = [("s", script.as_bytes()), ("big", big.as_bytes())];
+    let mut host = Memory {
+        input: input.as_bytes(),
+        files: &files,
+    };
+    let (once, told) = written(rt, "run --files s big", &mut host)?;
+    let (all, same) = written(rt, "run --files --schedule s big", &mut host)?;
     assert!(rt; all.starts_with(once.as_slice()));
     assert_eq!(rt; same.as_slice(), told.as_slice());
     let events = &all.as_slice()[once.len()..];
-    let files = [files[0], files[1], files[2], ("e", events)];
-    let mut host = Memory {
-        input: input.as_bytes(),
-        files: &files,
-    };
-    let mut again = Vec::new(alloc);
-    let mut retold = Vec::new(alloc);
-    let words = words_of(alloc, "replay --files e s p big")?;
-    assert_eq!(rt; drive(alloc, words, &mut host, &mut again, &mut retold), 0);
+    let (again, retold) = replayed(rt, script, input, big, events)?;
     assert_eq!(rt; again.as_slice(), once.as_slice());
     assert_eq!(rt; retold.as_slice(), told.as_slice());
     Ok(())
@@ -282,10 +314,16 @@ fn expect_again(rt: &(impl Abort + AllocGlobal), script: &str, input: &str) -> R
 
 #[test]
 fn schedules_that_were_written_are_replayed(rt: HostRuntime) -> Result<(), Fail> {
-    expect_again(&rt, "", "")?;
-    expect_again(&rt, "cat big | (head -2; wc) > o; cat o | wc", "")?;
-    expect_again(&rt, "foo; cat none\n(echo a &); head -1; wc", "a\nb\nc\n")?;
-    expect_again(&rt, "(echo a; echo b > f; echo c) > f", "")?;
+    let big = "0123456789ab\n".repeat(rt.alloc(), 100)?;
+    let rows = [
+        ("", ""),
+        ("cat big | (head -2; wc) > o; cat o | wc", ""),
+        ("foo; cat none\n(echo a &); head -1; wc", "a\nb\nc\n"),
+        ("(echo a; echo b > f; echo c) > f", ""),
+    ];
+    for (script, input) in rows {
+        expect_again(&rt, script, input, big.as_str())?;
+    }
     Ok(())
 }
 
