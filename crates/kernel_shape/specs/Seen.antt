@@ -1,5 +1,5 @@
--- A kernel as a tree of processes is read from it: without what only the scheduler looks at, and with names where the
--- kernel has numbers of entries, which are used again (own: xv6 has pointers).
+-- A kernel as a tree of processes is read from it: without what only the scheduler looks at, but for who sleeps, and with
+-- names where the kernel has numbers of entries, which are used again (own: xv6 has pointers).
 use Rattle.std.specs.Prelude.{ℕ, zero, suc, ◌+◌, Bool, true, false, List, map, option_map, Option, Some, None, slice_index_or}
 use Rattle.mem_files.specs.Name.{Name, Bytes}
 use Rattle.mem_files.specs.Files.{FileMap, files}
