@@ -29,14 +29,16 @@ others x t each (suc k) ne = each k
 pub alone_with_init : {S : Type 0} (t : Table S) → length t ≡ 64 → is_free (at t 0) ≡ false → (count_by is_free t ≡ 63 → IsAlone t) × (IsAlone t → count_by is_free t ≡ 63)
 alone_with_init [] long used = absurd (omega arith)
 alone_with_init (None ∷ t) long used = absurd (let no : ⊥ = cc in no)
-alone_with_init (Some p ∷ t) long used =
-    ( (λ count. others (Some p) t (each_free t (omega (arith, counted (Some p) t, count, long))))
-    , λ alone. omega (arith, counted (Some p) t, all_free t (λ k. alone (suc k) (omega arith)), long))
+alone_with_init (Some p ∷ t) long used = (
+  (λ count. others (Some p) t (each_free t (omega (arith, counted (Some p) t, count, long)))),
+  λ alone. omega (arith, counted (Some p) t, all_free t (λ k. alone (suc k) (omega arith)), long),
+)
 
 -- where it isn't, all are
 pub alone_without_init : {S : Type 0} (t : Table S) → length t ≡ 64 → is_free (at t 0) ≡ true → (count_by is_free t ≡ 64 → IsAlone t) × (IsAlone t → count_by is_free t ≡ 64)
 alone_without_init [] long free = absurd (omega arith)
 alone_without_init (Some p ∷ t) long free = absurd (let no : ⊥ = cc in no)
-alone_without_init (None ∷ t) long free =
-    ( (λ count. others None t (each_free t (omega (arith, counted None t, count, long))))
-    , λ alone. omega (arith, counted None t, all_free t (λ k. alone (suc k) (omega arith)), long))
+alone_without_init (None ∷ t) long free = (
+  (λ count. others None t (each_free t (omega (arith, counted None t, count, long)))),
+  λ alone. omega (arith, counted None t, all_free t (λ k. alone (suc k) (omega arith)), long),
+)

@@ -115,8 +115,8 @@ far : (p : Option Head → Bool) (heads : List (Option Head)) → ((slot : ℕ) 
 far p [] none = refl
 far p (head ∷ heads) none =
     ap (λ (b : Bool). cond (not b) (1 + position_or_len p heads) 0) (none 0) ∙ ap (λ (n : ℕ). 1 + n) (far p heads (λ slot. none (suc slot))) ∙ one_more (length heads) where
-  one_more : (n : ℕ) → 1 + n ≡ suc n
-  one_more n = omega arith
+      one_more : (n : ℕ) → 1 + n ≡ suc n
+      one_more n = omega arith
 
 pub none_found : (p : Option Head → Bool) (heads : List (Option Head)) → ((slot : ℕ) → p (head_at heads slot) ≡ false) → position p heads ≡ None
 none_found p heads none =

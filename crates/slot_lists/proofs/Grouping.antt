@@ -49,15 +49,15 @@ pub put_grouped : (groups : ℕ) (keys : List (Option ℕ)) (old between new : L
     → AreGrouped groups keys old → get_or keys slot None ≡ from → AreGrouped groups (set keys slot to) new
 unfolding IsMarked
 put_grouped groups keys old between new slot from to small out into grouped was = record {
-    all = length-set keys slot to ∙ grouped.all;
-    theirs = λ group lt.
+  all = length-set keys slot to ∙ grouped.all;
+  theirs = λ group lt.
       let flags : List Bool = map (is_key group) keys in
       let had : get_or (map (is_key group) keys) slot false ≡ is_key group from = got group keys slot ∙ ap (is_key group) was in
       let is : _ ≡ map (is_key group) (set keys slot to) =
       moved (map (is_key group) keys) slot (is_key group from) (is_key group to) (omega (arith, length-map keys (is_key group), grouped.all)) had ∙ sym (map-set (is_key group) keys slot to) in
       subst (λ (fs : List Bool). HasFlags (get_or new group 0) fs) is (into group _ lt (out group (map (is_key group) keys) lt (grouped.theirs group lt)));
-    } where
-      got : (group : ℕ) (keys : List (Option ℕ)) (slot : ℕ) → get_or (map (is_key group) keys) slot false ≡ is_key group (get_or keys slot None)
-      got group [] slot = refl
-      got group (key ∷ keys) zero = refl
-      got group (key ∷ keys) (suc slot) = got group keys slot
+} where
+  got : (group : ℕ) (keys : List (Option ℕ)) (slot : ℕ) → get_or (map (is_key group) keys) slot false ≡ is_key group (get_or keys slot None)
+  got group [] slot = refl
+  got group (key ∷ keys) zero = refl
+  got group (key ∷ keys) (suc slot) = got group keys slot

@@ -6,11 +6,10 @@
 
 mod groups;
 mod lists;
-
 mod sets;
 #[cfg(test)]
 mod tests;
 
-pub use lists::{LISTS, SLOTS, SlotLists};
 pub use groups::SlotGroups;
+pub use lists::{LISTS, SLOTS, SlotLists};
 pub use sets::SlotSet;

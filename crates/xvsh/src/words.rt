@@ -108,7 +108,7 @@ fn run_command<'a>(alloc: Global) -> Result<Command<'a>, AllocError> {
         .action(ArgAction::Set);
     let lists_events = Arg::new(alloc, "schedule")
         .long("schedule")
-        .help("Write the events after that: `D HART PROCESS` and `T HART PROCESS`")
+        .help("Write a line an event last: `D HART PROCESS` or `T HART PROCESS`")
         .action(ArgAction::SetTrue);
     Command::new(alloc, "run")
         .about(RUN_ABOUT)

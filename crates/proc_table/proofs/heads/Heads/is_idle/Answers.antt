@@ -17,6 +17,7 @@ not_false false is = absurd (let no : ⊥ = cc in no)
 
 pub returns : goal.returns
 returns c =
-    let runs = head_has (is_running_on_status c.args.hart) in
-    ( (λ idle. none_there runs refl c.args.self.now (sym c.running_on.ensures.value ∙ nothing c.running_on.result (c.is_none.ensures ∙ ap not idle)))
-    , λ all. not_false c.is_none.result (sym c.is_none.ensures ∙ ap is_some (c.running_on.ensures.value ∙ none_of_all runs refl c.args.self.now all)))
+    let runs = head_has (is_running_on_status c.args.hart) in (
+      (λ idle. none_there runs refl c.args.self.now (sym c.running_on.ensures.value ∙ nothing c.running_on.result (c.is_none.ensures ∙ ap not idle))),
+      λ all. not_false c.is_none.result (sym c.is_none.ensures ∙ ap is_some (c.running_on.ensures.value ∙ none_of_all runs refl c.args.self.now all)),
+    )

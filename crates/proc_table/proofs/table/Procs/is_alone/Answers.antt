@@ -15,9 +15,10 @@ returns-in-Some g c =
     let count = c.free_slots-free.ensures.count ∙ ap (count_by head_is_free) c.self.invariant.theirs ∙ count_free slots in
     let used : is_free (at slots 0) ≡ false = ap is_free (get_or_default slots 0 None _ (omega (arith, c.self.invariant.all)) ∙ sym c.index.ensures ∙ c.in-Some.is) in
     let alone = alone_with_init slots c.self.invariant.all used in
-    subst (λ t. IsTrue (nat_eq c.free_slots-free.result 63) ↔ IsAlone t) c.self.view_is
-    ( (λ test. alone.0 (sym count ∙ eqb-true c.free_slots-free.result 63 test))
-    , λ is. eq-eqb c.free_slots-free.result 63 (count ∙ alone.1 is))
+    subst (λ t. IsTrue (nat_eq c.free_slots-free.result 63) ↔ IsAlone t) c.self.view_is (
+      (λ test. alone.0 (sym count ∙ eqb-true c.free_slots-free.result 63 test)),
+      λ is. eq-eqb c.free_slots-free.result 63 (count ∙ alone.1 is),
+    )
 
 pub returns-in-None : goal.returns-in-None
 returns-in-None g c =
@@ -25,6 +26,7 @@ returns-in-None g c =
     let count = c.free_slots-free.ensures.count ∙ ap (count_by head_is_free) c.self.invariant.theirs ∙ count_free slots in
     let free : is_free (at slots 0) ≡ true = ap is_free (get_or_default slots 0 None _ (omega (arith, c.self.invariant.all)) ∙ sym c.index.ensures ∙ c.in-None.is) in
     let alone = alone_without_init slots c.self.invariant.all free in
-    subst (λ t. IsTrue (nat_eq c.free_slots-free.result 64) ↔ IsAlone t) c.self.view_is
-    ( (λ test. alone.0 (sym count ∙ eqb-true c.free_slots-free.result 64 test))
-    , λ is. eq-eqb c.free_slots-free.result 64 (count ∙ alone.1 is))
+    subst (λ t. IsTrue (nat_eq c.free_slots-free.result 64) ↔ IsAlone t) c.self.view_is (
+      (λ test. alone.0 (sym count ∙ eqb-true c.free_slots-free.result 64 test)),
+      λ is. eq-eqb c.free_slots-free.result 64 (count ∙ alone.1 is),
+    )

@@ -15,11 +15,11 @@ returns c = λ flags has.
     let bit : 1 * 2 ^ slot % 2 ^ 64 ≡ 2 ^ slot = (one_shifted slot 18446744073709551615 refl (omega arith)).0 in
     let long = has.all in
     elim c.if-is_in.branch [
-      then-is_in w ↦ record {
+      | then-is_in w ↦ record {
         all = length-set flags slot c.args.is_in ∙ long;
         bits_are = w.result-is ∙ (λ i. bit_or (bits i) (bit i)) ∙ with_true flags slot (omega arith) ∙ ap (λ (b : Bool). mask_l (set flags slot b)) (sym w.if-is_in.true);
       }
-    | else-is_in w ↦ record {
+      | else-is_in w ↦ record {
         all = length-set flags slot c.args.is_in ∙ long;
         bits_are = w.result-is ∙ (λ i. bit_and (bits i) (bit_xor (2 ^ 64 - 1) (bit i))) ∙ with_false flags slot long (omega arith) ∙ ap (λ (b : Bool). mask_l (set flags slot b)) (sym w.if-is_in.false);
       }
