@@ -74,7 +74,7 @@ fn begins<M: Machine, A: Allocator>(
 }
 
 // The process makes its call.
-fn calls<M: Machine, A: Allocator + Copy>(
+pub(crate) fn calls<M: Machine, A: Allocator + Copy>(
     kernel: &mut Kernel<M, A>,
     hart: u8,
     task: Task<M>,

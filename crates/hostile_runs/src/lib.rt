@@ -9,3 +9,5 @@ mod drivers;
 mod rows;
 #[cfg(test)]
 mod runs;
+#[cfg(test)]
+mod waits;

@@ -142,3 +142,13 @@ fn one_runs_where_no_other_can(rt: HostRuntime) -> Result<(), Fail> {
 fn eight_harts_begin_before_any_call(rt: HostRuntime) -> Result<(), Fail> {
     all_rows(&rt, Driver::Eight)
 }
+
+#[test]
+fn the_queues_of_one_hart_let_nobody_wait(rt: HostRuntime) -> Result<(), Fail> {
+    all_rows(&rt, Driver::Queues(1))
+}
+
+#[test]
+fn the_queues_of_four_harts_let_nobody_wait(rt: HostRuntime) -> Result<(), Fail> {
+    all_rows(&rt, Driver::Queues(4))
+}

@@ -4,6 +4,7 @@ ghost use Rattle.std.specs.Prelude.{◌≡◌};
 ghost use Rattle.script_load.specs.Line.{lines_of};
 
 use crate::drivers::{Order, as_drawn, on_eight_harts, on_one_hart};
+use crate::waits::by_queues;
 use kernel_core::{Kernel, Report};
 use mem_files::Files;
 use script_load::Script;
@@ -20,6 +21,8 @@ pub(crate) enum Driver {
     One(Order),
     /// On eight harts, which all dispatch before any call is made.
     Eight,
+    /// On so many harts, as their queues say.
+    Queues(u8),
     /// On three harts, as it is drawn from this number on.
     Drawn(u64),
 }
@@ -58,6 +61,7 @@ fn run_kernel<M: Machine, A: Allocator + Copy>(
     match driver {
         Driver::One(order) => on_one_hart(&mut kernel, order)?,
         Driver::Eight => on_eight_harts(alloc, &mut kernel)?,
+        Driver::Queues(harts) => by_queues(alloc, &mut kernel, harts)?,
         Driver::Drawn(first) => {
             let mut seed = first;
             as_drawn(alloc, &mut kernel, &mut seed)?;

@@ -1,0 +1,69 @@
+//! As the queues of the harts say: nobody who can run waits for long.
+
+use crate::drivers::calls;
+use kernel_core::{Kernel, Task};
+use proc_table::{HARTS, PROCS, Pid, State};
+use std::alloc::Allocator;
+use std::test::Fail;
+use user_calls::Machine;
+
+// Far more rounds than any of the scripts needs.
+const MOST_ROUNDS: usize = 100_000;
+
+// For how many dispatches of others a Runnable process may wait.
+const MOST_WAIT: usize = 64;
+
+// Counts, after a dispatch, how many of them each process that is Runnable has waited for.
+fn counts<M: Machine, A: Allocator>(
+    kernel: &Kernel<M, A>,
+    waited: &mut [usize; PROCS],
+) -> Result<(), Fail> {
+    for index in 0..PROCS {
+        let pid = Pid::new(index).ok_or("no such slot")?;
+        waited[index] = if kernel.state(pid) == State::Runnable {
+            waited[index].saturating_add(1)
+        } else {
+            0
+        };
+        if waited[index] > MOST_WAIT {
+            return Err(Fail::from("a process waits too long"));
+        }
+    }
+    Ok(())
+}
+
+// Dispatches whom the queues give the hart, if anybody.
+fn begins<M: Machine, A: Allocator>(
+    kernel: &mut Kernel<M, A>,
+    hart: u8,
+) -> Result<Option<Task<M>>, Fail> {
+    if hart < HARTS && kernel.is_idle(hart) {
+        return Ok(kernel.dispatch(hart)?);
+    }
+    Err(Fail::from("no idle hart"))
+}
+
+/// On so many harts, each of which dispatches as its queue says before any call is made, to the end.
+pub(crate) fn by_queues<M: Machine, A: Allocator + Copy>(
+    alloc: A,
+    kernel: &mut Kernel<M, A>,
+    harts: u8,
+) -> Result<(), Fail> {
+    let mut waited = [0; PROCS];
+    for _round in 0..MOST_ROUNDS {
+        if kernel.is_finished() {
+            return Ok(());
+        }
+        let mut begun = Vec::new(alloc);
+        for hart in 0..harts {
+            if let Some(task) = begins(kernel, hart)? {
+                counts(kernel, &mut waited)?;
+                begun.push((hart, task))?;
+            }
+        }
+        for (hart, task) in begun {
+            calls(kernel, hart, task)?;
+        }
+    }
+    Err(Fail::from("it has no end"))
+}
