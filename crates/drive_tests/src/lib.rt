@@ -6,4 +6,6 @@ mod hosts;
 #[cfg(test)]
 mod plain;
 #[cfg(test)]
+mod reading;
+#[cfg(test)]
 mod runs;

@@ -3,7 +3,5 @@
 
 pub mod laws;
 mod replaying;
-#[cfg(test)]
-mod tests;
 
 pub use replaying::{ReplayFault, replay};

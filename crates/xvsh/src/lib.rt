@@ -13,3 +13,4 @@ mod words;
 
 pub use driver::drive;
 pub use program::run;
+pub use reading::read_all;

@@ -4,8 +4,11 @@ use std::alloc::Global;
 use std::io::{ErrorKind, Read};
 use xvsh_read::HostFault;
 
-/// All bytes that a reader gives, of which there may be as many as the limit. No more than one byte
-/// past the limit is asked for.
+/// All bytes that a reader gives, of which there may be as many as `limit`. No more than one byte past the limit is asked
+/// for. Own.
+///
+/// `TooLong` where the reader gives more, `Unreadable` where a read fails, and `Memory` where there is no room for the
+/// bytes.
 pub fn read_all<R: Read + Drop>(
     alloc: Global,
     reader: R,
@@ -22,42 +25,5 @@ pub fn read_all<R: Read + Drop>(
         Ok(_) => Err(HostFault::TooLong),
         Err(error) if error.kind() == ErrorKind::OutOfMemory => Err(HostFault::Memory),
         Err(_) => Err(HostFault::Unreadable),
-    }
-}
-
-#[cfg(test)]
-mod tests {
-    use super::*;
-    use std::io;
-    use std::test::Fail;
-
-    // A reader that fails after its first byte.
-    #[derive(Drop)]
-    struct Failing {
-        reads: usize,
-    }
-
-    impl Read for Failing {
-        fn read(&mut self, buf: &mut [u8]) -> io::Result<usize> {
-            if self.reads == 0 || buf.is_empty() {
-                return Err(io::Error::from(io::ErrorKind::Other));
-            }
-            self.reads -= 1;
-            buf[0] = b'x';
-            Ok(1)
-        }
-    }
-
-    #[test]
-    fn reads_up_to_the_limit(rt: HostRuntime) -> Result<(), Fail> {
-        let all = read_all(rt.alloc(), b"abc".as_slice(), 3);
-        assert!(rt; matches!(&all, Ok(bytes) if bytes.as_slice() == b"abc".as_slice()));
-        let over = read_all(rt.alloc(), b"abcd".as_slice(), 3);
-        assert!(rt; matches!(over, Err(HostFault::TooLong)));
-        for reads in 0..3 {
-            let broken = read_all(rt.alloc(), Failing { reads }, 9);
-            assert!(rt; matches!(broken, Err(HostFault::Unreadable)));
-        }
-        Ok(())
     }
 }
