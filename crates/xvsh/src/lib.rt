@@ -5,7 +5,6 @@ mod checking;
 mod driver;
 mod processes;
 mod program;
-mod reading;
 mod running;
 mod system;
 mod told;
@@ -13,4 +12,3 @@ mod words;
 
 pub use driver::drive;
 pub use program::run;
-pub use reading::read_all;

@@ -1,10 +1,9 @@
 ghost use Rattle.std.specs.Prelude.{None};
 
-use crate::reading::read_all;
 use std::alloc::Global;
 use std::fs::File;
 use std::rt::Files;
-use xvsh_read::{Host, HostFault};
+use xvsh_read::{Host, HostFault, read_all};
 
 /// The system, whose standard input and files are unknown before they are read.
 #[derive(Drop)]

@@ -1,4 +1,5 @@
 pub mod Begins
+pub mod Consumed
 pub mod Names
 pub mod Places
 pub mod Putting

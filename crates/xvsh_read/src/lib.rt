@@ -2,6 +2,7 @@
 //! files are written.
 #![tactic(auto)]
 
+mod collecting;
 mod fault;
 mod file_list;
 mod host;
@@ -9,6 +10,7 @@ mod reading;
 mod starting;
 mod writing;
 
+pub use collecting::read_all;
 pub use fault::Fault;
 pub use file_list::listing;
 pub use host::{Host, HostFault};
