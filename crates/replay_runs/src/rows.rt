@@ -8,11 +8,11 @@ use std::alloc::Global;
 use std::process::Abort;
 use std::test::Fail;
 
-const TURNS: u64 = 10_000_000;
+pub(crate) const TURNS: u64 = 10_000_000;
 
 type Row<'a> = (&'a str, &'a [u8]);
 
-fn files_of(alloc: Global, rows: &[Row<'_>]) -> Result<Files<Global>, FilesFault> {
+pub(crate) fn files_of(alloc: Global, rows: &[Row<'_>]) -> Result<Files<Global>, FilesFault> {
     let mut files = Files::new(alloc);
     for (name, bytes) in rows {
         files.put(name.as_bytes(), bytes)?;

@@ -1,13 +1,12 @@
 //! How many events a run has, schedules of which an event can't take place, and one that was kept.
 
+use crate::rows::{TURNS, files_of};
 use hart_run::{ReplayFault, replay};
 use kernel_core::{Event, MAX_TURNS, RunOneFault, run_one};
 use mem_files::Files;
 use script_load::load;
 use std::alloc::Global;
 use std::test::Fail;
-
-const TURNS: u64 = 10_000_000;
 
 #[test]
 fn turns_are_counted(rt: HostRuntime) -> Result<(), Fail> {
