@@ -60,7 +60,14 @@ fn reads_up_to_the_limit(rt: HostRuntime) -> Result<(), Fail> {
 fn asks_once_more_than_the_limit_at_most(rt: HostRuntime) -> Result<(), Fail> {
     for left in 0..9 {
         let mut asked = 0;
-        let read = read_all(rt.alloc(), Counting { left, asked: &mut asked }, 5);
+        let read = read_all(
+            rt.alloc(),
+            Counting {
+                left,
+                asked: &mut asked,
+            },
+            5,
+        );
         assert!(rt; read.is_ok() == (left <= 5));
         assert_eq!(rt; asked, left.min(5) + 1);
     }
