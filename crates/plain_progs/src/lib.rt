@@ -9,8 +9,6 @@ mod head;
 mod programs;
 mod store;
 mod tee;
-#[cfg(test)]
-mod tests;
 mod wc;
 
 pub use fault::PlainFault;

@@ -7,8 +7,6 @@ mod head;
 pub mod laws;
 mod lines;
 mod program;
-#[cfg(test)]
-mod tests;
 mod words;
 
 pub use counts::{Counted, count};

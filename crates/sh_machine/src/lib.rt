@@ -25,8 +25,6 @@ mod node;
 mod place;
 mod rest;
 mod state;
-#[cfg(test)]
-mod tests;
 mod turns;
 mod user;
 

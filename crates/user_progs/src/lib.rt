@@ -12,8 +12,6 @@ mod head;
 mod prog;
 mod state;
 mod tee;
-#[cfg(test)]
-mod tests;
 mod wc;
 
 pub use prog::{Prog, ProgState, lookup};

@@ -1,4 +1,9 @@
-use super::*;
+//! What a command's words ask for, and parts of what it does.
+
+use prog_parts::{
+    BUFFER, Program, count, file_words, head_request, is_among, is_whole, split_line, words_read,
+    words_use_input, words_written,
+};
 use sh_lexer::Bytes;
 use std::process::Abort;
 use std::test::Fail;

@@ -1,8 +1,10 @@
-use super::*;
+//! The calls that each program makes, one by one.
+
 use sh_lexer::Bytes;
 use std::alloc::{AllocError, Global};
 use std::test::Fail;
 use user_calls::{Block, Call, Machine, Mode, Reply};
+use user_progs::lookup;
 
 fn words(rt: &impl AllocGlobal, texts: &[&str]) -> Result<Vec<Bytes<Global>>, AllocError> {
     let mut words = Vec::new(rt.alloc());

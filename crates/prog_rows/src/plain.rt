@@ -1,6 +1,8 @@
-use super::*;
+//! The programs on whole byte strings.
+
 use linked_list_allocator::LocalHeap;
 use mem_files::{Files, MAX_FILES, MAX_SIZE};
+use plain_progs::{PlainFault, find, give, run_program};
 use sh_lexer::Bytes;
 use std::alloc::{AllocError, Allocator, Global};
 use std::process::Abort;

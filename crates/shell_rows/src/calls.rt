@@ -1,9 +1,11 @@
+//! The calls of a shell on a script, as a text in which each call ends in a semicolon.
+
 ghost use Rattle.std.specs.Prelude.{◌≡◌};
 ghost use Rattle.script_load.specs.Line.{lines_of};
 
-use super::*;
 use script_load::{Line, Lines, Profile, Script, load_with};
 use sh_lexer::Bytes;
+use sh_machine::{Naming, User};
 use sh_tree::{Cmd, ParseFault, Words};
 use std::alloc::{AllocError, Global};
 use std::marker::Brand;
