@@ -1,3 +1,6 @@
 mod Asleep
 mod Falling
 mod Lengths
+mod Rooms
+mod Filling
+pub mod Long

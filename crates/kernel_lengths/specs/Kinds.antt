@@ -26,6 +26,11 @@ abbrev pub does_more : {S : Type 0} → KernelState S → Event → KernelState 
 does_more k (Dispatch h pid) new = false
 does_more k (Trap h pid) new = not (fell_asleep k pid new)
 
+-- a call after which its process doesn't sleep: it was carried out, or refused
+abbrev pub stays_awake : {S : Type 0} → KernelState S → Event → KernelState S → Bool
+stays_awake k (Dispatch h pid) new = false
+stays_awake k (Trap h pid) new = not (is_asleep (at new.table pid))
+
 module _ {S : Type 0} (call : S → Reply → Call) (next : S → Reply → S) (test : KernelState S → Event → KernelState S → Bool) where
   -- one for an event that passes the test, if it can happen
   abbrev pub count_event : KernelState S → Event → Option (KernelState S) → ℕ

@@ -8,7 +8,7 @@ ghost use Rattle.kernel_model.specs.declared.events.Event.{Event};
 ghost use Rattle.kernel_model.specs.KernelState.{KernelState};
 ghost use Rattle.kernel_model.specs.Boot.{boot_kernel};
 ghost use Rattle.kernel_model.specs.Events.{run};
-ghost use Rattle.kernel_lengths.specs.Kinds.{count_events, does_more, is_dispatch, only_sleeps};
+ghost use Rattle.kernel_lengths.specs.Kinds.{count_events, does_more, is_dispatch, only_sleeps, stays_awake};
 
 use user_calls::Machine;
 
@@ -28,4 +28,15 @@ pub fn a_run_is_as_long_as_what_its_calls_do<M: Machine>()
     ensures all { (init shell : M.State) (input : Bytes) (list : List (Name × Bytes)) (m : KernelState M.State) (events : List Event) (notes : List Bool)
         → AreFiles list → run M.call_of M.next_of (Some (boot_kernel init shell input list)) events notes ≡ Some m
         → length events ≤ 192 + 130 * count_events M.call_of M.next_of does_more (Some (boot_kernel init shell input list)) events notes }
+{}
+
+/// A write that puts a part of its bytes and then sleeps leaves its pipe full. So in every run from the start there are at most
+/// as many of them as calls after which the process doesn't sleep, since only such a call makes a pipe or takes bytes from one;
+/// and these calls alone bound all events.
+pub fn a_run_is_as_long_as_its_calls_that_dont_sleep<M: Machine>()
+    ensures more { (init shell : M.State) (input : Bytes) (list : List (Name × Bytes)) (events : List Event) (notes : List Bool)
+        → count_events M.call_of M.next_of does_more (Some (boot_kernel init shell input list)) events notes ≤ 2 * count_events M.call_of M.next_of stays_awake (Some (boot_kernel init shell input list)) events notes }
+    ensures all { (init shell : M.State) (input : Bytes) (list : List (Name × Bytes)) (m : KernelState M.State) (events : List Event) (notes : List Bool)
+        → AreFiles list → run M.call_of M.next_of (Some (boot_kernel init shell input list)) events notes ≡ Some m
+        → length events ≤ 192 + 260 * count_events M.call_of M.next_of stays_awake (Some (boot_kernel init shell input list)) events notes }
 {}

@@ -1,3 +1,3 @@
 mod OneEvent
 mod Counted
-mod Bounded
+pub mod Bounded

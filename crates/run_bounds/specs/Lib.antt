@@ -1,0 +1,2 @@
+pub mod Most
+pub mod GoingOn

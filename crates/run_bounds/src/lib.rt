@@ -1,0 +1,4 @@
+//! How many events a run of a script has at most: laws, no code.
+#![tactic(auto)]
+
+pub mod laws;
