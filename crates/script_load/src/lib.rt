@@ -1,4 +1,4 @@
-//! Reads a script into its lines, and defines what commands and scripts mean.
+//! Reads a script into its lines.
 #![tactic(auto)]
 
 mod cutting;
