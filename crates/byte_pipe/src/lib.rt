@@ -8,8 +8,6 @@ ghost use Rattle.std.specs.Prelude.{◌≡◌, ◌≤◌, length, IfOk};
 ghost use Rattle.byte_pipe.specs.declared.TheConstants.{PIPE_SIZE};
 
 pub mod laws;
-#[cfg(test)]
-mod tests;
 
 use circular_buffer::HeapCircularBuffer;
 use std::alloc::{AllocError, Allocator};

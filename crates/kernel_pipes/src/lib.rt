@@ -6,8 +6,6 @@
 mod blocks;
 mod named;
 mod pipes;
-#[cfg(test)]
-mod tests;
 
 pub use blocks::first_block;
 pub use named::PipeStatus;

@@ -9,8 +9,6 @@ pub mod laws;
 mod name;
 mod search;
 mod set;
-#[cfg(test)]
-mod tests;
 
 pub use fault::FilesFault;
 pub use name::is_openable;

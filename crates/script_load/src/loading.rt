@@ -107,6 +107,3 @@ pub fn load_with<A: Allocator + Copy>(
     check(bytes)?;
     Ok(read_script(alloc, bytes, profile)?)
 }
-
-#[cfg(test)]
-mod tests;

@@ -16,6 +16,3 @@ pub use limits::{has_few_words, is_short};
 pub use parser::parse;
 pub use tree::{Cmd, Mode, copy_in, same};
 pub use words::Words;
-
-#[cfg(test)]
-mod tests;

@@ -7,8 +7,6 @@
 mod groups;
 mod lists;
 mod sets;
-#[cfg(test)]
-mod tests;
 
 pub use groups::SlotGroups;
 pub use lists::{LISTS, SLOTS, SlotLists};

@@ -8,8 +8,6 @@ mod block;
 mod calls;
 mod machine;
 mod ran;
-#[cfg(test)]
-mod tests;
 
 pub use block::{BLOCK_SIZE, Block};
 pub use calls::{Call, Mode, Reply};

@@ -1,5 +1,10 @@
-use super::*;
+//! Scripts: their lines, the first fault that they have, and limits.
+
 use linked_list_allocator::LocalHeap;
+use script_load::{Line, LineTooLarge, Lines, LoadFault, Profile, Script, load, load_with};
+use sh_lexer::Bytes;
+use sh_tree::{Cmd, ParseFault, Words};
+use std::alloc::{AllocError, Global};
 use std::test::Fail;
 
 #[test]
@@ -81,5 +86,37 @@ fn refused_memory_is_told(rt: HostRuntime) -> Result<(), Fail> {
     }
     assert!(rt; 1 < refused);
     assert!(rt; refused < 399);
+    Ok(())
+}
+
+// A command of so many words of so many bytes each.
+fn command(alloc: Global, words: usize, bytes: usize) -> Result<Line<Global>, AllocError> {
+    let mut all = Vec::new(alloc);
+    for _ in 0..words {
+        all.push(Bytes::from_vec(vec![in alloc; b'x'; bytes]?))?;
+    }
+    Ok(Line::Tree(Cmd::Exec(Words::from_vec(all))))
+}
+
+#[test]
+fn large_lines_are_refused(rt: HostRuntime) -> Result<(), Fail> {
+    // the words of the second line's command, the bytes of each, and whether it is taken
+    let rows = [(9, 511, true), (10, 1, false), (1, 512, false)];
+    for (words, bytes, is_taken) in rows {
+        let mut lines = Vec::new(rt.alloc());
+        lines.push(command(rt.alloc(), 1, 1)?)?;
+        lines.push(command(rt.alloc(), words, bytes)?)?;
+        match Script::from_lines(Lines::from_vec(lines), Profile::Append) {
+            Ok(script) => {
+                assert!(rt; is_taken);
+                assert_eq!(rt; script.lines.as_slice().len(), 2);
+                assert_eq!(rt; script.profile, Profile::Append);
+            }
+            Err(fault) => {
+                assert!(rt; !is_taken);
+                assert_eq!(rt; fault, LineTooLarge { line: 2 });
+            }
+        }
+    }
     Ok(())
 }

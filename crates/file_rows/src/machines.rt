@@ -1,5 +1,6 @@
-use super::*;
-use std::test::Fail;
+//! A small machine, blocks and replies.
+
+use user_calls::{Block, Call, Machine, Ran, Reply};
 
 /// Counts down on descriptor 1, one byte a call, and exits at 0 or once a call was refused.
 #[derive(Drop)]

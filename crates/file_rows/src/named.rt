@@ -1,5 +1,7 @@
-use super::*;
+//! Pipes under their names.
+
 use byte_pipe::{Put, Take};
+use kernel_pipes::Pipes;
 use std::test::Fail;
 
 #[test]

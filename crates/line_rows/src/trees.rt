@@ -1,9 +1,9 @@
-//! Expected values are worked out by hand from the grammar and the table of faults.
-use crate::limits::{has_few_words, is_short};
-use crate::{Cmd, Mode, ParseFault, copy_in, parse, same};
+//! The trees and the faults of lines. Expected values are worked out by hand from the grammar and the table of faults.
+
 use ParseFault::{Leftover, MissingFile, MissingParen, TooManyWords, Unexpected};
 use bumpalo::Bump;
 use linked_list_allocator::LocalHeap;
+use sh_tree::{Cmd, Mode, ParseFault, copy_in, has_few_words, is_short, parse, same};
 use std::alloc::{AllocError, Allocator, Global};
 use std::process::Abort;
 use std::test::Fail;

@@ -1,4 +1,6 @@
-use super::*;
+//! One pipe.
+
+use byte_pipe::{Pipe, Put, Take};
 use linked_list_allocator::LocalHeap;
 use std::test::Fail;
 

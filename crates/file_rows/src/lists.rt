@@ -1,4 +1,6 @@
-use super::*;
+//! Lists of slots.
+
+use slot_lists::{LISTS, SLOTS, SlotLists};
 
 // What the list holds, taken out from the first on; it is empty then.
 fn taken(lists: &mut SlotLists, list: usize) -> [Option<usize>; 4] {

@@ -1,0 +1,15 @@
+//! Tests alone: files in memory, pipes, lists of slots, and the calls and replies of machines.
+#![tactic(auto)]
+
+#[cfg(test)]
+mod files;
+#[cfg(test)]
+mod lists;
+#[cfg(test)]
+mod machines;
+#[cfg(test)]
+mod memory;
+#[cfg(test)]
+mod named;
+#[cfg(test)]
+mod pipes;
