@@ -42,42 +42,61 @@ fn is_too_large(rt: &impl AllocGlobal, script: &str, given: &[Row<'_>]) -> Resul
     Ok(matches!(outcome, Err(PlainFault::TooLarge)))
 }
 
-#[test]
-fn echoes(rt: HostRuntime) -> Result<(), Fail> {
-    expect(&rt, "", &[], "", &[])?;
-    expect(&rt, "echo hello\n", &[], "hello\n", &[])?;
-    expect(&rt, "echo\n;;\n", &[], "", &[])?;
-    let script = "echo a  b;foo\ncd x\necho 1 2 3 4 5 6 7 8 9\necho c";
-    expect(&rt, script, &[], "a b\nc\n", &[])?;
-    expect(&rt, "a & b\necho ok", &[], "ok\n", &[])?;
+// A script, the files that it is given, its output, and files that it leaves; the input is a line `in`.
+type Kept = (
+    &'static str,
+    &'static [Row<'static>],
+    &'static str,
+    &'static [Row<'static>],
+);
+
+fn expect_all(rt: &(impl Abort + AllocGlobal), rows: &[Kept]) -> Result<(), Fail> {
+    for (script, given, out, want) in rows {
+        expect(rt, script, given, out, want)?;
+    }
     Ok(())
 }
 
+const ECHOES: [Kept; 5] = [
+    ("", &[], "", &[]),
+    ("echo hello\n", &[], "hello\n", &[]),
+    ("echo\n;;\n", &[], "", &[]),
+    (
+        "echo a  b;foo\ncd x\necho 1 2 3 4 5 6 7 8 9\necho c",
+        &[],
+        "a b\nc\n",
+        &[],
+    ),
+    ("a & b\necho ok", &[], "ok\n", &[]),
+];
+
 #[test]
-fn redirects(rt: HostRuntime) -> Result<(), Fail> {
-    let want = [("x", b"a\n".as_slice()), ("y", b"".as_slice())];
-    expect(&rt, "echo a > x > y", &[], "", &want)?;
-    let want = [("f", b"J\nllo\n".as_slice())];
-    expect(
-        &rt,
+fn echoes(rt: HostRuntime) -> Result<(), Fail> {
+    expect_all(&rt, &ECHOES)
+}
+
+const REDIRECTIONS: [Kept; 6] = [
+    ("echo a > x > y", &[], "", &[("x", b"a\n"), ("y", b"")]),
+    (
         "echo hello > f; echo J >> f; cat f",
         &[],
         "J\nllo\n",
-        &want,
-    )?;
-    let want = [("f", b"a\nb\n".as_slice())];
-    expect(&rt, "(echo a; echo b) > f", &[], "", &want)?;
-    let want = [("f", b"aaa\nc\n".as_slice())];
-    expect(&rt, "(echo aaa; echo b > f; echo c) > f", &[], "", &want)?;
-    expect(
-        &rt,
-        "> f",
-        &[("f", b"old".as_slice())],
+        &[("f", b"J\nllo\n")],
+    ),
+    ("(echo a; echo b) > f", &[], "", &[("f", b"a\nb\n")]),
+    (
+        "(echo aaa; echo b > f; echo c) > f",
+        &[],
         "",
-        &[("f", b"".as_slice())],
-    )?;
-    expect(&rt, "(echo a > f) &", &[], "", &[("f", b"a\n".as_slice())])?;
-    Ok(())
+        &[("f", b"aaa\nc\n")],
+    ),
+    ("> f", &[("f", b"old")], "", &[("f", b"")]),
+    ("(echo a > f) &", &[], "", &[("f", b"a\n")]),
+];
+
+#[test]
+fn redirects(rt: HostRuntime) -> Result<(), Fail> {
+    expect_all(&rt, &REDIRECTIONS)
 }
 
 // What `>>` means to a script is told by its profile: it writes over a file from its beginning, or at its
@@ -159,22 +178,28 @@ fn a_missing_input_does_nothing(rt: HostRuntime) -> Result<(), Fail> {
     Ok(())
 }
 
+const PIPES: [Kept; 4] = [
+    ("echo a | cat", &[], "a\n", &[]),
+    ("| echo a", &[], "a\n", &[]),
+    ("cat; cat", &[], "in\n", &[]),
+    ("cat | cat > o", &[], "", &[("o", b"in\n")]),
+];
+
 #[test]
 fn pipes(rt: HostRuntime) -> Result<(), Fail> {
-    expect(&rt, "echo a | cat", &[], "a\n", &[])?;
-    expect(&rt, "| echo a", &[], "a\n", &[])?;
-    expect(&rt, "cat; cat", &[], "in\n", &[])?;
-    expect(&rt, "cat | cat > o", &[], "", &[("o", b"in\n".as_slice())])?;
-    let mut line = String::from_str(rt.alloc(), "echo a")?;
-    for _ in 0..30 {
-        line.push_str(" | cat")?;
-    }
+    expect_all(&rt, &PIPES)?;
+    let stages = " | cat".repeat(rt.alloc(), 30)?;
+    let line = format!(in rt.alloc(); "echo a{}", stages.as_str())?;
     expect(&rt, line.as_str(), &[], "a\n", &[])?;
     let script = "cat p | cat\n".repeat(rt.alloc(), 200)?;
-    let want = "b\naab\naabc\ncb\n".repeat(rt.alloc(), 200)?;
-    let given = [("p", b"b\naab\naabc\ncb\n".as_slice())];
-    expect(&rt, script.as_str(), &given, want.as_str(), &[])?;
-    Ok(())
+    let want = P.repeat(rt.alloc(), 200)?;
+    expect(
+        &rt,
+        script.as_str(),
+        &[("p", P.as_bytes())],
+        want.as_str(),
+        &[],
+    )
 }
 
 // A pipe's left side takes what it reads of the input, and its right side nothing of it.
@@ -263,19 +288,53 @@ fn expect_on(
 
 const P: &str = "b\naab\naabc\ncb\n";
 
+// Scripts with their outputs, on these files.
+fn expect_out(
+    rt: &(impl Abort + AllocGlobal),
+    given: &[Row<'_>],
+    rows: &[(&'static str, &'static str)],
+) -> Result<(), Fail> {
+    for (script, out) in rows {
+        expect(rt, script, given, out, &[])?;
+    }
+    Ok(())
+}
+
+// An input, a script, its output, and what is left of the input, on these files.
+fn expect_rest(
+    rt: &(impl Abort + AllocGlobal),
+    given: &[Row<'_>],
+    rows: &[(&'static str, &'static str, &'static str, &'static str)],
+) -> Result<(), Fail> {
+    for (stdin, script, out, rest) in rows {
+        expect_on(rt, stdin, script, given, out, rest)?;
+    }
+    Ok(())
+}
+
+const COUNTS: [(&str, &str); 4] = [
+    ("echo | wc", "0 0 0 \n"),
+    ("cat big | wc", "100 100 1300 \n"),
+    ("wc p big", "4 4 14 p\n100 100 1300 big\n"),
+    ("wc p none big", "4 4 14 p\n"),
+];
+
 #[test]
 fn counts(rt: HostRuntime) -> Result<(), Fail> {
     let big = "0123456789ab\n".repeat(rt.alloc(), 100)?;
     let given = [("big", big.as_bytes()), ("p", P.as_bytes())];
-    expect(&rt, "echo | wc", &given, "0 0 0 \n", &[])?;
-    expect(&rt, "cat big | wc", &given, "100 100 1300 \n", &[])?;
-    let two = "4 4 14 p\n100 100 1300 big\n";
-    expect(&rt, "wc p big", &given, two, &[])?;
-    expect(&rt, "wc p none big", &given, "4 4 14 p\n", &[])?;
+    expect_out(&rt, &given, &COUNTS)?;
     expect_on(&rt, "a\x0bb c\x0cd\n\t e", "wc", &[], "1 4 11 \n", "")?;
-    expect_on(&rt, "in", "wc p", &given, "4 4 14 p\n", "in")?;
-    Ok(())
+    expect_on(&rt, "in", "wc p", &given, "4 4 14 p\n", "in")
 }
+
+const MATCHES: [(&str, &str); 5] = [
+    ("grep ^a*b$ p", "b\naab\n"),
+    ("grep x l", "x\n"),
+    ("grep a z", "a\n"),
+    ("cat p | grep b | wc", "4 4 14 \n"),
+    ("grep a l p z", "aab\naabc\na\n"),
+];
 
 #[test]
 fn matches_lines(rt: HostRuntime) -> Result<(), Fail> {
@@ -284,13 +343,8 @@ fn matches_lines(rt: HostRuntime) -> Result<(), Fail> {
         ("l", b"x\nx".as_slice()),
         ("z", b"a\nx\0\na\n".as_slice()),
     ];
-    expect(&rt, "grep ^a*b$ p", &given, "b\naab\n", &[])?;
-    expect(&rt, "grep x l", &given, "x\n", &[])?;
-    expect(&rt, "grep a z", &given, "a\n", &[])?;
-    expect(&rt, "cat p | grep b | wc", &given, "4 4 14 \n", &[])?;
-    expect(&rt, "grep a l p z", &given, "aab\naabc\na\n", &[])?;
-    expect_on(&rt, "a\nb", "grep; grep b", &[], "", "")?;
-    Ok(())
+    expect_out(&rt, &given, &MATCHES)?;
+    expect_on(&rt, "a\nb", "grep; grep b", &[], "", "")
 }
 
 // The buffer holds 1,023 bytes of a line with its LF; of what it can't test, grep reads one buffer.
@@ -314,44 +368,62 @@ fn tests_lines_that_fit(rt: HostRuntime) -> Result<(), Fail> {
     Ok(())
 }
 
+const FIRST: [(&str, &str); 4] = [
+    (
+        "cat big | (head -2; wc)",
+        "0123456789ab\n0123456789ab\n98 98 1274 \n",
+    ),
+    ("head -1 p big", "b\n0123456789ab\n"),
+    ("cat big | head -100 | wc", "100 100 1300 \n"),
+    ("head big | wc", "10 10 130 \n"),
+];
+
+const FIRST_OF_INPUT: [(&str, &str, &str, &str); 5] = [
+    ("in", "head -0 p; head -x p", "", "in"),
+    ("in", "head -1234567890; head -", "", "in"),
+    ("in", "head -999999999", "in", ""),
+    ("a\nb\nc\n", "head -1\nwc", "a\n2 2 4 \n", ""),
+    ("a\nb\nc\n", "head -1", "a\n", "b\nc\n"),
+];
+
 #[test]
 fn takes_first_lines(rt: HostRuntime) -> Result<(), Fail> {
     let big = "0123456789ab\n".repeat(rt.alloc(), 100)?;
     let given = [("big", big.as_bytes()), ("p", P.as_bytes())];
-    let two = "0123456789ab\n0123456789ab\n98 98 1274 \n";
-    expect(&rt, "cat big | (head -2; wc)", &given, two, &[])?;
-    expect(&rt, "head -1 p big", &given, "b\n0123456789ab\n", &[])?;
-    let whole = "100 100 1300 \n";
-    expect(&rt, "cat big | head -100 | wc", &given, whole, &[])?;
-    expect(&rt, "head big | wc", &given, "10 10 130 \n", &[])?;
-    expect_on(&rt, "in", "head -0 p; head -x p", &given, "", "in")?;
-    expect_on(&rt, "in", "head -1234567890; head -", &[], "", "in")?;
-    expect_on(&rt, "in", "head -999999999", &[], "in", "")?;
-    expect_on(&rt, "a\nb\nc\n", "head -1\nwc", &[], "a\n2 2 4 \n", "")?;
-    expect_on(&rt, "a\nb\nc\n", "head -1", &[], "a\n", "b\nc\n")?;
-    Ok(())
+    expect_out(&rt, &given, &FIRST)?;
+    expect_rest(&rt, &[("p", P.as_bytes())], &FIRST_OF_INPUT)
 }
+
+const COPIES: [Kept; 2] = [
+    (
+        "echo a | tee x y",
+        &[],
+        "a\n",
+        &[("x", b"a\n"), ("y", b"a\n")],
+    ),
+    (
+        "echo a | tee x b/c y",
+        &[("x", b"old"), ("y", b"old")],
+        "",
+        &[("x", b""), ("y", b"old")],
+    ),
+];
 
 #[test]
 fn copies_to_files(rt: HostRuntime) -> Result<(), Fail> {
-    let want = [("x", b"a\n".as_slice()), ("y", b"a\n".as_slice())];
-    expect(&rt, "echo a | tee x y", &[], "a\n", &want)?;
-    let given = [("x", b"old".as_slice()), ("y", b"old".as_slice())];
-    let want = [("x", b"".as_slice()), ("y", b"old".as_slice())];
-    expect(&rt, "echo a | tee x b/c y", &given, "", &want)?;
+    expect_all(&rt, &COPIES)?;
     expect_on(&rt, "in", "tee x b/c", &[], "", "in")?;
     expect_on(&rt, "in", "tee", &[], "in", "")?;
+    copies_what_fits(&rt)
+}
+
+fn copies_what_fits(rt: &(impl Abort + AllocGlobal)) -> Result<(), Fail> {
     let over = "x".repeat(rt.alloc(), MAX_SIZE)?;
     let given = [("a", over.as_bytes()), ("n", b"n".as_slice())];
-    expect(
-        &rt,
-        "cat a | tee b",
-        &given,
-        over.as_str(),
-        &[("b", over.as_bytes())],
-    )?;
-    assert!(rt; is_too_large(&rt, "cat a n | tee b", &given)?);
-    assert!(rt; !is_too_large(&rt, "cat a n | tee", &given)?);
+    let want = [("b", over.as_bytes())];
+    expect(rt, "cat a | tee b", &given, over.as_str(), &want)?;
+    assert!(rt; is_too_large(rt, "cat a n | tee b", &given)?);
+    assert!(rt; !is_too_large(rt, "cat a n | tee", &given)?);
     Ok(())
 }
 
