@@ -1,0 +1,3 @@
+mod Closing
+mod Sends
+mod Users

@@ -1,0 +1,5 @@
+pub mod Boots
+pub mod Events
+pub mod Ranges
+pub mod Reports
+pub mod Seats

@@ -1,0 +1,19 @@
+//! What harts pass on their way to user code.
+
+use proc_table::Pid;
+use std::sync::Wait;
+
+/// Is passed by each hart between a dispatch and the user code of the process, outside the lock. A test can hold a hart
+/// there.
+pub trait Gate {
+    /// The hart is about to run the process.
+    fn enter<R: Wait>(&self, rt: &R, hart: u8, pid: Pid);
+}
+
+/// Holds nobody.
+#[derive(Clone, Copy, Debug)]
+pub struct OpenGate;
+
+impl Gate for OpenGate {
+    fn enter<R: Wait>(&self, _rt: &R, _hart: u8, _pid: Pid) {}
+}

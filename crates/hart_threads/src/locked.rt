@@ -1,0 +1,213 @@
+//! The kernel that harts share, as it is under its lock.
+
+ghost use Rattle.std.specs.Prelude.{◌≡◌, ◌≢◌, ◌<◌, ◌≤◌, ◌+◌, ◌*◌, ◌↔◌, IsTrue, IfOk, IfSome, OnErr, None, Some, Ok, [], is_some, if◌then◌else◌, length, count_by, vec_len};
+ghost use Rattle.std.specs.Bool.{OnFalse, OnTrue};
+ghost use Rattle.proc_table.specs.Slots.{at, is_running};
+ghost use Rattle.kernel_model.specs.Events.{IsFinished, run};
+ghost use Rattle.kernel_model.specs.History.{IsOwed};
+ghost use Rattle.kernel_lengths.specs.Kinds.{is_dispatch};
+ghost use Rattle.hart_threads.specs.Boots.{number_of};
+ghost use Rattle.hart_threads.specs.Events.{AreOfHarts};
+ghost use Rattle.hart_threads.specs.Reports.{IsFinishedFrom, IsSoFarFrom};
+ghost use Rattle.hart_threads.specs.Seats.{all_events, events_of};
+
+use crate::naming::Run;
+use crate::seats::Seat;
+use crate::sharing::Turn;
+use kernel_core::{Kernel, Report, Task};
+use kernel_lengths::laws::a_run_is_as_long_as_what_its_calls_do;
+use proc_table::Pid;
+use std::alloc::{AllocError, Allocator, Global};
+use std::marker::Model;
+use std::sync::ledger::{Book, Share};
+use user_calls::{Machine, Ran};
+
+/// The kernel of a run, with the count of its events and the number of its turns. There is a turn for each event, and for
+/// the trap of each process that runs.
+///
+/// Contracts see the kernel.
+#[derive(Drop)]
+pub struct Locked<N: Run, M: Machine> {
+    kernel: Kernel<M, Global>,
+    turns: u64,
+    counts: Book<N>,
+    rest: Share<N>,
+}
+
+impl<N: Run, M: Machine> Model for Locked<N, M> {
+    ghost use Rattle.std.specs.Prelude.{◌≡◌, ◌≤◌, ◌*◌, length, count_by};
+    ghost use Rattle.kernel_model.specs.History.{History};
+    ghost use Rattle.kernel_lengths.specs.Kinds.{is_dispatch};
+    ghost use Rattle.hart_threads.specs.Boots.{number_of};
+    ghost use Rattle.hart_threads.specs.Events.{AreOfHarts};
+
+    ghost Value = { History M.State };
+
+    ghost view = { λ l. l.kernel };
+
+    ghost invariant = { λ l. (number_of M.code l.kernel.boot ≡ N.boot) × (l.turns ≡ N.turns) × (2 * count_by is_dispatch l.kernel.schedule ≤ N.turns) × AreOfHarts N.harts l.kernel.schedule
+        × (length l.kernel.schedule ≡ l.counts.total) × (l.rest.parts ≡ 0) × (l.rest.amount ≡ 0) };
+}
+
+// Each dispatch was followed by a trap, or its process runs.
+fn are_paired<M: Machine, A: Allocator>(kernel: &Kernel<M, A>)
+    ensures { length kernel.now.schedule + count_by is_running kernel.now.now.table ≡ 2 * count_by is_dispatch kernel.now.schedule }
+{
+    kernel.is_booted();
+    kernel.replays();
+    a_run_is_as_long_as_what_its_calls_do::<M>();
+}
+
+// What a run comes to when no hart takes a turn.
+#[derive(Clone, Copy)]
+pub(crate) enum Verdict {
+    // Only init is left.
+    Finished,
+    // The run isn't finished, nobody runs, and fewer than two turns are left.
+    Spent,
+    // Memory was refused to a hart.
+    Starved,
+    // The harts have to go on.
+    GoesOn,
+}
+
+impl<N: Run, M: Machine> Locked<N, M> {
+    ghost use Rattle.kernel_core.specs.Turns.{IsSpent};
+    ghost use Rattle.kernel_model.specs.History.{GoesOn};
+    ghost use Rattle.kernel_model.specs.declared.events.Event.TheVariants.{Dispatch, Trap};
+    ghost use Rattle.hart_threads.specs.declared.sharing.Turn.TheVariants.{Finished, Spent};
+
+    // A kernel in which nothing has happened.
+    pub(crate) fn new(
+        kernel: Kernel<M, Global>,
+        turns: u64,
+        counts: Book<N>,
+        rest: Share<N>,
+    ) -> Self
+        requires boot { number_of M.code kernel.boot ≡ N.boot }
+        requires turns { turns ≡ N.turns }
+        requires fresh { kernel.schedule ≡ [] }
+        requires counts { counts.total ≡ 0 }
+        requires rest { (rest.parts ≡ 0) × (rest.amount ≡ 0) }
+        ensures { result ≡ kernel }
+    {
+        Locked {
+            kernel,
+            turns,
+            counts,
+            rest,
+        }
+    }
+
+    // How many turns are left beside those of the traps that are owed.
+    fn left(&self) -> u64
+        ensures { result + length self.now.schedule + count_by is_running self.now.now.table ≡ N.turns }
+    {
+        are_paired(&self.kernel);
+        let taken = self.kernel.schedule().len() as u64;
+        let owed = self.kernel.running() as u64;
+        self.turns - taken - owed
+    }
+
+    // Why no hart takes a turn any more, if so.
+    pub(crate) fn over(&self) -> Option<Turn>
+        ensures finished { (result ≡ Some Finished) ↔ IsFinished self.now.now }
+        ensures spent { result ≡ Some Spent → (IsFinished self.now.now → ⊥) × (N.turns < length self.now.schedule + count_by is_running self.now.now.table + 2) }
+        ensures left { result ≡ None → length self.now.schedule + count_by is_running self.now.now.table + 2 ≤ N.turns }
+        ensures no_event { IfSome result (λ turn. events_of turn ≡ 0) }
+    {
+        if self.kernel.is_finished() {
+            return Some(Turn::Finished);
+        }
+        if self.left() < 2 {
+            return Some(Turn::Spent);
+        }
+        None
+    }
+
+    // A process begins to run on the hart of the seat, if one is Runnable and the hart runs nothing.
+    pub(crate) fn dispatch(&mut self, seat: &mut Seat<N>) -> Result<Option<Task<M>>, AllocError>
+        requires { length self.old.schedule + count_by is_running self.old.now.table + 2 ≤ N.turns }
+        ensures hart { seat.new.hart ≡ seat.old.hart }
+        ensures events { IfOk result (λ found. seat.new.events ≡ seat.old.events + (if is_some found then 1 else 0)) }
+        ensures event { IfOk result (λ found. IfSome found (λ task. GoesOn M.call_of M.next_of self.old (Dispatch seat.old.hart task.pid) self.new)) }
+        ensures idle { result ≡ Ok None → self.new ≡ self.old }
+        ensures err { OnErr result ((seat.new ≡ seat.old) × (self.new ≡ self.old)) }
+    {
+        are_paired(&self.kernel);
+        if !self.kernel.is_idle(seat.hart()) {
+            return Ok(None);
+        }
+        let found = self.kernel.dispatch(seat.hart())?;
+        if found.is_some() {
+            seat.count(&mut self.counts);
+        }
+        Ok(found)
+    }
+
+    // The call of a process that runs on the hart of the seat is carried out. It says whether it was; where the process
+    // doesn't run there, or the run isn't its own, nothing changes.
+    pub(crate) fn trap(&mut self, seat: &mut Seat<N>, pid: Pid, ran: Ran<M>) -> bool
+        ensures hart { seat.new.hart ≡ seat.old.hart }
+        ensures events { seat.new.events ≡ seat.old.events + (if result then 1 else 0) }
+        ensures owed { IsTrue result ↔ IsOwed seat.old.hart (at self.old.now.table pid) ran }
+        ensures event { OnTrue result (GoesOn M.call_of M.next_of self.old (Trap seat.old.hart pid) self.new) }
+        ensures same { OnFalse result (self.new ≡ self.old) }
+    {
+        let done = self.kernel.trap(seat.hart(), pid, ran).is_ok();
+        if done {
+            seat.count(&mut self.counts);
+        }
+        done
+    }
+
+    // The seats, which are all, have made the events.
+    pub(crate) fn audit(&mut self, seats: Vec<Seat<N>>)
+        requires { vec_len seats ≡ N.parts }
+        ensures same { self.new ≡ self.old }
+        ensures events { length self.new.schedule ≡ all_events seats.items }
+    {
+        let mut all = self.rest.empty();
+        let mut seats = seats;
+        while let Some(seat) = seats.pop() {
+            all.merge(seat.into_share());
+        }
+        self.counts.audit(&mut all);
+    }
+
+    // What the run comes to now that no hart takes a turn; memory was refused to one of them if `starved`.
+    pub(crate) fn verdict(&self, starved: bool) -> Verdict
+        ensures finished { result ≡ Verdict.Finished → IsFinished self.now.now }
+        ensures spent { result ≡ Verdict.Spent → IsSpent N.turns self.now.now self.now.schedule }
+    {
+        are_paired(&self.kernel);
+        match self.over() {
+            Some(Turn::Finished) => Verdict::Finished,
+            Some(Turn::Spent) if self.kernel.running() == 0 => Verdict::Spent,
+            _ if starved => Verdict::Starved,
+            _ => Verdict::GoesOn,
+        }
+    }
+
+    // The state is the one that the schedule leads to from the start of the run.
+    pub(crate) fn is_run(&self)
+        ensures boot { number_of M.code self.now.boot ≡ N.boot }
+        ensures run { run M.call_of M.next_of (Some self.now.boot) self.now.schedule self.now.notes ≡ Some self.now.now }
+    {
+        self.kernel.replays();
+    }
+
+    // What the run leaves.
+    pub(crate) fn into_report(self) -> Report<Global>
+        ensures run { IsSoFarFrom M.code M.call_of M.next_of N.boot result }
+        ensures finished { IsFinished self.now → IsFinishedFrom M.code M.call_of M.next_of N.boot result }
+        ensures told { IsTrue result.finished ↔ IsFinished self.now }
+        ensures schedule { result.schedule ≡ self.schedule }
+        ensures harts { AreOfHarts N.harts result.schedule }
+        ensures turns { length result.schedule ≤ N.turns }
+    {
+        are_paired(&self.kernel);
+        self.kernel.replays();
+        self.kernel.into_report()
+    }
+}
