@@ -4,7 +4,10 @@ ghost use Rattle.std.specs.Prelude.{◌≡◌, ◌≢◌, None, ◌<◌, ◌≤�
 use std::alloc::Global;
 use std::io::{self, Write};
 use std::process::Abort;
+use std::sync::Wait;
 use std::test::Fail;
+use std::thread::Threads;
+use std::time::Clock;
 use xvsh::drive;
 use xvsh_read::{Host, HostFault};
 
@@ -125,7 +128,7 @@ pub fn words_of(alloc: Global, line: &str) -> Result<Vec<String>, Fail> {
 
 // Runs the program and compares its status, its output and its faults.
 pub fn expect<H: Host>(
-    rt: &(impl Abort + AllocGlobal),
+    rt: &(impl Abort + AllocGlobal + Threads + Wait + Clock + Sync),
     words: &str,
     host: &mut H,
     want: (u8, &str, &str),
@@ -133,7 +136,7 @@ pub fn expect<H: Host>(
     let mut out = Vec::new(rt.alloc());
     let mut err = Vec::new(rt.alloc());
     let words = words_of(rt.alloc(), words)?;
-    let status = drive(rt.alloc(), words, host, &mut out, &mut err);
+    let status = drive(rt, rt.alloc(), words, host, &mut out, &mut err);
     assert_eq!(rt; out.as_slice(), want.1.as_bytes());
     assert_eq!(rt; err.as_slice(), want.2.as_bytes());
     assert_eq!(rt; status, want.0);

@@ -2,7 +2,10 @@
 use crate::hosts::{Anything, Broken, Failing, Full, Memory, expect, words_of};
 use mem_files::MAX_SIZE;
 use std::process::Abort;
+use std::sync::Wait;
 use std::test::Fail;
+use std::thread::Threads;
+use std::time::Clock;
 use xvsh::drive;
 use xvsh_read::MAX_INPUT;
 
@@ -250,7 +253,7 @@ fn refuses_other_words(rt: HostRuntime) -> Result<(), Fail> {
         let mut out = Vec::new(rt.alloc());
         let mut err = Vec::new(rt.alloc());
         let words = words_of(rt.alloc(), line)?;
-        let status = drive(rt.alloc(), words, &mut Broken, &mut out, &mut err);
+        let status = drive(&rt, rt.alloc(), words, &mut Broken, &mut out, &mut err);
         assert_eq!(rt; status, 2, "at {line}");
         assert!(rt; out.is_empty());
         assert!(rt; !err.is_empty());
@@ -258,7 +261,7 @@ fn refuses_other_words(rt: HostRuntime) -> Result<(), Fail> {
     let mut out = Vec::new(rt.alloc());
     let mut err = Vec::new(rt.alloc());
     let words = words_of(rt.alloc(), "--help")?;
-    let status = drive(rt.alloc(), words, &mut Broken, &mut out, &mut err);
+    let status = drive(&rt, rt.alloc(), words, &mut Broken, &mut out, &mut err);
     assert_eq!(rt; status, 0);
     assert!(rt; !out.is_empty());
     assert!(rt; err.is_empty());
@@ -277,7 +280,7 @@ fn ends_where_its_output_fails(rt: HostRuntime) -> Result<(), Fail> {
             let mut out = Failing { calls };
             let mut err = Vec::new(rt.alloc());
             let words = words_of(rt.alloc(), line)?;
-            let status = drive(rt.alloc(), words, &mut host, &mut out, &mut err);
+            let status = drive(&rt, rt.alloc(), words, &mut host, &mut out, &mut err);
             assert_eq!(rt; status, 1);
             assert!(rt; err.is_empty());
         }
@@ -305,7 +308,7 @@ fn ends_where_standard_error_fails(rt: HostRuntime) -> Result<(), Fail> {
             let mut out = Vec::new(rt.alloc());
             let mut err = Failing { calls };
             let words = words_of(rt.alloc(), line)?;
-            let status = drive(rt.alloc(), words, &mut host, &mut out, &mut err);
+            let status = drive(&rt, rt.alloc(), words, &mut host, &mut out, &mut err);
             assert_eq!(rt; status, 1, "at {line}");
             assert_eq!(rt; out.as_slice(), written.as_bytes());
         }
@@ -314,7 +317,7 @@ fn ends_where_standard_error_fails(rt: HostRuntime) -> Result<(), Fail> {
         let mut out = Vec::new(rt.alloc());
         let mut err = Failing { calls: 0 };
         let words = words_of(rt.alloc(), words)?;
-        let status = drive(rt.alloc(), words, &mut Full, &mut out, &mut err);
+        let status = drive(&rt, rt.alloc(), words, &mut Full, &mut out, &mut err);
         assert_eq!(rt; status, 1);
         assert!(rt; out.is_empty());
     }
@@ -429,7 +432,7 @@ fn checks_scripts(rt: HostRuntime) -> Result<(), Fail> {
 
 // Runs a script on one file.
 fn expect_on_file<'a>(
-    rt: &(impl Abort + AllocGlobal),
+    rt: &(impl Abort + AllocGlobal + Threads + Wait + Clock + Sync),
     script: &'a str,
     text: &'a str,
     out: &str,
@@ -462,7 +465,7 @@ fn tests_lines_that_fit(rt: HostRuntime) -> Result<(), Fail> {
 
 // Runs a script on a few files, with `big` on standard input, and compares what is told of it.
 fn expect_told<'a>(
-    rt: &(impl Abort + AllocGlobal),
+    rt: &(impl Abort + AllocGlobal + Threads + Wait + Clock + Sync),
     big: &'a str,
     script: &'a str,
     want: (u8, &str, &str),

@@ -2,13 +2,16 @@
 use crate::hosts::{Broken, Failing, Full, Memory, expect, words_of};
 use std::alloc::{AllocError, Global};
 use std::process::Abort;
+use std::sync::Wait;
 use std::test::Fail;
+use std::thread::Threads;
+use std::time::Clock;
 use xvsh::drive;
 
 // Runs a script on `p` and `big` with a standard input of three lines, and compares its status, its output and its
 // diagnostics.
 fn expect_on_files<'a>(
-    rt: &(impl Abort + AllocGlobal),
+    rt: &(impl Abort + AllocGlobal + Threads + Wait + Clock + Sync),
     options: &str,
     script: &'a str,
     big: &'a str,
@@ -29,7 +32,7 @@ fn expect_on_files<'a>(
 
 // The same, where `big` is 100 lines.
 fn expect_run(
-    rt: &(impl Abort + AllocGlobal),
+    rt: &(impl Abort + AllocGlobal + Threads + Wait + Clock + Sync),
     options: &str,
     script: &str,
     want: (u8, &str, &str),
@@ -59,8 +62,10 @@ fn scripts_run_by_their_processes(rt: HostRuntime) -> Result<(), Fail> {
         ("head -1 p big", "b\n0123456789ab\n"),
         ("head -0 p", ""),
     ];
-    for (script, out) in rows {
-        expect_run(&rt, "", script, (0, out, ""))?;
+    for options in ["", "--harts 1", "--harts 2", "--harts 8"] {
+        for (script, out) in rows {
+            expect_run(&rt, options, script, (0, out, ""))?;
+        }
     }
     let stages = " | cat".repeat(rt.alloc(), 30)?;
     let script = format!(in rt.alloc(); "echo a{}", stages.as_str())?;
@@ -118,22 +123,14 @@ fn files_and_events_are_listed(rt: HostRuntime) -> Result<(), Fail> {
     ];
     let mut out = Vec::new(rt.alloc());
     let mut err = Vec::new(rt.alloc());
-    let words = words_of(rt.alloc(), "run --schedule --files empty f")?;
-    let status = drive(rt.alloc(), words, &mut host, &mut out, &mut err);
+    let words = words_of(rt.alloc(), "run --harts 1 --schedule --files empty f")?;
+    let status = drive(&rt, rt.alloc(), words, &mut host, &mut out, &mut err);
     assert_eq!(rt; status, 0);
     assert!(rt; err.is_empty());
     let listed = b"-- f 2\nz\n\n".as_slice();
     assert!(rt; out.starts_with(listed));
     let events = &out.as_slice()[listed.len()..];
     assert!(rt; alone.iter().any(|text| text.as_bytes() == events));
-    Ok(())
-}
-
-#[test]
-fn more_harts_are_not_there_yet(rt: HostRuntime) -> Result<(), Fail> {
-    for words in ["run --harts 2 none", "run --harts 8 s"] {
-        expect(&rt, words, &mut Broken, (2, "", "xvsh: not yet\n"))?;
-    }
     Ok(())
 }
 
@@ -186,7 +183,7 @@ fn runs_tell_what_they_cannot_take(rt: HostRuntime) -> Result<(), Fail> {
 
 // Replays this schedule of a script without commands.
 fn expect_replay(
-    rt: &(impl Abort + AllocGlobal),
+    rt: &(impl Abort + AllocGlobal + Threads + Wait + Clock + Sync),
     events: &str,
     want: (u8, &str, &str),
 ) -> Result<(), Fail> {
@@ -258,20 +255,20 @@ fn schedule_and_script_are_two(rt: HostRuntime) -> Result<(), Fail> {
 
 // What these words write to standard output and as diagnostics, with status 0.
 fn written(
-    rt: &(impl Abort + AllocGlobal),
+    rt: &(impl Abort + AllocGlobal + Threads + Wait + Clock + Sync),
     words: &str,
     host: &mut Memory<'_>,
 ) -> Result<(Vec<u8>, Vec<u8>), Fail> {
     let mut out = Vec::new(rt.alloc());
     let mut err = Vec::new(rt.alloc());
     let words = words_of(rt.alloc(), words)?;
-    assert_eq!(rt; drive(rt.alloc(), words, host, &mut out, &mut err), 0);
+    assert_eq!(rt; drive(rt, rt.alloc(), words, host, &mut out, &mut err), 0);
     Ok((out, err))
 }
 
 // What a replay of these events writes of a script.
 fn replayed<'a>(
-    rt: &(impl Abort + AllocGlobal),
+    rt: &(impl Abort + AllocGlobal + Threads + Wait + Clock + Sync),
     script: &'a str,
     input: &'a str,
     big: &'a str,
@@ -289,9 +286,10 @@ fn replayed<'a>(
     written(rt, "replay --files e s big", &mut host)
 }
 
-// What `run` writes of a script, pasted into `replay`, gives the same output, files and diagnostics.
+// What `run` writes of a script on so many harts, pasted into `replay`, gives the same output, files and diagnostics.
 fn expect_again<'a>(
-    rt: &(impl Abort + AllocGlobal),
+    rt: &(impl Abort + AllocGlobal + Threads + Wait + Clock + Sync),
+    harts: u8,
     script: &'a str,
     input: &'a str,
     big: &'a str,
@@ -301,8 +299,10 @@ fn expect_again<'a>(
         input: input.as_bytes(),
         files: &files,
     };
-    let (once, told) = written(rt, "run --files s big", &mut host)?;
-    let (all, same) = written(rt, "run --files --schedule s big", &mut host)?;
+    let short = format!(in rt.alloc(); "run --harts {harts} --files s big")?;
+    let long = format!(in rt.alloc(); "run --harts {harts} --files --schedule s big")?;
+    let (once, told) = written(rt, short.as_str(), &mut host)?;
+    let (all, same) = written(rt, long.as_str(), &mut host)?;
     assert!(rt; all.starts_with(once.as_slice()));
     assert_eq!(rt; same.as_slice(), told.as_slice());
     let events = &all.as_slice()[once.len()..];
@@ -318,13 +318,15 @@ fn schedules_that_were_written_are_replayed(rt: HostRuntime) -> Result<(), Fail>
     let rows = [
         ("", ""),
         ("cat big | (head -2; wc) > o; cat o | wc", ""),
-        ("foo; cat none\n(echo a &); head -1; wc", "a\nb\nc\n"),
         ("(echo a; echo b > f; echo c) > f", ""),
     ];
-    for (script, input) in rows {
-        expect_again(&rt, script, input, big.as_str())?;
+    for harts in [1, 2, 8] {
+        for (script, input) in rows {
+            expect_again(&rt, harts, script, input, big.as_str())?;
+        }
     }
-    Ok(())
+    let races = "foo; cat none\n(echo a &); head -1; wc";
+    expect_again(&rt, 1, races, "a\nb\nc\n", big.as_str())
 }
 
 // Where an output fails at any byte, the status is 1, and no more is written.
@@ -339,7 +341,7 @@ fn runs_end_where_an_output_fails(rt: HostRuntime) -> Result<(), Fail> {
         let mut out = Failing { calls };
         let mut err = Vec::new(rt.alloc());
         let words = words_of(rt.alloc(), "run s")?;
-        let status = drive(rt.alloc(), words, &mut host, &mut out, &mut err);
+        let status = drive(&rt, rt.alloc(), words, &mut host, &mut out, &mut err);
         assert_eq!(rt; status, 1);
         assert!(rt; err.is_empty());
     }
@@ -347,7 +349,7 @@ fn runs_end_where_an_output_fails(rt: HostRuntime) -> Result<(), Fail> {
         let mut out = Vec::new(rt.alloc());
         let mut err = Failing { calls };
         let words = words_of(rt.alloc(), "run s")?;
-        let status = drive(rt.alloc(), words, &mut host, &mut out, &mut err);
+        let status = drive(&rt, rt.alloc(), words, &mut host, &mut out, &mut err);
         assert_eq!(rt; status, 1);
         assert_eq!(rt; out.as_slice(), b"ab\n".as_slice());
     }

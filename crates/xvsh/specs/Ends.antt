@@ -23,9 +23,9 @@ abbrev pub profile_of : Bool → Profile
 profile_of true = Append
 profile_of false = Xv6
 
--- how a script is run by its processes: in at most so many turns, or by the schedule at a path
+-- how a script is run by its processes: on so many harts in at most so many turns, or by the schedule at a path
 pub data How : Type 0 where
-  in_turns : ℕ → How
+  on_harts : ℕ → ℕ → How
   by_schedule : Path → How
 
 -- what the words of the command line ask for: a run of the script at a path under a profile, on the files at these paths,
@@ -53,12 +53,12 @@ TellsRan (Err fault) result err err' = Tells (run_fault_told fault) (run_status 
 module _ (input : Option Bytes) (file : Path → Option Bytes) where
   -- the script at a path was run so by its processes, and this was full and written
   abbrev pub RanBy : How → Profile → Path → List (Bor Path) → Lists → Option Full → Option Bytes → Option Bytes → Option Bytes → Option Bytes → Type 0
-  RanBy (in_turns turns) profile script paths lists full out out' err err' = RanRun input file profile script paths turns lists full out out' err err'
+  RanBy (on_harts harts turns) profile script paths lists full out out' err err' = RanRun input file profile script paths harts turns lists full out out' err err'
   RanBy (by_schedule schedule) profile script paths lists full out out' err err' = RanReplay input file profile script paths schedule lists full out out' err err'
 
   -- why it wasn't
   abbrev pub IsFaultBy : How → Profile → Path → List (Bor Path) → RunFault → Type 0
-  IsFaultBy (in_turns turns) profile script paths fault = IsRunFault input file profile script paths turns fault
+  IsFaultBy (on_harts harts turns) profile script paths fault = IsRunFault input file profile script paths harts turns fault
   IsFaultBy (by_schedule schedule) profile script paths fault = IsReplayingFault input file profile script paths schedule fault
 
 -- and of what is known of standard output and of standard error, before and after

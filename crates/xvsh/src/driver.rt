@@ -16,6 +16,9 @@ use clap::error::ErrorKind;
 use script_load::{Profile, Script};
 use std::alloc::Global;
 use std::io::Write;
+use std::sync::Wait;
+use std::thread::Threads;
+use std::time::Clock;
 use xvsh_read::{Fault, Host, STDIN, read_script, write};
 
 // Writes what is told of a script's lines, and returns whether they are harmless.
@@ -120,7 +123,8 @@ fn do_plain<'a, H: Host, W: Write, E: Write>(
 }
 
 // Does what the command asks for that the words name, and gives its status.
-fn end_command<'a, H: Host, W: Write, E: Write>(
+fn end_command<'a, R: Threads + Wait + Clock + Sync, H: Host, W: Write, E: Write>(
+    rt: &R,
     alloc: Global,
     matches: &ArgMatches<'a>,
     host: &mut H,
@@ -132,7 +136,7 @@ fn end_command<'a, H: Host, W: Write, E: Write>(
     ensures nothing_written { result ≢ 0 → result ≢ 1 → result ≢ 3 → result ≢ 4 → out.new ≡ out.old }
 {
     if let Some(words) = matches.subcommand_matches("run") {
-        do_run(alloc, words, host, out, err)
+        do_run(rt, alloc, words, host, out, err)
     } else if let Some(words) = matches.subcommand_matches("replay") {
         do_replay(alloc, words, host, out, err)
     } else if let Some(words) = matches.subcommand_matches("plain") {
@@ -166,7 +170,8 @@ fn end_error<W: Write, E: Write>(alloc: Global, error: &clap::Error, out: &mut W
 }
 
 // Does what the words ask for.
-fn end_words<H: Host, W: Write, E: Write>(
+fn end_words<R: Threads + Wait + Clock + Sync, H: Host, W: Write, E: Write>(
+    rt: &R,
     alloc: Global,
     words: &[String],
     host: &mut H,
@@ -181,7 +186,7 @@ fn end_words<H: Host, W: Write, E: Write>(
         return tell(Fault::Memory, err);
     };
     match command.try_get_matches_from(words) {
-        Ok(matches) => end_command(alloc, &matches, host, out, err),
+        Ok(matches) => end_command(rt, alloc, &matches, host, out, err),
         Err(error) => end_error(alloc, &error, out, err),
     }
 }
@@ -198,7 +203,7 @@ fn end_words<H: Host, W: Write, E: Write>(
 /// its commands keep out of each other's way.
 ///
 /// `run [--harts N] [--turns N] [--schedule] [--append] [--files] SCRIPT [FILE]..` reads the same and runs the script by
-/// its processes, on one hart, in at most 10,000,000 turns or N. It writes the output, with `--files` all files, and with
+/// its processes, on 4 harts or N, of which each is a thread, in at most 10,000,000 turns or N. It writes the output, with `--files` all files, and with
 /// `--schedule` a line an event, and to `err` the diagnostics, and then, where something was full, what. `replay
 /// [--append] [--files] SCHEDULE SCRIPT [FILE]..` does so by the events of a schedule in that form, which it reads first.
 ///
@@ -209,7 +214,8 @@ fn end_words<H: Host, W: Write, E: Write>(
 /// read or is refused, or is no schedule of a finished run, 2 for words that are no command line, 3 where
 /// `check` told of a clash or a `&`, 4 for a run that is too large, is past its turns, wants memory, or met something
 /// full, which alone is told after what it wrote. `--help` goes to `out`. Where `out` or `err` fails, the status is 1 and nothing more is written.
-pub fn drive<H: Host, W: Write, E: Write>(
+pub fn drive<R: Threads + Wait + Clock + Sync, H: Host, W: Write, E: Write>(
+    rt: &R,
     alloc: Global,
     words: Vec<String>,
     host: &mut H,
@@ -227,6 +233,6 @@ pub fn drive<H: Host, W: Write, E: Write>(
     if words.is_empty() {
         end_plain(alloc, host, Profile::Xv6, STDIN, &[], false, out, err)
     } else {
-        end_words(alloc, words.as_slice(), host, out, err)
+        end_words(rt, alloc, words.as_slice(), host, out, err)
     }
 }

@@ -4,6 +4,9 @@ use std::env;
 use std::io::{self, ErrorKind, Write};
 use std::process::ExitCode;
 use std::rt::{Env, Files};
+use std::sync::Wait;
+use std::thread::Threads;
+use std::time::Clock;
 
 // The words after the program's own name.
 fn words_of(rt: &(impl Env + AllocGlobal)) -> io::Result<Vec<String>> {
@@ -14,7 +17,7 @@ fn words_of(rt: &(impl Env + AllocGlobal)) -> io::Result<Vec<String>> {
 /// error, and gives the status with which it ends.
 pub fn run<R, E>(rt: &R, err: &mut E) -> io::Result<ExitCode>
 where
-    R: Env + AllocGlobal + Input + Files + Print,
+    R: Env + AllocGlobal + Input + Files + Print + Threads + Wait + Clock + Sync,
     E: Write,
 {
     let words = match words_of(rt) {
@@ -30,6 +33,6 @@ where
     };
     let mut host = System::new(rt);
     let mut out = io::writer(rt);
-    let status = drive(rt.alloc(), words, &mut host, &mut out, err);
+    let status = drive(rt, rt.alloc(), words, &mut host, &mut out, err);
     Ok(ExitCode::from(status))
 }

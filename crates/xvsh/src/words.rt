@@ -4,6 +4,7 @@ ghost use Rattle.xvsh.specs.Ends.{profile_of};
 
 use clap::builder::ValueParser;
 use clap::{Arg, ArgAction, Command};
+use hart_threads::MAX_HARTS;
 use kernel_core::MAX_TURNS;
 use script_load::Profile;
 use std::alloc::{AllocError, Global};
@@ -38,8 +39,8 @@ Examples:
   xvsh run script.sh notes/todo              # `todo` is a file of the script
   xvsh plain --files script.sh notes/todo
 
-`run` has xv6's processes take turns, each until its next system call, and tells what they tell, such
-as `open f failed`. Where something was full, as at a pipeline of more processes than there are, a
+`run` has xv6's processes take turns, each until its next system call, on harts that work side by side,
+and tells what they tell, such as `open f failed`. Where something was full, as at a pipeline of more processes than there are, a
 last line `xvsh: full procs`, `open`, `descriptors`, `files`, `size` or `memory` says so. `run
 --schedule` ends its output with a line an event, and `replay` runs the script by those lines again.
 
@@ -97,8 +98,8 @@ fn run_command<'a>(alloc: Global) -> Result<Command<'a>, AllocError> {
     let harts = Arg::new(alloc, "harts")
         .long("harts")
         .value_name("N")
-        .help("On so many harts, 1 to 8; 1 without it, and more are not there yet")
-        .value_parser(ValueParser::unsigned(1, 8))
+        .help("On so many harts (hardware threads, each a thread here), 1 to 8; 4 without it")
+        .value_parser(ValueParser::unsigned(1, MAX_HARTS as u64))
         .action(ArgAction::Set);
     let turns = Arg::new(alloc, "turns")
         .long("turns")

@@ -1,5 +1,5 @@
 -- What `run` and `replay` read, run and write.
-use Rattle.std.specs.Prelude.{◌≡◌, ◌≤◌, ℕ, true, false, List, Option, All, length, codes}
+use Rattle.std.specs.Prelude.{◌≤◌, ℕ, false, List, Option, length, codes}
 use Rattle.std.specs.Borrow.{Bor}
 use Rattle.std.specs.Str.{bytes_eq}
 use Rattle.mem_files.specs.Name.{Name, Bytes}
@@ -7,8 +7,8 @@ use Rattle.script_load.specs.declared.profile.Profile.{Profile}
 use Rattle.script_load.specs.Line.{ScriptLine}
 use Rattle.kernel_model.specs.declared.events.Event.{Event}
 use Rattle.kernel_model.specs.declared.events.Full.{Full}
-use Rattle.kernel_core.specs.Harts.{is_of_hart}
 use Rattle.kernel_core.specs.ScriptRun.{script_kernel}
+use Rattle.hart_threads.specs.Events.{AreOfHarts}
 use Rattle.schedule_lines.specs.EventLines.{AreLinesOf}
 use Rattle.xvsh_read.specs.Path.{Path}
 use Rattle.xvsh_read.specs.Reading.{Agree, told_at}
@@ -19,14 +19,14 @@ use Rattle.xvsh_runs.specs.declared.report.Lists.{Lists}
 -- what follows is said after what the host tells of standard input and of the files at paths, of the script at a path
 -- under a profile and on the files at these paths
 module _ (input : Option Bytes) (file : Path → Option Bytes) (profile : Profile) (script : Path) (paths : List (Bor Path)) where
-  -- a finished run on hart 0 in at most so many turns was written
-  pub record RanRun (turns : ℕ) (lists : Lists) (full : Option Full) (out out' err err' : Option Bytes) : Type 0 where
+  -- a finished run on so many harts in at most so many turns was written
+  pub record RanRun (harts turns : ℕ) (lists : Lists) (full : Option Full) (out out' err err' : Option Bytes) : Type 0 where
     pub lines : List ScriptLine
     pub given : List (Name × Bytes)
     pub stdin : Bytes
     pub starts : Starts input file false script paths lines given stdin
     pub events : List Event
-    pub hart : All (λ event. is_of_hart 0 event ≡ true) events
+    pub of_harts : AreOfHarts harts events
     pub within : length events ≤ turns
     pub written : IsWritten (script_kernel profile lines stdin given) events lists full out out' err err'
 

@@ -6,14 +6,17 @@ use Rattle.kernel_model.specs.declared.events.Full.{Full}
 use Rattle.kernel_model.specs.declared.events.Full.TheVariants.{Procs, Open, Fds, Files, Size, Memory}
 use Rattle.kernel_core.specs.declared.run.RunOneFault.{RunOneFault}
 use Rattle.kernel_core.specs.declared.run.RunOneFault.TheVariants.{BadTurns as one_turns, Spent as one_spent, Memory as one_memory}
+use Rattle.hart_threads.specs.declared.faults.RunFault.{RunFault as HartsFault}
+use Rattle.hart_threads.specs.declared.faults.RunFault.TheVariants.{BadHarts as bad_harts, BadTurns as bad_turns, Spent as harts_spent, Memory as harts_memory}
 use Rattle.xvsh_read.specs.declared.fault.Fault.TheVariants.{Memory as no_memory}
 use Rattle.xvsh_read.specs.Status.{status_of, fault_words}
 use Rattle.xvsh_runs.specs.declared.fault.RunFault.{RunFault}
-use Rattle.xvsh_runs.specs.declared.fault.RunFault.TheVariants.{Common, BadTurns, Spent, SharedInput, NoEvent, NotRunnable, NotRunning, Unfinished}
+use Rattle.xvsh_runs.specs.declared.fault.RunFault.TheVariants.{Common, BadHarts, BadTurns, Spent, SharedInput, NoEvent, NotRunnable, NotRunning, Unfinished}
 
 -- 1: an input that can't be read or is refused, or an output that takes no more; 2: usage; 4: no room
 abbrev pub run_status : RunFault → ℕ
 run_status (Common fault) = status_of fault
+run_status BadHarts = 2
 run_status BadTurns = 2
 run_status Spent = 4
 run_status SharedInput = 2
@@ -25,6 +28,7 @@ run_status (Unfinished count) = 1
 -- what a fault is, in words
 abbrev pub run_words : RunFault → Bytes
 run_words (Common fault) = fault_words fault
+run_words BadHarts = codes "the harts are 1 to 8"
 run_words BadTurns = codes "the turns are 1 to 1000000000"
 run_words Spent = codes "spent"
 run_words SharedInput = codes "the schedule and the script are both standard input"
@@ -54,3 +58,9 @@ abbrev pub of_one : RunOneFault → RunFault
 of_one one_turns = BadTurns
 of_one one_spent = Spent
 of_one one_memory = Common no_memory
+
+abbrev pub of_harts : HartsFault → RunFault
+of_harts bad_harts = BadHarts
+of_harts bad_turns = BadTurns
+of_harts harts_spent = Spent
+of_harts harts_memory = Common no_memory

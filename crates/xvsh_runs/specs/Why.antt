@@ -1,5 +1,5 @@
 -- Why `run` and `replay` tell no run.
-use Rattle.std.specs.Prelude.{◌≡◌, ◌<◌, ◌-◌, ◌⊎◌, ℕ, Bool, true, false, List, Option, Some, slice_get, length, codes}
+use Rattle.std.specs.Prelude.{◌≡◌, ◌-◌, ◌⊎◌, ℕ, Bool, true, false, List, Option, Some, slice_get, length, codes}
 use Rattle.std.specs.Borrow.{Bor}
 use Rattle.std.specs.Str.{bytes_eq}
 use Rattle.mem_files.specs.Name.{Name, Bytes}
@@ -9,8 +9,8 @@ use Rattle.sh_machine.specs.State.{User}
 use Rattle.kernel_model.specs.declared.events.Event.{Event}
 use Rattle.kernel_model.specs.declared.events.Event.TheVariants.{Dispatch, Trap}
 use Rattle.kernel_model.specs.KernelState.{KernelState}
-use Rattle.kernel_core.specs.declared.run.TheConstants.{MAX_TURNS}
 use Rattle.kernel_core.specs.ScriptRun.{IsSpentFrom, script_kernel}
+use Rattle.hart_threads.specs.Ranges.{AreBadHarts, AreBadTurns}
 use Rattle.hart_run.specs.Refused.{IsReplayFault}
 use Rattle.hart_run.specs.declared.replaying.ReplayFault.TheVariants.{NotRunnable as not_runnable, NotRunning as not_running, Unfinished as unfinished}
 use Rattle.schedule_lines.specs.EventLines.{AreLinesOf, IsNoEventAt}
@@ -20,23 +20,26 @@ use Rattle.xvsh_read.specs.Reading.{Agree, told_at, IsReadFault}
 use Rattle.xvsh_read.specs.Starting.{Starts, IsStartFault}
 use Rattle.xvsh_read.specs.Status.{IsTellFault}
 use Rattle.xvsh_runs.specs.declared.fault.RunFault.{RunFault}
-use Rattle.xvsh_runs.specs.declared.fault.RunFault.TheVariants.{Common, BadTurns, Spent, SharedInput, NoEvent, NotRunnable, NotRunning, Unfinished}
+use Rattle.xvsh_runs.specs.declared.fault.RunFault.TheVariants.{Common, BadHarts, BadTurns, Spent, SharedInput, NoEvent, NotRunnable, NotRunning, Unfinished}
 use Rattle.xvsh_runs.specs.declared.replaying.TheConstants.{MAX_SCHEDULE}
 
--- no run of so many turns from this kernel is told: some run spends them, they are out of range, or it can't be told
-abbrev pub IsTurnsFault : KernelState User → ℕ → RunFault → Type 0
-IsTurnsFault start turns (Common fault) = IsTellFault fault
-IsTurnsFault start turns BadTurns = (turns ≡ 0) ⊎ (MAX_TURNS < turns)
-IsTurnsFault start turns Spent = IsSpentFrom start turns
-IsTurnsFault start turns SharedInput = ⊥
-IsTurnsFault start turns (NoEvent path line) = ⊥
-IsTurnsFault start turns (NotRunnable number pid) = ⊥
-IsTurnsFault start turns (NotRunning number pid hart) = ⊥
-IsTurnsFault start turns (Unfinished count) = ⊥
+-- no run from this kernel on so many harts in so many turns is told: some run spends them, the harts or they are out of
+-- range, or it can't be told
+abbrev pub IsHartsFault : KernelState User → ℕ → ℕ → RunFault → Type 0
+IsHartsFault start harts turns (Common fault) = IsTellFault fault
+IsHartsFault start harts turns BadHarts = AreBadHarts harts
+IsHartsFault start harts turns BadTurns = AreBadTurns turns
+IsHartsFault start harts turns Spent = IsSpentFrom start turns
+IsHartsFault start harts turns SharedInput = ⊥
+IsHartsFault start harts turns (NoEvent path line) = ⊥
+IsHartsFault start harts turns (NotRunnable number pid) = ⊥
+IsHartsFault start harts turns (NotRunning number pid hart) = ⊥
+IsHartsFault start harts turns (Unfinished count) = ⊥
 
 -- the bytes of a schedule at a path are not read as events: a line is none
 abbrev pub IsLinesFault : Path → Bytes → RunFault → Type 0
 IsLinesFault path bytes (Common fault) = IsTellFault fault
+IsLinesFault path bytes BadHarts = ⊥
 IsLinesFault path bytes BadTurns = ⊥
 IsLinesFault path bytes Spent = ⊥
 IsLinesFault path bytes SharedInput = ⊥
@@ -53,6 +56,7 @@ IsEventAt events number event = slice_get events (number - 1) ≡ Some event
 -- told
 abbrev pub IsEventsFault : KernelState User → List Event → RunFault → Type 0
 IsEventsFault start events (Common fault) = IsTellFault fault
+IsEventsFault start events BadHarts = ⊥
 IsEventsFault start events BadTurns = ⊥
 IsEventsFault start events Spent = ⊥
 IsEventsFault start events SharedInput = ⊥
@@ -72,9 +76,9 @@ IsBytesFault start path bytes fault =
 -- under a profile and on the files at these paths
 module _ (input : Option Bytes) (file : Path → Option Bytes) (profile : Profile) (script : Path) (paths : List (Bor Path)) where
   -- why `run` told no run: it couldn't begin, or there is none
-  pub data IsRunFault (turns : ℕ) : RunFault → Type 0 where
-    no_start : {fault : Fault} → IsStartFault input file false script paths fault → IsRunFault turns (Common fault)
-    no_run : {fault : RunFault} (lines : List ScriptLine) (given : List (Name × Bytes)) (stdin : Bytes) → Starts input file false script paths lines given stdin → IsTurnsFault (script_kernel profile lines stdin given) turns fault → IsRunFault turns fault
+  pub data IsRunFault (harts turns : ℕ) : RunFault → Type 0 where
+    no_start : {fault : Fault} → IsStartFault input file false script paths fault → IsRunFault harts turns (Common fault)
+    no_run : {fault : RunFault} (lines : List ScriptLine) (given : List (Name × Bytes)) (stdin : Bytes) → Starts input file false script paths lines given stdin → IsHartsFault (script_kernel profile lines stdin given) harts turns fault → IsRunFault harts turns fault
 
   -- why `replay` told none: its schedule and its script are both standard input, its schedule can't be read, it can't
   -- begin, or no run by its events is told

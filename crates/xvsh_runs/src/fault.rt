@@ -3,6 +3,7 @@ ghost use Rattle.std.specs.Prelude.{◌≡◌, ◌↔◌, IsTrue};
 ghost use Rattle.xvsh_runs.specs.Status.{run_status};
 ghost use Rattle.xvsh_read.specs.declared.fault.Fault.TheVariants.{Unwritten};
 
+use hart_threads::RunFault as HartsFault;
 use kernel_core::RunOneFault;
 use std::fmt;
 use xvsh_read::Fault;
@@ -13,6 +14,8 @@ use xvsh_read::Fault;
 pub enum RunFault<'a> {
     /// What any run of a script meets.
     Common(Fault<'a>),
+    /// No harts, or more than 8.
+    BadHarts,
     /// No turns, or more than 1,000,000,000.
     BadTurns,
     /// The turns are over before the run is finished, or nothing can run any more.
@@ -37,7 +40,7 @@ impl RunFault<'_> {
         match self {
             RunFault::Common(fault) => fault.status(),
             RunFault::Spent => 4,
-            RunFault::BadTurns | RunFault::SharedInput => 2,
+            RunFault::BadHarts | RunFault::BadTurns | RunFault::SharedInput => 2,
             RunFault::NoEvent(_, _)
             | RunFault::NotRunnable(_, _)
             | RunFault::NotRunning(_, _, _)
@@ -65,6 +68,7 @@ impl fmt::Display for RunFault<'_> {
     fn fmt<W: fmt::Write>(&self, f: &mut fmt::Formatter<W>) -> fmt::Result {
         match *self {
             RunFault::Common(fault) => write!(f, "{fault}"),
+            RunFault::BadHarts => f.write_str("the harts are 1 to 8"),
             RunFault::BadTurns => f.write_str("the turns are 1 to 1000000000"),
             RunFault::Spent => f.write_str("spent"),
             RunFault::SharedInput => {
@@ -107,6 +111,22 @@ impl<'a> From<RunOneFault> for RunFault<'a> {
             RunOneFault::BadTurns => RunFault::BadTurns,
             RunOneFault::Spent => RunFault::Spent,
             RunOneFault::Memory => RunFault::Common(Fault::Memory),
+        }
+    }
+}
+
+impl<'a> From<HartsFault> for RunFault<'a> {
+    ghost use Rattle.std.specs.Prelude.{◌≡◌};
+    ghost use Rattle.xvsh_runs.specs.Status.{of_harts};
+
+    ghost from_gives = { λ fault given. given ≡ of_harts fault };
+
+    fn from(fault: HartsFault) -> RunFault<'a> {
+        match fault {
+            HartsFault::BadHarts => RunFault::BadHarts,
+            HartsFault::BadTurns => RunFault::BadTurns,
+            HartsFault::Spent => RunFault::Spent,
+            HartsFault::Memory => RunFault::Common(Fault::Memory),
         }
     }
 }
