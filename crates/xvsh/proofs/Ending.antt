@@ -14,7 +14,7 @@ use Rattle.xvsh.specs.Drive.{RanCheck, IsCheckFault, WritesMeaning, verdict_text
 use Rattle.xvsh_read.specs.Path.{Path}
 use Rattle.xvsh_read.specs.Status.{status_of, fault_told}
 use Rattle.xvsh_runs.specs.declared.fault.RunFault.{RunFault}
-use Rattle.xvsh_runs.specs.declared.fault.RunFault.TheVariants.{Common, BadTurns, Spent, SharedInput, NoEvent, NotRunnable, NotRunning, Unfinished}
+use Rattle.xvsh_runs.specs.declared.fault.RunFault.TheVariants.{Common, BadHarts, BadTurns, Spent, SharedInput, NoEvent, NotRunnable, NotRunning, Unfinished}
 use Rattle.xvsh_runs.specs.declared.report.Lists.{Lists}
 use Rattle.xvsh_runs.specs.Status.{run_status, run_fault_told}
 use Rattle.xvsh.specs.Ends.{Request, asks_plain, asks_run, asks_check, misuse, help, How, Tells, TellsRan, RanBy, IsFaultBy, Ends, plain_ran, no_plain, ran, ran_full, no_run, harmless, harmful, no_check, helped, misused, no_memory, unwritten}
@@ -46,6 +46,7 @@ run_unwritten_or (Common fault) = elim (unwritten_or fault) [
   | inl is ↦ inl (ap Common is)
   | inr other ↦ inr (λ is. other cc)
 ]
+run_unwritten_or BadHarts = inr (λ is. cc)
 run_unwritten_or BadTurns = inr (λ is. cc)
 run_unwritten_or Spent = inr (λ is. cc)
 run_unwritten_or SharedInput = inr (λ is. cc)
