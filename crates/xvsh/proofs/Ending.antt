@@ -56,7 +56,7 @@ run_unwritten_or (NotRunning number pid hart) = inr (λ is. cc)
 run_unwritten_or (Unfinished count) = inr (λ is. cc)
 
 -- no status of a fault is 0
-some_status : (fault : Fault) → status_of fault ≢ 0
+pub some_status : (fault : Fault) → status_of fault ≢ 0
 some_status (Unreadable path) is = cc
 some_status (TooLong path) is = cc
 some_status (LineTooLong n) is = cc

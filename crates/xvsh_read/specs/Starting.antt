@@ -2,6 +2,7 @@
 use Rattle.std.specs.Prelude.{◌≡◌, ◌≢◌, Bool, true, false, List, [], Option, codes}
 use Rattle.std.specs.Borrow.{Bor}
 use Rattle.mem_files.specs.Name.{Name, Bytes}
+use Rattle.mem_files.specs.Listing.{AreFiles}
 use Rattle.script_load.specs.declared.fault.LoadFault.TheVariants.{LineTooLong as load_long, ByteZero as load_zero, Memory as load_memory}
 use Rattle.script_load.specs.Line.{ScriptLine}
 use Rattle.script_load.specs.Script.{IsScript, HasLoadFault}
@@ -40,10 +41,12 @@ module _ (input : Option Bytes) (file : Path → Option Bytes) where
   IsInputOf true script stdin = stdin ≡ []
   IsInputOf false script stdin = (script ≡ codes "-" → stdin ≡ []) × (script ≢ codes "-" → Agree input stdin)
 
-  -- what a run of the script at a path begins with: its lines, the files of the paths, and its standard input
+  -- what a run of the script at a path begins with: its lines, the files of the paths, which are what a set of files can be,
+  -- and its standard input
   pub record Starts (is_taken : Bool) (script : Path) (paths : List (Bor Path)) (lines : List ScriptLine) (given : List (Name × Bytes)) (stdin : Bytes) : Type 0 where
     pub loaded : AreLinesAt script lines
     pub put : ArePut file paths given
+    pub are : AreFiles given
     pub own : IsInputOf is_taken script stdin
 
   -- why it doesn't: there is no script, one of the files can't be had, or standard input, each where those before were had

@@ -8,6 +8,7 @@ use crate::fault::Fault;
 use crate::host::Host;
 use crate::reading::{MAX_INPUT, STDIN, read, read_files};
 use mem_files::Files;
+use mem_files::laws::are_files;
 use script_load::{Profile, Script, load_with};
 use std::alloc::Global;
 
@@ -72,6 +73,7 @@ pub fn prepare<'a, H: Host>(
 {
     let loaded = read_script(alloc, host, profile, script)?;
     let files = read_files(alloc, host, paths)?;
+    are_files(&files);
     let stdin = read_stdin(alloc, host, script, is_taken)?;
     Ok(Start {
         script: loaded,

@@ -33,6 +33,7 @@ module _ (input later : Option Bytes) (file : Path → Option Bytes) (script : P
   starts_moved paths lines given stdin starts = record {
     loaded = lines_moved lines starts.loaded;
     put = starts.put;
+    are = starts.are;
     own = input_moved is_taken stays stdin starts.own;
   }
 

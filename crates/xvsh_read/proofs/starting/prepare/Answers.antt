@@ -30,5 +30,6 @@ returns-clause-prepared g c =
     record {
       loaded = c.in_ok-loaded.ensures.lines;
       put = subst (λ file. ArePut file c.args.paths.now c.in_ok-files.files) c.read_script.ensures.files_stay c.in_ok-files.ensures.put;
+      are = c.are_files.ensures;
       own = input_kept input (g.H.Host.input c.read_files.new.host) file (g.H.Host.file c.read_files.new.host) c.args.script.now c.args.is_taken c.in_ok-stdin.stdin.items (λ other. c.read_files.ensures.stays.0 ∙ c.read_script.ensures.input_stays other) c.in_ok-stdin.ensures.own;
     }

@@ -1,0 +1,5 @@
+mod Names
+mod Puts
+mod Readings
+pub mod Meant
+pub mod Agreeing

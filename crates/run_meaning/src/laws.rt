@@ -1,0 +1,51 @@
+//! Laws of runs of the program: each function's contract is the law, and its body is empty. Each is of both profiles, and says
+//! nothing of writers of which it isn't known what they hold.
+
+ghost use Rattle.std.specs.Prelude.{◌≡◌, ◌≢◌, ℕ, ◌++◌, true, false, List, Option, Some, None, codes};
+ghost use Rattle.std.specs.Borrow.{Bor};
+ghost use Rattle.mem_files.specs.Files.{files};
+ghost use Rattle.mem_files.specs.Name.{Bytes};
+ghost use Rattle.script_load.specs.declared.profile.Profile.{Profile};
+ghost use Rattle.sh_meaning.specs.Meaning.{script_meaning};
+ghost use Rattle.sh_meaning.specs.Settled.{IsSettledScript};
+ghost use Rattle.xvsh_read.specs.Path.{Path};
+ghost use Rattle.xvsh_runs.specs.Runs.{RanReplay, RanRun};
+ghost use Rattle.xvsh_runs.specs.declared.report.Lists.{Lists};
+ghost use Rattle.xvsh.specs.Ends.{Ends, How, asks_plain, asks_run, by_schedule};
+ghost use Rattle.xvsh.specs.Running.{RanPlain};
+ghost use Rattle.run_meaning.specs.Told.{IsTold};
+ghost use Rattle.run_meaning.specs.Written.{AddsTheSame, WritesValue, no_lists};
+
+/// Where `run` wrote a run in which nothing was full, of a script that is settled on what was read, it wrote the output of the
+/// script's recursive meaning, and then the lists that were asked for: the files that it lists are the meaning's but for soft
+/// names. Without lists it wrote that output and nothing else. So does `replay`, whatever the schedule says.
+pub fn a_run_writes_the_meaning()
+    ensures run { (input : Option Bytes) (file : Path → Option Bytes) (profile : Profile) (script : Path) (paths : List (Bor Path)) (harts turns : ℕ) (lists : Lists) (out out' err err' : Option Bytes)
+        → (r : RanRun input file profile script paths harts turns lists None out out' err err') → IsSettledScript profile r.lines r.stdin (files r.given)
+        → WritesValue (script_meaning profile r.lines r.stdin (files r.given)) lists r.events out out' }
+    ensures replay { (input : Option Bytes) (file : Path → Option Bytes) (profile : Profile) (script : Path) (paths : List (Bor Path)) (schedule : Path) (lists : Lists) (out out' err err' : Option Bytes)
+        → (r : RanReplay input file profile script paths schedule lists None out out' err err') → IsSettledScript profile r.lines r.stdin (files r.given)
+        → WritesValue (script_meaning profile r.lines r.stdin (files r.given)) lists r.events out out' }
+{}
+
+/// So `run` and `plain`, of one script under one profile and on the same files, write the same to standard output, where nothing
+/// was full and `plain` found the script settled, no list was asked for, and the host tells all bytes that are read. So do
+/// `replay` and `plain`, where the schedule isn't read from standard input.
+pub fn a_run_writes_what_plain_writes()
+    ensures run { (input : Option Bytes) (file : Path → Option Bytes) (profile : Profile) (script : Path) (paths : List (Bor Path)) (harts turns : ℕ) (out out' err err' old new : Option Bytes)
+        → IsTold input file script paths → RanRun input file profile script paths harts turns no_lists None out out' err err'
+        → RanPlain input file profile script paths false true old new → AddsTheSame out out' old new }
+    ensures replay { (input : Option Bytes) (file : Path → Option Bytes) (profile : Profile) (script : Path) (paths : List (Bor Path)) (schedule : Path) (out out' err err' old new : Option Bytes)
+        → IsTold input file script paths → schedule ≢ codes "-" → RanReplay input file profile script paths schedule no_lists None out out' err err'
+        → RanPlain input file profile script paths false true old new → AddsTheSame out out' old new }
+{}
+
+/// The same by what the program tells of itself: where a run by processes ends with status 0, and `plain` does and adds
+/// `settled` to standard error, both wrote the same to standard output.
+pub fn status_0_and_settled_is_one_output()
+    ensures { (input : Option Bytes) (file : Path → Option Bytes) (profile : Profile) (script : Path) (paths : List (Bor Path)) (how : How) (out out' err err' old new : Option Bytes) (before : Bytes)
+        → IsTold input file script paths → how ≢ by_schedule (codes "-")
+        → Ends input file out out' err err' (asks_run profile script paths how no_lists) 0
+        → Ends input file old new (Some before) (Some (before ++ codes "settled\n")) (asks_plain profile script paths false) 0
+        → AddsTheSame out out' old new }
+{}
