@@ -10,16 +10,11 @@ use Rattle.std.specs.contracts.impls.GlobalAllocator.TheImpl as heap
 use Rattle.std.proofs.alloc.Global.TheSendSync as HeapSends
 use Rattle.sh_lexer.proofs.bytes.Bytes.TheSendSync as BytesSends
 use Rattle.sh_tree.proofs.words.Words.TheSendSync as WordsSends
-use Rattle.sh_tree.proofs.tree.Mode.TheSendSync as ModeSends
-use Rattle.sh_tree.proofs.fault.ParseFault.TheSendSync as FaultSends
 use Rattle.sh_tree.proofs.tree.Cmd.TheLaws.TheKnot as CmdSends
 use Rattle.sh_tree.specs.contracts.tree.Cmd as Cmd
-use Rattle.script_load.proofs.profile.Profile.TheSendSync as ProfileSends
 use Rattle.script_load.specs.contracts.line.Line as Line
 use Rattle.user_progs.proofs.prog.Prog.TheSendSync as ProgSends
 use Rattle.sh_machine.proofs.place.Place.TheSendSync as PlaceSends
-use Rattle.sh_machine.proofs.state.Phase.TheSendSync as PhaseSends
-use Rattle.sh_machine.proofs.state.Side.TheSendSync as SideSends
 use Rattle.sh_machine.specs.contracts.user.User as User
 use Rattle.sh_machine.specs.contracts.user.Kind as Kind
 use Rattle.sh_machine.specs.contracts.state.At as At

@@ -1,4 +1,4 @@
-use Rattle.std.proofs.Common.{◌≡◌, ◌∙◌, sym, ap, [], length, arith, rules}
+use Rattle.std.proofs.Common.{◌≡◌, ap, [], length, arith, rules}
 use Rattle.hart_threads.specs.Seats.{all_events}
 use Rattle.hart_threads.proofs.locked.Locked.audit.Goals as goal
 

@@ -1,5 +1,4 @@
-use Rattle.std.proofs.Common.{◌∙◌, sym, subst}
-use Rattle.kernel_core.specs.Reports.{Tells}
+use Rattle.std.proofs.Common.{sym, subst}
 use Rattle.hart_threads.specs.Events.{AreOfHarts}
 use Rattle.hart_threads.proofs.Closing.{so_far, to_the_end}
 use Rattle.hart_threads.proofs.locked.Locked.into_report.Goals as goal

@@ -1,6 +1,5 @@
 use Rattle.std.proofs.Common.{◌≡◌, ◌∙◌, ◌≤◌, Some, count_by, length, sym, ap, inl, arith}
 use Rattle.proc_table.specs.Slots.{is_running}
-use Rattle.hart_threads.specs.declared.sharing.Turn.TheVariants.{Spent}
 use Rattle.hart_threads.proofs.locked.Locked.verdict.Goals as goal
 
 pub returns-in-Some-Spent-clause-spent : goal.returns-in-Some-Spent-clause-spent

@@ -1,0 +1,116 @@
+//! That harts are threads, of which none is left, and that user code of two overlaps.
+
+use crate::rows::files_of;
+use hart_run::replay;
+use hart_threads::{Gate, OpenGate, run_harts};
+use proc_table::Pid;
+use script_load::load;
+use std::hint::spin_loop;
+use std::process::Abort;
+use std::sync::Wait;
+use std::sync::atomic::{AtomicBool, AtomicU64, Ordering};
+use std::test::Fail;
+
+const TURNS: u64 = 10_000_000;
+
+// So often a hart looks whether another one comes.
+const LOOKS: u64 = 100_000_000;
+
+// Holds the hart on which process 3 or 4 makes its first step, whichever comes first, until a step begins on another.
+#[derive(Drop)]
+struct TwoInside {
+    // The hart that is held, or was, and one more; 0 before.
+    held: AtomicU64,
+    // Another hart came.
+    met: AtomicBool,
+    // None came while it was looked for.
+    missed: AtomicBool,
+}
+
+impl TwoInside {
+    fn new() -> TwoInside {
+        TwoInside {
+            held: AtomicU64::new(0),
+            met: AtomicBool::new(false),
+            missed: AtomicBool::new(false),
+        }
+    }
+
+    // Looks for another hart.
+    fn look(&self) {
+        for _look in 0..LOOKS {
+            if self.met.load(Ordering::SeqCst) {
+                return;
+            }
+            spin_loop();
+        }
+        self.missed.store(true, Ordering::SeqCst);
+    }
+
+    // Whether the hart is the one to be held, from now on.
+    fn is_first(&self, own: u64, pid: Pid) -> bool {
+        if pid.index() != 3 && pid.index() != 4 {
+            return false;
+        }
+        let found = self
+            .held
+            .compare_exchange(0, own, Ordering::SeqCst, Ordering::SeqCst);
+        found.is_ok()
+    }
+}
+
+impl Gate for TwoInside {
+    fn enter<R: Wait>(&self, _rt: &R, hart: u8, pid: Pid) {
+        let own = hart as u64 + 1;
+        if self.is_first(own, pid) {
+            self.look();
+            return;
+        }
+        let held = self.held.load(Ordering::SeqCst);
+        if held != 0 && held != own {
+            self.met.store(true, Ordering::SeqCst);
+        }
+    }
+}
+
+#[test]
+fn two_inside(rt: HostRuntime) -> Result<(), Fail> {
+    let alloc = rt.alloc();
+    let script = load(alloc, b"cat big | wc")?;
+    let given = files_of(alloc, &[])?;
+    for harts in [2, 8] {
+        let gate = TwoInside::new();
+        let report = run_harts(&rt, alloc, &script, &[], &given, harts, TURNS, &gate)?;
+        assert!(&rt; gate.met.load(Ordering::SeqCst));
+        assert!(&rt; !gate.missed.load(Ordering::SeqCst));
+        assert_eq!(&rt; report.out.as_slice(), b"100 100 1300 \n".as_slice());
+    }
+    Ok(())
+}
+
+#[test]
+fn two_hundred_runs_replay(rt: HostRuntime) -> Result<(), Fail> {
+    let alloc = rt.alloc();
+    let given = files_of(alloc, &[])?;
+    for text in [
+        "cat big | wc",
+        "cat p | grep b | wc",
+        "cat big | (head -2; wc)",
+        "(echo a; echo b) > f; cat f | tee g",
+        "echo a | cat > o; cat o",
+        "cat big | head -1",
+        "echo a & echo b",
+        "(cat big | wc) | cat",
+        "echo a | cat | cat | cat | cat",
+        "wc p big | grep p",
+    ] {
+        let script = load(alloc, text.as_bytes())?;
+        for _run in 0..20 {
+            let report = run_harts(&rt, alloc, &script, &[], &given, 8, TURNS, &OpenGate)?;
+            let events = report.schedule.as_slice();
+            let again = replay(alloc, &script, &[], &given, events)?;
+            assert!(&rt; again.same(&report), "{text}");
+        }
+    }
+    Ok(())
+}
