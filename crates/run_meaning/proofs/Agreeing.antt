@@ -1,8 +1,7 @@
--- A run by processes and a run by meaning of one settled script write the same; so where the program ends well both times.
-use Rattle.std.proofs.Common.{◌≡◌, ◌≢◌, ℕ, Bool, true, false, List, ◌++◌, codes, length, Option, Some, None, refl, ap, subst, arith}
+-- Runs of one settled script on what one host tells, by processes or by meaning, write the same.
+use Rattle.std.proofs.Common.{◌≢◌, true, false, List, codes, Option, None, refl, ap, subst}
 use Rattle.std.specs.Borrow.{Bor}
 use Rattle.std.specs.Io.KnownBytes.{Appends}
-use Rattle.std.proofs.lemmas.List.{append_cancel_left}
 use Rattle.mem_files.specs.Name.{Name, Bytes}
 use Rattle.mem_files.specs.Files.{files}
 use Rattle.script_load.specs.declared.profile.Profile.{Profile}
@@ -13,80 +12,54 @@ use Rattle.kernel_model.specs.declared.events.Event.{Event}
 use Rattle.kernel_core.specs.ScriptRun.{script_kernel}
 use Rattle.xvsh_read.specs.Path.{Path}
 use Rattle.xvsh_read.specs.Starting.{Starts}
-use Rattle.xvsh_runs.specs.declared.fault.RunFault.{RunFault}
-use Rattle.xvsh_runs.specs.declared.fault.RunFault.TheVariants.{Common, BadTurns, Spent, SharedInput, NoEvent, NotRunnable, NotRunning, Unfinished}
 use Rattle.xvsh_runs.specs.Lists.{IsWritten}
-use Rattle.xvsh_runs.specs.Status.{run_status}
-use Rattle.xvsh.specs.Drive.{verdict_text}
-use Rattle.xvsh.specs.Ends.{Request, asks_plain, asks_run, asks_check, help, misuse, How, on_harts, by_schedule, RanBy, Ends, plain_ran, no_plain, ran, ran_full, no_run, harmless, harmful, no_check, helped, misused, no_memory, unwritten}
+use Rattle.xvsh.specs.Ends.{How, on_harts, by_schedule, RanBy}
 use Rattle.xvsh.specs.Running.{RanPlain}
-use Rattle.xvsh.proofs.Ending.{some_status}
-use Rattle.run_meaning.specs.Told.{IsTold}
+use Rattle.run_meaning.specs.Told.{IsTold, IsSettledAt}
 use Rattle.run_meaning.specs.Written.{AddsTheSame, no_lists}
 use Rattle.run_meaning.proofs.Meant.{means}
 use Rattle.run_meaning.proofs.Readings.{as_begun, no_input}
 
-module _ (input : Option Bytes) (file : Path → Option Bytes) (profile : Profile) (script : Path) (paths : List (Bor Path)) (told : IsTold input file script paths) (old new : Option Bytes) (plain : RanPlain input file profile script paths false true old new) (out out' err err' : Option Bytes) where
-  written_agrees : (lines : List ScriptLine) (given : List (Name × Bytes)) (stdin : Bytes) (events : List Event) → Starts input file false script paths lines given stdin → IsWritten (script_kernel profile lines stdin given) events no_lists None out out' err err' → AddsTheSame out out' old new
-  written_agrees lines given stdin events starts wrote =
-      let settled = as_begun input file script paths told (λ l g s. IsSettledScript profile l s (files g)) plain.lines lines plain.given given plain.stdin stdin plain.starts starts (plain.settled.0 refl) in (
-        (script_meaning profile lines stdin (files given)).out,
-        (means profile lines stdin given settled events no_lists out out' err err' wrote input file false script paths starts).alone refl,
-        as_begun input file script paths told (λ l g s. Appends old new (script_meaning profile l s (files g)).out) plain.lines lines plain.given given plain.stdin stdin plain.starts starts plain.writes,
-      )
+module _ (input : Option Bytes) (file : Path → Option Bytes) (profile : Profile) (script : Path) (paths : List (Bor Path)) where
+  -- of what was read, the meaning's output was added to a writer
+  record IsMeant (old new : Option Bytes) : Type 0 where
+    pub lines : List ScriptLine
+    pub given : List (Name × Bytes)
+    pub stdin : Bytes
+    pub starts : Starts input file false script paths lines given stdin
+    pub wrote : Appends old new (script_meaning profile lines stdin (files given)).out
 
-  pub agrees : (how : How) → how ≢ by_schedule (codes "-") → RanBy input file how profile script paths no_lists None out out' err err' → AddsTheSame out out' old new
-  agrees (on_harts harts turns) apart gave = written_agrees gave.lines gave.given gave.stdin gave.events gave.starts gave.written
-  agrees (by_schedule schedule) apart gave =
+  written_meant : IsSettledAt input file profile script paths → (lines : List ScriptLine) (given : List (Name × Bytes)) (stdin : Bytes) (events : List Event) (out out' err err' : Option Bytes) → Starts input file false script paths lines given stdin → IsWritten (script_kernel profile lines stdin given) events no_lists None out out' err err' → IsMeant out out'
+  written_meant settled lines given stdin events out out' err err' starts written = record {
+    lines = lines;
+    given = given;
+    stdin = stdin;
+    starts = starts;
+    wrote = (means profile lines stdin given (settled lines given stdin starts) events no_lists out out' err err' written input file false script paths starts).alone refl;
+  }
+
+  run_meant : IsSettledAt input file profile script paths → (how : How) (out out' err err' : Option Bytes) → how ≢ by_schedule (codes "-") → RanBy input file how profile script paths no_lists None out out' err err' → IsMeant out out'
+  run_meant settled (on_harts harts turns) out out' err err' apart gave = written_meant settled gave.lines gave.given gave.stdin gave.events out out' err err' gave.starts gave.written
+  run_meant settled (by_schedule schedule) out out' err err' apart gave =
       let own = no_input schedule (λ same. apart (ap by_schedule same)) in
-      written_agrees gave.lines gave.given gave.stdin gave.events (subst (λ taken. Starts input file taken script paths gave.lines gave.given gave.stdin) own gave.starts) gave.written
+      written_meant settled gave.lines gave.given gave.stdin gave.events out out' err err' (subst (λ taken. Starts input file taken script paths gave.lines gave.given gave.stdin) own gave.starts) gave.written
 
--- ---- by the status
+  module _ (told : IsTold input file script paths) where
+    same_meant : (out out' old new : Option Bytes) → IsMeant out out' → IsMeant old new → AddsTheSame out out' old new
+    same_meant out out' old new first second = (
+      (script_meaning profile first.lines first.stdin (files first.given)).out,
+      first.wrote,
+      as_begun input file script paths told (λ l g s. Appends old new (script_meaning profile l s (files g)).out) second.lines first.lines second.given first.given second.stdin first.stdin second.starts first.starts second.wrote,
+    )
 
-some_run_status : (fault : RunFault) → run_status fault ≢ 0
-some_run_status (Common fault) is = some_status fault is
-some_run_status BadTurns is = cc
-some_run_status Spent is = cc
-some_run_status SharedInput is = cc
-some_run_status (NoEvent path line) is = cc
-some_run_status (NotRunnable number pid) is = cc
-some_run_status (NotRunning number pid hart) is = cc
-some_run_status (Unfinished count) is = cc
+    -- two runs by processes
+    pub runs_agree : IsSettledAt input file profile script paths → (how other : How) (out out' err err' old new said later : Option Bytes) → how ≢ by_schedule (codes "-") → other ≢ by_schedule (codes "-") → RanBy input file how profile script paths no_lists None out out' err err' → RanBy input file other profile script paths no_lists None old new said later → AddsTheSame out out' old new
+    runs_agree settled how other out out' err err' old new said later apart aside gave again =
+        same_meant out out' old new (run_meant settled how out out' err err' apart gave) (run_meant settled other old new said later aside again)
 
-module _ (input : Option Bytes) (file : Path → Option Bytes) (out out' err err' : Option Bytes) where
-  -- what a run of the request did that ended well
-  abbrev DidRun : Request → Type 0
-  DidRun (asks_plain profile script paths lists) = (is_settled : Bool) × RanPlain input file profile script paths lists is_settled out out' × Appends err err' (verdict_text is_settled)
-  DidRun (asks_run profile script paths how lists) = RanBy input file how profile script paths lists None out out' err err'
-  DidRun (asks_check script) = Unit {0}
-  DidRun help = Unit {0}
-  DidRun misuse = Unit {0}
-
-  ended_well : (request : Request) (status : ℕ) → Ends input file out out' err err' request status → status ≡ 0 → DidRun request
-  ended_well request status (plain_ran is_settled gave told) zero = (is_settled, gave, told)
-  ended_well request status (no_plain fault due keeps told) zero = absurd (some_status fault zero)
-  ended_well request status (ran gave) zero = gave
-  ended_well request status (ran_full full diag gave told) zero = cc
-  ended_well request status (no_run fault due keeps told) zero = absurd (some_run_status fault zero)
-  ended_well request status (harmless gave keeps) zero = tt
-  ended_well request status (harmful gave keeps) zero = tt
-  ended_well request status (no_check fault due keeps told) zero = tt
-  ended_well request status (helped text wrote keeps) zero = tt
-  ended_well request status (misused text keeps told) zero = tt
-  ended_well request status (no_memory keeps told) zero = cc
-  ended_well request status unwritten zero = cc
-
-settled_told : (before : Bytes) (is_settled : Bool) → before ++ codes "settled\n" ≡ before ++ verdict_text is_settled → is_settled ≡ true
-settled_told before true same = refl
-settled_told before false same =
-    let text : codes "settled\n" ≡ codes "not settled\n" = append_cancel_left before (codes "settled\n") (codes "not settled\n") same in
-    let long : length (codes "settled\n") ≡ length (codes "not settled\n") = ap length text in
-    absurd (omega (arith, long))
-
-module _ (input : Option Bytes) (file : Path → Option Bytes) (profile : Profile) (script : Path) (paths : List (Bor Path)) (how : How) (out out' err err' old new : Option Bytes) (before : Bytes) where
-  pub ends_agree : IsTold input file script paths → how ≢ by_schedule (codes "-") → Ends input file out out' err err' (asks_run profile script paths how no_lists) 0 → Ends input file old new (Some before) (Some (before ++ codes "settled\n")) (asks_plain profile script paths false) 0 → AddsTheSame out out' old new
-  ends_agree told apart first second =
-      let gave = ended_well input file out out' err err' (asks_run profile script paths how no_lists) 0 first refl in
-      let meant = ended_well input file old new (Some before) (Some (before ++ codes "settled\n")) (asks_plain profile script paths false) 0 second refl in
-      let plain = subst (λ is. RanPlain input file profile script paths false is old new) (settled_told before meant.0 meant.2) meant.1 in
-      agrees input file profile script paths told old new plain out out' err err' how apart gave
+    -- one by processes, and one by meaning that finds the script settled
+    pub agrees : (how : How) (out out' err err' old new : Option Bytes) → how ≢ by_schedule (codes "-") → RanBy input file how profile script paths no_lists None out out' err err' → RanPlain input file profile script paths false true old new → AddsTheSame out out' old new
+    agrees how out out' err err' old new apart gave plain =
+        let settled : IsSettledAt input file profile script paths = λ lines given stdin starts. as_begun input file script paths told (λ l g s. IsSettledScript profile l s (files g)) plain.lines lines plain.given given plain.stdin stdin plain.starts starts (plain.settled.0 refl) in
+        let meant : IsMeant old new = record { lines = plain.lines; given = plain.given; stdin = plain.stdin; starts = plain.starts; wrote = plain.writes } in
+        same_meant out out' old new (run_meant settled how out out' err err' apart gave) meant

@@ -3,3 +3,4 @@ mod Puts
 mod Readings
 pub mod Meant
 pub mod Agreeing
+pub mod Statuses

@@ -11,9 +11,9 @@ ghost use Rattle.sh_meaning.specs.Settled.{IsSettledScript};
 ghost use Rattle.xvsh_read.specs.Path.{Path};
 ghost use Rattle.xvsh_runs.specs.Runs.{RanReplay, RanRun};
 ghost use Rattle.xvsh_runs.specs.declared.report.Lists.{Lists};
-ghost use Rattle.xvsh.specs.Ends.{Ends, How, asks_plain, asks_run, by_schedule};
+ghost use Rattle.xvsh.specs.Ends.{Ends, How, RanBy, asks_plain, asks_run, by_schedule};
 ghost use Rattle.xvsh.specs.Running.{RanPlain};
-ghost use Rattle.run_meaning.specs.Told.{IsTold};
+ghost use Rattle.run_meaning.specs.Told.{IsSettledAt, IsTold};
 ghost use Rattle.run_meaning.specs.Written.{AddsTheSame, WritesValue, no_lists};
 
 /// Where `run` wrote a run in which nothing was full, of a script that is settled on what was read, it wrote the output of the
@@ -28,22 +28,30 @@ pub fn a_run_writes_the_meaning()
         → WritesValue (script_meaning profile r.lines r.stdin (files r.given)) lists r.events out out' }
 {}
 
-/// So `run` and `plain`, of one script under one profile and on the same files, write the same to standard output, where nothing
-/// was full and `plain` found the script settled, no list was asked for, and the host tells all bytes that are read. So do
-/// `replay` and `plain`, where the schedule isn't read from standard input.
-pub fn a_run_writes_what_plain_writes()
-    ensures run { (input : Option Bytes) (file : Path → Option Bytes) (profile : Profile) (script : Path) (paths : List (Bor Path)) (harts turns : ℕ) (out out' err err' old new : Option Bytes)
-        → IsTold input file script paths → RanRun input file profile script paths harts turns no_lists None out out' err err'
-        → RanPlain input file profile script paths false true old new → AddsTheSame out out' old new }
-    ensures replay { (input : Option Bytes) (file : Path → Option Bytes) (profile : Profile) (script : Path) (paths : List (Bor Path)) (schedule : Path) (out out' err err' old new : Option Bytes)
-        → IsTold input file script paths → schedule ≢ codes "-" → RanReplay input file profile script paths schedule no_lists None out out' err err'
-        → RanPlain input file profile script paths false true old new → AddsTheSame out out' old new }
+/// So two runs of one script, under one profile and on the same files, write the same to standard output, where nothing was full
+/// in them, the script is settled, no list was asked for, and the host tells all bytes that are read: two runs by processes, each
+/// by `run`, on as many harts as may be, or by `replay` of a schedule that isn't read from standard input; or one of these and
+/// one by meaning, as of `plain`, that found the script settled.
+pub fn two_runs_write_the_same()
+    ensures by_processes { (input : Option Bytes) (file : Path → Option Bytes) (profile : Profile) (script : Path) (paths : List (Bor Path)) (how other : How) (out out' err err' old new said later : Option Bytes)
+        → IsTold input file script paths → IsSettledAt input file profile script paths → how ≢ by_schedule (codes "-") → other ≢ by_schedule (codes "-")
+        → RanBy input file how profile script paths no_lists None out out' err err' → RanBy input file other profile script paths no_lists None old new said later
+        → AddsTheSame out out' old new }
+    ensures by_meaning { (input : Option Bytes) (file : Path → Option Bytes) (profile : Profile) (script : Path) (paths : List (Bor Path)) (how : How) (out out' err err' old new : Option Bytes)
+        → IsTold input file script paths → how ≢ by_schedule (codes "-")
+        → RanBy input file how profile script paths no_lists None out out' err err' → RanPlain input file profile script paths false true old new
+        → AddsTheSame out out' old new }
 {}
 
-/// The same by what the program tells of itself: where a run by processes ends with status 0, and `plain` does and adds
-/// `settled` to standard error, both wrote the same to standard output.
+/// The same by what the program tells of itself: where a run by processes ends with status 0, and another does, or `plain` does
+/// and adds `settled` to standard error, both wrote the same to standard output.
 pub fn status_0_and_settled_is_one_output()
-    ensures { (input : Option Bytes) (file : Path → Option Bytes) (profile : Profile) (script : Path) (paths : List (Bor Path)) (how : How) (out out' err err' old new : Option Bytes) (before : Bytes)
+    ensures by_processes { (input : Option Bytes) (file : Path → Option Bytes) (profile : Profile) (script : Path) (paths : List (Bor Path)) (how other : How) (out out' err err' old new said later : Option Bytes)
+        → IsTold input file script paths → IsSettledAt input file profile script paths → how ≢ by_schedule (codes "-") → other ≢ by_schedule (codes "-")
+        → Ends input file out out' err err' (asks_run profile script paths how no_lists) 0
+        → Ends input file old new said later (asks_run profile script paths other no_lists) 0
+        → AddsTheSame out out' old new }
+    ensures by_meaning { (input : Option Bytes) (file : Path → Option Bytes) (profile : Profile) (script : Path) (paths : List (Bor Path)) (how : How) (out out' err err' old new : Option Bytes) (before : Bytes)
         → IsTold input file script paths → how ≢ by_schedule (codes "-")
         → Ends input file out out' err err' (asks_run profile script paths how no_lists) 0
         → Ends input file old new (Some before) (Some (before ++ codes "settled\n")) (asks_plain profile script paths false) 0
