@@ -7,9 +7,12 @@ use proc_table::Pid;
 use script_load::load;
 use std::hint::spin_loop;
 use std::process::Abort;
+use std::rt::Files;
 use std::sync::Wait;
 use std::sync::atomic::{AtomicBool, AtomicU64, Ordering};
 use std::test::Fail;
+use std::time::Duration;
+use std::{fs, io, thread};
 
 const TURNS: u64 = 10_000_000;
 
@@ -85,6 +88,69 @@ fn two_inside(rt: HostRuntime) -> Result<(), Fail> {
         assert!(&rt; !gate.missed.load(Ordering::SeqCst));
         assert_eq!(&rt; report.out.as_slice(), b"100 100 1300 \n".as_slice());
     }
+    Ok(())
+}
+
+// Counts the steps that begin.
+#[derive(Drop)]
+struct Counting {
+    begun: AtomicU64,
+}
+
+impl Gate for Counting {
+    fn enter<R: Wait>(&self, _rt: &R, _hart: u8, _pid: Pid) {
+        self.begun.fetch_add(1, Ordering::SeqCst);
+    }
+}
+
+#[test]
+fn each_dispatch_passes_the_gate_once_and_none_comes_later(rt: HostRuntime) -> Result<(), Fail> {
+    let alloc = rt.alloc();
+    let script = load(alloc, b"cat big | (head -2; wc)")?;
+    let given = files_of(alloc, &[])?;
+    let gate = Counting {
+        begun: AtomicU64::new(0),
+    };
+    let report = run_harts(&rt, alloc, &script, &[], &given, 8, TURNS, &gate)?;
+    let dispatches = report.schedule.as_slice().len() as u64 / 2;
+    assert_eq!(&rt; gate.begun.load(Ordering::SeqCst), dispatches);
+    thread::sleep(&rt, Duration::from_millis(20));
+    assert_eq!(&rt; gate.begun.load(Ordering::SeqCst), dispatches);
+    Ok(())
+}
+
+// How many threads this process has, after what the system tells of it.
+fn threads_here<R: Files + Alloc>(rt: &R) -> io::Result<u64> {
+    let text = fs::read_to_string(rt, "/proc/self/status")?;
+    for line in text.as_str().lines() {
+        if let Some(count) = line.strip_prefix("Threads:") {
+            return Ok(count.trim().parse().unwrap_or(0));
+        }
+    }
+    Ok(0)
+}
+
+#[test]
+fn no_thread_is_left(rt: HostRuntime) -> Result<(), Fail> {
+    let alloc = rt.alloc();
+    let script = load(alloc, b"cat p | grep b | wc")?;
+    let given = files_of(alloc, &[])?;
+    let before = threads_here(&rt)?;
+    assert!(&rt; 0 < before);
+    for _run in 0..10 {
+        let report = run_harts(&rt, alloc, &script, &[], &given, 8, TURNS, &OpenGate)?;
+        assert!(&rt; report.finished);
+    }
+    // The system may need a moment to take the last threads away.
+    let mut after = threads_here(&rt)?;
+    for _look in 0..1_000 {
+        if after == before {
+            break;
+        }
+        thread::sleep(&rt, Duration::from_millis(1));
+        after = threads_here(&rt)?;
+    }
+    assert_eq!(&rt; after, before);
     Ok(())
 }
 
