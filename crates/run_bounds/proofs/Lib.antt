@@ -5,3 +5,4 @@ mod Counted
 mod GoingOn
 mod Bounded
 pub mod Ending
+mod OfKernel

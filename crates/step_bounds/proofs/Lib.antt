@@ -1,0 +1,4 @@
+mod Exec
+mod Growing
+mod Costs
+mod Lines
