@@ -3,3 +3,4 @@ pub mod Events
 pub mod Ranges
 pub mod Reports
 pub mod Seats
+pub mod Turns

@@ -5,6 +5,7 @@ mod faults;
 mod gates;
 mod locked;
 mod naming;
+mod passing;
 mod patience;
 mod running;
 mod seats;

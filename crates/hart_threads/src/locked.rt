@@ -1,8 +1,8 @@
 //! The kernel that harts share, as it is under its lock.
 
-ghost use Rattle.std.specs.Prelude.{◌≡◌, ◌≢◌, ◌<◌, ◌≤◌, ◌+◌, ◌*◌, ◌↔◌, IsTrue, IfOk, IfSome, OnErr, None, Some, Ok, [], is_some, if◌then◌else◌, length, count_by, vec_len};
+ghost use Rattle.std.specs.Prelude.{◌≡◌, ◌≢◌, ◌<◌, ◌≤◌, ◌+◌, ◌*◌, ◌↔◌, IsTrue, IfOk, IfErr, IfSome, OnErr, None, Some, Ok, [], ℕ, false, All, is_some, is_ok, if◌then◌else◌, length, count_by, vec_len};
 ghost use Rattle.std.specs.Bool.{OnFalse, OnTrue};
-ghost use Rattle.proc_table.specs.Slots.{at, is_running};
+ghost use Rattle.proc_table.specs.Slots.{at, is_running, is_running_on, is_runnable};
 ghost use Rattle.kernel_model.specs.Events.{IsFinished, run};
 ghost use Rattle.kernel_model.specs.History.{IsOwed};
 ghost use Rattle.kernel_lengths.specs.Kinds.{is_dispatch};
@@ -10,6 +10,7 @@ ghost use Rattle.hart_threads.specs.Boots.{number_of};
 ghost use Rattle.hart_threads.specs.Events.{AreOfHarts};
 ghost use Rattle.hart_threads.specs.Reports.{IsFinishedFrom, IsSoFarFrom};
 ghost use Rattle.hart_threads.specs.Seats.{all_events, events_of};
+ghost use Rattle.hart_threads.specs.Turns.{Says};
 
 use crate::naming::Run;
 use crate::seats::Seat;
@@ -115,6 +116,7 @@ impl<N: Run, M: Machine> Locked<N, M> {
         ensures spent { result ≡ Some Spent → (IsFinished self.now.now → ⊥) × (N.turns < length self.now.schedule + count_by is_running self.now.now.table + 2) }
         ensures left { result ≡ None → length self.now.schedule + count_by is_running self.now.now.table + 2 ≤ N.turns }
         ensures no_event { IfSome result (λ turn. events_of turn ≡ 0) }
+        ensures says { IfSome result (λ turn. (h : ℕ) → Says N.turns h turn self.now.now self.now.schedule) }
     {
         if self.kernel.is_finished() {
             return Some(Turn::Finished);
@@ -132,6 +134,7 @@ impl<N: Run, M: Machine> Locked<N, M> {
         ensures events { IfOk result (λ found. seat.new.events ≡ seat.old.events + (if is_some found then 1 else 0)) }
         ensures event { IfOk result (λ found. IfSome found (λ task. GoesOn M.call_of M.next_of self.old (Dispatch seat.old.hart task.pid) self.new)) }
         ensures idle { result ≡ Ok None → self.new ≡ self.old }
+        ensures none { result ≡ Ok None → All (λ slot. is_running_on seat.old.hart slot ≡ false) self.old.now.table → All (λ slot. is_runnable slot ≡ false) self.old.now.table }
         ensures err { OnErr result ((seat.new ≡ seat.old) × (self.new ≡ self.old)) }
     {
         are_paired(&self.kernel);
@@ -143,6 +146,24 @@ impl<N: Run, M: Machine> Locked<N, M> {
             seat.count(&mut self.counts);
         }
         Ok(found)
+    }
+
+    // The next process begins to run on the hart of the seat; or why none does.
+    pub(crate) fn begin(&mut self, seat: &mut Seat<N>) -> Result<Result<Task<M>, Turn>, AllocError>
+        ensures hart { seat.new.hart ≡ seat.old.hart }
+        ensures events { IfOk result (λ next. seat.new.events ≡ seat.old.events + (if is_ok next then 1 else 0)) }
+        ensures event { IfOk result (λ next. IfOk next (λ task. GoesOn M.call_of M.next_of self.old (Dispatch seat.old.hart task.pid) self.new)) }
+        ensures no_event { IfOk result (λ next. IfErr next (λ turn. events_of turn ≡ 0)) }
+        ensures says { IfOk result (λ next. IfErr next (λ turn. Says N.turns seat.old.hart turn self.old.now self.old.schedule)) }
+        ensures err { OnErr result ((seat.new ≡ seat.old) × (self.new ≡ self.old)) }
+    {
+        if let Some(turn) = self.over() {
+            return Ok(Err(turn));
+        }
+        match self.dispatch(seat)? {
+            Some(task) => Ok(Ok(task)),
+            None => Ok(Err(Turn::Idle)),
+        }
     }
 
     // The call of a process that runs on the hart of the seat is carried out. It says whether it was; where the process

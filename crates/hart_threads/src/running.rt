@@ -17,6 +17,7 @@ use crate::faults::{RunFault, range_fault};
 use crate::gates::Gate;
 use crate::locked::Verdict;
 use crate::naming::Run;
+use crate::passing::run_task;
 use crate::patience::Patience;
 use crate::seats::Seat;
 use crate::sharing::{Shared, Turn};
@@ -43,12 +44,19 @@ fn take_turns<N: Run, M: Machine, R: Wait + Clock, G: Gate>(
     gate: &G,
 ) -> Result<(), AllocError> {
     let mut patience = Patience::new();
+    let mut back = None;
     for _ in rt.forever() {
-        match shared.turn(rt, seat, gate)? {
-            Turn::Finished | Turn::Spent => return Ok(()),
-            Turn::Stepped => patience = Patience::new(),
-            Turn::Idle | Turn::Lost => patience.wait(rt),
-        }
+        back = match shared.pass(rt, seat, back)? {
+            Ok(task) => {
+                patience = Patience::new();
+                Some(run_task(rt, seat, task, gate))
+            }
+            Err(Turn::Finished | Turn::Spent) => return Ok(()),
+            Err(_) => {
+                patience.wait(rt);
+                None
+            }
+        };
     }
     unreachable!()
 }

@@ -5,17 +5,19 @@ ghost use Rattle.hart_threads.specs.Boots.{number_of};
 ghost use Rattle.hart_threads.specs.Events.{AreOfHarts};
 ghost use Rattle.hart_threads.specs.Reports.{IsFinishedFrom, IsSoFarFrom};
 ghost use Rattle.hart_threads.specs.Seats.{all_events, events_of};
+ghost use Rattle.hart_threads.specs.Turns.{IsSaid};
 
 use crate::faults::{RunFault, range_fault};
 use crate::gates::Gate;
 use crate::locked::Locked;
 use crate::naming::Run;
+use crate::passing::{Back, run_task};
 use crate::seats::Seat;
 use kernel_core::{Kernel, Report, Task};
 use std::alloc::{AllocError, Global};
 use std::sync::ledger::Blank;
 use std::sync::{Mutex, Wait};
-use user_calls::{Machine, Ran};
+use user_calls::Machine;
 
 /// What a turn came to.
 #[derive(Clone, Copy, Debug, PartialEq, Eq)]
@@ -88,28 +90,39 @@ impl<N: Run, M: Machine> Shared<N, M> {
     ) -> Result<Turn, AllocError>
         ensures hart { seat.new.hart ≡ seat.old.hart }
         ensures events { IfOk result (λ turn. seat.new.events ≡ seat.old.events + events_of turn) }
+        ensures said { IfOk result (IsSaid M.code M.call_of M.next_of N.boot N.turns seat.old.hart) }
         ensures err { OnErr result (seat.new ≡ seat.old) }
     {
         let mut guard = self.lock.lock(rt);
-        if let Some(turn) = guard.over() {
-            return Ok(turn);
-        }
-        let Some(task) = guard.dispatch(seat)? else {
-            return Ok(Turn::Idle);
+        guard.is_run();
+        let task = match guard.begin(seat)? {
+            Ok(task) => task,
+            Err(turn) => return Ok(turn),
         };
         drop(guard);
-        let Task {
-            pid,
-            machine,
-            reply,
-        } = task;
-        gate.enter(rt, seat.hart(), pid);
-        let ran = Ran::make(machine, reply);
+        let Back { pid, ran } = run_task(rt, seat, task, gate);
         if self.lock.lock(rt).trap(seat, pid, ran) {
             Ok(Turn::Stepped)
         } else {
             Ok(Turn::Lost)
         }
+    }
+
+    // The process that ran on the hart of the seat, if one did, comes back to the kernel, which carries out its call, and
+    // the next process begins to run there; or why none does. The kernel is locked once for both.
+    pub(crate) fn pass<R: Wait>(
+        &self,
+        rt: &R,
+        seat: &mut Seat<N>,
+        back: Option<Back<M>>,
+    ) -> Result<Result<Task<M>, Turn>, AllocError>
+        ensures { seat.new.hart ≡ seat.old.hart }
+    {
+        let mut guard = self.lock.lock(rt);
+        if let Some(Back { pid, ran }) = back {
+            guard.trap(seat, pid, ran);
+        }
+        guard.begin(seat)
     }
 
     /// What the run leaves, when all seats come back. Takes no memory, and waits for nobody.
