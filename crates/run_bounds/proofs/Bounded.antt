@@ -18,7 +18,7 @@ use Rattle.kernel_lengths.proofs.Long.{as_long}
 use Rattle.kernel_trees.specs.Walks.{calls_made}
 use Rattle.never_stuck.proofs.Never.{somebody_is_awake}
 use Rattle.run_lengths.proofs.Bounded.{so_many_calls}
-use Rattle.run_bounds.specs.Most.{most_events}
+use Rattle.step_bounds.specs.Most.{most_events}
 use Rattle.run_bounds.specs.GoingOn.{CanGoOn}
 use Rattle.run_bounds.proofs.Counted.{few}
 use Rattle.run_bounds.proofs.GoingOn.{goes_on}

@@ -21,7 +21,7 @@ use Rattle.kernel_trees.proofs.RunsEnd.{finished_means}
 use Rattle.kernel_core.specs.ScriptRun.{IsSpentFrom, script_kernel}
 use Rattle.kernel_core.proofs.Scripts.{whole}
 use Rattle.never_stuck.proofs.Turns.{spends_turns}
-use Rattle.run_bounds.specs.Most.{most_events}
+use Rattle.step_bounds.specs.Most.{most_events}
 use Rattle.run_bounds.specs.GoingOn.{CanGoOn}
 use Rattle.run_bounds.proofs.Bounded.{finished_or_goes, finished_or_short}
 

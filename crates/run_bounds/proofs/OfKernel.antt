@@ -13,7 +13,7 @@ use Rattle.sh_machine.specs.Turn.{call_of, next_of}
 use Rattle.sh_machine.specs.declared.state.Phase.TheVariants.{Starts}
 use Rattle.kernel_core.proofs.Scripts.{whole}
 use Rattle.never_stuck.specs.Plain.{IsPlainRun}
-use Rattle.run_bounds.specs.Most.{most_events}
+use Rattle.step_bounds.specs.Most.{most_events}
 use Rattle.run_bounds.proofs.Bounded.{finished_then}
 
 pub finished_of : (h : History User) → IsBooted h.boot → run call_of next_of (Some h.boot) h.schedule h.notes ≡ Some h.now → (p : IsPlainRun h) → IsClearScript p.lines → most_events p.lines p.input (files p.files) < length h.schedule → IsFinished h.now

@@ -1,2 +1,1 @@
-pub mod Most
 pub mod GoingOn

@@ -5,7 +5,7 @@ ghost use Rattle.mem_files.specs.Files.{files};
 ghost use Rattle.tree_machine.specs.Tidy.{IsClearScript};
 ghost use Rattle.kernel_model.specs.Events.{IsFinished};
 ghost use Rattle.never_stuck.specs.Plain.{IsPlainRun};
-ghost use Rattle.run_bounds.specs.Most.{most_events};
+ghost use Rattle.step_bounds.specs.Most.{most_events};
 
 use kernel_core::Kernel;
 use sh_machine::{Naming, User};

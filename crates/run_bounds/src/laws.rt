@@ -20,7 +20,7 @@ ghost use Rattle.kernel_model.specs.Events.{run, IsFinished};
 ghost use Rattle.kernel_model.specs.KernelState.{KernelState};
 ghost use Rattle.kernel_core.specs.ScriptRun.{IsSpentFrom, script_kernel};
 ghost use Rattle.run_bounds.specs.GoingOn.{CanGoOn, StaysFinished};
-ghost use Rattle.run_bounds.specs.Most.{most_events};
+ghost use Rattle.step_bounds.specs.Most.{most_events};
 
 /// A run of a clear script in which nothing was full, whatever its schedule, is finished once it has more events than
 /// `most_events`, a number that is computed from the script, the length of the input and the sizes of the files. And as long as

@@ -1,3 +1,4 @@
+use crate::enough::turns_enough;
 use crate::steps::most_steps;
 use mem_files::Files;
 use script_load::load;
@@ -31,6 +32,17 @@ fn counts_steps(rt: HostRuntime) -> Result<(), Fail> {
             Some(steps),
             "{script}"
         );
+    }
+    Ok(())
+}
+
+// 192 events and 260 for each of fifteen calls a step, and two.
+#[test]
+fn counts_turns(rt: HostRuntime) -> Result<(), Fail> {
+    let files = Files::new(rt.alloc());
+    for (script, turns) in [("", 4_094), ("echo a | cat\n", 144_494)] {
+        let script = load(rt.alloc(), script.as_bytes())?;
+        assert_eq!(rt; turns_enough(&script, &[], &files), Some(turns));
     }
     Ok(())
 }

@@ -10,7 +10,7 @@ use Rattle.script_load.specs.declared.profile.Profile.{Profile}
 use Rattle.sh_meaning.specs.Meaning.{script_tree}
 use Rattle.tree_machine.proofs.Short.{small_short}
 use Rattle.kernel_core.specs.ScriptRun.{IsSpentFrom, script_kernel}
-use Rattle.run_bounds.specs.Most.{most_events}
+use Rattle.step_bounds.specs.Most.{most_events}
 use Rattle.run_bounds.proofs.Ending.{few_turns}
 use Rattle.turn_bounds.specs.Filled.{IsFilledFrom}
 

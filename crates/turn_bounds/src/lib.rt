@@ -1,10 +1,8 @@
-//! How many turns are enough for a run of a script, and a run that takes so many.
+//! A run of a script in as many turns as are enough for it.
 #![tactic(auto)]
 
-mod enough;
 #[cfg(test)]
 mod tests;
 mod whole;
 
-pub use enough::turns_enough;
 pub use whole::run_whole;

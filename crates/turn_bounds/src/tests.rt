@@ -1,17 +1,15 @@
-use crate::enough::turns_enough;
 use crate::whole::run_whole;
 use mem_files::Files;
 use script_load::load;
 use std::process::Abort;
 use std::test::Fail;
 
-// The script has 37 steps at most, and takes as many turns as there are events, far fewer.
+// A run takes as many turns as it has events, far fewer than are enough.
 #[test]
 fn a_script_runs_to_its_end(rt: HostRuntime) -> Result<(), Fail> {
     let alloc = rt.alloc();
     let script = load(alloc, b"echo a | cat".as_slice())?;
     let files = Files::new(alloc);
-    assert_eq!(rt; turns_enough(&script, &[], &files), Some(194 + 3_900 * 37));
     let report = run_whole(alloc, &script, &[], &files)?;
     assert!(rt; report.finished);
     assert_eq!(rt; report.out.as_slice(), b"a\n".as_slice());

@@ -7,15 +7,15 @@ ghost use Rattle.sh_meaning.specs.Meaning.{script_tree};
 ghost use Rattle.kernel_core.specs.Answer.{IsAnswerIfSettled};
 ghost use Rattle.kernel_core.specs.ScriptRun.{IsRunFrom, script_kernel};
 ghost use Rattle.kernel_core.specs.declared.run.TheConstants.{MAX_TURNS};
-ghost use Rattle.run_bounds.specs.Most.{most_events};
+ghost use Rattle.step_bounds.specs.Most.{most_events};
 ghost use Rattle.turn_bounds.specs.Filled.{IsFilledFrom};
 
-use crate::enough::turns_enough;
 use kernel_core::{MAX_TURNS, Report, RunOneFault, run_one};
 use mem_files::Files;
 use mem_files::laws::are_files;
 use script_load::Script;
 use std::alloc::Allocator;
+use step_bounds::turns_enough;
 
 // As many turns as are enough, or where these are more than a run may have, as many as that.
 fn turns_for<A: Allocator, B: Allocator>(script: &Script<A>, stdin: &[u8], store: &Files<B>) -> u64

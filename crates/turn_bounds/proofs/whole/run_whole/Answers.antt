@@ -1,7 +1,7 @@
 use Rattle.std.proofs.Common.{◌≡◌, ◌+◌, arith}
 use Rattle.mem_files.specs.Files.{files}
 use Rattle.script_load.specs.Line.{lines_of}
-use Rattle.run_bounds.specs.Most.{most_events}
+use Rattle.step_bounds.specs.Most.{most_events}
 use Rattle.turn_bounds.proofs.Spending.{filled}
 use Rattle.turn_bounds.proofs.whole.run_whole.Goals as goal
 

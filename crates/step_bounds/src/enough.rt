@@ -3,13 +3,13 @@ ghost use Rattle.std.specs.Prelude.{◌≡◌, ◌+◌, ◌<◌, ◌≤◌, IfNo
 ghost use Rattle.mem_files.specs.Files.{files};
 ghost use Rattle.script_load.specs.Line.{lines_of};
 ghost use Rattle.kernel_core.specs.declared.run.TheConstants.{MAX_TURNS};
-ghost use Rattle.run_bounds.specs.Most.{most_events};
+ghost use Rattle.step_bounds.specs.Most.{most_events};
 
+use crate::steps::most_steps;
 use kernel_core::MAX_TURNS;
 use mem_files::Files;
 use script_load::Script;
 use std::alloc::Allocator;
-use step_bounds::most_steps;
 
 /// As many turns as are enough for a run of the script with this standard input and these files, whatever its schedule: two
 /// more than its most events, `most_events`. `None` where they are more than a run may have (own).
