@@ -10,7 +10,7 @@ use Rattle.xvsh_runs.specs.declared.fault.RunFault.{RunFault}
 use Rattle.xvsh_runs.specs.declared.fault.RunFault.TheVariants.{Common, BadHarts, BadTurns, Spent, SharedInput, NoEvent, NotRunnable, NotRunning, Unfinished}
 use Rattle.xvsh_runs.specs.Status.{run_status}
 use Rattle.xvsh.specs.Drive.{verdict_text}
-use Rattle.xvsh.specs.Ends.{Request, asks_plain, asks_run, asks_check, help, misuse, How, by_schedule, RanBy, Ends, plain_ran, no_plain, ran, ran_full, no_run, harmless, harmful, no_check, helped, misused, no_memory, unwritten}
+use Rattle.xvsh.specs.Ends.{Request, asks_plain, asks_run, asks_check, asks_turns, verdict_status, help, misuse, How, by_schedule, RanBy, Ends, plain_ran, no_plain, ran, ran_full, no_run, harmless, harmful, no_check, counted, not_counted, helped, misused, no_memory, unwritten}
 use Rattle.xvsh.specs.Running.{RanPlain}
 use Rattle.xvsh.proofs.Ending.{some_status}
 use Rattle.run_meaning.specs.Told.{IsTold, IsSettledAt}
@@ -31,14 +31,15 @@ some_run_status (Unfinished count) is = cc
 module _ (input : Option Bytes) (file : Path → Option Bytes) (out out' err err' : Option Bytes) where
   -- what a run of the request did that ended well
   abbrev DidRun : Request → Type 0
-  DidRun (asks_plain profile script paths lists) = (is_settled : Bool) × RanPlain input file profile script paths lists is_settled out out' × Appends err err' (verdict_text is_settled)
+  DidRun (asks_plain profile script paths lists strict) = (is_settled : Bool) × RanPlain input file profile script paths lists is_settled out out' × Appends err err' (verdict_text is_settled) × (verdict_status strict is_settled ≡ 0)
   DidRun (asks_run profile script paths how lists) = RanBy input file how profile script paths lists None out out' err err'
   DidRun (asks_check script) = Unit {0}
+  DidRun (asks_turns script paths) = Unit {0}
   DidRun help = Unit {0}
   DidRun misuse = Unit {0}
 
   ended_well : (request : Request) (status : ℕ) → Ends input file out out' err err' request status → status ≡ 0 → DidRun request
-  ended_well request status (plain_ran is_settled gave told) zero = (is_settled, gave, told)
+  ended_well request status (plain_ran is_settled gave told) zero = (is_settled, gave, told, zero)
   ended_well request status (no_plain fault due keeps told) zero = absurd (some_status fault zero)
   ended_well request status (ran gave) zero = gave
   ended_well request status (ran_full full diag gave told) zero = cc
@@ -46,6 +47,8 @@ module _ (input : Option Bytes) (file : Path → Option Bytes) (out out' err err
   ended_well request status (harmless gave keeps) zero = tt
   ended_well request status (harmful gave keeps) zero = tt
   ended_well request status (no_check fault due keeps told) zero = tt
+  ended_well request status (counted is_harmless gave keeps) zero = tt
+  ended_well request status (not_counted fault due keeps told) zero = tt
   ended_well request status (helped text wrote keeps) zero = tt
   ended_well request status (misused text keeps told) zero = tt
   ended_well request status (no_memory keeps told) zero = cc
@@ -58,14 +61,29 @@ settled_told before false same =
     let long : length (codes "settled\n") ≡ length (codes "not settled\n") = ap length text in
     absurd (omega (arith, long))
 
+-- so has status 0 of a run that was asked for strictly
+strictly_settled : (is_settled : Bool) → verdict_status true is_settled ≡ 0 → is_settled ≡ true
+strictly_settled true zero = refl
+strictly_settled false zero = cc
+
 module _ (input : Option Bytes) (file : Path → Option Bytes) (profile : Profile) (script : Path) (paths : List (Bor Path)) (told : IsTold input file script paths) (how : How) (apart : how ≢ by_schedule (codes "-")) (out out' err err' old new : Option Bytes) (first : Ends input file out out' err err' (asks_run profile script paths how no_lists) 0) where
   gave : RanBy input file how profile script paths no_lists None out out' err err'
   gave = ended_well input file out out' err err' (asks_run profile script paths how no_lists) 0 first refl
 
-  pub ends_agree : (before : Bytes) → Ends input file old new (Some before) (Some (before ++ codes "settled\n")) (asks_plain profile script paths false) 0 → AddsTheSame out out' old new
-  ends_agree before second =
-      let meant = ended_well input file old new (Some before) (Some (before ++ codes "settled\n")) (asks_plain profile script paths false) 0 second refl in
-      agrees input file profile script paths told how out out' err err' old new apart gave (subst (λ is. RanPlain input file profile script paths false is old new) (settled_told before meant.0 meant.2) meant.1)
+  -- a run by meaning that found the script settled
+  agrees_settled : (is_settled : Bool) → is_settled ≡ true → RanPlain input file profile script paths false is_settled old new → AddsTheSame out out' old new
+  agrees_settled is_settled settled meant =
+      agrees input file profile script paths told how out out' err err' old new apart gave (subst (λ is. RanPlain input file profile script paths false is old new) settled meant)
+
+  pub ends_agree : (strict : Bool) (before : Bytes) → Ends input file old new (Some before) (Some (before ++ codes "settled\n")) (asks_plain profile script paths false strict) 0 → AddsTheSame out out' old new
+  ends_agree strict before second =
+      let meant = ended_well input file old new (Some before) (Some (before ++ codes "settled\n")) (asks_plain profile script paths false strict) 0 second refl in
+      agrees_settled meant.0 (settled_told before meant.0 meant.2) meant.1
+
+  pub strict_ends_agree : (said later : Option Bytes) → Ends input file old new said later (asks_plain profile script paths false true) 0 → AddsTheSame out out' old new
+  strict_ends_agree said later second =
+      let meant = ended_well input file old new said later (asks_plain profile script paths false true) 0 second refl in
+      agrees_settled meant.0 (strictly_settled meant.0 meant.3) meant.1
 
   pub runs_end_alike : (other : How) (said later : Option Bytes) → other ≢ by_schedule (codes "-") → IsSettledAt input file profile script paths → Ends input file old new said later (asks_run profile script paths other no_lists) 0 → AddsTheSame out out' old new
   runs_end_alike other said later aside settled second =

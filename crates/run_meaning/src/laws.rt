@@ -1,7 +1,7 @@
 //! Laws of runs of the program: each function's contract is the law, and its body is empty. Each is of both profiles, and says
 //! nothing of writers of which it isn't known what they hold.
 
-ghost use Rattle.std.specs.Prelude.{◌≡◌, ◌≢◌, ℕ, ◌++◌, true, false, List, Option, Some, None, codes};
+ghost use Rattle.std.specs.Prelude.{◌≡◌, ◌≢◌, ℕ, Bool, ◌++◌, true, false, List, Option, Some, None, codes};
 ghost use Rattle.std.specs.Borrow.{Bor};
 ghost use Rattle.mem_files.specs.Files.{files};
 ghost use Rattle.mem_files.specs.Name.{Bytes};
@@ -44,16 +44,21 @@ pub fn two_runs_write_the_same()
 {}
 
 /// The same by what the program tells of itself: where a run by processes ends with status 0, and another does, or `plain` does
-/// and adds `settled` to standard error, both wrote the same to standard output.
+/// and adds `settled` to standard error, or `plain --strict` does, both wrote the same to standard output.
 pub fn status_0_and_settled_is_one_output()
     ensures by_processes { (input : Option Bytes) (file : Path → Option Bytes) (profile : Profile) (script : Path) (paths : List (Bor Path)) (how other : How) (out out' err err' old new said later : Option Bytes)
         → IsTold input file script paths → IsSettledAt input file profile script paths → how ≢ by_schedule (codes "-") → other ≢ by_schedule (codes "-")
         → Ends input file out out' err err' (asks_run profile script paths how no_lists) 0
         → Ends input file old new said later (asks_run profile script paths other no_lists) 0
         → AddsTheSame out out' old new }
-    ensures by_meaning { (input : Option Bytes) (file : Path → Option Bytes) (profile : Profile) (script : Path) (paths : List (Bor Path)) (how : How) (out out' err err' old new : Option Bytes) (before : Bytes)
+    ensures by_meaning { (input : Option Bytes) (file : Path → Option Bytes) (profile : Profile) (script : Path) (paths : List (Bor Path)) (how : How) (out out' err err' old new : Option Bytes) (strict : Bool) (before : Bytes)
         → IsTold input file script paths → how ≢ by_schedule (codes "-")
         → Ends input file out out' err err' (asks_run profile script paths how no_lists) 0
-        → Ends input file old new (Some before) (Some (before ++ codes "settled\n")) (asks_plain profile script paths false) 0
+        → Ends input file old new (Some before) (Some (before ++ codes "settled\n")) (asks_plain profile script paths false strict) 0
+        → AddsTheSame out out' old new }
+    ensures by_strict_meaning { (input : Option Bytes) (file : Path → Option Bytes) (profile : Profile) (script : Path) (paths : List (Bor Path)) (how : How) (out out' err err' old new said later : Option Bytes)
+        → IsTold input file script paths → how ≢ by_schedule (codes "-")
+        → Ends input file out out' err err' (asks_run profile script paths how no_lists) 0
+        → Ends input file old new said later (asks_plain profile script paths false true) 0
         → AddsTheSame out out' old new }
 {}

@@ -17,8 +17,9 @@ use Rattle.xvsh_runs.specs.declared.fault.RunFault.{RunFault}
 use Rattle.xvsh_runs.specs.declared.fault.RunFault.TheVariants.{Common, BadHarts, BadTurns, Spent, SharedInput, NoEvent, NotRunnable, NotRunning, Unfinished}
 use Rattle.xvsh_runs.specs.declared.report.Lists.{Lists}
 use Rattle.xvsh_runs.specs.Status.{run_status, run_fault_told}
-use Rattle.xvsh.specs.Ends.{Request, asks_plain, asks_run, asks_check, misuse, help, How, Tells, TellsRan, RanBy, IsFaultBy, Ends, plain_ran, no_plain, ran, ran_full, no_run, harmless, harmful, no_check, helped, misused, no_memory, unwritten}
+use Rattle.xvsh.specs.Ends.{Request, asks_plain, asks_run, asks_check, asks_turns, check_status, verdict_status, misuse, help, How, Tells, TellsRan, RanBy, IsFaultBy, Ends, plain_ran, no_plain, ran, ran_full, no_run, harmless, harmful, no_check, counted, not_counted, helped, misused, no_memory, unwritten}
 use Rattle.xvsh.specs.Running.{RanPlain, IsPlainFault}
+use Rattle.xvsh.specs.Turns.{RanTurns, IsTurnsFault}
 use Rattle.xvsh.proofs.Ran.{writes_meaning}
 
 -- what is known stays where nothing changes
@@ -67,6 +68,12 @@ some_status TooLarge is = cc
 some_status Memory is = cc
 some_status Unwritten is = cc
 
+-- a status of a script that ran is 0, or 3 of one that was asked for strictly
+pub verdict_or : (strict is_settled : Bool) → verdict_status strict is_settled ≢ 0 → (strict ≡ true) × (verdict_status strict is_settled ≡ 3)
+verdict_or false is_settled some = absurd (some refl)
+verdict_or true true some = absurd (some refl)
+verdict_or true false some = (refl, refl)
+
 -- what is known grows by nothing
 pub appends_none : (known : Option Bytes) → Appends known known []
 appends_none None = tt
@@ -76,30 +83,33 @@ module _ (input : Option Bytes) (file : Path → Option Bytes) (out out' err err
   one : (request : Request) (status : ℕ) → status ≡ 1 → Ends input file out out' err err' request status
   one request status is = subst (Ends input file out out' err err' request) (sym is) (unwritten {request = request})
 
-  pub ended_run : (profile : Profile) (script : Path) (paths : List (Bor Path)) (lists is_settled : Bool) (status : ℕ) → RanPlain input file profile script paths lists is_settled out out' → Tells (verdict_text is_settled) 0 status err err' → Ends input file out out' err err' (asks_plain profile script paths lists) status
-  ended_run profile script paths lists is_settled status gave (inl told) = subst (Ends input file out out' err err' (asks_plain profile script paths lists)) (sym told.0) (plain_ran is_settled gave told.1)
-  ended_run profile script paths lists is_settled status gave (inr untold) = one (asks_plain profile script paths lists) status untold
+  pub ended_run : (profile : Profile) (script : Path) (paths : List (Bor Path)) (lists strict is_settled : Bool) (status : ℕ) → RanPlain input file profile script paths lists is_settled out out' → Tells (verdict_text is_settled) (verdict_status strict is_settled) status err err' → Ends input file out out' err err' (asks_plain profile script paths lists strict) status
+  ended_run profile script paths lists strict is_settled status gave (inl told) = subst (Ends input file out out' err err' (asks_plain profile script paths lists strict)) (sym told.0) (plain_ran is_settled gave told.1)
+  ended_run profile script paths lists strict is_settled status gave (inr untold) = one (asks_plain profile script paths lists strict) status untold
 
-  pub refused_run : (profile : Profile) (script : Path) (paths : List (Bor Path)) (lists : Bool) (fault : Fault) (status : ℕ) → IsPlainFault input file profile script paths fault → (fault ≢ Unwritten → out' ≡ out) → Tells (fault_told fault) (status_of fault) status err err' → Ends input file out out' err err' (asks_plain profile script paths lists) status
-  refused_run profile script paths lists fault status due stays (inr untold) = one (asks_plain profile script paths lists) status untold
-  refused_run profile script paths lists fault status due stays (inl told) = elim (unwritten_or fault) [
-    | inl is ↦ one (asks_plain profile script paths lists) status (told.0 ∙ ap status_of is)
-    | inr other ↦ subst (Ends input file out out' err err' (asks_plain profile script paths lists)) (sym told.0) (no_plain fault due (keeps_equal out out' (stays other)) told.1)
+  pub refused_run : (profile : Profile) (script : Path) (paths : List (Bor Path)) (lists strict : Bool) (fault : Fault) (status : ℕ) → IsPlainFault input file profile script paths fault → (fault ≢ Unwritten → out' ≡ out) → Tells (fault_told fault) (status_of fault) status err err' → Ends input file out out' err err' (asks_plain profile script paths lists strict) status
+  refused_run profile script paths lists strict fault status due stays (inr untold) = one (asks_plain profile script paths lists strict) status untold
+  refused_run profile script paths lists strict fault status due stays (inl told) = elim (unwritten_or fault) [
+    | inl is ↦ one (asks_plain profile script paths lists strict) status (told.0 ∙ ap status_of is)
+    | inr other ↦ subst (Ends input file out out' err err' (asks_plain profile script paths lists strict)) (sym told.0) (no_plain fault due (keeps_equal out out' (stays other)) told.1)
   ]
 
-  pub found_harmless : (script : Path) (is_harmless : Bool) → is_harmless ≡ true → RanCheck input file script is_harmless out out' → err' ≡ err → Ends input file out out' err err' (asks_check script) 0
-  found_harmless script is_harmless is gave same =
-      harmless (subst (λ b. RanCheck input file script b out out') is gave) (keeps_equal err err' same)
-
-  pub found_harmful : (script : Path) (is_harmless : Bool) → is_harmless ≡ false → RanCheck input file script is_harmless out out' → err' ≡ err → Ends input file out out' err err' (asks_check script) 3
-  found_harmful script is_harmless is gave same =
-      harmful (subst (λ b. RanCheck input file script b out out') is gave) (keeps_equal err err' same)
+  pub ended_check : (script : Path) (is_harmless : Bool) → RanCheck input file script is_harmless out out' → err' ≡ err → Ends input file out out' err err' (asks_check script) (check_status is_harmless)
+  ended_check script true gave same = harmless gave (keeps_equal err err' same)
+  ended_check script false gave same = harmful gave (keeps_equal err err' same)
 
   pub refused_check : (script : Path) (fault : Fault) (status : ℕ) → IsCheckFault input file script fault → (fault ≢ Unwritten → out' ≡ out) → Tells (fault_told fault) (status_of fault) status err err' → Ends input file out out' err err' (asks_check script) status
   refused_check script fault status due stays (inr untold) = one (asks_check script) status untold
   refused_check script fault status due stays (inl told) = elim (unwritten_or fault) [
     | inl is ↦ one (asks_check script) status (told.0 ∙ ap status_of is)
     | inr other ↦ subst (Ends input file out out' err err' (asks_check script)) (sym told.0) (no_check fault due (keeps_equal out out' (stays other)) told.1)
+  ]
+
+  pub refused_count : (script : Path) (paths : List (Bor Path)) (fault : Fault) (status : ℕ) → IsTurnsFault input file script paths fault → (fault ≢ Unwritten → out' ≡ out) → Tells (fault_told fault) (status_of fault) status err err' → Ends input file out out' err err' (asks_turns script paths) status
+  refused_count script paths fault status due stays (inr untold) = one (asks_turns script paths) status untold
+  refused_count script paths fault status due stays (inl told) = elim (unwritten_or fault) [
+    | inl is ↦ one (asks_turns script paths) status (told.0 ∙ ap status_of is)
+    | inr other ↦ subst (Ends input file out out' err err' (asks_turns script paths)) (sym told.0) (not_counted fault due (keeps_equal out out' (stays other)) told.1)
   ]
 
   -- there was no memory for the words
@@ -118,7 +128,7 @@ module _ (input : Option Bytes) (file : Path → Option Bytes) (out out' err err
   told_help text status same (inl told) = (help, subst (Ends input file out out' err err' help) (sym told.0) (helped text told.1 (keeps_equal err err' same)))
 
   -- without words status 0 comes of a run alone, whose output is the meaning's
-  meaning_of : (request : Request) (status : ℕ) → Ends input file out out' err err' request status → request ≡ asks_plain Xv6 (codes "-") [] false → status ≡ 0 → WritesMeaning input out out'
+  meaning_of : (request : Request) (status : ℕ) → Ends input file out out' err err' request status → request ≡ asks_plain Xv6 (codes "-") [] false false → status ≡ 0 → WritesMeaning input out out'
   meaning_of request status (plain_ran {profile = profile} {script = script} {paths = paths} {lists = lists} is_settled gave told) is zero =
       let xv6 : profile ≡ Xv6 = cc in
       let own : script ≡ codes "-" = cc in
@@ -132,13 +142,15 @@ module _ (input : Option Bytes) (file : Path → Option Bytes) (out out' err err
   meaning_of request status (harmless gave keeps) is zero = cc
   meaning_of request status (harmful gave keeps) is zero = cc
   meaning_of request status (no_check fault due keeps told) is zero = cc
+  meaning_of request status (counted is_harmless gave keeps) is zero = cc
+  meaning_of request status (not_counted fault due keeps told) is zero = cc
   meaning_of request status (helped text wrote keeps) is zero = cc
   meaning_of request status (misused text keeps told) is zero = cc
   meaning_of request status (no_memory keeps told) is zero = cc
   meaning_of request status unwritten is zero = cc
 
-  pub run_writes_meaning : (status : ℕ) → Ends input file out out' err err' (asks_plain Xv6 (codes "-") [] false) status → status ≡ 0 → WritesMeaning input out out'
-  run_writes_meaning status ends zero = meaning_of (asks_plain Xv6 (codes "-") [] false) status ends refl zero
+  pub run_writes_meaning : (status : ℕ) → Ends input file out out' err err' (asks_plain Xv6 (codes "-") [] false false) status → status ≡ 0 → WritesMeaning input out out'
+  run_writes_meaning status ends zero = meaning_of (asks_plain Xv6 (codes "-") [] false false) status ends refl zero
 
 -- a run by processes ends with what it came to
 module _ (input : Option Bytes) (file : Path → Option Bytes) (how : How) (profile : Profile) (script : Path) (paths : List (Bor Path)) (lists : Lists) (out out' err diag err' : Option Bytes) where
@@ -166,3 +178,15 @@ nothing_ran x x' y y' (Err fault) status mid after stays (inl told) some one fou
   | inl is ↦ absurd (one (told.0 ∙ ap run_status is))
   | inr other ↦ (stays other).0
 ]
+
+-- where a run's verdict was told, a status but 0 and 1 is that of a script that isn't settled
+pub verdict_written : {X : Type 0} (strict is_settled : Bool) (status : ℕ) (err err' : Option Bytes) → Tells (verdict_text is_settled) (verdict_status strict is_settled) status err err' → status ≢ 0 → status ≢ 1 → (strict ≡ true → status ≢ 3) → X
+verdict_written strict is_settled status err err' (inr untold) some one three = absurd (one untold)
+verdict_written strict is_settled status err err' (inl told) some one three =
+    let found = verdict_or strict is_settled (λ zero. some (told.0 ∙ zero)) in
+    absurd (three found.0 (told.0 ∙ found.1))
+
+-- the status of a check is 0 or 3
+pub check_written : {X : Type 0} (is_harmless : Bool) → check_status is_harmless ≢ 0 → check_status is_harmless ≢ 3 → X
+check_written true some three = absurd (some refl)
+check_written false some three = absurd (three refl)

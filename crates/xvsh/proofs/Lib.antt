@@ -1,3 +1,4 @@
+pub mod Counted
 pub mod Ending
 pub mod Ran
 pub mod Runs

@@ -17,6 +17,7 @@ use Rattle.xvsh_runs.specs.Status.{run_status, run_fault_told, full_told}
 use Rattle.xvsh_runs.specs.Why.{IsRunFault, IsReplayingFault}
 use Rattle.xvsh.specs.Drive.{RanCheck, IsCheckFault, verdict_text}
 use Rattle.xvsh.specs.Running.{RanPlain, IsPlainFault}
+use Rattle.xvsh.specs.Turns.{RanTurns, IsTurnsFault}
 
 -- what >> means, by whether `--append` is given
 abbrev pub profile_of : Bool → Profile
@@ -29,14 +30,26 @@ pub data How : Type 0 where
   by_schedule : Path → How
 
 -- what the words of the command line ask for: a run of the script at a path under a profile, on the files at these paths,
--- by its meaning, with a list of the files or without, or by its processes, with lists or without; a check of the script
--- at a path; the help; or nothing that there is
+-- by its meaning, with a list of the files or without, and strictly or not, or by its processes, with lists or without; a
+-- check of the script at a path, or one that tells its turns on these files too; the help; or nothing that there is
 pub data Request : Type 0 where
-  asks_plain : Profile → Path → List (Bor Path) → Bool → Request
+  asks_plain : Profile → Path → List (Bor Path) → Bool → Bool → Request
   asks_run : Profile → Path → List (Bor Path) → How → Lists → Request
   asks_check : Path → Request
+  asks_turns : Path → List (Bor Path) → Request
   help : Request
   misuse : Request
+
+-- the status of a script that ran by its meaning: where it is asked for strictly, one that isn't settled has 3
+abbrev pub verdict_status : Bool → Bool → ℕ
+verdict_status false is_settled = 0
+verdict_status true true = 0
+verdict_status true false = 3
+
+-- the status of a check: whether the script's lines are harmless
+abbrev pub check_status : Bool → ℕ
+check_status true = 0
+check_status false = 3
 
 -- this was told on standard error, and the status is as it was; or standard error took no more
 abbrev pub Tells : Bytes → ℕ → ℕ → Option Bytes → Option Bytes → Type 0
@@ -65,9 +78,9 @@ module _ (input : Option Bytes) (file : Path → Option Bytes) where
 module _ (input : Option Bytes) (file : Path → Option Bytes) (out out' err err' : Option Bytes) where
   pub data Ends : Request → ℕ → Type 0 where
     -- the script ran by its meaning, and whether it is settled is told
-    plain_ran : {profile : Profile} {script : Path} {paths : List (Bor Path)} {lists : Bool} (is_settled : Bool) → RanPlain input file profile script paths lists is_settled out out' → Appends err err' (verdict_text is_settled) → Ends (asks_plain profile script paths lists) 0
+    plain_ran : {profile : Profile} {script : Path} {paths : List (Bor Path)} {lists strict : Bool} (is_settled : Bool) → RanPlain input file profile script paths lists is_settled out out' → Appends err err' (verdict_text is_settled) → Ends (asks_plain profile script paths lists strict) (verdict_status strict is_settled)
     -- it didn't: a fault is due, nothing was written, and the fault is told
-    no_plain : {profile : Profile} {script : Path} {paths : List (Bor Path)} {lists : Bool} (fault : Fault) → IsPlainFault input file profile script paths fault → Keeps out out' → Appends err err' (fault_told fault) → Ends (asks_plain profile script paths lists) (status_of fault)
+    no_plain : {profile : Profile} {script : Path} {paths : List (Bor Path)} {lists strict : Bool} (fault : Fault) → IsPlainFault input file profile script paths fault → Keeps out out' → Appends err err' (fault_told fault) → Ends (asks_plain profile script paths lists strict) (status_of fault)
     -- it ran by its processes, and nothing was full; or something was, which is told after its diagnostics
     ran : {profile : Profile} {script : Path} {paths : List (Bor Path)} {how : How} {lists : Lists} → RanBy input file how profile script paths lists None out out' err err' → Ends (asks_run profile script paths how lists) 0
     ran_full : {profile : Profile} {script : Path} {paths : List (Bor Path)} {how : How} {lists : Lists} (full : Full) (diag : Option Bytes) → RanBy input file how profile script paths lists (Some full) out out' err diag → Appends diag err' (full_told full) → Ends (asks_run profile script paths how lists) 4
@@ -78,6 +91,9 @@ module _ (input : Option Bytes) (file : Path → Option Bytes) (out out' err err
     harmful : {script : Path} → RanCheck input file script false out out' → Keeps err err' → Ends (asks_check script) 3
     -- it wasn't, in the same way
     no_check : {script : Path} (fault : Fault) → IsCheckFault input file script fault → Keeps out out' → Appends err err' (fault_told fault) → Ends (asks_check script) (status_of fault)
+    -- it was checked, and its turns are told after its lines; or it wasn't, in the same way
+    counted : {script : Path} {paths : List (Bor Path)} (is_harmless : Bool) → RanTurns input file script paths is_harmless out out' → Keeps err err' → Ends (asks_turns script paths) (check_status is_harmless)
+    not_counted : {script : Path} {paths : List (Bor Path)} (fault : Fault) → IsTurnsFault input file script paths fault → Keeps out out' → Appends err err' (fault_told fault) → Ends (asks_turns script paths) (status_of fault)
     -- some text was written, of words that are no command line on standard error
     helped : (text : Bytes) → Appends out out' text → Keeps err err' → Ends help 0
     misused : (text : Bytes) → Keeps out out' → Appends err err' text → Ends misuse 2

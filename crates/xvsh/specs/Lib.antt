@@ -2,3 +2,4 @@ pub mod Check
 pub mod Drive
 pub mod Ends
 pub mod Running
+pub mod Turns

@@ -4,12 +4,13 @@ ghost use Rattle.script_load.specs.Line.{lines_of};
 ghost use Rattle.xvsh_read.specs.Status.{status_of, fault_told, IsTellFault};
 ghost use Rattle.xvsh.specs.Check.{AreTold, AreHarmless};
 ghost use Rattle.xvsh.specs.Drive.{WritesMeaning, RanCheck, IsCheckFault, verdict_text};
-ghost use Rattle.xvsh.specs.Ends.{Ends, Request, asks_plain, asks_check};
+ghost use Rattle.xvsh.specs.Ends.{Ends, Request, asks_plain, asks_check, asks_turns, check_status, verdict_status};
 
 use crate::checking::check;
 use crate::processes::{do_replay, do_run};
 use crate::running::run_plain;
 use crate::told::{tell, tell_text};
+use crate::turns::run_turns;
 use crate::words::{command_line, profile_of};
 use clap::ArgMatches;
 use clap::error::ErrorKind;
@@ -64,6 +65,13 @@ fn verdict(is_settled: bool) -> &'static str
     }
 }
 
+// The status of a script that ran.
+fn verdict_status(is_strict: bool, is_settled: bool) -> u8
+    ensures { result ≡ verdict_status is_strict is_settled }
+{
+    if is_strict && !is_settled { 3 } else { 0 }
+}
+
 // Runs a script, tells whether it is settled or why it wasn't run, and gives the status.
 fn end_plain<'a, H: Host, W: Write, E: Write>(
     alloc: Global,
@@ -72,17 +80,28 @@ fn end_plain<'a, H: Host, W: Write, E: Write>(
     script: &'a str,
     paths: &[&'a str],
     lists_files: bool,
+    is_strict: bool,
     out: &mut W,
     err: &mut E,
 ) -> u8
     ensures ends { Ends (H.input host.old) (H.file host.old) (W.contents out.old) (W.contents out.new)
-        (E.contents err.old) (E.contents err.new) (asks_plain profile script.now paths.now lists_files) result }
-    ensures nothing_written { result ≢ 0 → result ≢ 1 → out.new ≡ out.old }
+        (E.contents err.old) (E.contents err.new) (asks_plain profile script.now paths.now lists_files is_strict) result }
+    ensures nothing_written { result ≢ 0 → result ≢ 1 → (IsTrue is_strict → result ≢ 3) → out.new ≡ out.old }
 {
     match run_plain(alloc, host, profile, script, paths, lists_files, out) {
-        Ok(is_settled) => tell_text(verdict(is_settled), 0, err),
+        Ok(is_settled) => {
+            let status = verdict_status(is_strict, is_settled);
+            tell_text(verdict(is_settled), status, err)
+        }
         Err(fault) => tell(fault, err),
     }
+}
+
+// The status of a check.
+fn check_status(is_harmless: bool) -> u8
+    ensures { result ≡ check_status is_harmless }
+{
+    if is_harmless { 0 } else { 3 }
 }
 
 // Checks a script, tells why where it can't, and gives the status.
@@ -98,7 +117,26 @@ fn end_check<H: Host, W: Write, E: Write>(
     ensures nothing_written { result ≢ 0 → result ≢ 1 → result ≢ 3 → out.new ≡ out.old }
 {
     match run_check(alloc, host, script, out) {
-        Ok(is_harmless) => { if is_harmless { 0 } else { 3 } }
+        Ok(is_harmless) => check_status(is_harmless),
+        Err(fault) => tell(fault, err),
+    }
+}
+
+// Checks a script and counts its turns, tells why where it can't, and gives the status.
+fn end_turns<'a, H: Host, W: Write, E: Write>(
+    alloc: Global,
+    host: &mut H,
+    script: &'a str,
+    paths: &[&'a str],
+    out: &mut W,
+    err: &mut E,
+) -> u8
+    ensures ends { Ends (H.input host.old) (H.file host.old) (W.contents out.old) (W.contents out.new)
+        (E.contents err.old) (E.contents err.new) (asks_turns script.now paths.now) result }
+    ensures nothing_written { result ≢ 0 → result ≢ 1 → result ≢ 3 → out.new ≡ out.old }
+{
+    match run_turns(alloc, host, script, paths, out) {
+        Ok(is_harmless) => check_status(is_harmless),
         Err(fault) => tell(fault, err),
     }
 }
@@ -113,13 +151,45 @@ fn do_plain<'a, H: Host, W: Write, E: Write>(
 ) -> u8
     ensures ends { (request : Request) × Ends (H.input host.old) (H.file host.old) (W.contents out.old) (W.contents out.new)
         (E.contents err.old) (E.contents err.new) request result }
-    ensures nothing_written { result ≢ 0 → result ≢ 1 → out.new ≡ out.old }
+    ensures nothing_written { result ≢ 0 → result ≢ 1 → result ≢ 3 → out.new ≡ out.old }
 {
     let script: &'a str = words.get_str("script").unwrap_or(STDIN);
     let paths = words.get_strs("paths").unwrap_or(&[]);
     let lists_files = words.get_flag("files");
+    let is_strict = words.get_flag("strict");
     let profile = profile_of(words.get_flag("append"));
-    end_plain(alloc, host, profile, script, paths, lists_files, out, err)
+    end_plain(
+        alloc,
+        host,
+        profile,
+        script,
+        paths,
+        lists_files,
+        is_strict,
+        out,
+        err,
+    )
+}
+
+// `check` with these words.
+fn do_check<'a, H: Host, W: Write, E: Write>(
+    alloc: Global,
+    words: &ArgMatches<'a>,
+    host: &mut H,
+    out: &mut W,
+    err: &mut E,
+) -> u8
+    ensures ends { (request : Request) × Ends (H.input host.old) (H.file host.old) (W.contents out.old) (W.contents out.new)
+        (E.contents err.old) (E.contents err.new) request result }
+    ensures nothing_written { result ≢ 0 → result ≢ 1 → result ≢ 3 → out.new ≡ out.old }
+{
+    let script: &'a str = words.get_str("script").unwrap_or(STDIN);
+    if words.get_flag("turns") {
+        let paths = words.get_strs("paths").unwrap_or(&[]);
+        end_turns(alloc, host, script, paths, out, err)
+    } else {
+        end_check(alloc, host, script, out, err)
+    }
 }
 
 // Does what the command asks for that the words name, and gives its status.
@@ -142,12 +212,15 @@ fn end_command<'a, R: Threads + Wait + Clock + Sync, H: Host, W: Write, E: Write
     } else if let Some(words) = matches.subcommand_matches("plain") {
         do_plain(alloc, words, host, out, err)
     } else if let Some(words) = matches.subcommand_matches("check") {
-        let script: &'a str = words.get_str("script").unwrap_or(STDIN);
-        end_check(alloc, host, script, out, err)
+        do_check(alloc, words, host, out, err)
     } else {
         2
     }
 }
+
+// What is told of a word that is no command.
+const TIP: &str =
+    "\n`xvsh plain SCRIPT` runs the script at a path, and `xvsh run SCRIPT` by its processes.\n";
 
 // Tells why there is no command: the words ask for help, which is written to standard output, or are no
 // command line.
@@ -159,7 +232,9 @@ fn end_error<W: Write, E: Write>(alloc: Global, error: &clap::Error, out: &mut W
     if error.kind() == ErrorKind::OutOfMemory {
         return tell(Fault::Memory, err);
     }
-    let Ok(text) = format!(in alloc; "{error}") else {
+    let is_unknown = error.kind() == ErrorKind::InvalidSubcommand;
+    let tip = if is_unknown { TIP } else { "" };
+    let Ok(text) = format!(in alloc; "{error}{tip}") else {
         return tell(Fault::Memory, err);
     };
     if error.use_stderr() {
@@ -194,13 +269,13 @@ fn end_words<R: Threads + Wait + Clock + Sync, H: Host, W: Write, E: Write>(
 /// Runs the program on these words, its own name not among them, and returns the status with which
 /// it ends.
 ///
-/// `plain [--append] [--files] SCRIPT [FILE]..` reads the script, loads it, reads the files in order, each
+/// `plain [--append] [--files] [--strict] SCRIPT [FILE]..` reads the script, loads it, reads the files in order, each
 /// before the next, and then standard input, runs the script by its meaning, and writes its output and, with
 /// `--files`, all files, the soft ones marked. SCRIPT `-` is standard input, and the script's own input is then empty.
 /// With `--append` `>>` appends, and else it writes over a file from its beginning, as in xv6. Without
 /// words it is `plain -`. A script and a standard input have at most 1,048,576 bytes, and a
 /// file at most 274,432. Then `settled` or `not settled` goes to `err`: whether the script is settled, that is, whether
-/// its commands keep out of each other's way.
+/// its commands keep out of each other's way. With `--strict` the status of a script that isn't is 3.
 ///
 /// `run [--harts N] [--turns N] [--schedule] [--append] [--files] SCRIPT [FILE]..` reads the same and runs the script by
 /// its processes, on 4 harts or N, of which each is a thread, in at most 10,000,000 turns or N. It writes the output, with `--files` all files, and with
@@ -208,12 +283,13 @@ fn end_words<R: Threads + Wait + Clock + Sync, H: Host, W: Write, E: Write>(
 /// [--append] [--files] SCHEDULE SCRIPT [FILE]..` does so by the events of a schedule in that form, which it reads first.
 ///
 /// `check SCRIPT` reads and loads the script, runs nothing, and writes the faults, the `&` and the
-/// first clash of each line.
+/// first clash of each line. `check --turns SCRIPT [FILE]..` reads what `plain` reads, and writes last how many turns are
+/// enough for a run by processes.
 ///
 /// A fault goes to `err` as one line, and then nothing of the script was written: 1 for what can't be
 /// read or is refused, or is no schedule of a finished run, 2 for words that are no command line, 3 where
-/// `check` told of a clash or a `&`, 4 for a run that is too large, is past its turns, wants memory, or met something
-/// full, which alone is told after what it wrote. `--help` goes to `out`. Where `out` or `err` fails, the status is 1 and nothing more is written.
+/// `check` told of a clash or a `&`, or as above, 4 for a run that is too large, is past its turns, wants memory, or met something
+/// full, which alone is told after what it wrote. `--help` and `--version` go to `out`. Where `out` or `err` fails, the status is 1 and nothing more is written.
 pub fn drive<R: Threads + Wait + Clock + Sync, H: Host, W: Write, E: Write>(
     rt: &R,
     alloc: Global,
@@ -224,14 +300,15 @@ pub fn drive<R: Threads + Wait + Clock + Sync, H: Host, W: Write, E: Write>(
 ) -> u8
     ensures meaning { words.items ≡ [] → result ≡ 0 → WritesMeaning (H.input host.old) (W.contents out.old) (W.contents out.new) }
     ensures no_words { words.items ≡ [] → Ends (H.input host.old) (H.file host.old) (W.contents out.old) (W.contents out.new)
-        (E.contents err.old) (E.contents err.new) (asks_plain Profile.Xv6 (codes "-") [] false) result }
+        (E.contents err.old) (E.contents err.new) (asks_plain Profile.Xv6 (codes "-") [] false false) result }
     ensures ends { (request : Request) × Ends (H.input host.old) (H.file host.old) (W.contents out.old) (W.contents out.new)
         (E.contents err.old) (E.contents err.new) request result }
     ensures nothing_written { result ≢ 0 → result ≢ 1 → result ≢ 3 → result ≢ 4 → out.new ≡ out.old }
     ensures no_words_written { words.items ≡ [] → result ≢ 0 → result ≢ 1 → out.new ≡ out.old }
 {
     if words.is_empty() {
-        end_plain(alloc, host, Profile::Xv6, STDIN, &[], false, out, err)
+        let profile = Profile::Xv6;
+        end_plain(alloc, host, profile, STDIN, &[], false, false, out, err)
     } else {
         end_words(rt, alloc, words.as_slice(), host, out, err)
     }

@@ -8,6 +8,7 @@ mod program;
 mod running;
 mod system;
 mod told;
+mod turns;
 mod words;
 
 pub use driver::drive;

@@ -51,9 +51,14 @@ depend on that order.
 `xvsh check SCRIPT` writes, for the script's line N: `N fault K NAME at P` where it is no command,
 `N background` where it has a `&`, and `N clash KIND NAME` where two of its commands may come upon
 each other at a file: at the two sides of a pipe (PipeSides), or inside a redirection (Enclosing).
+`check --turns` ends with a line `turns N`: with `run --turns N` the script runs to its end, whatever
+the order of its processes, if it has no clash and no `&` and nothing is full.
 
 Status: 0 done; 1 something can't be read, is refused, or can't be written, or is no schedule of a
-whole run; 2 usage; 3 `check` told of a clash or a `&`; 4 full, spent, too large, or no memory.";
+whole run; 2 usage; 3 `check` told of a clash or a `&`, or `plain --strict` ran a script that isn't
+settled; 4 full, spent, too large, or no memory.";
+
+const VERSION: &str = "0.1.0 (rattle-kit-13b logic dac8208d650f15bf)";
 
 // `--files`, which lists all files after the output.
 fn files_flag<'a>(alloc: Global, help: &'static str) -> Arg<'a> {
@@ -150,8 +155,13 @@ const PLAIN_FILES_HELP: &str =
     "Write all files after the output: `-- NAME LENGTH`, `soft` if it is soft, the bytes, a line's end";
 
 fn plain_command<'a>(alloc: Global) -> Result<Command<'a>, AllocError> {
+    let is_strict = Arg::new(alloc, "strict")
+        .long("strict")
+        .help("End with status 3 if the script isn't settled")
+        .action(ArgAction::SetTrue);
     Command::new(alloc, "plain")
         .about(PLAIN_ABOUT)
+        .arg(is_strict)?
         .arg(append_flag(alloc))?
         .arg(files_flag(alloc, PLAIN_FILES_HELP))?
         .arg(script_word(alloc, SCRIPT_HELP))?
@@ -161,10 +171,16 @@ fn plain_command<'a>(alloc: Global) -> Result<Command<'a>, AllocError> {
 const CHECK_ABOUT: &str = "Tells where commands of a script may clash, and runs nothing";
 
 fn check_command<'a>(alloc: Global) -> Result<Command<'a>, AllocError> {
-    Command::new(alloc, "check").about(CHECK_ABOUT).arg(script_word(
-        alloc,
-        "The script's path; `-` is standard input",
-    ))
+    let counts_turns = Arg::new(alloc, "turns")
+        .long("turns")
+        .help("Write last in how many turns the script runs to its end on the FILEs and its input")
+        .action(ArgAction::SetTrue);
+    let files = file_words(alloc).requires_arg("turns")?;
+    Command::new(alloc, "check")
+        .about(CHECK_ABOUT)
+        .arg(counts_turns)?
+        .arg(script_word(alloc, "The script's path; `-` is standard input"))?
+        .arg(files)
 }
 
 /// What `>>` means, by whether `--append` is given.
@@ -184,6 +200,7 @@ pub fn command_line<'a>(alloc: Global) -> Result<Command<'a>, AllocError> {
         .no_binary_name(true)
         .bin_name("xvsh")?
         .about(ABOUT)
+        .version(VERSION)
         .after_help(AFTER_HELP)
         .disable_help_subcommand(true)
         .subcommand_required(true)

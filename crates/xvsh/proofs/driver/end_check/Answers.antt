@@ -1,14 +1,12 @@
-use Rattle.std.proofs.Common.{ap, refl}
-use Rattle.xvsh.proofs.Ending.{found_harmless, found_harmful, refused_check}
+use Rattle.std.proofs.Common.{ap, refl, subst, sym}
+use Rattle.xvsh.specs.Ends.{Ends, asks_check}
+use Rattle.xvsh.proofs.Ending.{ended_check, refused_check}
 use Rattle.xvsh.proofs.driver.end_check.Goals as goal
 
-pub returns-then-is_harmless-clause-ends : goal.returns-then-is_harmless-clause-ends
-returns-then-is_harmless-clause-ends g c =
-    found_harmless (g.H.Host.input c.args.host.now) (g.H.Host.file c.args.host.now) (g.W.Write.contents c.args.out.now) (g.W.Write.contents c.run_check.new.out) (g.E.Write.contents c.args.err.now) (g.E.Write.contents c.args.err.now) c.args.script.now c.in-Ok.is_harmless c.if-is_harmless.true c.in-Ok.ensures.ran refl
-
-pub returns-else-is_harmless-clause-ends : goal.returns-else-is_harmless-clause-ends
-returns-else-is_harmless-clause-ends g c =
-    found_harmful (g.H.Host.input c.args.host.now) (g.H.Host.file c.args.host.now) (g.W.Write.contents c.args.out.now) (g.W.Write.contents c.run_check.new.out) (g.E.Write.contents c.args.err.now) (g.E.Write.contents c.args.err.now) c.args.script.now c.in-Ok.is_harmless c.if-is_harmless.false c.in-Ok.ensures.ran refl
+pub returns-in-Ok-clause-ends : goal.returns-in-Ok-clause-ends
+returns-in-Ok-clause-ends g c =
+    subst (Ends (g.H.Host.input c.args.host.now) (g.H.Host.file c.args.host.now) (g.W.Write.contents c.args.out.now) (g.W.Write.contents c.run_check.new.out) (g.E.Write.contents c.args.err.now) (g.E.Write.contents c.args.err.now) (asks_check c.args.script.now)) (sym c.check_status.ensures)
+    (ended_check (g.H.Host.input c.args.host.now) (g.H.Host.file c.args.host.now) (g.W.Write.contents c.args.out.now) (g.W.Write.contents c.run_check.new.out) (g.E.Write.contents c.args.err.now) (g.E.Write.contents c.args.err.now) c.args.script.now c.in-Ok.is_harmless c.in-Ok.ensures.ran refl)
 
 pub returns-in-Err-clause-ends : goal.returns-in-Err-clause-ends
 returns-in-Err-clause-ends g c =
