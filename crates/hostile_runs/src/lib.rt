@@ -10,4 +10,6 @@ mod rows;
 #[cfg(test)]
 mod runs;
 #[cfg(test)]
+mod settled;
+#[cfg(test)]
 mod waits;
