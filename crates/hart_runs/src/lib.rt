@@ -2,6 +2,8 @@
 #![tactic(auto)]
 
 #[cfg(test)]
+mod inputs;
+#[cfg(test)]
 mod rows;
 #[cfg(test)]
 mod seats;
