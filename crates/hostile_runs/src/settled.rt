@@ -1,16 +1,23 @@
-//! Settled scripts under each driver: the output and the files, but for soft ones, are what the script means, and nothing is
-//! full, whoever goes next.
+//! Settled scripts under each driver, on one hart and on threads: the output and the files, but for soft ones, are what the
+//! script means, and nothing is full, whoever goes next.
 
 use crate::drivers::Order;
 use crate::runs::{Driver, run_by};
 use answer_runs::agreeing::agree;
+use hart_threads::{OpenGate, run_harts};
+use kernel_core::{Report, run_one};
 use mem_files::Files;
 use plain_run::plain;
 use script_load::Profile::{Append, Xv6};
 use script_load::{Profile, Script, load_with};
 use std::alloc::Global;
 use std::process::Abort;
+use std::sync::Wait;
 use std::test::Fail;
+use std::thread::Threads;
+use std::time::Clock;
+
+const TURNS: u64 = 10_000_000;
 
 // As many processes as there are slots.
 const NESTED: &str =
@@ -129,23 +136,47 @@ fn files_of(
     Ok(files)
 }
 
-// Whether the script is settled, and its run by the driver is finished, with nothing full, and leaves what it means.
-fn leaves_what_it_means(
-    alloc: Global,
+// How a script is run: by a driver, or by a call that runs it whole, on one hart or on so many threads.
+#[derive(Clone, Copy)]
+enum Way {
+    By(Driver),
+    Whole,
+    Threads(u8),
+}
+
+fn run_in<R: AllocGlobal + Threads + Wait + Clock + Sync>(
+    rt: &R,
     script: &Script<Global>,
     stdin: &[u8],
     files: &Files<Global>,
-    driver: Driver,
+    way: Way,
+) -> Result<Report<Global>, Fail> {
+    let alloc = rt.alloc();
+    let report = match way {
+        Way::By(driver) => run_by(alloc, script, stdin, files, driver)?,
+        Way::Whole => run_one(alloc, script, stdin, files, TURNS)?,
+        Way::Threads(harts) => run_harts(rt, alloc, script, stdin, files, harts, TURNS, &OpenGate)?,
+    };
+    Ok(report)
+}
+
+// Whether the script is settled, and its run is finished, with nothing full, and leaves what it means.
+fn leaves_what_it_means<R: AllocGlobal + Threads + Wait + Clock + Sync>(
+    rt: &R,
+    script: &Script<Global>,
+    stdin: &[u8],
+    files: &Files<Global>,
+    way: Way,
 ) -> Result<bool, Fail> {
-    let means = plain(alloc, script, stdin, files)?;
-    let report = run_by(alloc, script, stdin, files, driver)?;
+    let means = plain(rt.alloc(), script, stdin, files)?;
+    let report = run_in(rt, script, stdin, files, way)?;
     Ok(means.settled && report.finished && report.full.is_none() && agree(&report, &means))
 }
 
-// Runs each script by the driver, beside its meaning; tells how many were compared.
-fn compare_all<R: AllocGlobal + Abort>(
+// Runs each script in this way, beside its meaning; tells how many were compared.
+fn compare_all<R: AllocGlobal + Abort + Threads + Wait + Clock + Sync>(
     rt: &R,
-    driver: Driver,
+    way: Way,
     rows: &[(Profile, &str, &str)],
 ) -> Result<usize, Fail> {
     let alloc = rt.alloc();
@@ -154,7 +185,7 @@ fn compare_all<R: AllocGlobal + Abort>(
     for (profile, text, input) in rows {
         let script = load_with(alloc, text.as_bytes(), *profile)?;
         let stdin = files.get(input.as_bytes()).unwrap_or_default();
-        let agrees = leaves_what_it_means(alloc, &script, stdin, &files, driver)?;
+        let agrees = leaves_what_it_means(rt, &script, stdin, &files, way)?;
         assert!(rt; agrees, "{text}");
         compared = compared.saturating_add(1);
     }
@@ -162,39 +193,42 @@ fn compare_all<R: AllocGlobal + Abort>(
 }
 
 // Compares all scripts of the list.
-fn mean_what_they_leave<R: AllocGlobal + Abort>(rt: &R, driver: Driver) -> Result<(), Fail> {
-    let compared = compare_all(rt, driver, &SCRIPTS)?;
+fn mean_what_they_leave<R: AllocGlobal + Abort + Threads + Wait + Clock + Sync>(
+    rt: &R,
+    way: Way,
+) -> Result<(), Fail> {
+    let compared = compare_all(rt, way, &SCRIPTS)?;
     assert_eq!(rt; compared, SCRIPTS.len());
     Ok(())
 }
 
 #[test]
 fn the_lowest_runs_first(rt: HostRuntime) -> Result<(), Fail> {
-    mean_what_they_leave(&rt, Driver::One(Order::Lowest))
+    mean_what_they_leave(&rt, Way::By(Driver::One(Order::Lowest)))
 }
 
 #[test]
 fn the_highest_runs_first(rt: HostRuntime) -> Result<(), Fail> {
-    mean_what_they_leave(&rt, Driver::One(Order::Highest))
+    mean_what_they_leave(&rt, Way::By(Driver::One(Order::Highest)))
 }
 
 #[test]
 fn one_runs_where_no_other_can(rt: HostRuntime) -> Result<(), Fail> {
     for pid in 0..6usize {
-        mean_what_they_leave(&rt, Driver::One(Order::Last(pid)))?;
+        mean_what_they_leave(&rt, Way::By(Driver::One(Order::Last(pid))))?;
     }
     Ok(())
 }
 
 #[test]
 fn eight_harts_begin_before_any_call(rt: HostRuntime) -> Result<(), Fail> {
-    mean_what_they_leave(&rt, Driver::Eight)
+    mean_what_they_leave(&rt, Way::By(Driver::Eight))
 }
 
 #[test]
 fn queues_say_who_is_next(rt: HostRuntime) -> Result<(), Fail> {
     for harts in [1, 4] {
-        mean_what_they_leave(&rt, Driver::Queues(harts))?;
+        mean_what_they_leave(&rt, Way::By(Driver::Queues(harts)))?;
     }
     Ok(())
 }
@@ -202,7 +236,20 @@ fn queues_say_who_is_next(rt: HostRuntime) -> Result<(), Fail> {
 #[test]
 fn whoever_is_drawn_is_next(rt: HostRuntime) -> Result<(), Fail> {
     for seed in 0..3u64 {
-        mean_what_they_leave(&rt, Driver::Drawn(seed))?;
+        mean_what_they_leave(&rt, Way::By(Driver::Drawn(seed)))?;
+    }
+    Ok(())
+}
+
+#[test]
+fn one_hart_runs_them_whole(rt: HostRuntime) -> Result<(), Fail> {
+    mean_what_they_leave(&rt, Way::Whole)
+}
+
+#[test]
+fn threads_run_them(rt: HostRuntime) -> Result<(), Fail> {
+    for harts in [1, 2, 8] {
+        mean_what_they_leave(&rt, Way::Threads(harts))?;
     }
     Ok(())
 }
