@@ -1,5 +1,6 @@
 //! What `--strict`, `check --turns` and `--version` add, and what is told of a word that is no command.
 use crate::hosts::{Memory, expect, words_of};
+use crate::runs::nested;
 use std::process::Abort;
 use std::sync::Wait;
 use std::test::Fail;
@@ -24,6 +25,45 @@ fn a_strict_run_tells_by_its_status(rt: HostRuntime) -> Result<(), Fail> {
         ),
         ("plain --strict none", (1, "", "xvsh: cannot read none\n")),
         ("plain back", (0, "a\n", "not settled\n")),
+    ];
+    for (words, want) in rows {
+        let mut host = Memory {
+            input: b"".as_slice(),
+            files: &files,
+        };
+        expect(&rt, words, &mut host, want)?;
+    }
+    Ok(())
+}
+
+// A script whose meaning fills a file past its end is refused before it runs; where something is full only in the run, that is
+// told.
+#[test]
+fn a_strict_run_by_processes_tells_by_its_status(rt: HostRuntime) -> Result<(), Fail> {
+    let large = b"x".as_slice().repeat(rt.alloc(), 274_432)?;
+    let deep = nested(rt.alloc(), 62)?;
+    let files = [
+        ("one", b"echo a | cat".as_slice()),
+        ("back", b"echo a &".as_slice()),
+        ("clash", b"echo a | tee f | cat f".as_slice()),
+        ("soft", b"echo a | tee c | cat".as_slice()),
+        ("grows", b"cat g g > h".as_slice()),
+        ("dir/g", large.as_slice()),
+        ("deep", deep.as_bytes()),
+    ];
+    let rows = [
+        ("run --strict one", (0, "a\n", "")),
+        ("run --strict --harts 1 one", (0, "a\n", "")),
+        (
+            "run --strict --harts 8 --files soft",
+            (0, "a\n-- c 2\na\n\n", ""),
+        ),
+        ("run --strict --harts 1 back", (3, "a\n", "")),
+        ("run --harts 1 back", (0, "a\n", "")),
+        ("run --strict grows dir/g", (4, "", "xvsh: too large\n")),
+        ("run --strict deep", (4, "x\n", "fork\nxvsh: full procs\n")),
+        ("run --strict --turns 1 one", (4, "", "xvsh: spent\n")),
+        ("run --strict none", (1, "", "xvsh: cannot read none\n")),
     ];
     for (words, want) in rows {
         let mut host = Memory {

@@ -134,8 +134,8 @@ fn files_and_events_are_listed(rt: HostRuntime) -> Result<(), Fail> {
     Ok(())
 }
 
-// So many parentheses round `echo a;`, after `echo x`.
-fn nested(alloc: Global, count: usize) -> Result<String, AllocError> {
+/// So many parentheses round `echo a;`, after `echo x`.
+pub fn nested(alloc: Global, count: usize) -> Result<String, AllocError> {
     let left = "(".repeat(alloc, count)?;
     let right = ";)".repeat(alloc, count)?;
     format!(in alloc; "echo x\n{}echo a{}", left.as_str(), right.as_str())

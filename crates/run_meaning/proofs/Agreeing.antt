@@ -39,7 +39,7 @@ module _ (input : Option Bytes) (file : Path → Option Bytes) (profile : Profil
   }
 
   run_meant : IsSettledAt input file profile script paths → (how : How) (out out' err err' : Option Bytes) → how ≢ by_schedule (codes "-") → RanBy input file how profile script paths no_lists None out out' err err' → IsMeant out out'
-  run_meant settled (on_harts harts turns) out out' err err' apart gave = written_meant settled gave.lines gave.given gave.stdin gave.events out out' err err' gave.starts gave.written
+  run_meant settled (on_harts harts turns) out out' err err' apart gave = written_meant settled gave.lines gave.given gave.stdin gave.on.events out out' err err' gave.starts gave.on.written
   run_meant settled (by_schedule schedule) out out' err err' apart gave =
       let own = no_input schedule (λ same. apart (ap by_schedule same)) in
       written_meant settled gave.lines gave.given gave.stdin gave.events out out' err err' (subst (λ taken. Starts input file taken script paths gave.lines gave.given gave.stdin) own gave.starts) gave.written

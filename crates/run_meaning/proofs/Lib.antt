@@ -4,3 +4,4 @@ mod Readings
 pub mod Meant
 pub mod Agreeing
 pub mod Statuses
+pub mod Strictly

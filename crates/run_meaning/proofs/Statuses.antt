@@ -10,8 +10,9 @@ use Rattle.xvsh_runs.specs.declared.fault.RunFault.{RunFault}
 use Rattle.xvsh_runs.specs.declared.fault.RunFault.TheVariants.{Common, BadHarts, BadTurns, Spent, SharedInput, NoEvent, NotRunnable, NotRunning, Unfinished}
 use Rattle.xvsh_runs.specs.Status.{run_status}
 use Rattle.xvsh.specs.Drive.{verdict_text}
-use Rattle.xvsh.specs.Ends.{Request, asks_plain, asks_run, asks_check, asks_turns, verdict_status, help, misuse, How, by_schedule, RanBy, Ends, plain_ran, no_plain, ran, ran_full, no_run, harmless, harmful, no_check, counted, not_counted, helped, misused, no_memory, unwritten}
+use Rattle.xvsh.specs.Ends.{Request, asks_plain, asks_run, asks_strict, asks_check, asks_turns, verdict_status, help, misuse, How, by_schedule, RanBy, Ends, plain_ran, no_plain, ran, ran_full, no_run, ran_strict, strict_full, no_strict, harmless, harmful, no_check, counted, not_counted, helped, misused, no_memory, unwritten}
 use Rattle.xvsh.specs.Running.{RanPlain}
+use Rattle.xvsh.specs.Strict.{RanStrict}
 use Rattle.xvsh.proofs.Ending.{some_status}
 use Rattle.run_meaning.specs.Told.{IsTold, IsSettledAt}
 use Rattle.run_meaning.specs.Written.{AddsTheSame, no_lists}
@@ -28,22 +29,31 @@ some_run_status (NotRunnable number pid) is = cc
 some_run_status (NotRunning number pid hart) is = cc
 some_run_status (Unfinished count) is = cc
 
+-- a script is settled where a run of it that was asked for strictly ends with status 0
+strictly_settled : (is_settled : Bool) → verdict_status true is_settled ≡ 0 → is_settled ≡ true
+strictly_settled true zero = refl
+strictly_settled false zero = cc
+
 module _ (input : Option Bytes) (file : Path → Option Bytes) (out out' err err' : Option Bytes) where
   -- what a run of the request did that ended well
-  abbrev DidRun : Request → Type 0
+  abbrev pub DidRun : Request → Type 0
   DidRun (asks_plain profile script paths lists strict) = (is_settled : Bool) × RanPlain input file profile script paths lists is_settled out out' × Appends err err' (verdict_text is_settled) × (verdict_status strict is_settled ≡ 0)
   DidRun (asks_run profile script paths how lists) = RanBy input file how profile script paths lists None out out' err err'
+  DidRun (asks_strict profile script paths harts turns lists) = RanStrict input file profile script paths harts turns lists None true out out' err err'
   DidRun (asks_check script) = Unit {0}
   DidRun (asks_turns script paths) = Unit {0}
   DidRun help = Unit {0}
   DidRun misuse = Unit {0}
 
-  ended_well : (request : Request) (status : ℕ) → Ends input file out out' err err' request status → status ≡ 0 → DidRun request
+  pub ended_well : (request : Request) (status : ℕ) → Ends input file out out' err err' request status → status ≡ 0 → DidRun request
   ended_well request status (plain_ran is_settled gave told) zero = (is_settled, gave, told, zero)
   ended_well request status (no_plain fault due keeps told) zero = absurd (some_status fault zero)
   ended_well request status (ran gave) zero = gave
   ended_well request status (ran_full full diag gave told) zero = cc
   ended_well request status (no_run fault due keeps told) zero = absurd (some_run_status fault zero)
+  ended_well request status (ran_strict {profile = profile} {script = script} {paths = paths} {harts = harts} {turns = turns} {lists = lists} is_settled gave) zero = subst (λ is. RanStrict input file profile script paths harts turns lists None is out out' err err') (strictly_settled is_settled zero) gave
+  ended_well request status (strict_full is_settled full diag gave told) zero = cc
+  ended_well request status (no_strict fault due keeps told) zero = absurd (some_run_status fault zero)
   ended_well request status (harmless gave keeps) zero = tt
   ended_well request status (harmful gave keeps) zero = tt
   ended_well request status (no_check fault due keeps told) zero = tt
@@ -60,11 +70,6 @@ settled_told before false same =
     let text : codes "settled\n" ≡ codes "not settled\n" = append_cancel_left before (codes "settled\n") (codes "not settled\n") same in
     let long : length (codes "settled\n") ≡ length (codes "not settled\n") = ap length text in
     absurd (omega (arith, long))
-
--- so has status 0 of a run that was asked for strictly
-strictly_settled : (is_settled : Bool) → verdict_status true is_settled ≡ 0 → is_settled ≡ true
-strictly_settled true zero = refl
-strictly_settled false zero = cc
 
 module _ (input : Option Bytes) (file : Path → Option Bytes) (profile : Profile) (script : Path) (paths : List (Bor Path)) (told : IsTold input file script paths) (how : How) (apart : how ≢ by_schedule (codes "-")) (out out' err err' old new : Option Bytes) (first : Ends input file out out' err err' (asks_run profile script paths how no_lists) 0) where
   gave : RanBy input file how profile script paths no_lists None out out' err err'

@@ -11,10 +11,10 @@ ghost use Rattle.sh_meaning.specs.Settled.{IsSettledScript};
 ghost use Rattle.xvsh_read.specs.Path.{Path};
 ghost use Rattle.xvsh_runs.specs.Runs.{RanReplay, RanRun};
 ghost use Rattle.xvsh_runs.specs.declared.report.Lists.{Lists};
-ghost use Rattle.xvsh.specs.Ends.{Ends, How, RanBy, asks_plain, asks_run, by_schedule};
+ghost use Rattle.xvsh.specs.Ends.{Ends, How, RanBy, asks_plain, asks_run, asks_strict, by_schedule};
 ghost use Rattle.xvsh.specs.Running.{RanPlain};
 ghost use Rattle.run_meaning.specs.Told.{IsSettledAt, IsTold};
-ghost use Rattle.run_meaning.specs.Written.{AddsTheSame, WritesValue, no_lists};
+ghost use Rattle.run_meaning.specs.Written.{AddsTheSame, WritesMeaningAt, WritesValue, no_lists};
 
 /// Where `run` wrote a run in which nothing was full, of a script that is settled on what was read, it wrote the output of the
 /// script's recursive meaning, and then the lists that were asked for: the files that it lists are the meaning's but for soft
@@ -22,7 +22,7 @@ ghost use Rattle.run_meaning.specs.Written.{AddsTheSame, WritesValue, no_lists};
 pub fn a_run_writes_the_meaning()
     ensures run { (input : Option Bytes) (file : Path → Option Bytes) (profile : Profile) (script : Path) (paths : List (Bor Path)) (harts turns : ℕ) (lists : Lists) (out out' err err' : Option Bytes)
         → (r : RanRun input file profile script paths harts turns lists None out out' err err') → IsSettledScript profile r.lines r.stdin (files r.given)
-        → WritesValue (script_meaning profile r.lines r.stdin (files r.given)) lists r.events out out' }
+        → WritesValue (script_meaning profile r.lines r.stdin (files r.given)) lists r.on.events out out' }
     ensures replay { (input : Option Bytes) (file : Path → Option Bytes) (profile : Profile) (script : Path) (paths : List (Bor Path)) (schedule : Path) (lists : Lists) (out out' err err' : Option Bytes)
         → (r : RanReplay input file profile script paths schedule lists None out out' err err') → IsSettledScript profile r.lines r.stdin (files r.given)
         → WritesValue (script_meaning profile r.lines r.stdin (files r.given)) lists r.events out out' }
@@ -60,5 +60,18 @@ pub fn status_0_and_settled_is_one_output()
         → IsTold input file script paths → how ≢ by_schedule (codes "-")
         → Ends input file out out' err err' (asks_run profile script paths how no_lists) 0
         → Ends input file old new said later (asks_plain profile script paths false true) 0
+        → AddsTheSame out out' old new }
+{}
+
+/// Of `run --strict` status 0 alone says it: the script is settled on what was read, and its recursive meaning was written, with
+/// the lists that were asked for. So two such runs without lists, on as many harts as may be, wrote the same to standard output.
+pub fn status_0_of_a_strict_run_is_the_meaning()
+    ensures meaning { (input : Option Bytes) (file : Path → Option Bytes) (profile : Profile) (script : Path) (paths : List (Bor Path)) (harts turns : ℕ) (lists : Lists) (out out' err err' : Option Bytes)
+        → Ends input file out out' err err' (asks_strict profile script paths harts turns lists) 0
+        → WritesMeaningAt input file profile script paths lists out out' }
+    ensures two { (input : Option Bytes) (file : Path → Option Bytes) (profile : Profile) (script : Path) (paths : List (Bor Path)) (harts turns others more : ℕ) (out out' err err' old new said later : Option Bytes)
+        → IsTold input file script paths
+        → Ends input file out out' err err' (asks_strict profile script paths harts turns no_lists) 0
+        → Ends input file old new said later (asks_strict profile script paths others more no_lists) 0
         → AddsTheSame out out' old new }
 {}

@@ -17,8 +17,10 @@ use Rattle.xvsh_runs.specs.declared.fault.RunFault.{RunFault}
 use Rattle.xvsh_runs.specs.declared.fault.RunFault.TheVariants.{Common, BadHarts, BadTurns, Spent, SharedInput, NoEvent, NotRunnable, NotRunning, Unfinished}
 use Rattle.xvsh_runs.specs.declared.report.Lists.{Lists}
 use Rattle.xvsh_runs.specs.Status.{run_status, run_fault_told}
-use Rattle.xvsh.specs.Ends.{Request, asks_plain, asks_run, asks_check, asks_turns, check_status, verdict_status, misuse, help, How, Tells, TellsRan, RanBy, IsFaultBy, Ends, plain_ran, no_plain, ran, ran_full, no_run, harmless, harmful, no_check, counted, not_counted, helped, misused, no_memory, unwritten}
+use Rattle.xvsh.specs.Ends.{Request, asks_plain, asks_run, asks_strict, asks_check, asks_turns, check_status, verdict_status, misuse, help, How, Tells, TellsFull, TellsRan, TellsStrict, RanBy, IsFaultBy, Ends, plain_ran, no_plain, ran, ran_full, no_run, ran_strict, strict_full, no_strict, harmless, harmful, no_check, counted, not_counted, helped, misused, no_memory, unwritten}
 use Rattle.xvsh.specs.Running.{RanPlain, IsPlainFault}
+use Rattle.xvsh.specs.Strict.{RanStrict, IsStrictFault}
+use Rattle.xvsh.specs.declared.strict.StrictRun.{StrictRun}
 use Rattle.xvsh.specs.Turns.{RanTurns, IsTurnsFault}
 use Rattle.xvsh.proofs.Ran.{writes_meaning}
 
@@ -139,6 +141,9 @@ module _ (input : Option Bytes) (file : Path → Option Bytes) (out out' err err
   meaning_of request status (ran gave) is zero = cc
   meaning_of request status (ran_full full diag gave told) is zero = cc
   meaning_of request status (no_run fault due keeps told) is zero = cc
+  meaning_of request status (ran_strict is_settled gave) is zero = cc
+  meaning_of request status (strict_full is_settled full diag gave told) is zero = cc
+  meaning_of request status (no_strict fault due keeps told) is zero = cc
   meaning_of request status (harmless gave keeps) is zero = cc
   meaning_of request status (harmful gave keeps) is zero = cc
   meaning_of request status (no_check fault due keeps told) is zero = cc
@@ -168,6 +173,27 @@ module _ (input : Option Bytes) (file : Path → Option Bytes) (how : How) (prof
         subst (Ends input file out out' err err' (asks_run profile script paths how lists)) (sym told.0) (no_run fault due (keeps_equal out out' kept.0) (subst (λ e. Appends e err' (run_fault_told fault)) kept.1 told.1))
   ]
 
+-- and so does a strict one
+module _ (input : Option Bytes) (file : Path → Option Bytes) (profile : Profile) (script : Path) (paths : List (Bor Path)) (harts turns : ℕ) (lists : Lists) (out out' err diag err' : Option Bytes) where
+  abbrev EndsStrictly : ℕ → Type 0
+  EndsStrictly = Ends input file out out' err err' (asks_strict profile script paths harts turns lists)
+
+  ended_full : (full : Option Full) (is_settled : Bool) (status : ℕ) → RanStrict input file profile script paths harts turns lists full is_settled out out' err diag → TellsFull full (verdict_status true is_settled) status diag err' → EndsStrictly status
+  ended_full None is_settled status gave told =
+      subst EndsStrictly (sym told.0) (ran_strict is_settled (subst (λ e. RanStrict input file profile script paths harts turns lists None is_settled out out' err e) (sym told.1) gave))
+  ended_full (Some full) is_settled status gave (inl told) = subst EndsStrictly (sym told.0) (strict_full is_settled full diag gave told.1)
+  ended_full (Some full) is_settled status gave (inr untold) = subst EndsStrictly (sym untold) unwritten
+
+  pub ended_strict : (result : Result StrictRun RunFault) (status : ℕ) → IfOk result (λ run. RanStrict input file profile script paths harts turns lists run.full run.is_settled out out' err diag) → IfErr result (IsStrictFault input file profile script paths harts turns) → IfErr result (λ fault. fault ≢ Common Unwritten → (out' ≡ out) × (diag ≡ err)) → TellsStrict result status diag err' → EndsStrictly status
+  ended_strict (Ok run) status gave due stays told = ended_full run.full run.is_settled status gave told
+  ended_strict (Err fault) status gave due stays (inr untold) = subst EndsStrictly (sym untold) unwritten
+  ended_strict (Err fault) status gave due stays (inl told) = elim (run_unwritten_or fault) [
+    | inl is ↦ subst EndsStrictly (sym (told.0 ∙ ap run_status is)) unwritten
+    | inr other ↦
+        let kept = stays other in
+        subst EndsStrictly (sym told.0) (no_strict fault due (keeps_equal out out' kept.0) (subst (λ e. Appends e err' (run_fault_told fault)) kept.1 told.1))
+  ]
+
 -- but for what was full, and for an output that took no more, nothing is written with another status than 0
 pub nothing_ran : {X Y : Type 0} (x x' : X) (y y' : Y) (result : Result (Option Full) RunFault) (status : ℕ) (mid after : Option Bytes) → IfErr result (λ fault. fault ≢ Common Unwritten → (x' ≡ x) × (y' ≡ y)) → TellsRan result status mid after → status ≢ 0 → status ≢ 1 → status ≢ 4 → x' ≡ x
 nothing_ran x x' y y' (Ok None) status mid after stays told some one four = absurd (some told.0)
@@ -190,3 +216,21 @@ verdict_written strict is_settled status err err' (inl told) some one three =
 pub check_written : {X : Type 0} (is_harmless : Bool) → check_status is_harmless ≢ 0 → check_status is_harmless ≢ 3 → X
 check_written true some three = absurd (some refl)
 check_written false some three = absurd (three refl)
+
+-- the same of a strict run, whose status is 3 where its script isn't settled
+strict_or : (is_settled : Bool) → verdict_status true is_settled ≢ 0 → verdict_status true is_settled ≡ 3
+strict_or true some = absurd (some refl)
+strict_or false some = refl
+
+nothing_full : {X : Type 0} (full : Option Full) (is_settled : Bool) (status : ℕ) (mid after : Option Bytes) → TellsFull full (verdict_status true is_settled) status mid after → status ≢ 0 → status ≢ 1 → status ≢ 3 → status ≢ 4 → X
+nothing_full None is_settled status mid after told some one three four = absurd (three (told.0 ∙ strict_or is_settled (λ zero. some (told.0 ∙ zero))))
+nothing_full (Some full) is_settled status mid after (inl told) some one three four = absurd (four told.0)
+nothing_full (Some full) is_settled status mid after (inr untold) some one three four = absurd (one untold)
+
+pub nothing_strict : {X Y : Type 0} (x x' : X) (y y' : Y) (result : Result StrictRun RunFault) (status : ℕ) (mid after : Option Bytes) → IfErr result (λ fault. fault ≢ Common Unwritten → (x' ≡ x) × (y' ≡ y)) → TellsStrict result status mid after → status ≢ 0 → status ≢ 1 → status ≢ 3 → status ≢ 4 → x' ≡ x
+nothing_strict x x' y y' (Ok run) status mid after stays told some one three four = nothing_full run.full run.is_settled status mid after told some one three four
+nothing_strict x x' y y' (Err fault) status mid after stays (inr untold) some one three four = absurd (one untold)
+nothing_strict x x' y y' (Err fault) status mid after stays (inl told) some one three four = elim (run_unwritten_or fault) [
+  | inl is ↦ absurd (one (told.0 ∙ ap run_status is))
+  | inr other ↦ (stays other).0
+]

@@ -17,6 +17,8 @@ use Rattle.xvsh_runs.specs.Status.{run_status, run_fault_told, full_told}
 use Rattle.xvsh_runs.specs.Why.{IsRunFault, IsReplayingFault}
 use Rattle.xvsh.specs.Drive.{RanCheck, IsCheckFault, verdict_text}
 use Rattle.xvsh.specs.Running.{RanPlain, IsPlainFault}
+use Rattle.xvsh.specs.Strict.{RanStrict, IsStrictFault}
+use Rattle.xvsh.specs.declared.strict.StrictRun.{StrictRun}
 use Rattle.xvsh.specs.Turns.{RanTurns, IsTurnsFault}
 
 -- what >> means, by whether `--append` is given
@@ -30,17 +32,19 @@ pub data How : Type 0 where
   by_schedule : Path → How
 
 -- what the words of the command line ask for: a run of the script at a path under a profile, on the files at these paths,
--- by its meaning, with a list of the files or without, and strictly or not, or by its processes, with lists or without; a
--- check of the script at a path, or one that tells its turns on these files too; the help; or nothing that there is
+-- by its meaning, with a list of the files or without, and strictly or not, or by its processes, with lists or without, or
+-- strictly on so many harts in at most so many turns; a check of the script at a path, or one that tells its turns on these
+-- files too; the help; or nothing that there is
 pub data Request : Type 0 where
   asks_plain : Profile → Path → List (Bor Path) → Bool → Bool → Request
   asks_run : Profile → Path → List (Bor Path) → How → Lists → Request
+  asks_strict : Profile → Path → List (Bor Path) → ℕ → ℕ → Lists → Request
   asks_check : Path → Request
   asks_turns : Path → List (Bor Path) → Request
   help : Request
   misuse : Request
 
--- the status of a script that ran by its meaning: where it is asked for strictly, one that isn't settled has 3
+-- the status of a script that ran, and in which nothing was full: where it is asked for strictly, one that isn't settled has 3
 abbrev pub verdict_status : Bool → Bool → ℕ
 verdict_status false is_settled = 0
 verdict_status true true = 0
@@ -55,12 +59,20 @@ check_status false = 3
 abbrev pub Tells : Bytes → ℕ → ℕ → Option Bytes → Option Bytes → Type 0
 Tells text status result err err' = ((result ≡ status) × Appends err err' text) ⊎ (result ≡ 1)
 
--- what a run by processes came to was told: nothing more of one in which nothing was full, else what was, or why there is
--- none
+-- what was full in a run was told; where nothing was, nothing is told, and the status is this
+abbrev pub TellsFull : Option Full → ℕ → ℕ → Option Bytes → Option Bytes → Type 0
+TellsFull None status result err err' = (result ≡ status) × (err' ≡ err)
+TellsFull (Some full) status result err err' = Tells (full_told full) 4 result err err'
+
+-- what a run by processes came to was told: what was full in it, or why there is none; the same of a strict one, whose status
+-- tells too whether the script is settled
 abbrev pub TellsRan : Result (Option Full) RunFault → ℕ → Option Bytes → Option Bytes → Type 0
-TellsRan (Ok None) result err err' = (result ≡ 0) × (err' ≡ err)
-TellsRan (Ok (Some full)) result err err' = Tells (full_told full) 4 result err err'
+TellsRan (Ok full) result err err' = TellsFull full 0 result err err'
 TellsRan (Err fault) result err err' = Tells (run_fault_told fault) (run_status fault) result err err'
+
+abbrev pub TellsStrict : Result StrictRun RunFault → ℕ → Option Bytes → Option Bytes → Type 0
+TellsStrict (Ok run) result err err' = TellsFull run.full (verdict_status true run.is_settled) result err err'
+TellsStrict (Err fault) result err err' = Tells (run_fault_told fault) (run_status fault) result err err'
 
 -- what follows is said after what the host tells of standard input and of the files at paths
 module _ (input : Option Bytes) (file : Path → Option Bytes) where
@@ -86,6 +98,10 @@ module _ (input : Option Bytes) (file : Path → Option Bytes) (out out' err err
     ran_full : {profile : Profile} {script : Path} {paths : List (Bor Path)} {how : How} {lists : Lists} (full : Full) (diag : Option Bytes) → RanBy input file how profile script paths lists (Some full) out out' err diag → Appends diag err' (full_told full) → Ends (asks_run profile script paths how lists) 4
     -- it didn't, in the same way
     no_run : {profile : Profile} {script : Path} {paths : List (Bor Path)} {how : How} {lists : Lists} (fault : RunFault) → IsFaultBy input file how profile script paths fault → Keeps out out' → Appends err err' (run_fault_told fault) → Ends (asks_run profile script paths how lists) (run_status fault)
+    -- it ran by its processes strictly, and nothing was full; or something was, which is told, settled or not; or it didn't
+    ran_strict : {profile : Profile} {script : Path} {paths : List (Bor Path)} {harts turns : ℕ} {lists : Lists} (is_settled : Bool) → RanStrict input file profile script paths harts turns lists None is_settled out out' err err' → Ends (asks_strict profile script paths harts turns lists) (verdict_status true is_settled)
+    strict_full : {profile : Profile} {script : Path} {paths : List (Bor Path)} {harts turns : ℕ} {lists : Lists} (is_settled : Bool) (full : Full) (diag : Option Bytes) → RanStrict input file profile script paths harts turns lists (Some full) is_settled out out' err diag → Appends diag err' (full_told full) → Ends (asks_strict profile script paths harts turns lists) 4
+    no_strict : {profile : Profile} {script : Path} {paths : List (Bor Path)} {harts turns : ℕ} {lists : Lists} (fault : RunFault) → IsStrictFault input file profile script paths harts turns fault → Keeps out out' → Appends err err' (run_fault_told fault) → Ends (asks_strict profile script paths harts turns lists) (run_status fault)
     -- the script was checked, and holds no `&` and no clash, or some
     harmless : {script : Path} → RanCheck input file script true out out' → Keeps err err' → Ends (asks_check script) 0
     harmful : {script : Path} → RanCheck input file script false out out' → Keeps err err' → Ends (asks_check script) 3

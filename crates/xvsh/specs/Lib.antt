@@ -2,4 +2,5 @@ pub mod Check
 pub mod Drive
 pub mod Ends
 pub mod Running
+pub mod Strict
 pub mod Turns

@@ -4,12 +4,12 @@ ghost use Rattle.script_load.specs.Line.{lines_of};
 ghost use Rattle.xvsh_read.specs.Status.{status_of, fault_told, IsTellFault};
 ghost use Rattle.xvsh.specs.Check.{AreTold, AreHarmless};
 ghost use Rattle.xvsh.specs.Drive.{WritesMeaning, RanCheck, IsCheckFault, verdict_text};
-ghost use Rattle.xvsh.specs.Ends.{Ends, Request, asks_plain, asks_check, asks_turns, check_status, verdict_status};
+ghost use Rattle.xvsh.specs.Ends.{Ends, Request, asks_plain, asks_check, asks_turns, check_status};
 
 use crate::checking::check;
 use crate::processes::{do_replay, do_run};
 use crate::running::run_plain;
-use crate::told::{tell, tell_text};
+use crate::told::{tell, tell_text, verdict_status};
 use crate::turns::run_turns;
 use crate::words::{command_line, profile_of};
 use clap::ArgMatches;
@@ -63,13 +63,6 @@ fn verdict(is_settled: bool) -> &'static str
     } else {
         "not settled\n"
     }
-}
-
-// The status of a script that ran.
-fn verdict_status(is_strict: bool, is_settled: bool) -> u8
-    ensures { result ≡ verdict_status is_strict is_settled }
-{
-    if is_strict && !is_settled { 3 } else { 0 }
 }
 
 // Runs a script, tells whether it is settled or why it wasn't run, and gives the status.
@@ -277,9 +270,10 @@ fn end_words<R: Threads + Wait + Clock + Sync, H: Host, W: Write, E: Write>(
 /// file at most 274,432. Then `settled` or `not settled` goes to `err`: whether the script is settled, that is, whether
 /// its commands keep out of each other's way. With `--strict` the status of a script that isn't is 3.
 ///
-/// `run [--harts N] [--turns N] [--schedule] [--append] [--files] SCRIPT [FILE]..` reads the same and runs the script by
+/// `run [--harts N] [--turns N] [--schedule] [--append] [--files] [--strict] SCRIPT [FILE]..` reads the same and runs the script by
 /// its processes, on 4 harts or N, of which each is a thread, in at most 10,000,000 turns or N. It writes the output, with `--files` all files, and with
-/// `--schedule` a line an event, and to `err` the diagnostics, and then, where something was full, what. `replay
+/// `--schedule` a line an event, and to `err` the diagnostics, and then, where something was full, what. With `--strict` the
+/// status of a script that isn't settled, which is found out first, is 3, unless something was full. `replay
 /// [--append] [--files] SCHEDULE SCRIPT [FILE]..` does so by the events of a schedule in that form, which it reads first.
 ///
 /// `check SCRIPT` reads and loads the script, runs nothing, and writes the faults, the `&` and the

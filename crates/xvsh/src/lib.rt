@@ -6,6 +6,7 @@ mod driver;
 mod processes;
 mod program;
 mod running;
+mod strict;
 mod system;
 mod told;
 mod turns;

@@ -1,8 +1,9 @@
 //! `run` and `replay`: what their words ask for, and how they end.
 ghost use Rattle.std.specs.Prelude.{◌≡◌, ◌≢◌};
-ghost use Rattle.xvsh.specs.Ends.{Ends, Request, asks_run, on_harts, by_schedule};
+ghost use Rattle.xvsh.specs.Ends.{Ends, Request, asks_run, asks_strict, on_harts, by_schedule};
 
-use crate::told::tell_ran;
+use crate::strict::run_strict;
+use crate::told::{tell_ran, tell_strict};
 use crate::words::profile_of;
 use clap::ArgMatches;
 use script_load::Profile;
@@ -44,6 +45,30 @@ fn end_run<'a, R: Threads + Wait + Clock + Sync, H: Host, W: Write, E: Write>(
     tell_ran(ran, err)
 }
 
+// The same strictly: whether the script is settled is in the status too.
+fn end_strict<'a, R: Threads + Wait + Clock + Sync, H: Host, W: Write, E: Write>(
+    rt: &R,
+    alloc: Global,
+    host: &mut H,
+    profile: Profile,
+    script: &'a str,
+    paths: &[&'a str],
+    harts: u8,
+    turns: u64,
+    lists: Lists,
+    out: &mut W,
+    err: &mut E,
+) -> u8
+    ensures ends { Ends (H.input host.old) (H.file host.old) (W.contents out.old) (W.contents out.new)
+        (E.contents err.old) (E.contents err.new) (asks_strict profile script.now paths.now harts turns lists) result }
+    ensures nothing_written { result ≢ 0 → result ≢ 1 → result ≢ 3 → result ≢ 4 → out.new ≡ out.old }
+{
+    let ran = run_strict(
+        rt, alloc, host, profile, script, paths, harts, turns, lists, out, err,
+    );
+    tell_strict(ran, err)
+}
+
 // Replays a schedule, tells what was full or why it wasn't run, and gives the status.
 fn end_replay<'a, H: Host, W: Write, E: Write>(
     alloc: Global,
@@ -77,7 +102,7 @@ pub fn do_run<'a, R: Threads + Wait + Clock + Sync, H: Host, W: Write, E: Write>
 ) -> u8
     ensures ends { (request : Request) × Ends (H.input host.old) (H.file host.old) (W.contents out.old) (W.contents out.new)
         (E.contents err.old) (E.contents err.new) request result }
-    ensures nothing_written { result ≢ 0 → result ≢ 1 → result ≢ 4 → out.new ≡ out.old }
+    ensures nothing_written { result ≢ 0 → result ≢ 1 → result ≢ 3 → result ≢ 4 → out.new ≡ out.old }
 {
     let script: &'a str = words.get_str("script").unwrap_or(STDIN);
     let paths = words.get_strs("paths").unwrap_or(&[]);
@@ -88,9 +113,15 @@ pub fn do_run<'a, R: Threads + Wait + Clock + Sync, H: Host, W: Write, E: Write>
         files: words.get_flag("files"),
         events: words.get_flag("schedule"),
     };
-    end_run(
-        rt, alloc, host, profile, script, paths, harts, turns, lists, out, err,
-    )
+    if words.get_flag("strict") {
+        end_strict(
+            rt, alloc, host, profile, script, paths, harts, turns, lists, out, err,
+        )
+    } else {
+        end_run(
+            rt, alloc, host, profile, script, paths, harts, turns, lists, out, err,
+        )
+    }
 }
 
 /// `replay` with these words.

@@ -14,8 +14,8 @@ use std::alloc::Global;
 use std::io::Write;
 use xvsh_read::{Fault, Host, listing, prepare, write};
 
-// Why a run by its meaning failed.
-fn of_plain<'a>(fault: PlainFault) -> Fault<'a>
+/// Why a run by its meaning failed.
+pub fn of_plain<'a>(fault: PlainFault) -> Fault<'a>
     ensures { result ≡ of_plain fault }
 {
     match fault {

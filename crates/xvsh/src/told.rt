@@ -2,8 +2,9 @@
 ghost use Rattle.std.specs.Prelude.{◌≡◌};
 ghost use Rattle.xvsh_read.specs.Status.{status_of, fault_told};
 ghost use Rattle.xvsh_runs.specs.Status.{full_told, run_status, run_fault_told};
-ghost use Rattle.xvsh.specs.Ends.{Tells, TellsRan};
+ghost use Rattle.xvsh.specs.Ends.{Tells, TellsFull, TellsRan, TellsStrict, verdict_status};
 
+use crate::strict::StrictRun;
 use kernel_model::Full;
 use std::io::Write;
 use xvsh_read::Fault;
@@ -45,10 +46,20 @@ fn tell_fault<E: Write>(fault: RunFault<'_>, err: &mut E) -> u8
     }
 }
 
-// Tells what was full in a run.
-fn tell_full<E: Write>(full: Full, err: &mut E) -> u8
-    ensures { Tells (full_told full) 4 result (E.contents err.old) (E.contents err.new) }
+/// The status of a script that ran: where it is asked for strictly, one that isn't settled has 3.
+pub fn verdict_status(is_strict: bool, is_settled: bool) -> u8
+    ensures { result ≡ verdict_status is_strict is_settled }
 {
+    if is_strict && !is_settled { 3 } else { 0 }
+}
+
+// Tells what was full in a run, or gives this status.
+fn tell_full<E: Write>(full: Option<Full>, status: u8, err: &mut E) -> u8
+    ensures { TellsFull full status result (E.contents err.old) (E.contents err.new) }
+{
+    let Some(full) = full else {
+        return status;
+    };
     let word = word_of(full);
     match writeln!(err, "xvsh: full {word}") {
         Ok(()) => 4,
@@ -61,8 +72,17 @@ pub fn tell_ran<E: Write>(ran: Result<Option<Full>, RunFault<'_>>, err: &mut E) 
     ensures { TellsRan ran.entry result (E.contents err.old) (E.contents err.new) }
 {
     match ran {
-        Ok(None) => 0,
-        Ok(Some(full)) => tell_full(full, err),
+        Ok(full) => tell_full(full, 0, err),
+        Err(fault) => tell_fault(fault, err),
+    }
+}
+
+/// The same of a strict run, whose status also tells whether its script is settled.
+pub fn tell_strict<E: Write>(ran: Result<StrictRun, RunFault<'_>>, err: &mut E) -> u8
+    ensures { TellsStrict ran.entry result (E.contents err.old) (E.contents err.new) }
+{
+    match ran {
+        Ok(run) => tell_full(run.full, verdict_status(true, run.is_settled), err),
         Err(fault) => tell_fault(fault, err),
     }
 }

@@ -55,10 +55,10 @@ each other at a file: at the two sides of a pipe (PipeSides), or inside a redire
 the order of its processes, if it has no clash and no `&` and nothing is full.
 
 Status: 0 done; 1 something can't be read, is refused, or can't be written, or is no schedule of a
-whole run; 2 usage; 3 `check` told of a clash or a `&`, or `plain --strict` ran a script that isn't
+whole run; 2 usage; 3 `check` told of a clash or a `&`, or `--strict` ran a script that isn't
 settled; 4 full, spent, too large, or no memory.";
 
-const VERSION: &str = "0.1.0 (rattle-kit-13b logic dac8208d650f15bf)";
+const VERSION: &str = "0.1.0 (rattle-kit-13f logic dac8208d650f15bf)";
 
 // `--files`, which lists all files after the output.
 fn files_flag<'a>(alloc: Global, help: &'static str) -> Arg<'a> {
@@ -99,6 +99,14 @@ const SCRIPT_HELP: &str =
 
 const RUN_ABOUT: &str = "Runs a script by its processes, as xv6 does, and tells their diagnostics";
 
+// `--strict`, under which the status tells whether a script is settled.
+fn strict_flag<'a>(alloc: Global) -> Arg<'a> {
+    Arg::new(alloc, "strict")
+        .long("strict")
+        .help("End with status 3 if the script isn't settled")
+        .action(ArgAction::SetTrue)
+}
+
 fn run_command<'a>(alloc: Global) -> Result<Command<'a>, AllocError> {
     let harts = Arg::new(alloc, "harts")
         .long("harts")
@@ -121,6 +129,7 @@ fn run_command<'a>(alloc: Global) -> Result<Command<'a>, AllocError> {
         .arg(harts)?
         .arg(turns)?
         .arg(lists_events)?
+        .arg(strict_flag(alloc))?
         .arg(append_flag(alloc))?
         .arg(files_flag(alloc, RUN_FILES_HELP))?
         .arg(script_word(alloc, SCRIPT_HELP))?
@@ -155,13 +164,9 @@ const PLAIN_FILES_HELP: &str =
     "Write all files after the output: `-- NAME LENGTH`, `soft` if it is soft, the bytes, a line's end";
 
 fn plain_command<'a>(alloc: Global) -> Result<Command<'a>, AllocError> {
-    let is_strict = Arg::new(alloc, "strict")
-        .long("strict")
-        .help("End with status 3 if the script isn't settled")
-        .action(ArgAction::SetTrue);
     Command::new(alloc, "plain")
         .about(PLAIN_ABOUT)
-        .arg(is_strict)?
+        .arg(strict_flag(alloc))?
         .arg(append_flag(alloc))?
         .arg(files_flag(alloc, PLAIN_FILES_HELP))?
         .arg(script_word(alloc, SCRIPT_HELP))?

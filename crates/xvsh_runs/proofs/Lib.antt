@@ -1,2 +1,3 @@
 pub mod Moved
+pub mod Prepared
 pub mod Written

@@ -5,8 +5,10 @@ use Rattle.std.specs.Str.{bytes_eq}
 use Rattle.mem_files.specs.Name.{Name, Bytes}
 use Rattle.script_load.specs.declared.profile.Profile.{Profile}
 use Rattle.script_load.specs.Line.{ScriptLine}
+use Rattle.sh_machine.specs.State.{User}
 use Rattle.kernel_model.specs.declared.events.Event.{Event}
 use Rattle.kernel_model.specs.declared.events.Full.{Full}
+use Rattle.kernel_model.specs.KernelState.{KernelState}
 use Rattle.kernel_core.specs.ScriptRun.{script_kernel}
 use Rattle.hart_threads.specs.Events.{AreOfHarts}
 use Rattle.schedule_lines.specs.EventLines.{AreLinesOf}
@@ -15,6 +17,13 @@ use Rattle.xvsh_read.specs.Reading.{Agree, told_at}
 use Rattle.xvsh_read.specs.Starting.{Starts}
 use Rattle.xvsh_runs.specs.Lists.{IsWritten}
 use Rattle.xvsh_runs.specs.declared.report.Lists.{Lists}
+
+-- a finished run from this kernel on so many harts in at most so many turns was written
+pub record RanOn (start : KernelState User) (harts turns : ℕ) (lists : Lists) (full : Option Full) (out out' err err' : Option Bytes) : Type 0 where
+  pub events : List Event
+  pub of_harts : AreOfHarts harts events
+  pub within : length events ≤ turns
+  pub written : IsWritten start events lists full out out' err err'
 
 -- what follows is said after what the host tells of standard input and of the files at paths, of the script at a path
 -- under a profile and on the files at these paths
@@ -25,10 +34,7 @@ module _ (input : Option Bytes) (file : Path → Option Bytes) (profile : Profil
     pub given : List (Name × Bytes)
     pub stdin : Bytes
     pub starts : Starts input file false script paths lines given stdin
-    pub events : List Event
-    pub of_harts : AreOfHarts harts events
-    pub within : length events ≤ turns
-    pub written : IsWritten (script_kernel profile lines stdin given) events lists full out out' err err'
+    pub on : RanOn (script_kernel profile lines stdin given) harts turns lists full out out' err err'
 
   -- the finished run by the events of the schedule at a path was written
   pub record RanReplay (schedule : Path) (lists : Lists) (full : Option Full) (out out' err err' : Option Bytes) : Type 0 where

@@ -9,4 +9,4 @@ mod running;
 pub use fault::RunFault;
 pub use replaying::{MAX_SCHEDULE, run_replay};
 pub use report::{Lists, word_of};
-pub use running::run_run;
+pub use running::{run_prepared, run_run};

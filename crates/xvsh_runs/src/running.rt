@@ -4,7 +4,7 @@ ghost use Rattle.script_load.specs.Line.{lines_of};
 ghost use Rattle.kernel_core.specs.ScriptRun.{IsRunFrom, script_kernel};
 ghost use Rattle.hart_threads.specs.Events.{AreOfHarts};
 ghost use Rattle.xvsh_read.specs.declared.fault.Fault.TheVariants.{Unwritten};
-ghost use Rattle.xvsh_runs.specs.Runs.{RanRun};
+ghost use Rattle.xvsh_runs.specs.Runs.{RanOn, RanRun};
 ghost use Rattle.xvsh_runs.specs.Why.{IsRunFault, IsHartsFault};
 
 use crate::fault::RunFault;
@@ -83,6 +83,29 @@ fn run_started<'a, R: Threads + Wait + Clock + Sync>(
     }
 }
 
+/// Runs what was read by its processes on so many harts in at most so many turns, and writes its output, the lists that are
+/// asked for, and to `err` its diagnostics. Returns what was full, if something was. A fault comes before anything is
+/// written, but for an output that took no more.
+pub fn run_prepared<'a, R: Threads + Wait + Clock + Sync, W: Write, E: Write>(
+    rt: &R,
+    alloc: Global,
+    start: &Start,
+    harts: u8,
+    turns: u64,
+    lists: Lists,
+    out: &mut W,
+    err: &mut E,
+) -> Result<Option<Full>, RunFault<'a>>
+    ensures ran { IfOk result (λ full. RanOn (script_kernel start.now.script.profile (lines_of start.now.script.lines) start.now.stdin.items start.now.files) harts turns lists full
+        (W.contents out.old) (W.contents out.new) (E.contents err.old) (E.contents err.new)) }
+    ensures fault { IfErr result (IsHartsFault (script_kernel start.now.script.profile (lines_of start.now.script.lines) start.now.stdin.items start.now.files) harts turns) }
+    ensures refusal { IfErr result (λ fault. fault ≢ RunFault.Common Unwritten → (out.new ≡ out.old) × (err.new ≡ err.old)) }
+{
+    let report = run_started(rt, alloc, start, harts, turns)?;
+    write_report(alloc, &report, lists, out, err)?;
+    Ok(report.full)
+}
+
 /// `run`: reads the script, the files in order, and standard input unless that is the script, runs the script by its
 /// processes on so many harts in at most so many turns, and writes its output, the lists that are asked for, and to `err`
 /// its diagnostics. Returns what was full, if something was. A fault comes before anything is written, but for an output
@@ -106,7 +129,5 @@ pub fn run_run<'a, R: Threads + Wait + Clock + Sync, H: Host, W: Write, E: Write
     ensures refusal { IfErr result (λ fault. fault ≢ RunFault.Common Unwritten → (out.new ≡ out.old) × (err.new ≡ err.old)) }
 {
     let start = prepare(alloc, host, profile, script, paths, false)?;
-    let report = run_started(rt, alloc, &start, harts, turns)?;
-    write_report(alloc, &report, lists, out, err)?;
-    Ok(report.full)
+    run_prepared(rt, alloc, &start, harts, turns, lists, out, err)
 }

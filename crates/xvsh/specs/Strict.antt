@@ -1,0 +1,33 @@
+-- What a strict run reads, runs, writes and refuses: a run by processes of a script of which it is known whether it is settled
+-- (own).
+use Rattle.std.specs.Prelude.{◌↔◌, ℕ, Bool, false, IsTrue, List, Option}
+use Rattle.std.specs.Borrow.{Bor}
+use Rattle.mem_files.specs.Name.{Name, Bytes}
+use Rattle.mem_files.specs.Files.{files}
+use Rattle.script_load.specs.declared.profile.Profile.{Profile}
+use Rattle.script_load.specs.Line.{ScriptLine}
+use Rattle.sh_meaning.specs.Settled.{IsSettledScript}
+use Rattle.kernel_model.specs.declared.events.Full.{Full}
+use Rattle.xvsh_read.specs.declared.fault.Fault.{Fault}
+use Rattle.xvsh_read.specs.Path.{Path}
+use Rattle.xvsh_read.specs.Starting.{Starts}
+use Rattle.xvsh_runs.specs.declared.fault.RunFault.{RunFault}
+use Rattle.xvsh_runs.specs.declared.fault.RunFault.TheVariants.{Common}
+use Rattle.xvsh_runs.specs.declared.report.Lists.{Lists}
+use Rattle.xvsh_runs.specs.Runs.{RanRun}
+use Rattle.xvsh_runs.specs.Why.{IsRunFault as IsUnrun}
+use Rattle.xvsh.specs.Running.{IsRunFault}
+
+-- what follows is said after what the host tells of standard input and of the files at paths, of the script at a path under a
+-- profile and on the files at these paths, and of a run on so many harts in at most so many turns
+module _ (input : Option Bytes) (file : Path → Option Bytes) (profile : Profile) (script : Path) (paths : List (Bor Path)) (harts turns : ℕ) where
+  -- a run was written, and this is whether its script is settled on what it began with
+  pub record RanStrict (lists : Lists) (full : Option Full) (is_settled : Bool) (out out' err err' : Option Bytes) : Type 0 where
+    pub ran : RanRun input file profile script paths harts turns lists full out out' err err'
+    pub settled : IsTrue is_settled ↔ IsSettledScript profile ran.lines ran.stdin (files ran.given)
+
+  -- why none was: it isn't known whether the script is settled, since its meaning passes a limit or wants memory, or there is
+  -- no run
+  pub data IsStrictFault : RunFault → Type 0 where
+    no_verdict : {fault : Fault} (lines : List ScriptLine) (given : List (Name × Bytes)) (stdin : Bytes) → Starts input file false script paths lines given stdin → IsRunFault profile lines stdin (files given) fault → IsStrictFault (Common fault)
+    no_strict_run : {fault : RunFault} → IsUnrun input file profile script paths harts turns fault → IsStrictFault fault
