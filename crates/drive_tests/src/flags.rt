@@ -40,7 +40,7 @@ fn a_strict_run_tells_by_its_status(rt: HostRuntime) -> Result<(), Fail> {
 // told.
 #[test]
 fn a_strict_run_by_processes_tells_by_its_status(rt: HostRuntime) -> Result<(), Fail> {
-    let large = b"x".as_slice().repeat(rt.alloc(), 274_432)?;
+    let large = "x".repeat(rt.alloc(), 274_432)?;
     let deep = nested(rt.alloc(), 62)?;
     let files = [
         ("one", b"echo a | cat".as_slice()),
@@ -48,7 +48,7 @@ fn a_strict_run_by_processes_tells_by_its_status(rt: HostRuntime) -> Result<(), 
         ("clash", b"echo a | tee f | cat f".as_slice()),
         ("soft", b"echo a | tee c | cat".as_slice()),
         ("grows", b"cat g g > h".as_slice()),
-        ("dir/g", large.as_slice()),
+        ("dir/g", large.as_bytes()),
         ("deep", deep.as_bytes()),
     ];
     let rows = [

@@ -3,6 +3,7 @@
 
 mod faults;
 mod gates;
+pub mod laws;
 mod locked;
 mod naming;
 mod passing;

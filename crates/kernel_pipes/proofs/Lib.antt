@@ -1,1 +1,5 @@
+mod Indexing
+mod Listing
+mod Names
 mod Places
+mod Shown

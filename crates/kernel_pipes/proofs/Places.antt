@@ -6,7 +6,7 @@ use Rattle.std.proofs.lemmas.List.Quantifiers.{position-Some}
 use Rattle.std.proofs.lemmas.Grind.{common_steps}
 use Rattle.std.specs.Prelude.{if◌then◌else◌, position, remove, IfSome}
 use Rattle.std.specs.List.{position_or_len}
-use Rattle.byte_pipe.specs.PipeState.{PipeState}
+use Rattle.byte_pipe.specs.PipeState.{PipeState, new_pipe}
 use Rattle.kernel_model.specs.Pipes.{Pipes, pipe_of, with_pipe, without_pipe}
 use Rattle.kernel_pipes.specs.Placed.{is_named, IsPlaced}
 
@@ -64,11 +64,12 @@ removed_at pipes id i d y found =
 
 placed_at : (pipes : Pipes) (id i : ℕ) → position (is_named id) pipes ≡ Some i → IsPlaced pipes id i
 placed_at pipes id i is =
+    let d : ℕ × PipeState = (0, new_pipe) in
     record {
-      within = (position-Some (is_named id) pipes i (0, record { bytes = []; reader = true; writer = true }) is).0;
-      found = λ d. found_at pipes id i d is;
-      changed = λ d now. changed_at pipes id i d now is;
-      removed = λ y. removed_at pipes id i y y is;
+      within = (position-Some (is_named id) pipes i d is).0;
+      found = found_at pipes id i d is;
+      changed = λ now. changed_at pipes id i d now is;
+      removed = λ now. removed_at pipes id i d _ is;
     }
 
 pub placed_if : (pipes : Pipes) (id : ℕ) (r : Option ℕ) → r ≡ position (is_named id) pipes → IfSome r (λ i. IsPlaced pipes id i)

@@ -1,7 +1,7 @@
 -- What a pipe shows of itself.
 use Rattle.std.specs.Prelude.{length}
 use Rattle.byte_pipe.specs.PipeState.{PipeState}
-use Rattle.kernel_pipes.specs.declared.named.PipeStatus.{PipeStatus}
+use Rattle.kernel_pipes.specs.declared.status.PipeStatus.{PipeStatus}
 
 -- how much it holds, and which of its ends are open
 abbrev pub status_of : PipeState → PipeStatus

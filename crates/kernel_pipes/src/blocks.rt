@@ -2,8 +2,11 @@
 
 ghost use Rattle.std.specs.Prelude.{◌≡◌, ◌≤◌, take};
 ghost use Rattle.user_calls.specs.declared.block.TheConstants.{BLOCK_SIZE};
+ghost use Rattle.byte_pipe.specs.PipeState.{after_take, take_answer};
 
-use user_calls::Block;
+use byte_pipe::{Pipe, Take};
+use std::alloc::Allocator;
+use user_calls::{BLOCK_SIZE, Block};
 
 /// A block of the first `count` bytes, or of all of them where there are fewer.
 pub fn first_block(bytes: &[u8], count: usize) -> Block
@@ -12,4 +15,18 @@ pub fn first_block(bytes: &[u8], count: usize) -> Block
 {
     let held = count.min(bytes.len());
     Block::from_slice(&bytes[..held])
+}
+
+// Takes at most `count` bytes: what the pipe answers, and the bytes.
+pub(crate) fn take_block<A: Allocator>(pipe: &mut Pipe<A>, count: usize) -> (Take, Block)
+    requires { count ≤ BLOCK_SIZE }
+    ensures answer { result.0 ≡ take_answer pipe.old count }
+    ensures block { result.1 ≡ take count pipe.old.bytes }
+    ensures after { pipe.new ≡ after_take pipe.old count }
+{
+    let held = count.min(pipe.held());
+    let mut buffer = [0u8; BLOCK_SIZE];
+    let part = &mut buffer[..count];
+    let answer = pipe.take(part);
+    (answer, first_block(part, held))
 }

@@ -6,7 +6,8 @@
 mod blocks;
 mod named;
 mod pipes;
+mod status;
 
 pub use blocks::first_block;
-pub use named::PipeStatus;
 pub use pipes::Pipes;
+pub use status::PipeStatus;

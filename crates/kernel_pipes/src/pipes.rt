@@ -1,24 +1,34 @@
 //! All pipes of which an end is open.
 
-ghost use Rattle.std.specs.Prelude.{◌≡◌, ◌≤◌, [], IfSome, OnErr, OnOk, None, Some, option_map, position, take};
+ghost use Rattle.std.specs.Prelude.{◌≡◌, ◌<◌, ◌≤◌, ◌||◌, if◌then◌else◌, [], IfSome, OnErr, OnOk, None, Some, length, option_map, remove, take};
+ghost use Rattle.std.specs.Borrow.{Lends, sem};
 ghost use Rattle.user_calls.specs.declared.block.TheConstants.{BLOCK_SIZE};
 ghost use Rattle.byte_pipe.specs.PipeState.{put_answer, take_answer};
+ghost use Rattle.byte_pipe.specs.contracts.Pipe.{the_row as pipe_row};
 ghost use Rattle.kernel_model.specs.Pipes.{pipe_of, put_into, reader_gone, taken_from, with_new, writer_gone};
-ghost use Rattle.kernel_pipes.specs.Placed.{IsPlaced, is_named};
+ghost use Rattle.kernel_pipes.specs.contracts.pipes.Pipes.{the_row as pipes_row};
+ghost use Rattle.kernel_pipes.specs.Placed.{IsPlaced, placed, with_placed};
 ghost use Rattle.kernel_pipes.specs.Status.{status_of};
 
-use crate::named::{NamedPipe, PipeStatus};
+use crate::PipeStatus;
+use crate::blocks::take_block;
+use crate::named::{Named, place_of};
+use crate::status::status_of;
 use byte_pipe::{Pipe, Put, Take};
+use slab::Slab;
 use std::alloc::{AllocError, Allocator};
 use std::marker::Model;
 use user_calls::Block;
 
 /// The pipes of which an end is open, each under its name.
 ///
-/// Contracts see the list of names and pipes in the order in which they were made.
+/// A pipe stands in a slab, under a key that nobody else sees, and stays there as long as it is open; what is searched
+/// is an index of names and keys. Contracts see the list of names and pipes in the order in which they were made, which
+/// is that of the index.
 #[derive(Drop)]
 pub struct Pipes<A: Allocator> {
-    list: Vec<NamedPipe<A>, A>,
+    live: Slab<Pipe<A>, A>,
+    index: Vec<Named, A>,
 }
 
 impl<A: Allocator> Model for Pipes<A> {
@@ -26,19 +36,14 @@ impl<A: Allocator> Model for Pipes<A> {
 
     ghost Value = { Shown };
 
-    ghost view = { λ p. p.list.items };
+    ghost use Rattle.kernel_pipes.specs.Indexed.{AreIndexed, listed};
+
+    ghost view = { λ p. listed p.index.items p.live };
+
+    ghost invariant = { λ p. AreIndexed p.index.items p.live };
 }
 
 impl<A: Allocator> Pipes<A> {
-    /// No pipes. Takes no memory.
-    pub fn new(alloc: A) -> Self
-        ensures { result ≡ [] }
-    {
-        Pipes {
-            list: Vec::new(alloc),
-        }
-    }
-
     /// Puts the first of the bytes into the pipe of that name (`pipewrite`): what the pipe answers; `None` where there
     /// is no such pipe.
     pub fn put(&mut self, name: u64, bytes: &[u8]) -> Option<Put>
@@ -48,8 +53,7 @@ impl<A: Allocator> Pipes<A> {
         let Some(at) = self.place(name) else {
             return None;
         };
-        let pipe = &mut self.list[at];
-        Some(pipe.put(bytes))
+        Some(self.pipe_mut(at).put(bytes))
     }
 
     /// Takes at most `count` bytes from the pipe of that name (`piperead`): what the pipe answers, and the bytes; `None`
@@ -62,8 +66,7 @@ impl<A: Allocator> Pipes<A> {
         let Some(at) = self.place(name) else {
             return None;
         };
-        let pipe = &mut self.list[at];
-        Some(pipe.take(count))
+        Some(take_block(self.pipe_mut(at), count))
     }
 
     /// How full the pipe of that name is, and which of its ends are open; `None` where there is no such pipe.
@@ -73,7 +76,7 @@ impl<A: Allocator> Pipes<A> {
         let Some(at) = self.place(name) else {
             return None;
         };
-        Some(self.list[at].status())
+        Some(status_of(self.pipe(at)))
     }
 
     /// Closes the read end of the pipe of that name, if there is one; with the second end the pipe is given up
@@ -84,12 +87,8 @@ impl<A: Allocator> Pipes<A> {
         let Some(at) = self.place(name) else {
             return;
         };
-        let pipe = &mut self.list[at];
-        pipe.close_read();
-        let open = pipe.is_open();
-        if !open {
-            self.list.remove(at);
-        }
+        self.pipe_mut(at).close_read();
+        self.give_up_closed(at);
     }
 
     /// Closes the write end, likewise (`pipeclose`).
@@ -99,33 +98,71 @@ impl<A: Allocator> Pipes<A> {
         let Some(at) = self.place(name) else {
             return;
         };
-        let pipe = &mut self.list[at];
-        pipe.close_write();
-        let open = pipe.is_open();
-        if !open {
-            self.list.remove(at);
-        }
+        self.pipe_mut(at).close_write();
+        self.give_up_closed(at);
     }
 }
 
 impl<A: Allocator> Pipes<A> {
-    // The place of the first pipe of that name.
-    fn index_of(&self, name: u64) -> Option<usize>
-        ensures { result ≡ position (is_named name) self.now }
-    {
-        self.list.iter().position(|pipe| pipe.is_named(name))
-    }
-
     // Where the pipe of that name stands.
     fn place(&self, name: u64) -> Option<usize>
         ensures missing { result ≡ None → pipe_of self.now name ≡ None }
         ensures found { IfSome result (λ at. IsPlaced self.now name at) }
     {
-        self.index_of(name)
+        place_of(&self.index, name)
+    }
+
+    // The pipe at a place.
+    fn pipe(&self, at: usize) -> &Pipe<A>
+        requires { at < length self.now }
+        ensures { result.now ≡ (placed self.now at).1 }
+    {
+        &self.live[self.index[at].key]
+    }
+
+    // The pipe at a place, to be changed: what it ends as is what stands there.
+    fn pipe_mut(&mut self, at: usize) -> &mut Pipe<A>
+        requires { at < length self.old }
+        ensures* lends { sem 𝓛 (Lends (pipes_row A.row A.Allocator) (pipe_row A.row A.Allocator) self.entry result (with_placed self.old at)) }
+        ensures value { result.now ≡ (placed self.old at).1 }
+    {
+        let key = self.index[at].key;
+        &mut self.live[key]
+    }
+
+    // The pipe at a place is given up, unless an end of it is open.
+    fn give_up_closed(&mut self, at: usize)
+        requires { at < length self.old }
+        ensures { self.new ≡ (if (placed self.old at).1.reader || (placed self.old at).1.writer then self.old else remove self.old at) }
+    {
+        let pipe = self.pipe(at);
+        let open = pipe.reader_open() || pipe.writer_open();
+        if !open {
+            self.give_up(at);
+        }
+    }
+
+    // The pipe at a place is given up.
+    fn give_up(&mut self, at: usize)
+        requires { at < length self.old }
+        ensures { self.new ≡ remove self.old at }
+    {
+        let entry = self.index.remove(at);
+        self.live.remove(entry.key);
     }
 }
 
 impl<A: Allocator + Copy> Pipes<A> {
+    /// No pipes. Takes no memory.
+    pub fn new(alloc: A) -> Self
+        ensures { result ≡ [] }
+    {
+        Pipes {
+            live: Slab::new(alloc),
+            index: Vec::new(alloc),
+        }
+    }
+
     /// Makes a pipe of that name, empty and with both ends open (`pipealloc`).
     ///
     /// `AllocError` where memory for it is refused; nothing changes then.
@@ -133,8 +170,11 @@ impl<A: Allocator + Copy> Pipes<A> {
         ensures ok { OnOk result (self.new ≡ with_new self.old name) }
         ensures err { OnErr result (self.new ≡ self.old) }
     {
-        let pipe = Pipe::new(*self.list.allocator())?;
-        self.list.push(NamedPipe::new(name, pipe))?;
+        let pipe = Pipe::new(*self.index.allocator())?;
+        self.index.reserve(1)?;
+        self.live.reserve(1)?;
+        let key = self.live.insert_reserved(pipe);
+        self.index.push_reserved(Named { name, key });
         Ok(())
     }
 }
