@@ -1,0 +1,5 @@
+pub mod Adding
+pub mod Inside
+pub mod Reading
+pub mod Silence
+pub mod OneText

@@ -1,0 +1,68 @@
+use Rattle.std.proofs.Common.{◌++◌, [], ◌∷◌, refl, sym, subst}
+use Rattle.sh_lexer.specs.Tokens.{IsTokenList}
+use Rattle.sh_tree.specs.Tree.{tree_of}
+use Rattle.script_load.specs.Line.{line_of}
+use Rattle.script_load.specs.Script.{IsLineOf}
+use Rattle.script_notes.specs.Explained.{HasNotes}
+use Rattle.script_notes.specs.Letters.{byte_notes, letter_notes}
+use Rattle.script_notes.specs.Commands.{command_notes}
+use Rattle.script_notes.specs.Whole.{cd_note, fault_notes}
+use Rattle.script_notes.proofs.Adding.{added_two, on_ok}
+use Rattle.script_notes.proofs.Inside.{fault_inside}
+use Rattle.script_notes.proofs.explaining.explain_line.Goals as goal
+
+pub returns-in-Cd : goal.returns-in-Cd
+returns-in-Cd c =
+    let number = c.args.number in
+    let text = c.args.text.now in
+    let notes = byte_notes number text ++ cd_note ∷ [] in
+    on_ok c.add_cd_note.result
+    (λ added. (
+      notes,
+      subst (λ line. HasNotes number text (line_of line) notes) (sym c.in-Cd.is) refl,
+      added_two number text c.args.told.now.items c.add_byte_notes.new.told.items c.add_cd_note.new.told.items (byte_notes number text) (cd_note ∷ []) c.in_ok-add_byte_notes.ensures added,
+    ))
+    c.add_cd_note.ensures
+
+pub add_fault_note-requires : goal.add_fault_note-requires
+add_fault_note-requires c =
+    let is = subst (λ line. IsLineOf c.args.text.now (line_of line)) c.in-Bad.is c.requires in
+    fault_inside c.args.text.now c.in-Bad.fault is.1 is.2
+
+pub returns-in-Bad : goal.returns-in-Bad
+returns-in-Bad c =
+    let number = c.args.number in
+    let text = c.args.text.now in
+    let tokens = c.as_slice-tokens.result.now in
+    let list = subst (IsTokenList text) (sym c.as_slice-tokens.ensures.value) c.in_ok-all.ensures in
+    let last = fault_notes c.in-Bad.fault in
+    let later = letter_notes text tokens ++ last in
+    let notes = byte_notes number text ++ later in
+    on_ok c.add_fault_note.result
+    (λ added. (
+      notes,
+      subst (λ line. HasNotes number text (line_of line) notes) (sym c.in-Bad.is) (tokens, list, refl),
+      added_two number text c.args.told.now.items c.add_byte_notes.new.told.items c.add_fault_note.new.told.items (byte_notes number text) later c.in_ok-add_byte_notes.ensures
+          (added_two number text c.add_byte_notes.new.told.items c.add_letter_notes.new.told.items c.add_fault_note.new.told.items (letter_notes text tokens) last c.in_ok-add_letter_notes.ensures added),
+    ))
+    c.add_fault_note.ensures
+
+pub returns : goal.returns
+returns c =
+    let number = c.args.number in
+    let text = c.args.text.now in
+    let tree = tree_of c.in-Tree.tree in
+    let tokens = c.as_slice-tokens.result.now in
+    let list = subst (IsTokenList text) (sym c.as_slice-tokens.ensures.value) c.in_ok-all.ensures in
+    on_ok c.add_clash_note.result
+    (λ (last, is, added).
+    let commands = command_notes text tree [] tokens ++ last in
+    let later = letter_notes text tokens ++ commands in
+    let notes = byte_notes number text ++ later in (
+      notes,
+      subst (λ line. HasNotes number text (line_of line) notes) (sym c.in-Tree.is) (tokens, last, list, is, refl),
+      added_two number text c.args.told.now.items c.add_byte_notes.new.told.items c.add_clash_note.new.told.items (byte_notes number text) later c.in_ok-add_byte_notes.ensures
+          (added_two number text c.add_byte_notes.new.told.items c.add_letter_notes.new.told.items c.add_clash_note.new.told.items (letter_notes text tokens) commands c.in_ok-add_letter_notes.ensures
+          (added_two number text c.add_letter_notes.new.told.items c.add_command_notes.new.told.items c.add_clash_note.new.told.items (command_notes text tree [] tokens) last c.in_ok-add_command_notes-in-Tree.ensures added)),
+    ))
+    c.add_clash_note.ensures

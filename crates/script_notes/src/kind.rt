@@ -1,0 +1,94 @@
+ghost use Rattle.std.specs.Prelude.{◌≡◌};
+
+/// What a note tells of the places that it marks. Own, as all that is told here.
+#[derive(Clone, Copy, Debug, PartialEq, Eq)]
+pub enum NoteKind {
+    /// The script begins with a byte order mark.
+    ByteOrderMark,
+    /// The line ends in a carriage return.
+    CarriageReturn,
+    /// A word begins with `#`.
+    NoComment,
+    /// A word holds a quote, a backslash or a back quote.
+    NoQuote,
+    /// A command's name is none of the six programs.
+    NoProgram,
+    /// A word names a file, and no file can have that name.
+    NoFileName,
+    /// A `&`.
+    Background,
+    /// A `>>`.
+    WritesOver,
+    /// A `<` after another one of its command.
+    InputUnread,
+    /// A `>` after a `>` or `>>` of its command.
+    OutputEmptied,
+    /// A `>>` after a `>` or `>>` of its command.
+    OutputUnwritten,
+    /// A line that begins with `cd `.
+    NoDirectories,
+    /// The fault `MissingFile`.
+    MissingName,
+    /// The fault `MissingParen`.
+    OpenParen,
+    /// The fault `TooManyWords`.
+    TenthWord,
+    /// The fault `Unexpected`.
+    LateParen,
+    /// The fault `Leftover`.
+    LeftOver,
+    /// A clash between the sides of a pipe.
+    PipeClash,
+    /// A clash of a redirection with the command inside it.
+    RedirectionClash,
+}
+
+impl NoteKind {
+    ghost use Rattle.script_notes.specs.Sentences.{sentence};
+
+    /// The sentence of a note of this kind.
+    pub fn sentence(self) -> &'static [u8]
+        ensures { result.now ≡ sentence self }
+    {
+        match self {
+            NoteKind::ByteOrderMark =>
+                b"the file begins with a byte order mark, which the shell takes for a part of the first word".as_slice(),
+            NoteKind::CarriageReturn =>
+                b"the line ends in a carriage return, as in files from Windows: to a command it is white space".as_slice(),
+            NoteKind::NoComment =>
+                b"there are no comments here: this and what follows is read like the rest of the line".as_slice(),
+            NoteKind::NoQuote =>
+                b"quotes and backslashes mean nothing here: they are a part of the word, and white space or a sign ends it".as_slice(),
+            NoteKind::NoProgram =>
+                b"no program has this name: there are cat, echo, grep, head, tee and wc".as_slice(),
+            NoteKind::NoFileName =>
+                b"no file can have this name, so it can't be opened: a name has 1 to 14 bytes, and no slash".as_slice(),
+            NoteKind::Background =>
+                b"the shell doesn't wait for the command before this sign, so what comes next may run at the same time".as_slice(),
+            NoteKind::WritesOver =>
+                b"this sign doesn't append: without --append the output is written over the file from its beginning".as_slice(),
+            NoteKind::InputUnread =>
+                b"a command reads the file behind its first <: the file behind this sign is opened, and not read".as_slice(),
+            NoteKind::OutputEmptied =>
+                b"a command's output goes to the file behind its first > or >>: the file behind this sign is made or emptied, and not written".as_slice(),
+            NoteKind::OutputUnwritten =>
+                b"a command's output goes to the file behind its first > or >>: the file behind this sign is made if it is missing, and not written".as_slice(),
+            NoteKind::NoDirectories =>
+                b"there are no directories here: cd does nothing but tell that it can't".as_slice(),
+            NoteKind::MissingName =>
+                b"a file's name has to stand here: the line is no command, and nothing of it runs".as_slice(),
+            NoteKind::OpenParen =>
+                b"a ( is still open here, and the line can't go on or end like this: it is no command, and nothing of it runs".as_slice(),
+            NoteKind::TenthWord =>
+                b"this is the tenth word of a command, and a command has nine at most: the line is no command, and nothing of it runs".as_slice(),
+            NoteKind::LateParen =>
+                b"a ( can't stand behind a word or a file's name: the line is no command, and nothing of it runs".as_slice(),
+            NoteKind::LeftOver =>
+                b"the line can't go on like this: it is no command, and nothing of it runs".as_slice(),
+            NoteKind::PipeClash =>
+                b"both sides of a pipe use this file and one of them writes it: what comes out may depend on which is faster".as_slice(),
+            NoteKind::RedirectionClash =>
+                b"a redirection opens this file and the command uses it too, so it may be emptied or changed before it is read".as_slice(),
+        }
+    }
+}
