@@ -1,4 +1,4 @@
-//! What `--strict`, `check --turns` and `--version` add, and what is told of a word that is no command.
+//! What `--strict`, `check --turns` and `--version` add, what `explain` tells, and what is told of a word that is no command.
 use crate::hosts::{Memory, expect, words_of};
 use crate::runs::nested;
 use std::process::Abort;
@@ -106,6 +106,46 @@ fn turns_are_told_after_the_lines(rt: HostRuntime) -> Result<(), Fail> {
     for (words, want) in rows {
         let mut host = Memory {
             input: b"12345".as_slice(),
+            files: &files,
+        };
+        expect(&rt, words, &mut host, want)?;
+    }
+    Ok(())
+}
+
+#[test]
+fn a_script_is_explained(rt: HostRuntime) -> Result<(), Fail> {
+    let files = [
+        ("none", b"".as_slice()),
+        ("fine", b"echo a | cat\n".as_slice()),
+        ("list", b"echo a\nls\n".as_slice()),
+        ("zero", b"ls\n\0".as_slice()),
+    ];
+    let rows = [
+        ("explain none", (0, "nothing to tell\n", "")),
+        ("explain fine", (0, "nothing to tell\n", "")),
+        (
+            "explain list",
+            (
+                3,
+                "line 2: no program has this name: there are cat, echo, grep, head, tee and wc\n  ls\n  ^^\n",
+                "",
+            ),
+        ),
+        (
+            "explain -",
+            (
+                3,
+                "line 1: there are no directories here: cd does nothing but tell that it can't\n  cd a\n  ^^\n",
+                "",
+            ),
+        ),
+        ("explain zero", (1, "", "xvsh: line 2 holds a zero byte\n")),
+        ("explain nothing", (1, "", "xvsh: cannot read nothing\n")),
+    ];
+    for (words, want) in rows {
+        let mut host = Memory {
+            input: b"cd a".as_slice(),
             files: &files,
         };
         expect(&rt, words, &mut host, want)?;

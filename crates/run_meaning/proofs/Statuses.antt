@@ -10,7 +10,7 @@ use Rattle.xvsh_runs.specs.declared.fault.RunFault.{RunFault}
 use Rattle.xvsh_runs.specs.declared.fault.RunFault.TheVariants.{Common, BadHarts, BadTurns, Spent, SharedInput, NoEvent, NotRunnable, NotRunning, Unfinished}
 use Rattle.xvsh_runs.specs.Status.{run_status}
 use Rattle.xvsh.specs.Drive.{verdict_text}
-use Rattle.xvsh.specs.Ends.{Request, asks_plain, asks_run, asks_strict, asks_check, asks_turns, verdict_status, help, misuse, How, by_schedule, RanBy, Ends, plain_ran, no_plain, ran, ran_full, no_run, ran_strict, strict_full, no_strict, harmless, harmful, no_check, counted, not_counted, helped, misused, no_memory, unwritten}
+use Rattle.xvsh.specs.Ends.{Request, asks_plain, asks_run, asks_strict, asks_check, asks_turns, asks_explain, verdict_status, help, misuse, How, by_schedule, RanBy, Ends, plain_ran, no_plain, ran, ran_full, no_run, ran_strict, strict_full, no_strict, harmless, harmful, no_check, counted, not_counted, explained, not_explained, helped, misused, no_memory, unwritten}
 use Rattle.xvsh.specs.Running.{RanPlain}
 use Rattle.xvsh.specs.Strict.{RanStrict}
 use Rattle.xvsh.proofs.Ending.{some_status}
@@ -42,6 +42,7 @@ module _ (input : Option Bytes) (file : Path → Option Bytes) (out out' err err
   DidRun (asks_strict profile script paths harts turns lists) = RanStrict input file profile script paths harts turns lists None true out out' err err'
   DidRun (asks_check script) = Unit {0}
   DidRun (asks_turns script paths) = Unit {0}
+  DidRun (asks_explain script) = Unit {0}
   DidRun help = Unit {0}
   DidRun misuse = Unit {0}
 
@@ -59,6 +60,8 @@ module _ (input : Option Bytes) (file : Path → Option Bytes) (out out' err err
   ended_well request status (no_check fault due keeps told) zero = tt
   ended_well request status (counted is_harmless gave keeps) zero = tt
   ended_well request status (not_counted fault due keeps told) zero = tt
+  ended_well request status (explained is_fine gave keeps) zero = tt
+  ended_well request status (not_explained fault due keeps told) zero = tt
   ended_well request status (helped text wrote keeps) zero = tt
   ended_well request status (misused text keeps told) zero = tt
   ended_well request status (no_memory keeps told) zero = cc

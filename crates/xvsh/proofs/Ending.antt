@@ -17,7 +17,7 @@ use Rattle.xvsh_runs.specs.declared.fault.RunFault.{RunFault}
 use Rattle.xvsh_runs.specs.declared.fault.RunFault.TheVariants.{Common, BadHarts, BadTurns, Spent, SharedInput, NoEvent, NotRunnable, NotRunning, Unfinished}
 use Rattle.xvsh_runs.specs.declared.report.Lists.{Lists}
 use Rattle.xvsh_runs.specs.Status.{run_status, run_fault_told}
-use Rattle.xvsh.specs.Ends.{Request, asks_plain, asks_run, asks_strict, asks_check, asks_turns, check_status, verdict_status, misuse, help, How, Tells, TellsFull, TellsRan, TellsStrict, RanBy, IsFaultBy, Ends, plain_ran, no_plain, ran, ran_full, no_run, ran_strict, strict_full, no_strict, harmless, harmful, no_check, counted, not_counted, helped, misused, no_memory, unwritten}
+use Rattle.xvsh.specs.Ends.{Request, asks_plain, asks_run, asks_strict, asks_check, asks_turns, asks_explain, check_status, verdict_status, misuse, help, How, Tells, TellsFull, TellsRan, TellsStrict, RanBy, IsFaultBy, Ends, plain_ran, no_plain, ran, ran_full, no_run, ran_strict, strict_full, no_strict, harmless, harmful, no_check, counted, not_counted, explained, not_explained, helped, misused, no_memory, unwritten}
 use Rattle.xvsh.specs.Running.{RanPlain, IsPlainFault}
 use Rattle.xvsh.specs.Strict.{RanStrict, IsStrictFault}
 use Rattle.xvsh.specs.declared.strict.StrictRun.{StrictRun}
@@ -114,6 +114,13 @@ module _ (input : Option Bytes) (file : Path → Option Bytes) (out out' err err
     | inr other ↦ subst (Ends input file out out' err err' (asks_turns script paths)) (sym told.0) (not_counted fault due (keeps_equal out out' (stays other)) told.1)
   ]
 
+  pub refused_explain : (script : Path) (fault : Fault) (status : ℕ) → IsCheckFault input file script fault → (fault ≢ Unwritten → out' ≡ out) → Tells (fault_told fault) (status_of fault) status err err' → Ends input file out out' err err' (asks_explain script) status
+  refused_explain script fault status due stays (inr untold) = one (asks_explain script) status untold
+  refused_explain script fault status due stays (inl told) = elim (unwritten_or fault) [
+    | inl is ↦ one (asks_explain script) status (told.0 ∙ ap status_of is)
+    | inr other ↦ subst (Ends input file out out' err err' (asks_explain script)) (sym told.0) (not_explained fault due (keeps_equal out out' (stays other)) told.1)
+  ]
+
   -- there was no memory for the words
   pub no_words : (status : ℕ) → out' ≡ out → Tells (fault_told Memory) (status_of Memory) status err err' → (request : Request) × Ends input file out out' err err' request status
   no_words status same (inr untold) = (misuse, one misuse status untold)
@@ -149,6 +156,8 @@ module _ (input : Option Bytes) (file : Path → Option Bytes) (out out' err err
   meaning_of request status (no_check fault due keeps told) is zero = cc
   meaning_of request status (counted is_harmless gave keeps) is zero = cc
   meaning_of request status (not_counted fault due keeps told) is zero = cc
+  meaning_of request status (explained is_fine gave keeps) is zero = cc
+  meaning_of request status (not_explained fault due keeps told) is zero = cc
   meaning_of request status (helped text wrote keeps) is zero = cc
   meaning_of request status (misused text keeps told) is zero = cc
   meaning_of request status (no_memory keeps told) is zero = cc

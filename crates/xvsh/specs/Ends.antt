@@ -16,6 +16,7 @@ use Rattle.xvsh_runs.specs.Runs.{RanRun, RanReplay}
 use Rattle.xvsh_runs.specs.Status.{run_status, run_fault_told, full_told}
 use Rattle.xvsh_runs.specs.Why.{IsRunFault, IsReplayingFault}
 use Rattle.xvsh.specs.Drive.{RanCheck, IsCheckFault, verdict_text}
+use Rattle.xvsh.specs.Explain.{RanExplain}
 use Rattle.xvsh.specs.Running.{RanPlain, IsPlainFault}
 use Rattle.xvsh.specs.Strict.{RanStrict, IsStrictFault}
 use Rattle.xvsh.specs.declared.strict.StrictRun.{StrictRun}
@@ -34,13 +35,14 @@ pub data How : Type 0 where
 -- what the words of the command line ask for: a run of the script at a path under a profile, on the files at these paths,
 -- by its meaning, with a list of the files or without, and strictly or not, or by its processes, with lists or without, or
 -- strictly on so many harts in at most so many turns; a check of the script at a path, or one that tells its turns on these
--- files too; the help; or nothing that there is
+-- files too; what is told of the script at a path in sentences; the help; or nothing that there is
 pub data Request : Type 0 where
   asks_plain : Profile → Path → List (Bor Path) → Bool → Bool → Request
   asks_run : Profile → Path → List (Bor Path) → How → Lists → Request
   asks_strict : Profile → Path → List (Bor Path) → ℕ → ℕ → Lists → Request
   asks_check : Path → Request
   asks_turns : Path → List (Bor Path) → Request
+  asks_explain : Path → Request
   help : Request
   misuse : Request
 
@@ -50,7 +52,8 @@ verdict_status false is_settled = 0
 verdict_status true true = 0
 verdict_status true false = 3
 
--- the status of a check: whether the script's lines are harmless
+-- the status of a check, by whether the script's lines are harmless, and of what is told in sentences, by whether there is
+-- nothing to tell
 abbrev pub check_status : Bool → ℕ
 check_status true = 0
 check_status false = 3
@@ -110,6 +113,9 @@ module _ (input : Option Bytes) (file : Path → Option Bytes) (out out' err err
     -- it was checked, and its turns are told after its lines; or it wasn't, in the same way
     counted : {script : Path} {paths : List (Bor Path)} (is_harmless : Bool) → RanTurns input file script paths is_harmless out out' → Keeps err err' → Ends (asks_turns script paths) (check_status is_harmless)
     not_counted : {script : Path} {paths : List (Bor Path)} (fault : Fault) → IsTurnsFault input file script paths fault → Keeps out out' → Appends err err' (fault_told fault) → Ends (asks_turns script paths) (status_of fault)
+    -- what is told of it in sentences was written; or nothing, in the same way
+    explained : {script : Path} (is_fine : Bool) → RanExplain input file script is_fine out out' → Keeps err err' → Ends (asks_explain script) (check_status is_fine)
+    not_explained : {script : Path} (fault : Fault) → IsCheckFault input file script fault → Keeps out out' → Appends err err' (fault_told fault) → Ends (asks_explain script) (status_of fault)
     -- some text was written, of words that are no command line on standard error
     helped : (text : Bytes) → Appends out out' text → Keeps err err' → Ends help 0
     misused : (text : Bytes) → Keeps out out' → Appends err err' text → Ends misuse 2

@@ -4,9 +4,10 @@ ghost use Rattle.script_load.specs.Line.{lines_of};
 ghost use Rattle.xvsh_read.specs.Status.{status_of, fault_told, IsTellFault};
 ghost use Rattle.xvsh.specs.Check.{AreTold, AreHarmless};
 ghost use Rattle.xvsh.specs.Drive.{WritesMeaning, RanCheck, IsCheckFault, verdict_text};
-ghost use Rattle.xvsh.specs.Ends.{Ends, Request, asks_plain, asks_check, asks_turns, check_status};
+ghost use Rattle.xvsh.specs.Ends.{Ends, Request, asks_plain, asks_check, asks_turns, asks_explain, check_status};
 
 use crate::checking::check;
+use crate::explaining::run_explain;
 use crate::processes::{do_replay, do_run};
 use crate::running::run_plain;
 use crate::told::{tell, tell_text, verdict_status};
@@ -90,7 +91,7 @@ fn end_plain<'a, H: Host, W: Write, E: Write>(
     }
 }
 
-// The status of a check.
+// The status of a check, and of what is told in sentences.
 fn check_status(is_harmless: bool) -> u8
     ensures { result ≡ check_status is_harmless }
 {
@@ -130,6 +131,24 @@ fn end_turns<'a, H: Host, W: Write, E: Write>(
 {
     match run_turns(alloc, host, script, paths, out) {
         Ok(is_harmless) => check_status(is_harmless),
+        Err(fault) => tell(fault, err),
+    }
+}
+
+// Tells of a script in sentences, or why it can't, and gives the status.
+fn end_explain<H: Host, W: Write, E: Write>(
+    alloc: Global,
+    host: &mut H,
+    script: &str,
+    out: &mut W,
+    err: &mut E,
+) -> u8
+    ensures ends { Ends (H.input host.old) (H.file host.old) (W.contents out.old) (W.contents out.new)
+        (E.contents err.old) (E.contents err.new) (asks_explain script.now) result }
+    ensures nothing_written { result ≢ 0 → result ≢ 1 → result ≢ 3 → out.new ≡ out.old }
+{
+    match run_explain(alloc, host, script, out) {
+        Ok(is_fine) => check_status(is_fine),
         Err(fault) => tell(fault, err),
     }
 }
@@ -185,6 +204,22 @@ fn do_check<'a, H: Host, W: Write, E: Write>(
     }
 }
 
+// `explain` with these words.
+fn do_explain<'a, H: Host, W: Write, E: Write>(
+    alloc: Global,
+    words: &ArgMatches<'a>,
+    host: &mut H,
+    out: &mut W,
+    err: &mut E,
+) -> u8
+    ensures ends { (request : Request) × Ends (H.input host.old) (H.file host.old) (W.contents out.old) (W.contents out.new)
+        (E.contents err.old) (E.contents err.new) request result }
+    ensures nothing_written { result ≢ 0 → result ≢ 1 → result ≢ 3 → out.new ≡ out.old }
+{
+    let script: &'a str = words.get_str("script").unwrap_or(STDIN);
+    end_explain(alloc, host, script, out, err)
+}
+
 // Does what the command asks for that the words name, and gives its status.
 fn end_command<'a, R: Threads + Wait + Clock + Sync, H: Host, W: Write, E: Write>(
     rt: &R,
@@ -206,6 +241,8 @@ fn end_command<'a, R: Threads + Wait + Clock + Sync, H: Host, W: Write, E: Write
         do_plain(alloc, words, host, out, err)
     } else if let Some(words) = matches.subcommand_matches("check") {
         do_check(alloc, words, host, out, err)
+    } else if let Some(words) = matches.subcommand_matches("explain") {
+        do_explain(alloc, words, host, out, err)
     } else {
         2
     }
@@ -278,11 +315,12 @@ fn end_words<R: Threads + Wait + Clock + Sync, H: Host, W: Write, E: Write>(
 ///
 /// `check SCRIPT` reads and loads the script, runs nothing, and writes the faults, the `&` and the
 /// first clash of each line. `check --turns SCRIPT [FILE]..` reads what `plain` reads, and writes last how many turns are
-/// enough for a run by processes.
+/// enough for a run by processes. `explain SCRIPT` reads and loads the script, runs nothing, and writes in sentences what its
+/// lines are not, or `nothing to tell`.
 ///
 /// A fault goes to `err` as one line, and then nothing of the script was written: 1 for what can't be
 /// read or is refused, or is no schedule of a finished run, 2 for words that are no command line, 3 where
-/// `check` told of a clash or a `&`, or as above, 4 for a run that is too large, is past its turns, wants memory, or met something
+/// `check` told of a clash or a `&` or `explain` of anything, or as above, 4 for a run that is too large, is past its turns, wants memory, or met something
 /// full, which alone is told after what it wrote. `--help` and `--version` go to `out`. Where `out` or `err` fails, the status is 1 and nothing more is written.
 pub fn drive<R: Threads + Wait + Clock + Sync, H: Host, W: Write, E: Write>(
     rt: &R,

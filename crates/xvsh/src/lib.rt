@@ -3,6 +3,7 @@
 
 mod checking;
 mod driver;
+mod explaining;
 mod processes;
 mod program;
 mod running;

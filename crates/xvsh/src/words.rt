@@ -54,9 +54,13 @@ each other at a file: at the two sides of a pipe (PipeSides), or inside a redire
 `check --turns` ends with a line `turns N`: with `run --turns N` the script runs to its end, whatever
 the order of its processes, if it has no clash and no `&` and nothing is full.
 
+`xvsh explain SCRIPT` tells the same in sentences, and more: a `#` or a quote that is a letter here, a
+command that is no program, a name that no file can have, a `>>` that writes over. Each sentence comes
+with its line and marks under the place.
+
 Status: 0 done; 1 something can't be read, is refused, or can't be written, or is no schedule of a
-whole run; 2 usage; 3 `check` told of a clash or a `&`, or `--strict` ran a script that isn't
-settled; 4 full, spent, too large, or no memory.";
+whole run; 2 usage; 3 `check` told of a clash or a `&`, `explain` told anything, or `--strict` ran a
+script that isn't settled; 4 full, spent, too large, or no memory.";
 
 const VERSION: &str = "0.1.0 (rattle-kit-13f logic dac8208d650f15bf)";
 
@@ -188,6 +192,16 @@ fn check_command<'a>(alloc: Global) -> Result<Command<'a>, AllocError> {
         .arg(files)
 }
 
+const EXPLAIN_ABOUT: &str =
+    "Tells in sentences what is wrong or unexpected in a script, and runs nothing";
+
+fn explain_command<'a>(alloc: Global) -> Result<Command<'a>, AllocError> {
+    Command::new(alloc, "explain").about(EXPLAIN_ABOUT).arg(script_word(
+        alloc,
+        "The script's path; `-` is standard input",
+    ))
+}
+
 /// What `>>` means, by whether `--append` is given.
 pub fn profile_of(appends: bool) -> Profile
     ensures { result ≡ profile_of appends }
@@ -212,5 +226,6 @@ pub fn command_line<'a>(alloc: Global) -> Result<Command<'a>, AllocError> {
         .subcommand(run_command(alloc)?)?
         .subcommand(replay_command(alloc)?)?
         .subcommand(plain_command(alloc)?)?
-        .subcommand(check_command(alloc)?)
+        .subcommand(check_command(alloc)?)?
+        .subcommand(explain_command(alloc)?)
 }
