@@ -1,6 +1,6 @@
 pub mod Counted
 pub mod Ending
-pub mod Explaining
 pub mod Ran
 pub mod Runs
 pub mod Telling
+pub mod Sentences

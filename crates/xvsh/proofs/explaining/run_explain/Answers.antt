@@ -4,7 +4,7 @@ use Rattle.std.proofs.lemmas.Result.{err_from_is_err_and}
 use Rattle.xvsh_read.specs.Status.{IsTellFault}
 use Rattle.xvsh.specs.Drive.{no_script_told, not_told}
 use Rattle.xvsh.specs.Explain.{written_of}
-use Rattle.xvsh.proofs.Explaining.{ran_explain}
+use Rattle.xvsh.proofs.Sentences.{ran_explain}
 use Rattle.xvsh.proofs.explaining.run_explain.Goals as goal
 
 pub returns-in_err-told-clause-fault : goal.returns-in_err-told-clause-fault
