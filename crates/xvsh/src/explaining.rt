@@ -1,5 +1,5 @@
 //! What `explain` tells of a script.
-ghost use Rattle.std.specs.Prelude.{◌≡◌, ◌≢◌, IfOk, IfErr};
+ghost use Rattle.std.specs.Prelude.{◌≡◌, ◌≢◌, ◌↔◌, [], IfOk, IfErr, IsTrue};
 ghost use Rattle.xvsh_read.specs.Starting.{IsScriptAtFault};
 ghost use Rattle.xvsh.specs.Drive.{IsCheckFault};
 ghost use Rattle.xvsh.specs.Explain.{IsExplainedAt, RanExplain, written_of};
@@ -34,6 +34,13 @@ fn written_of(told: &[u8]) -> &[u8]
     }
 }
 
+// Whether nothing is told.
+fn is_nothing(told: &[u8]) -> bool
+    ensures { IsTrue result ↔ (told.now ≡ []) }
+{
+    told.is_empty()
+}
+
 /// `explain`: reads the script, writes what is told of its lines in sentences, and returns whether there is nothing to
 /// tell (own). A fault comes before anything is written, but for `Unwritten`.
 pub fn run_explain<'a, H: Host, W: Write>(
@@ -47,6 +54,7 @@ pub fn run_explain<'a, H: Host, W: Write>(
     ensures refusal { IfErr result (λ fault. fault ≢ Fault.Unwritten → out.new ≡ out.old) }
 {
     let told = explain_at(alloc, host, script)?;
-    write(out, written_of(told.as_slice()))?;
-    Ok(told.is_empty())
+    let text = told.as_slice();
+    write(out, written_of(text))?;
+    Ok(is_nothing(text))
 }

@@ -1,4 +1,5 @@
-use Rattle.std.proofs.Common.{◌∙◌, ap, subst, sym}
+use Rattle.std.proofs.Common.{◌≡◌, ◌∙◌, [], ap, subst, sym}
+use Rattle.std.specs.Prelude.{◌↔◌, IsTrue}
 use Rattle.std.specs.Io.KnownBytes.{Appends}
 use Rattle.std.proofs.lemmas.Result.{err_from_is_err_and}
 use Rattle.xvsh_read.specs.Status.{IsTellFault}
@@ -22,6 +23,6 @@ returns-clause-ran g c =
     let old = g.W.Write.contents c.args.out.now in
     let new = g.W.Write.contents c.write.new.out in
     let told = c.in_ok-told.told.items in
-    ran_explain (g.H.Host.input c.args.host.now) (g.H.Host.file c.args.host.now) c.args.script.now told c.is_empty.result old new c.in_ok-told.ensures.told
+    ran_explain (g.H.Host.input c.args.host.now) (g.H.Host.file c.args.host.now) c.args.script.now told c.is_nothing.result old new c.in_ok-told.ensures.told
     (subst (Appends old new) (c.written_of.ensures ∙ ap written_of c.as_slice.ensures.value) c.in_ok-write.ensures.written)
-    ?
+    (subst (λ b. IsTrue c.is_nothing.result ↔ (b ≡ [])) c.as_slice.ensures.value c.is_nothing.ensures)
