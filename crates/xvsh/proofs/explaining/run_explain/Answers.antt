@@ -24,5 +24,5 @@ returns-clause-ran g c =
     let new = g.W.Write.contents c.write.new.out in
     let told = c.in_ok-told.told.items in
     ran_explain (g.H.Host.input c.args.host.now) (g.H.Host.file c.args.host.now) c.args.script.now told c.is_nothing.result old new c.in_ok-told.ensures.told
-    (subst (Appends old new) (c.written_of.ensures ∙ ap written_of c.as_slice.ensures.value) c.in_ok-write.ensures.written)
-    (subst (λ b. IsTrue c.is_nothing.result ↔ (b ≡ [])) c.as_slice.ensures.value c.is_nothing.ensures)
+    (subst (Appends old new) (c.written_of.ensures ∙ ap written_of c.as_slice-text.ensures.value) c.in_ok-write.ensures.written)
+    (subst (λ b. IsTrue c.is_nothing.result ↔ (b ≡ [])) c.as_slice-text.ensures.value c.is_nothing.ensures)
