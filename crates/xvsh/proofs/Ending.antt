@@ -21,7 +21,7 @@ use Rattle.xvsh.specs.Ends.{Request, asks_plain, asks_run, asks_strict, asks_che
 use Rattle.xvsh.specs.Running.{RanPlain, IsPlainFault}
 use Rattle.xvsh.specs.Strict.{RanStrict, IsStrictFault}
 use Rattle.xvsh.specs.declared.strict.StrictRun.{StrictRun}
-use Rattle.xvsh.specs.Turns.{RanTurns, IsTurnsFault}
+use Rattle.xvsh.specs.Turns.{IsTurnsFault}
 use Rattle.xvsh.proofs.Ran.{writes_meaning}
 
 -- what is known stays where nothing changes

@@ -1,5 +1,5 @@
 -- What `explain` did: it wrote what is told of the script, and there was nothing to tell exactly where no line has a note.
-use Rattle.std.proofs.Common.{◌≡◌, Bool, List, [], Option, subst}
+use Rattle.std.proofs.Common.{◌≡◌, Bool, [], Option, subst}
 use Rattle.std.specs.Prelude.{◌↔◌, IsTrue}
 use Rattle.std.specs.Io.KnownBytes.{Appends}
 use Rattle.mem_files.specs.Name.{Bytes}

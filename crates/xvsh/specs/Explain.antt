@@ -1,5 +1,5 @@
 -- What `explain` writes of a script (own).
-use Rattle.std.specs.Prelude.{◌↔◌, ℕ, Bool, IsTrue, List, [], ◌∷◌, Option, codes}
+use Rattle.std.specs.Prelude.{◌↔◌, Bool, IsTrue, [], ◌∷◌, Option, codes}
 use Rattle.std.specs.Io.KnownBytes.{Appends}
 use Rattle.mem_files.specs.Name.{Bytes}
 use Rattle.script_notes.specs.Explained.{IsExplained, HasNothingToTell}

@@ -1,6 +1,6 @@
 use Rattle.std.proofs.Common.{ap, subst}
 use Rattle.xvsh.specs.Drive.{verdict_text}
-use Rattle.xvsh.specs.Ends.{Tells, verdict_status}
+use Rattle.xvsh.specs.Ends.{Tells}
 use Rattle.xvsh.proofs.Ending.{ended_run, refused_run, verdict_written}
 use Rattle.xvsh.proofs.driver.end_plain.Goals as goal
 

@@ -1,4 +1,4 @@
-use Rattle.std.proofs.Common.{ap, refl, subst, sym}
+use Rattle.std.proofs.Common.{ap, subst, sym}
 use Rattle.xvsh.specs.Ends.{Ends, asks_turns, counted}
 use Rattle.xvsh.proofs.Ending.{keeps_same, refused_count}
 use Rattle.xvsh.proofs.driver.end_turns.Goals as goal

@@ -1,4 +1,4 @@
-use Rattle.std.proofs.Common.{IsTrue, ap, subst}
+use Rattle.std.proofs.Common.{IsTrue, subst}
 use Rattle.std.specs.Prelude.{◌↔◌}
 use Rattle.std.proofs.lemmas.Result.{err_from_is_err_and}
 use Rattle.mem_files.specs.Files.{files}
