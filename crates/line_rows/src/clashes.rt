@@ -1,8 +1,9 @@
 //! Where commands of a line clash.
 
+use bumpalo::Bump;
 use conflict_check::ClashKind::{Enclosing, PipeSides};
 use conflict_check::{Clash, clash, has_back, names_it, uses_input};
-use sh_tree::parse;
+use sh_tree::{copy_in, parse, same};
 use std::alloc::{AllocError, Global};
 use std::process::Abort;
 use std::test::Fail;
@@ -33,6 +34,39 @@ fn tells_the_first_clash(rt: HostRuntime) -> Result<(), Fail> {
         let tree = parse(rt.alloc(), line.as_bytes())?;
         let name = name.as_bytes();
         assert!(rt; clash(&tree) == Some(Clash { name, kind }), "{line}");
+    }
+    Ok(())
+}
+
+// Of each line: its first clash, whether a command of it runs behind, and whether it uses its input.
+#[test]
+fn an_arenas_tree_answers_as_its_copy(rt: HostRuntime) -> Result<(), Fail> {
+    let rows = [
+        ("echo a > x > y", None, false, false),
+        ("cat f | tee f", Some((PipeSides, "f")), false, false),
+        ("(echo a; cat f) > f", Some((Enclosing, "f")), false, false),
+        ("echo a &", None, true, false),
+        ("(a &) | b", None, true, false),
+        ("cat | wc", None, false, true),
+    ];
+    let arena = Bump::new(rt.alloc());
+    for (line, first, is_back, is_used) in rows {
+        let tree = parse(&arena, line.as_bytes())?;
+        let copy = copy_in(&tree, rt.alloc())?;
+        assert!(rt; same(&tree, &copy), "{line}");
+        let want = first.map(|(kind, name)| Clash {
+            name: name.as_bytes(),
+            kind,
+        });
+        assert!(rt; clash(&tree) == want && clash(&copy) == want, "{line}");
+        assert!(rt;
+            has_back(&tree) == is_back && has_back(&copy) == is_back,
+            "{line}"
+        );
+        assert!(rt;
+            uses_input(&tree) == is_used && uses_input(&copy) == is_used,
+            "{line}"
+        );
     }
     Ok(())
 }

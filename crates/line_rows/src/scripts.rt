@@ -1,9 +1,10 @@
 //! Scripts: their lines, the first fault that they have, and limits.
 
+use bumpalo::Bump;
 use linked_list_allocator::LocalHeap;
 use script_load::{Line, LineTooLarge, Lines, LoadFault, Profile, Script, load, load_with};
 use sh_lexer::Bytes;
-use sh_tree::{Cmd, ParseFault, Words};
+use sh_tree::{Cmd, ParseFault, Words, same};
 use std::alloc::{AllocError, Global};
 use std::test::Fail;
 
@@ -63,6 +64,33 @@ fn faults_come_before_memory(rt: HostRuntime) -> Result<(), Fail> {
         return Err(Fail::from("no fault"));
     };
     assert_eq!(rt; fault, LoadFault::LineTooLong(1));
+    Ok(())
+}
+
+// The lines of a script that stands in an arena of the caller are those of one whose words have blocks of their own.
+#[test]
+fn a_script_stands_in_an_arena(rt: HostRuntime) -> Result<(), Fail> {
+    let bytes = b"echo a > x > y\ncd /tmp\n(echo a\n".as_slice();
+    let arena = Bump::new(rt.alloc());
+    let near = load(&arena, bytes)?;
+    let far = load(rt.alloc(), bytes)?;
+    let lines = near.lines.as_slice();
+    let others = far.lines.as_slice();
+    assert_eq!(rt; lines.len(), 3);
+    assert_eq!(rt; others.len(), 3);
+    let (Line::Tree(tree), Line::Tree(copy)) = (&lines[0], &others[0]) else {
+        return Err(Fail::from("no tree"));
+    };
+    assert!(rt; same(tree, copy));
+    let Line::Cd(text) = &lines[1] else {
+        return Err(Fail::from("no change of directory"));
+    };
+    assert_eq!(rt; text.as_slice(), b"/tmp".as_slice());
+    let Line::Bad(fault, text) = &lines[2] else {
+        return Err(Fail::from("no bad line"));
+    };
+    assert_eq!(rt; *fault, ParseFault::MissingParen(7));
+    assert_eq!(rt; text.as_slice(), b"(echo a".as_slice());
     Ok(())
 }
 

@@ -7,8 +7,9 @@ use crate::fault::LoadFault;
 use crate::line::{Line, Lines};
 use crate::profile::Profile;
 use crate::script::Script;
+use bumpalo::Bump;
 use sh_lexer::Bytes;
-use sh_tree::{ParseFault, parse};
+use sh_tree::{ParseFault, copy_in, parse};
 use std::alloc::{AllocError, Allocator};
 
 /// The most bytes that a line may have before its LF (own).
@@ -40,15 +41,17 @@ fn check(bytes: &[u8]) -> Result<(), LoadFault>
     Ok(())
 }
 
-// The line of a text.
+// The line of a text. Its tree grows in an arena of its own, which is given up whole, and is copied out of it
+// in blocks of the right sizes.
 fn read_line<A: Allocator + Copy>(alloc: A, text: &[u8]) -> Result<Line<A>, AllocError>
     ensures { IfOk result (λ line. IsLineOf text.now (line_of line)) }
 {
     if let [b'c', b'd', b' ', rest @ ..] = text {
         return Ok(Line::Cd(Bytes::copy_of(alloc, rest)?));
     }
-    match parse(alloc, text) {
-        Ok(tree) => Ok(Line::Tree(tree)),
+    let arena = Bump::new(alloc);
+    match parse(&arena, text) {
+        Ok(tree) => Ok(Line::Tree(copy_in(&tree, alloc)?)),
         Err(ParseFault::Memory) => Err(AllocError),
         Err(fault) => Ok(Line::Bad(fault, Bytes::copy_of(alloc, text)?)),
     }
