@@ -1,3 +1,4 @@
+pub mod CatPipes
 pub mod Kept
 pub mod Lines
 pub mod NameSets

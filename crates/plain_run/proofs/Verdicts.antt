@@ -1,5 +1,5 @@
 -- How the verdict of a command is made of those of its parts.
-use Rattle.std.proofs.Common.{◌≡◌, ◌≢◌, Bool, true, false, ◌||◌, ◌&&◌, not, List, [], ◌++◌, Some, refl, sym, ap, ap₂, subst, ◌∙◌}
+use Rattle.std.proofs.Common.{◌≡◌, ◌≢◌, Bool, true, false, ◌||◌, ◌&&◌, not, List, [], ◌++◌, refl, sym, ap, ap₂, subst, ◌∙◌}
 use Rattle.std.specs.Str.{bytes_eq}
 use Rattle.std.proofs.lemmas.List.Folds.{list_any-append}
 use Rattle.sh_tree.specs.declared.tree.Mode.{Mode}
@@ -13,8 +13,7 @@ use Rattle.conflict_check.specs.Occurrences.{written}
 use Rattle.prog_parts.specs.Program.{is_empty}
 use Rattle.conflict_check.proofs.Listed.{writes_listed}
 use Rattle.script_load.specs.declared.profile.Profile.{Profile}
-use Rattle.sh_meaning.specs.Inputs.{found}
-use Rattle.sh_meaning.specs.Meaning.{meaning, opened, input_value, written_value}
+use Rattle.sh_meaning.specs.Meaning.{meaning, opened, written_value}
 use Rattle.sh_meaning.specs.Value.{is_cut}
 use Rattle.plain_progs.specs.Gives.{Gives}
 use Rattle.plain_run.specs.Tells.{Tells, with_lost}

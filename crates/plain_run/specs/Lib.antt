@@ -1,3 +1,4 @@
+pub mod CatAlone
 pub mod Held
 pub mod Spans
 pub mod Tells

@@ -1,7 +1,7 @@
 ghost use Rattle.std.specs.Prelude.{IsTrue, ◌≡◌, ◌≢◌, ◌↔◌, ◌||◌, not, map, ℕ, List, [], IfOk, IfErr, false, true, Contains};
 ghost use Rattle.std.specs.List.Sorted.{IsStrictlySortedBy};
 ghost use Rattle.sh_tree.specs.declared.tree.Mode.TheVariants.{Input};
-ghost use Rattle.sh_tree.specs.Tree.{list, pipe, redir, tree_of};
+ghost use Rattle.sh_tree.specs.Tree.{exec, list, pipe, redir, tree_of};
 ghost use Rattle.mem_files.specs.Files.{files};
 ghost use Rattle.mem_files.specs.Name.{name_cmp};
 ghost use Rattle.prog_parts.specs.NameSets.{no_names};
@@ -11,6 +11,7 @@ ghost use Rattle.sh_meaning.specs.Limits.{Outgrows};
 ghost use Rattle.script_load.specs.Line.{line_of, lines_of};
 ghost use Rattle.sh_meaning.specs.Meaning.{meaning, line_tree, script_tree, script_meaning};
 ghost use Rattle.plain_progs.specs.Gives.{Gives, IsDue};
+ghost use Rattle.plain_run.specs.CatAlone.{cat_alone};
 ghost use Rattle.plain_run.specs.Tells.{Tells};
 
 use crate::line_verdicts::{are_clear, with_line};
@@ -52,6 +53,26 @@ impl<'i, A: Allocator + Copy> Ran<'i, A> {
         ensures { result ≡ (not (is_empty self.now.rest.now) || self.now.verdict.is_loose) }
     {
         !self.rest.is_empty() || self.verdict.is_loose
+    }
+}
+
+// Whether these words are `cat` alone.
+fn are_cat_alone<B: Allocator>(words: &[Bytes<B>]) -> bool
+    ensures { IsTrue result ↔ (exec words.now ≡ cat_alone) }
+{
+    match words.split_first() {
+        Some((name, arguments)) => arguments.is_empty() && name.as_slice() == b"cat".as_slice(),
+        None => false,
+    }
+}
+
+// Whether a command is `cat` without files, which passes all of its input on (`user/cat.c`).
+fn is_bare_cat<B: Allocator>(tree: &Cmd<B>) -> bool
+    ensures { IsTrue result ↔ (tree_of tree.now ≡ cat_alone) }
+{
+    match tree {
+        Cmd::Exec(words) => are_cat_alone(words.as_slice()),
+        _ => false,
     }
 }
 
@@ -147,9 +168,58 @@ fn run_into_file<'i, A: Allocator + Copy, B: Allocator>(
     })
 }
 
-// A pipe: the left side to its end, and then the right side on its output.
+// A pipe. A side that is `cat` alone passes all on: then the other side does all that the pipe does, and no byte is copied
+// in between.
 #[cycle(tree)]
 fn run_pipe<'i, A: Allocator + Copy, B: Allocator>(
+    alloc: A,
+    profile: Profile,
+    left: &Cmd<B>,
+    right: &Cmd<B>,
+    input: &'i [u8],
+    store: &mut Files<A>,
+    out: &mut Vec<u8, A>,
+) -> Result<Ran<'i, A>, PlainFault>
+    ensures gives { IfOk result (λ ran. Gives (meaning profile (pipe (tree_of left.now) (tree_of right.now)) input.now (files store.old)) out.old.items out.new.items ran.rest.now (files store.new)) }
+    ensures tells { IfOk result (λ ran. Tells (meaning profile (pipe (tree_of left.now) (tree_of right.now)) input.now (files store.old)) ran.verdict.is_loose ran.verdict.soft.items) }
+    ensures settled { IfOk result (λ ran. IsTrue ran.verdict.is_settled ↔ IsSettled profile (pipe (tree_of left.now) (tree_of right.now)) no_names input.now (files store.old)) }
+    ensures large { IfErr result (IsDue (Outgrows profile (pipe (tree_of left.now) (tree_of right.now)) input.now (files store.old))) }
+{
+    if is_bare_cat(right) {
+        return run_tree(alloc, profile, left, input, store, out);
+    }
+    if is_bare_cat(left) {
+        return run_after_cat(alloc, profile, right, input, store, out);
+    }
+    run_sides(alloc, profile, left, right, input, store, out)
+}
+
+// The right side of a pipe whose left side is `cat` alone, on the pipe's own input, of which nothing is left.
+#[cycle(tree)]
+fn run_after_cat<'i, A: Allocator + Copy, B: Allocator>(
+    alloc: A,
+    profile: Profile,
+    right: &Cmd<B>,
+    input: &'i [u8],
+    store: &mut Files<A>,
+    out: &mut Vec<u8, A>,
+) -> Result<Ran<'i, A>, PlainFault>
+    ensures gives { IfOk result (λ ran. Gives (meaning profile (pipe cat_alone (tree_of right.now)) input.now (files store.old)) out.old.items out.new.items ran.rest.now (files store.new)) }
+    ensures tells { IfOk result (λ ran. Tells (meaning profile (pipe cat_alone (tree_of right.now)) input.now (files store.old)) ran.verdict.is_loose ran.verdict.soft.items) }
+    ensures settled { IfOk result (λ ran. IsTrue ran.verdict.is_settled ↔ IsSettled profile (pipe cat_alone (tree_of right.now)) no_names input.now (files store.old)) }
+    ensures large { IfErr result (IsDue (Outgrows profile (pipe cat_alone (tree_of right.now)) input.now (files store.old))) }
+{
+    let ran = run_tree(alloc, profile, right, input, store, out)?;
+    let is_cut = ran.is_cut();
+    Ok(Ran {
+        rest: &[],
+        verdict: ran.verdict.with_looseness(is_cut),
+    })
+}
+
+// The left side to its end, and then the right side on its output.
+#[cycle(tree)]
+fn run_sides<'i, A: Allocator + Copy, B: Allocator>(
     alloc: A,
     profile: Profile,
     left: &Cmd<B>,

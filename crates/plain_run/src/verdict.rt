@@ -146,6 +146,19 @@ impl<A: Allocator + Copy> Verdict<A> {
         }
     }
 
+    // The same of a command whose rest of the input depends on the order or does not, as is said here.
+    pub fn with_looseness(self, is_loose: bool) -> Self
+        ensures settled { result.is_settled ≡ self.is_settled }
+        ensures loose { result.is_loose ≡ is_loose }
+        ensures soft { result.soft.items ≡ self.soft.items }
+    {
+        Verdict {
+            is_settled: self.is_settled,
+            is_loose,
+            soft: self.soft,
+        }
+    }
+
     // Of one command and then another.
     pub fn of_list<B: Allocator>(
         left: &Cmd<B>,

@@ -328,6 +328,24 @@ fn counts(rt: HostRuntime) -> Result<(), Fail> {
     expect_on(&rt, "in", "wc p", &given, "4 4 14 p\n", "in")
 }
 
+// `cat` alone on a side of a pipe passes all on.
+const THROUGH_CAT: [(&str, &str, &str, &str); 7] = [
+    ("a b\nc\n", "cat | cat | wc", "2 3 6 \n", ""),
+    ("x\ny\n", "cat | head -1", "x\n", ""),
+    ("x\ny\n", "head -1 | cat", "x\n", "y\n"),
+    ("x\ny\n", "head -1 | cat\nwc", "x\n1 1 2 \n", ""),
+    ("x\ny\n", "cat | cat p | head -1", "b\n", ""),
+    ("x\n", "echo a | cat", "a\n", "x\n"),
+    ("x\n", "cat | echo a", "a\n", ""),
+];
+
+#[test]
+fn passes_through_cat(rt: HostRuntime) -> Result<(), Fail> {
+    expect_rest(&rt, &[("p", P.as_bytes())], &THROUGH_CAT)?;
+    expect_verdict(&rt, "x\ny\n", "head -1 | cat\nwc", true, "")?;
+    expect_verdict(&rt, "x\ny\n", "cat | cat p\nwc", false, "")
+}
+
 const MATCHES: [(&str, &str); 5] = [
     ("grep ^a*b$ p", "b\naab\n"),
     ("grep x l", "x\n"),

@@ -1,8 +1,8 @@
 -- Each node's value is made of what its parts gave, and each fault that a part told is due.
-use Rattle.std.proofs.Common.{◌≡◌, ◌<◌, ◌↔◌, IsTrue, true, ap, sym, ◌∙◌, subst, Ok, Some, ◌||◌, ◌&&◌, [], length}
+use Rattle.std.proofs.Common.{◌≡◌, ◌<◌, ◌↔◌, IsTrue, true, ap, sym, ◌∙◌, subst, Ok, Some, [], length}
 use Rattle.std.specs.Prelude.{option_copied}
-use Rattle.std.proofs.lemmas.Result.{err_from_is_err_and}
-use Rattle.sh_tree.specs.Tree.{tree_of}
+use Rattle.std.proofs.lemmas.Result.{err_from_is_err_and, IfOk-weaker}
+use Rattle.sh_tree.specs.Tree.{pipe, tree_of}
 use Rattle.mem_files.specs.Name.{is_openable}
 use Rattle.mem_files.specs.Files.{files, with_file}
 use Rattle.mem_files.specs.Listing.{max_size}
@@ -13,6 +13,7 @@ use Rattle.sh_meaning.specs.Meaning.{meaning, over_end}
 use Rattle.sh_meaning.specs.Settled.{IsSettled}
 use Rattle.plain_progs.specs.Gives.{Gives, IsDue}
 use Rattle.plain_run.specs.Tells.{Tells}
+use Rattle.plain_run.proofs.CatPipes.{into_cat_settled}
 use Rattle.plain_run.proofs.Settling.{into_settled, from_settled, list_is_settled, pipe_is_settled}
 use Rattle.plain_run.proofs.Steps.{due_right, due_later, list_gives, still_there, into_gives, due_body, due_end}
 use Rattle.plain_run.proofs.Verdicts.{into_tells, list_tells, pipe_tells}
@@ -96,8 +97,8 @@ run_list-returns-clause-settled g t c =
     let W = c.in_ok-second.second.verdict in
     list_is_settled c.args.profile (tree_of c.args.left.now) (tree_of c.args.right.now) c.args.input.now c.args.out.now.items c.run_tree.new.out.items c.in_ok-first.first.rest.now (files c.args.store.now) (files c.run_tree.new.store) V.is_settled W.is_settled c.in_ok-verdict.verdict.is_settled V.is_loose W.is_loose V.soft.items W.soft.items c.in_ok-first.ensures.gives c.in_ok-first.ensures.tells c.in_ok-second.ensures.tells c.in_ok-first.ensures.settled c.in_ok-second.ensures.settled c.in_ok-verdict.ensures.settled
 
-pub run_pipe-returns-in_err-second-clause-large : goal.run_pipe-returns-in_err-second-clause-large
-run_pipe-returns-in_err-second-clause-large g t c =
+pub run_sides-returns-in_err-second-clause-large : goal.run_sides-returns-in_err-second-clause-large
+run_sides-returns-in_err-second-clause-large g t c =
     let L = tree_of c.args.left.now in
     let R = tree_of c.args.right.now in
     let p = err_from_is_err_and c.from_residual-in_err-second.result c.from_residual-in_err-second.ensures.1 in
@@ -105,8 +106,8 @@ run_pipe-returns-in_err-second-clause-large g t c =
     let large = subst (λ m. IsDue (Outgrows c.args.profile R m (files c.run_tree.new.store)) c.in_err-second.field-0.0) c.as_slice.ensures.value c.in_err-second.ensures.large in
     rw (p.1, p.2) (due_right c.args.profile L R c.args.input.now c.run_tree.new.out.items c.in_ok-first.first.rest.now (files c.args.store.now) (files c.run_tree.new.store) c.in_err-second.field-0.0 first large)
 
-pub run_pipe-returns-clause-tells : goal.run_pipe-returns-clause-tells
-run_pipe-returns-clause-tells g t c =
+pub run_sides-returns-clause-tells : goal.run_sides-returns-clause-tells
+run_sides-returns-clause-tells g t c =
     let L = tree_of c.args.left.now in
     let R = tree_of c.args.right.now in
     let first = subst (λ none. Gives (meaning c.args.profile L c.args.input.now (files c.args.store.now)) none c.run_tree.new.out.items c.in_ok-first.first.rest.now (files c.run_tree.new.store)) c.new-middle.ensures.items c.in_ok-first.ensures.gives in
@@ -114,8 +115,8 @@ run_pipe-returns-clause-tells g t c =
     let told = subst (λ m. Tells (meaning c.args.profile R m (files c.run_tree.new.store)) c.in_ok-second.second.verdict.is_loose c.in_ok-second.second.verdict.soft.items) c.as_slice.ensures.value c.in_ok-second.ensures.tells in
     pipe_tells c.args.profile L R c.args.input.now c.run_tree.new.out.items c.in_ok-first.first.rest.now c.in_ok-second.second.rest.now (files c.args.store.now) (files c.run_tree.new.store) c.is_cut-is_cut.result c.in_ok-first.first.verdict.is_loose c.in_ok-second.second.verdict.is_loose c.in_ok-verdict.verdict.is_loose c.in_ok-first.first.verdict.soft.items c.in_ok-second.second.verdict.soft.items c.in_ok-verdict.verdict.soft.items first c.in_ok-first.ensures.tells unread told c.is_cut-is_cut.ensures c.in_ok-verdict.ensures.loose c.in_ok-verdict.ensures.soft
 
-pub run_pipe-returns-clause-settled : goal.run_pipe-returns-clause-settled
-run_pipe-returns-clause-settled g t c =
+pub run_sides-returns-clause-settled : goal.run_sides-returns-clause-settled
+run_sides-returns-clause-settled g t c =
     let L = tree_of c.args.left.now in
     let R = tree_of c.args.right.now in
     let first = subst (λ none. Gives (meaning c.args.profile L c.args.input.now (files c.args.store.now)) none c.run_tree.new.out.items c.in_ok-first.first.rest.now (files c.run_tree.new.store)) c.new-middle.ensures.items c.in_ok-first.ensures.gives in
@@ -125,3 +126,20 @@ run_pipe-returns-clause-settled g t c =
     let V = c.in_ok-first.first.verdict in
     let W = c.in_ok-second.second.verdict in
     pipe_is_settled c.args.profile L R c.args.input.now c.run_tree.new.out.items c.in_ok-first.first.rest.now c.in_ok-second.second.rest.now (files c.args.store.now) (files c.run_tree.new.store) c.is_cut-is_cut.result V.is_settled W.is_settled c.in_ok-verdict.verdict.is_settled V.is_loose W.is_loose V.soft.items W.soft.items first c.in_ok-first.ensures.tells unread told c.is_cut-is_cut.ensures c.in_ok-first.ensures.settled right c.in_ok-verdict.ensures.settled
+
+pub run_pipe-returns-then-is_bare_cat-clause-settled : goal.run_pipe-returns-then-is_bare_cat-clause-settled
+run_pipe-returns-then-is_bare_cat-clause-settled g t c =
+    let L = tree_of c.args.left.now in
+    let F = files c.args.store.now in
+    let alone = c.is_bare_cat.ensures.0 c.if-is_bare_cat.true in
+    IfOk-weaker c.run_tree.result _ _
+    (λ ran settled. subst (λ R. IsTrue ran.verdict.is_settled ↔ IsSettled c.args.profile (pipe L R) no_names c.args.input.now F) (sym alone)
+    (into_cat_settled c.args.profile L c.args.input.now F ran.verdict.is_settled settled))
+    c.run_tree.ensures.settled
+
+pub run_pipe-returns-then-is_bare_cat-2-clause-settled : goal.run_pipe-returns-then-is_bare_cat-2-clause-settled
+run_pipe-returns-then-is_bare_cat-2-clause-settled g t c =
+    let alone = c.is_bare_cat-2.ensures.0 c.if-is_bare_cat-2.true in
+    IfOk-weaker c.run_after_cat.result _ _
+    (λ ran settled. subst (λ L. IsTrue ran.verdict.is_settled ↔ IsSettled c.args.profile (pipe L (tree_of c.args.right.now)) no_names c.args.input.now (files c.args.store.now)) (sym alone) settled)
+    c.run_after_cat.ensures.settled
