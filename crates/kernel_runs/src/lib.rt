@@ -5,6 +5,8 @@
 #[cfg(test)]
 mod driven;
 #[cfg(test)]
+mod forged;
+#[cfg(test)]
 mod memory;
 #[cfg(test)]
 mod schedules;

@@ -12,7 +12,7 @@ use user_calls::Ran;
 
 // Scripts in which nobody waits for what only he himself could give: who reads a pipe has closed its write end, and who
 // waits for his children has closed the ends that they wait for.
-const SCRIPTS: [&[u8]; 10] = [
+pub(crate) const SCRIPTS: [&[u8]; 10] = [
     // A reader leaves while its child may still write.
     b"p.f.c4r3r3r3c3z.x.|c3W4W4x.",
     // The child reads to the end.
@@ -35,13 +35,13 @@ const SCRIPTS: [&[u8]; 10] = [
     b"f.f.f.z.z.z.z.x.|f.z.x.|w1x.",
 ];
 
-const HARTS_USED: usize = 3;
+pub(crate) const HARTS_USED: usize = 3;
 
 // At most so many slots are ever used.
 const SLOTS_USED: usize = 8;
 
 // The next number of a fixed sequence (a linear congruential generator, of which the high bits are drawn).
-fn draw(seed: &mut u64, most: usize) -> usize
+pub(crate) fn draw(seed: &mut u64, most: usize) -> usize
     requires { 0 < most }
     ensures { result < most }
 {
@@ -52,7 +52,7 @@ fn draw(seed: &mut u64, most: usize) -> usize
 }
 
 // Dispatches a Runnable process on the hart, if there is one: which one is drawn.
-fn begins<A: Allocator + Copy>(
+pub(crate) fn begins<A: Allocator + Copy>(
     kernel: &mut Kernel<Walker, A>,
     seed: &mut u64,
     hart: u8,
