@@ -3,35 +3,41 @@
 use std::thread;
 use std::time::{Clock, Duration};
 
-// So often a hart only lets other threads run.
-const YIELDS: u32 = 4;
-
-// The first sleep, which doubles so often at most: up to 640 microseconds.
+// The shortest sleep, in microseconds, which doubles so often at most: up to 640.
 const SHORTEST: u64 = 10;
 
 const DOUBLINGS: u32 = 6;
 
-// How often in a row a hart has found nothing to do. The more often, the longer it waits before it looks again, so that an
-// idle hart takes little of a processor.
+// How long a hart that finds nothing to do sleeps before it looks again: twice as long each time, and half as long once it
+// has found something. So a hart that is hardly needed takes little of a processor, and takes few processes from the hart
+// on which they run, which costs more than it saves.
 #[derive(Clone, Copy)]
 pub(crate) struct Patience {
-    tries: u32,
+    doublings: u32,
+    has_slept: bool,
 }
 
 impl Patience {
     pub(crate) fn new() -> Patience {
-        Patience { tries: 0 }
+        Patience {
+            doublings: 0,
+            has_slept: false,
+        }
     }
 
-    // Waits once more.
-    pub(crate) fn wait<R: Clock>(&mut self, rt: &R) {
-        if self.tries < YIELDS {
-            self.tries += 1;
-            thread::yield_now();
-            return;
+    // Something was found to do.
+    pub(crate) fn ends(&mut self) {
+        if self.has_slept {
+            self.doublings = self.doublings.saturating_sub(1);
+            self.has_slept = false;
         }
-        let doublings = (self.tries - YIELDS).min(DOUBLINGS);
-        self.tries = YIELDS + (doublings + 1).min(DOUBLINGS);
+    }
+
+    // Sleeps once more.
+    pub(crate) fn wait<R: Clock>(&mut self, rt: &R) {
+        let doublings = self.doublings.min(DOUBLINGS);
         thread::sleep(rt, Duration::from_micros(SHORTEST << doublings));
+        self.doublings = (doublings + 1).min(DOUBLINGS);
+        self.has_slept = true;
     }
 }

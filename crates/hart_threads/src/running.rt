@@ -48,7 +48,7 @@ fn take_turns<N: Run, M: Machine, R: Wait + Clock, G: Gate>(
     for _ in rt.forever() {
         back = match shared.pass(rt, seat, back)? {
             Ok(task) => {
-                patience = Patience::new();
+                patience.ends();
                 Some(run_task(rt, seat, task, gate))
             }
             Err(Turn::Finished | Turn::Spent) => return Ok(()),
