@@ -1,17 +1,16 @@
 //! Hosts and writers in memory.
 ghost use Rattle.std.specs.Prelude.{◌≡◌, ◌≢◌, None, ◌<◌, ◌≤◌, Some, [], Err, IfOk, length, vec_len};
 
-use std::alloc::Global;
+use std::alloc::{AllocError, Global};
 use std::io::{self, Write};
-use std::process::Abort;
 use std::sync::Wait;
-use std::test::Fail;
 use std::thread::Threads;
 use std::time::Clock;
+use thiserror::Error;
 use xvsh::drive;
 use xvsh_read::{Host, HostFault};
 
-// A host in memory: standard input, and files at paths.
+/// A host in memory: standard input, and files at paths.
 #[derive(Drop)]
 pub struct Memory<'a> {
     pub input: &'a [u8],
@@ -52,7 +51,7 @@ fn bounded(alloc: Global, bytes: &[u8], limit: usize) -> Result<Vec<u8>, HostFau
     }
 }
 
-// A host that can't be read.
+/// A host that can't be read.
 #[derive(Drop)]
 pub struct Broken;
 
@@ -75,7 +74,7 @@ impl Host for Broken {
     }
 }
 
-// A host in which every path has an empty file.
+/// A host in which every path has an empty file.
 #[derive(Drop)]
 pub struct Anything;
 
@@ -98,7 +97,7 @@ impl Host for Anything {
     }
 }
 
-// A writer that takes one byte a call, for so many calls, and then fails.
+/// A writer that takes one byte a call, for so many calls, and then fails.
 #[derive(Drop)]
 pub struct Failing {
     pub calls: usize,
@@ -118,7 +117,8 @@ impl Write for Failing {
     }
 }
 
-pub fn words_of(alloc: Global, line: &str) -> Result<Vec<String>, Fail> {
+/// The words of a line.
+pub fn words_of(alloc: Global, line: &str) -> Result<Vec<String>, AllocError> {
     let mut words = Vec::new(alloc);
     for word in line.split_whitespace() {
         words.push(String::from_str(alloc, word)?)?;
@@ -126,24 +126,49 @@ pub fn words_of(alloc: Global, line: &str) -> Result<Vec<String>, Fail> {
     Ok(words)
 }
 
-// Runs the program and compares its status, its output and its faults.
+/// What the program did otherwise than it was to.
+#[derive(Debug, Drop, Error)]
+pub enum Otherwise {
+    #[error("it wrote {0}")]
+    Wrote(String),
+    #[error("it told {0}")]
+    Told(String),
+    #[error("it ended with status {0}")]
+    Ended(u8),
+    #[error("no memory")]
+    Memory,
+}
+
+impl From<AllocError> for Otherwise {
+    fn from(_error: AllocError) -> Otherwise {
+        Otherwise::Memory
+    }
+}
+
+/// Runs the program and compares its status, its output and its faults.
 pub fn expect<H: Host>(
-    rt: &(impl Abort + AllocGlobal + Threads + Wait + Clock + Sync),
+    rt: &(impl AllocGlobal + Threads + Wait + Clock + Sync),
     words: &str,
     host: &mut H,
     want: (u8, &str, &str),
-) -> Result<(), Fail> {
+) -> Result<(), Otherwise> {
     let mut out = Vec::new(rt.alloc());
     let mut err = Vec::new(rt.alloc());
     let words = words_of(rt.alloc(), words)?;
     let status = drive(rt, rt.alloc(), words, host, &mut out, &mut err);
-    assert_eq!(rt; out.as_slice(), want.1.as_bytes());
-    assert_eq!(rt; err.as_slice(), want.2.as_bytes());
-    assert_eq!(rt; status, want.0);
+    if out.as_slice() != want.1.as_bytes() {
+        return Err(Otherwise::Wrote(String::from_utf8_lossy(rt.alloc(), &out)?));
+    }
+    if err.as_slice() != want.2.as_bytes() {
+        return Err(Otherwise::Told(String::from_utf8_lossy(rt.alloc(), &err)?));
+    }
+    if status != want.0 {
+        return Err(Otherwise::Ended(status));
+    }
     Ok(())
 }
 
-// A host that has no memory for what it reads.
+/// A host that has no memory for what it reads.
 #[derive(Drop)]
 pub struct Full;
 

@@ -1,13 +1,9 @@
-//! Tests alone: the program on hosts in memory.
+//! Hosts and writers in memory, on which the program is tested; and tests, which are the rest of this crate: `plain`, `check`
+//! and what the program reads.
 #![tactic(auto)]
 
-#[cfg(test)]
-mod flags;
-#[cfg(test)]
-mod hosts;
+pub mod hosts;
 #[cfg(test)]
 mod plain;
 #[cfg(test)]
 mod reading;
-#[cfg(test)]
-mod runs;

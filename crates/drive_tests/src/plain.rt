@@ -442,7 +442,7 @@ fn expect_on_file<'a>(
         input: b"".as_slice(),
         files: &files,
     };
-    expect(rt, "plain s in/w", &mut host, (0, out, "settled\n"))
+    Ok(expect(rt, "plain s in/w", &mut host, (0, out, "settled\n"))?)
 }
 
 #[test]
@@ -479,7 +479,7 @@ fn expect_told<'a>(
         input: big.as_bytes(),
         files: &files,
     };
-    expect(rt, "plain s in/big in/p", &mut host, want)
+    Ok(expect(rt, "plain s in/big in/p", &mut host, want)?)
 }
 
 #[test]

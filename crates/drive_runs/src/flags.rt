@@ -1,6 +1,6 @@
 //! What `--strict`, `check --turns` and `--version` add, what `explain` tells, and what is told of a word that is no command.
-use crate::hosts::{Memory, expect, words_of};
 use crate::runs::nested;
+use drive_tests::hosts::{Memory, expect, words_of};
 use std::process::Abort;
 use std::sync::Wait;
 use std::test::Fail;

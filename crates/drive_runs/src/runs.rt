@@ -1,5 +1,5 @@
 //! `run` and `replay`.
-use crate::hosts::{Broken, Failing, Full, Memory, expect, words_of};
+use drive_tests::hosts::{Broken, Failing, Full, Memory, expect, words_of};
 use std::alloc::{AllocError, Global};
 use std::process::Abort;
 use std::sync::Wait;
@@ -27,7 +27,7 @@ fn expect_on_files<'a>(
         files: &files,
     };
     let words = format!(in rt.alloc(); "run {options} s in/p in/big")?;
-    expect(rt, words.as_str(), &mut host, want)
+    Ok(expect(rt, words.as_str(), &mut host, want)?)
 }
 
 // The same, where `big` is 100 lines.
@@ -250,7 +250,7 @@ fn schedules_are_replayed_or_refused(rt: HostRuntime) -> Result<(), Fail> {
 #[test]
 fn schedule_and_script_are_two(rt: HostRuntime) -> Result<(), Fail> {
     let told = "xvsh: the schedule and the script are both standard input\n";
-    expect(&rt, "replay - -", &mut Broken, (2, "", told))
+    Ok(expect(&rt, "replay - -", &mut Broken, (2, "", told))?)
 }
 
 // What these words write to standard output and as diagnostics, with status 0.
