@@ -1,6 +1,7 @@
 ghost use Rattle.std.specs.Prelude.{◌≡◌, ◌↔◌, IsTrue};
 ghost use Rattle.grep_match.specs.Match.{IsMatch, matches};
 
+use crate::literal::is_match_by_literal;
 use crate::marks::is_match_by_marks;
 use crate::search::is_match_by_cuts;
 use crate::states::is_match_by_states;
@@ -19,6 +20,9 @@ const ROOM: usize = 1024;
 /// A text matches if some part of it is a row of pieces, one for each item in order; the part of an anchored
 /// pattern begins where the text does. Patterns and texts may have any bytes and any length, and no memory is taken.
 ///
+/// Without an anchor, the text is first searched for the bytes before the first special one: a text that lacks them
+/// does not match, and one that has them does where they are the whole pattern.
+///
 /// Where the pattern or the text has fewer than 1,024 bytes this takes time by the one's length times the other's at
 /// most, where `user/grep.c`'s recursion takes exponential time on many stars. Where both are longer this goes as
 /// that does: it may take as long, and it takes stack by the number of stars.
@@ -26,6 +30,9 @@ pub fn is_match(pattern: &[u8], text: &[u8]) -> bool
     ensures pieces { IsTrue result ↔ IsMatch pattern.now text.now }
     ensures test { result ≡ matches pattern.now text.now }
 {
+    if let Some(answer) = is_match_by_literal(pattern, text) {
+        return answer;
+    }
     if text.len() < ROOM {
         let mut marks = [false; ROOM];
         is_match_by_marks(&mut marks[..=text.len()], pattern, text)
