@@ -1,10 +1,10 @@
 ghost use Rattle.std.specs.Prelude.{◌≡◌, ◌≤◌, ◌++◌, length, take, drop, IfSome};
 ghost use Rattle.grep_match.specs.Pattern.{items_of};
-ghost use Rattle.grep_match.specs.Match.{matches};
+ghost use Rattle.grep_match.specs.Match.{can_fit_somewhere, matches};
 ghost use Rattle.grep_match.specs.Literal.{is_literal, ones};
 
 use crate::item::{Item, next_item, split_anchor};
-use memchr::memmem;
+use memchr::memchr;
 
 // How many bytes the items begin with that are items by themselves and stand for themselves alone.
 fn literal_len(items: &[u8]) -> usize
@@ -24,8 +24,27 @@ fn literal_len(items: &[u8]) -> usize
     count
 }
 
-// Whether the text matches, where a search for the literal beginning of the items tells: none has it that lacks that
-// beginning, and of items that are literal to their end it is enough.
+// Whether literal bytes occur in the text: wherever it has the first, the others are looked for behind that.
+fn occurs(literal: &[u8], text: &[u8]) -> bool
+    requires { is_literal literal.now }
+    ensures { result ≡ can_fit_somewhere (ones literal.now) text.now }
+{
+    let Some((&first, others)) = literal.split_first() else {
+        return true;
+    };
+    let mut left = text;
+    while let Some(place) = memchr(first, left) {
+        let (_, later) = left.split_at(place + 1);
+        if later.starts_with(others) {
+            return true;
+        }
+        left = later;
+    }
+    false
+}
+
+// Whether the text matches, where a search for the literal beginning of the items tells: none does that lacks this
+// beginning, and where it is all of the items any other does.
 pub fn is_match_by_literal(pattern: &[u8], text: &[u8]) -> Option<bool>
     ensures { IfSome result (λ answer. answer ≡ matches pattern.now text.now) }
 {
@@ -34,9 +53,8 @@ pub fn is_match_by_literal(pattern: &[u8], text: &[u8]) -> Option<bool>
         return None;
     }
     let (literal, rest) = items.split_at(literal_len(items));
-    match memmem::find(text, literal) {
-        None => Some(false),
-        Some(_) if rest.is_empty() => Some(true),
-        Some(_) => None,
+    if !occurs(literal, text) {
+        return Some(false);
     }
+    if rest.is_empty() { Some(true) } else { None }
 }

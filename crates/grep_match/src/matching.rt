@@ -1,4 +1,4 @@
-ghost use Rattle.std.specs.Prelude.{◌≡◌, ◌↔◌, IsTrue};
+ghost use Rattle.std.specs.Prelude.{◌≡◌, ◌↔◌, ◌<◌, length, IsTrue};
 ghost use Rattle.grep_match.specs.Match.{IsMatch, matches};
 
 use crate::literal::is_match_by_literal;
@@ -8,6 +8,26 @@ use crate::states::is_match_by_states;
 
 // The bytes of the stack that marks or states take. A text that grep tests, and a pattern of a script, are shorter.
 const ROOM: usize = 1024;
+
+// By marks, in a function of its own, so that only a call that takes marks clears them.
+#[inline(never)]
+fn is_match_in_marks(pattern: &[u8], text: &[u8]) -> bool
+    requires { length text.now < ROOM }
+    ensures { result ≡ matches pattern.now text.now }
+{
+    let mut marks = [false; ROOM];
+    is_match_by_marks(&mut marks[..=text.len()], pattern, text)
+}
+
+// By states, likewise.
+#[inline(never)]
+fn is_match_in_states(pattern: &[u8], text: &[u8]) -> bool
+    requires { length pattern.now < ROOM }
+    ensures { result ≡ matches pattern.now text.now }
+{
+    let mut states = [false; ROOM];
+    is_match_by_states(&mut states, pattern, text)
+}
 
 /// Whether a text matches a pattern (`user/grep.c`'s `match`).
 ///
@@ -34,11 +54,9 @@ pub fn is_match(pattern: &[u8], text: &[u8]) -> bool
         return answer;
     }
     if text.len() < ROOM {
-        let mut marks = [false; ROOM];
-        is_match_by_marks(&mut marks[..=text.len()], pattern, text)
+        is_match_in_marks(pattern, text)
     } else if pattern.len() < ROOM {
-        let mut states = [false; ROOM];
-        is_match_by_states(&mut states, pattern, text)
+        is_match_in_states(pattern, text)
     } else {
         is_match_by_cuts(pattern, text)
     }

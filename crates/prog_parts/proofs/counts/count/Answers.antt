@@ -1,5 +1,4 @@
-use Rattle.std.proofs.Common.{◌≡◌, ◌++◌, ap, sym, ◌∙◌, take-append-drop, length, arith}
-use Rattle.mem_files.specs.Name.{Bytes}
+use Rattle.std.proofs.Common.{◌≡◌, ◌++◌, ap, sym, ◌∙◌, take-append-drop, arith}
 use Rattle.prog_parts.specs.Wc.{line_ends, words_after, ends_inside}
 use Rattle.prog_parts.proofs.CountsOfParts.{line_ends_more, words_more, ends_more}
 use Rattle.prog_parts.proofs.counts.count.Goals as goal
