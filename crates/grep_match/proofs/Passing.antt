@@ -41,7 +41,7 @@ walk_one c item left rest unread later other marks passed whole long split is cu
     ∙ sym (ap (leads marks (items_of left)) cut ∙ ap (λ items. leads marks items (other ∷ later)) (split ∙ ap (λ z. z ∷ items_of rest) is))
     ∙ before
 
-empty : (text : List ℕ) → length text ≡ 0 → text ≡ []
+pub empty : (text : List ℕ) → length text ≡ 0 → text ≡ []
 empty [] none = refl
 empty (b ∷ text) none = absurd (omega (arith, none))
 

@@ -8,13 +8,13 @@ use Rattle.grep_match.specs.Pattern.{items_of, last_item, is_anchored, pattern_i
 use Rattle.grep_match.specs.Match.{IsMatch, cuts, lets_follow, can_fit, matches}
 use Rattle.grep_match.proofs.Fitting.{list_any-map, with_byte, fits_cut}
 
-any_cut : (p : List ℕ × List ℕ → Bool) (x y : List ℕ) → p (x, y) ≡ true → list_any p (cuts (x ++ y)) ≡ true
+pub any_cut : (p : List ℕ × List ℕ → Bool) (x y : List ℕ) → p (x, y) ≡ true → list_any p (cuts (x ++ y)) ≡ true
 any_cut p [] [] h = or_left (p ([], [])) false h
 any_cut p [] (b ∷ y) h = or_left (p ([], b ∷ y)) _ h
 any_cut p (b ∷ x) y h =
     or_right (p ([], b ∷ (x ++ y))) _ (list_any-map p (with_byte b) (cuts (x ++ y)) ∙ any_cut (λ cut. p (with_byte b cut)) x y h)
 
-cut_any : (p : List ℕ × List ℕ → Bool) (text : List ℕ) → list_any p (cuts text) ≡ true → (x : List ℕ) × (y : List ℕ) × (text ≡ x ++ y) × (p (x, y) ≡ true)
+pub cut_any : (p : List ℕ × List ℕ → Bool) (text : List ℕ) → list_any p (cuts text) ≡ true → (x : List ℕ) × (y : List ℕ) × (text ≡ x ++ y) × (p (x, y) ≡ true)
 cut_any p [] h = ⊎_elim (λ here. ([], [], refl, here)) (λ never. absurd (cc)) (or_cases (p ([], [])) false h)
 cut_any p (b ∷ text) h =
     ⊎_elim

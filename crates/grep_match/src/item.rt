@@ -1,4 +1,4 @@
-ghost use Rattle.std.specs.Prelude.{◌≡◌, ◌<◌, ◌≤◌, [], ◌∷◌, length, IfSome, IfNone};
+ghost use Rattle.std.specs.Prelude.{◌≡◌, ◌<◌, ◌≤◌, ℕ, [], ◌∷◌, length, IfSome, IfNone};
 ghost use Rattle.grep_match.specs.Pattern.{items_of, is_anchored, pattern_items, stands_for};
 
 /// What a pattern is made of.
@@ -27,6 +27,7 @@ pub fn split_anchor(pattern: &[u8]) -> (bool, &[u8])
 // The first item of a pattern behind its anchor, and the bytes of the others.
 pub fn next_item(pattern: &[u8]) -> Option<(Item, &[u8])>
     ensures split { IfSome result (λ next. items_of pattern.now ≡ next.0 ∷ items_of next.1.now) }
+    ensures one { IfSome result (λ next. (byte : ℕ) → next.0 ≡ Item.One byte → pattern.now ≡ byte ∷ next.1.now) }
     ensures last { IfSome result (λ next. next.0 ≡ Item.End → next.1.now ≡ []) }
     ensures fewer { IfSome result (λ next. length next.1.now < length pattern.now) }
     ensures none { IfNone result (pattern.now ≡ []) }

@@ -3,6 +3,7 @@
 
 mod item;
 pub mod laws;
+mod literal;
 mod marks;
 mod matching;
 mod search;

@@ -1,12 +1,33 @@
-ghost use Rattle.std.specs.Prelude.{◌≡◌, ◌↔◌, IsTrue};
+ghost use Rattle.std.specs.Prelude.{◌≡◌, ◌↔◌, ◌<◌, length, IsTrue};
 ghost use Rattle.grep_match.specs.Match.{IsMatch, matches};
 
+use crate::literal::is_match_by_literal;
 use crate::marks::is_match_by_marks;
 use crate::search::is_match_by_cuts;
 use crate::states::is_match_by_states;
 
 // The bytes of the stack that marks or states take. A text that grep tests, and a pattern of a script, are shorter.
 const ROOM: usize = 1024;
+
+// By marks, in a function of its own, so that only a call that takes marks clears them.
+#[inline(never)]
+fn is_match_in_marks(pattern: &[u8], text: &[u8]) -> bool
+    requires { length text.now < ROOM }
+    ensures { result ≡ matches pattern.now text.now }
+{
+    let mut marks = [false; ROOM];
+    is_match_by_marks(&mut marks[..=text.len()], pattern, text)
+}
+
+// By states, likewise.
+#[inline(never)]
+fn is_match_in_states(pattern: &[u8], text: &[u8]) -> bool
+    requires { length pattern.now < ROOM }
+    ensures { result ≡ matches pattern.now text.now }
+{
+    let mut states = [false; ROOM];
+    is_match_by_states(&mut states, pattern, text)
+}
 
 /// Whether a text matches a pattern (`user/grep.c`'s `match`).
 ///
@@ -19,6 +40,9 @@ const ROOM: usize = 1024;
 /// A text matches if some part of it is a row of pieces, one for each item in order; the part of an anchored
 /// pattern begins where the text does. Patterns and texts may have any bytes and any length, and no memory is taken.
 ///
+/// Without an anchor, the text is first searched for the bytes before the first special one: a text that lacks them
+/// does not match, and one that has them does where they are the whole pattern.
+///
 /// Where the pattern or the text has fewer than 1,024 bytes this takes time by the one's length times the other's at
 /// most, where `user/grep.c`'s recursion takes exponential time on many stars. Where both are longer this goes as
 /// that does: it may take as long, and it takes stack by the number of stars.
@@ -26,12 +50,13 @@ pub fn is_match(pattern: &[u8], text: &[u8]) -> bool
     ensures pieces { IsTrue result ↔ IsMatch pattern.now text.now }
     ensures test { result ≡ matches pattern.now text.now }
 {
+    if let Some(answer) = is_match_by_literal(pattern, text) {
+        return answer;
+    }
     if text.len() < ROOM {
-        let mut marks = [false; ROOM];
-        is_match_by_marks(&mut marks[..=text.len()], pattern, text)
+        is_match_in_marks(pattern, text)
     } else if pattern.len() < ROOM {
-        let mut states = [false; ROOM];
-        is_match_by_states(&mut states, pattern, text)
+        is_match_in_states(pattern, text)
     } else {
         is_match_by_cuts(pattern, text)
     }

@@ -1,5 +1,5 @@
 -- The lines that end in LF are the lines of the bytes, but for a last one without LF.
-use Rattle.std.proofs.Common.{◌≡◌, ℕ, ◌<◌, List, [], ◌∷◌, ◌++◌, length, refl, sym, ◌∙◌, ap, subst, arith, append_assoc, inl, inr}
+use Rattle.std.proofs.Common.{◌≡◌, ◌<◌, List, [], ◌∷◌, ◌++◌, length, refl, sym, ◌∙◌, ap, subst, arith, append_assoc, inl, inr}
 use Rattle.mem_files.specs.Name.{Bytes}
 use Rattle.prog_parts.specs.Grep.{ended_lines, with_ends}
 use Rattle.prog_parts.specs.Lines.{HasNoLf, AreLines, last_line}

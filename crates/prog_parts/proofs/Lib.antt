@@ -1,3 +1,4 @@
+pub mod CountsOfParts
 pub mod Cuts
 pub mod Digits
 pub mod Ended

@@ -1,7 +1,7 @@
 -- The words of a simple command that name files, and whether it reads standard input: by its first word, and by the text alone (own).
 use Rattle.std.specs.Prelude.{ℕ, Bool, false, List, [], ◌∷◌, Option, Some, None}
 use Rattle.prog_parts.specs.declared.program.Program.{Program}
-use Rattle.prog_parts.specs.declared.program.Program.TheVariants.{Cat, Echo, Grep, Head, Tee, Wc}
+use Rattle.prog_parts.specs.declared.program.Program.TheVariants.{Tee}
 use Rattle.prog_parts.specs.Program.{program_of, file_words, program_uses_input}
 
 -- the arguments that a program reads by name: its file words, but tee's
