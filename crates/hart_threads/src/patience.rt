@@ -8,9 +8,9 @@ const SHORTEST: u64 = 10;
 
 const DOUBLINGS: u32 = 6;
 
-// How long a hart that finds nothing to do sleeps before it looks again: twice as long each time, and half as long once it
-// has found something. So a hart that is hardly needed takes little of a processor, and takes few processes from the hart
-// on which they run, which costs more than it saves.
+// How long a hart that finds nothing to do sleeps before it looks again: twice as long each time, and one doubling less once
+// it has found something. So after a find it sleeps as long as the last time, or half as long where that was the longest, and
+// a hart that is hardly needed takes little of a processor.
 #[derive(Clone, Copy)]
 pub(crate) struct Patience {
     doublings: u32,
