@@ -1,13 +1,11 @@
 //! What `check --turns` tells: the lines of a script, and the turns that are enough for it.
-ghost use Rattle.std.specs.Prelude.{◌≡◌, ◌≢◌, ◌++◌, ◌↔◌, ℕ, List, OnOk, IfOk, IfErr, IsTrue, string_bytes};
-ghost use Rattle.std.specs.Io.KnownBytes.{Appends};
+ghost use Rattle.std.specs.Prelude.{◌≡◌, ◌≢◌, ◌++◌, ◌↔◌, ℕ, List, IfOk, IfErr, IsTrue, string_bytes};
 ghost use Rattle.mem_files.specs.Files.{files};
 ghost use Rattle.script_load.specs.Line.{lines_of};
-ghost use Rattle.xvsh_read.specs.Status.{IsTellFault};
 ghost use Rattle.xvsh.specs.Check.{AreTold, AreHarmless};
 ghost use Rattle.xvsh.specs.Turns.{AreTurnsTold, IsTurnsFault, RanTurns};
 
-use crate::checking::check;
+use crate::checking::{Checked, check};
 use mem_files::Files;
 use script_load::{Profile, Script};
 use std::alloc::{AllocError, Global};
@@ -30,26 +28,21 @@ fn turns_line(
     }
 }
 
-// Writes what is told of a script's lines, and then its turns, and returns whether the lines are harmless.
-fn tell_turns<'a, W: Write>(
+// What is told of a script's lines, and then its turns.
+fn check_with_turns(
     alloc: Global,
     script: &Script<Global>,
     stdin: &[u8],
     given: &Files<Global>,
-    out: &mut W,
-) -> Result<bool, Fault<'a>>
-    ensures told { OnOk result ((text : List ℕ) × (turns : List ℕ) × AreTold 1 (lines_of script.now.lines) text
-        × AreTurnsTold (lines_of script.now.lines) stdin.now (files given.now) turns
-        × Appends (W.contents out.old) (W.contents out.new) (text ++ turns)) }
-    ensures harmless { IfOk result (λ is. IsTrue is ↔ AreHarmless (lines_of script.now.lines)) }
-    ensures fault { IfErr result IsTellFault }
-    ensures refusal { IfErr result (λ fault. fault ≢ Fault.Unwritten → out.new ≡ out.old) }
+) -> Result<Checked, AllocError>
+    ensures told { IfOk result (λ checked. (text : List ℕ) × (turns : List ℕ) × AreTold 1 (lines_of script.now.lines) text
+        × AreTurnsTold (lines_of script.now.lines) stdin.now (files given.now) turns × (checked.text.items ≡ text ++ turns)) }
+    ensures harmless { IfOk result (λ checked. IsTrue checked.is_harmless ↔ AreHarmless (lines_of script.now.lines)) }
 {
-    let checked = check(alloc, script)?;
+    let mut checked = check(alloc, script)?;
     let turns = turns_line(alloc, script, stdin, given)?;
-    write(out, checked.text.as_slice())?;
-    write(out, turns.as_bytes())?;
-    Ok(checked.is_harmless)
+    checked.text.extend_from_slice(turns.as_bytes())?;
+    Ok(checked)
 }
 
 /// `check --turns`: reads the script, the files in order, and standard input unless that is the script, and writes what is
@@ -68,5 +61,7 @@ pub fn run_turns<'a, H: Host, W: Write>(
 {
     let start = prepare(alloc, host, Profile::Xv6, script, paths, false)?;
     let stdin = start.stdin.as_slice();
-    tell_turns(alloc, &start.script, stdin, &start.files, out)
+    let checked = check_with_turns(alloc, &start.script, stdin, &start.files)?;
+    write(out, checked.text.as_slice())?;
+    Ok(checked.is_harmless)
 }
