@@ -10,19 +10,20 @@ use Rattle.kernel_model.specs.declared.events.Full.{Full}
 use Rattle.mem_files.specs.Name.{Bytes}
 use Rattle.xvsh_read.specs.declared.fault.Fault.{Fault}
 use Rattle.xvsh_read.specs.declared.fault.Fault.TheVariants.{Unreadable, TooLong, LineTooLong, ByteZero, BadName, TooManyFiles, TooLarge, Memory, Unwritten}
-use Rattle.xvsh.specs.Drive.{RanCheck, IsCheckFault, WritesMeaning, verdict_text}
 use Rattle.xvsh_read.specs.Path.{Path}
 use Rattle.xvsh_read.specs.Status.{status_of, fault_told}
 use Rattle.xvsh_runs.specs.declared.fault.RunFault.{RunFault}
 use Rattle.xvsh_runs.specs.declared.fault.RunFault.TheVariants.{Common, BadHarts, BadTurns, Spent, SharedInput, NoEvent, NotRunnable, NotRunning, Unfinished}
 use Rattle.xvsh_runs.specs.declared.report.Lists.{Lists}
 use Rattle.xvsh_runs.specs.Status.{run_status, run_fault_told}
+use Rattle.xvsh_plain.specs.Running.{RanPlain, IsPlainFault}
+use Rattle.xvsh_checks.specs.Check.{RanCheck, IsCheckFault}
+use Rattle.xvsh_checks.specs.Turns.{IsTurnsFault}
+use Rattle.xvsh.specs.Drive.{WritesMeaning, verdict_text}
 use Rattle.xvsh.specs.Ends.{Request, asks_plain, asks_run, asks_strict, asks_check, asks_turns, asks_explain, check_status, verdict_status, misuse, help, How, Tells, TellsFull, TellsRan, TellsStrict, RanBy, IsFaultBy, Ends, plain_ran, no_plain, ran, ran_full, no_run, ran_strict, strict_full, no_strict, harmless, harmful, no_check, counted, not_counted, explained, not_explained, helped, misused, no_memory, unwritten}
-use Rattle.xvsh.specs.Running.{RanPlain, IsPlainFault}
 use Rattle.xvsh.specs.Strict.{RanStrict, IsStrictFault}
 use Rattle.xvsh.specs.declared.strict.StrictRun.{StrictRun}
-use Rattle.xvsh.specs.Turns.{IsTurnsFault}
-use Rattle.xvsh.proofs.Ran.{writes_meaning}
+use Rattle.xvsh.proofs.Meaning.{writes_meaning}
 
 -- what is known stays where nothing changes
 pub keeps_same : (known : Option Bytes) → Keeps known known

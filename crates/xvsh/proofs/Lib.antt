@@ -1,6 +1,2 @@
-pub mod Counted
 pub mod Ending
-pub mod Ran
-pub mod Runs
-pub mod Telling
-pub mod Sentences
+pub mod Meaning

@@ -15,12 +15,13 @@ use Rattle.xvsh_runs.specs.declared.report.Lists.{Lists}
 use Rattle.xvsh_runs.specs.Runs.{RanRun, RanReplay}
 use Rattle.xvsh_runs.specs.Status.{run_status, run_fault_told, full_told}
 use Rattle.xvsh_runs.specs.Why.{IsRunFault, IsReplayingFault}
-use Rattle.xvsh.specs.Drive.{RanCheck, IsCheckFault, verdict_text}
-use Rattle.xvsh.specs.Explain.{RanExplain}
-use Rattle.xvsh.specs.Running.{RanPlain, IsPlainFault}
+use Rattle.xvsh_plain.specs.Running.{RanPlain, IsPlainFault}
+use Rattle.xvsh_checks.specs.Check.{RanCheck, IsCheckFault}
+use Rattle.xvsh_checks.specs.Explain.{RanExplain}
+use Rattle.xvsh_checks.specs.Turns.{RanTurns, IsTurnsFault}
+use Rattle.xvsh.specs.Drive.{verdict_text}
 use Rattle.xvsh.specs.Strict.{RanStrict, IsStrictFault}
 use Rattle.xvsh.specs.declared.strict.StrictRun.{StrictRun}
-use Rattle.xvsh.specs.Turns.{RanTurns, IsTurnsFault}
 
 -- what >> means, by whether `--append` is given
 abbrev pub profile_of : Bool → Profile

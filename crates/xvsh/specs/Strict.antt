@@ -16,7 +16,7 @@ use Rattle.xvsh_runs.specs.declared.fault.RunFault.TheVariants.{Common}
 use Rattle.xvsh_runs.specs.declared.report.Lists.{Lists}
 use Rattle.xvsh_runs.specs.Runs.{RanRun}
 use Rattle.xvsh_runs.specs.Why.{IsRunFault as IsUnrun}
-use Rattle.xvsh.specs.Running.{IsRunFault}
+use Rattle.xvsh_plain.specs.Running.{IsRunFault}
 
 -- what follows is said after what the host tells of standard input and of the files at paths, of the script at a path under a
 -- profile and on the files at these paths, and of a run on so many harts in at most so many turns

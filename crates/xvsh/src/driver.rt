@@ -1,59 +1,21 @@
-ghost use Rattle.std.specs.Prelude.{◌≡◌, ◌≢◌, ◌↔◌, ℕ, List, [], codes, OnOk, IfOk, IfErr, IsTrue, false, Option};
-ghost use Rattle.std.specs.Io.KnownBytes.{Appends};
-ghost use Rattle.script_load.specs.Line.{lines_of};
-ghost use Rattle.xvsh_read.specs.Status.{status_of, fault_told, IsTellFault};
-ghost use Rattle.xvsh.specs.Check.{AreTold, AreHarmless};
-ghost use Rattle.xvsh.specs.Drive.{WritesMeaning, RanCheck, IsCheckFault, verdict_text};
+ghost use Rattle.std.specs.Prelude.{◌≡◌, ◌≢◌, ℕ, List, [], codes, IsTrue, false, Option};
+ghost use Rattle.xvsh.specs.Drive.{WritesMeaning, verdict_text};
 ghost use Rattle.xvsh.specs.Ends.{Ends, Request, asks_plain, asks_check, asks_turns, asks_explain, check_status};
 
-use crate::checking::check;
-use crate::explaining::run_explain;
 use crate::processes::{do_replay, do_run};
-use crate::running::run_plain;
 use crate::told::{tell, tell_text, verdict_status};
-use crate::turns::run_turns;
 use crate::words::{command_line, profile_of};
 use clap::ArgMatches;
 use clap::error::ErrorKind;
-use script_load::{Profile, Script};
+use script_load::Profile;
 use std::alloc::Global;
 use std::io::Write;
 use std::sync::Wait;
 use std::thread::Threads;
 use std::time::Clock;
-use xvsh_read::{Fault, Host, STDIN, read_script, write};
-
-// Writes what is told of a script's lines, and returns whether they are harmless.
-fn check_script<'a, W: Write>(
-    alloc: Global,
-    script: &Script<Global>,
-    out: &mut W,
-) -> Result<bool, Fault<'a>>
-    ensures told { OnOk result ((text : List ℕ) × AreTold 1 (lines_of script.now.lines) text
-        × Appends (W.contents out.old) (W.contents out.new) text) }
-    ensures harmless { IfOk result (λ is. IsTrue is ↔ AreHarmless (lines_of script.now.lines)) }
-    ensures fault { IfErr result IsTellFault }
-    ensures refusal { IfErr result (λ fault. fault ≢ Fault.Unwritten → out.new ≡ out.old) }
-{
-    let checked = check(alloc, script)?;
-    write(out, checked.text.as_slice())?;
-    Ok(checked.is_harmless)
-}
-
-// `check`: the script, and then what is told of it. Returns whether its lines are harmless.
-fn run_check<'a, H: Host, W: Write>(
-    alloc: Global,
-    host: &mut H,
-    script: &'a str,
-    out: &mut W,
-) -> Result<bool, Fault<'a>>
-    ensures ran { IfOk result (λ is. RanCheck (H.input host.old) (H.file host.old) script.now is (W.contents out.old) (W.contents out.new)) }
-    ensures fault { IfErr result (IsCheckFault (H.input host.old) (H.file host.old) script.now) }
-    ensures refusal { IfErr result (λ fault. fault ≢ Fault.Unwritten → out.new ≡ out.old) }
-{
-    let loaded = read_script(alloc, host, Profile::Xv6, script)?;
-    check_script(alloc, &loaded, out)
-}
+use xvsh_checks::{run_check, run_explain, run_turns};
+use xvsh_plain::run_plain;
+use xvsh_read::{Fault, Host, STDIN};
 
 // What is told of the verdict.
 fn verdict(is_settled: bool) -> &'static str

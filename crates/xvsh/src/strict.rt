@@ -4,10 +4,9 @@ ghost use Rattle.mem_files.specs.Files.{files};
 ghost use Rattle.script_load.specs.Line.{lines_of};
 ghost use Rattle.sh_meaning.specs.Settled.{IsSettledScript};
 ghost use Rattle.xvsh_read.specs.declared.fault.Fault.TheVariants.{Unwritten};
-ghost use Rattle.xvsh.specs.Running.{IsRunFault};
+ghost use Rattle.xvsh_plain.specs.Running.{IsRunFault};
 ghost use Rattle.xvsh.specs.Strict.{RanStrict, IsStrictFault};
 
-use crate::running::of_plain;
 use kernel_model::Full;
 use plain_run::plain;
 use script_load::Profile;
@@ -16,6 +15,7 @@ use std::io::Write;
 use std::sync::Wait;
 use std::thread::Threads;
 use std::time::Clock;
+use xvsh_plain::of_plain;
 use xvsh_read::{Fault, Host, Start, prepare};
 use xvsh_runs::{Lists, RunFault, run_prepared};
 

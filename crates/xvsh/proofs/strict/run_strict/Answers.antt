@@ -7,7 +7,7 @@ use Rattle.sh_meaning.specs.Settled.{IsSettledScript}
 use Rattle.kernel_core.specs.ScriptRun.{script_kernel}
 use Rattle.xvsh_runs.specs.Runs.{RanOn}
 use Rattle.xvsh_runs.specs.Why.{IsHartsFault, no_start, no_run}
-use Rattle.xvsh.specs.Running.{IsRunFault}
+use Rattle.xvsh_plain.specs.Running.{IsRunFault}
 use Rattle.xvsh.specs.Strict.{no_verdict, no_strict_run}
 use Rattle.xvsh.proofs.strict.run_strict.Goals as goal
 

@@ -1,0 +1,26 @@
+-- What `explain` did: it wrote what is told of the script, and there was nothing to tell exactly where no line has a note.
+use Rattle.std.proofs.Common.{◌≡◌, Bool, [], Option, subst}
+use Rattle.std.specs.Prelude.{◌↔◌, IsTrue}
+use Rattle.std.specs.Io.KnownBytes.{Appends}
+use Rattle.mem_files.specs.Name.{Bytes}
+use Rattle.script_notes.specs.Explained.{IsExplained, HasNothingToTell}
+use Rattle.script_notes.proofs.OneText.{one_text}
+use Rattle.script_notes.proofs.Silence.{nothing_to_tell}
+use Rattle.xvsh_read.specs.Path.{Path}
+use Rattle.xvsh_checks.specs.Explain.{IsExplainedAt, RanExplain, written_of}
+
+fine_where : (bytes told : Bytes) (is_fine : Bool) → IsExplained bytes told → (IsTrue is_fine ↔ (told ≡ [])) → IsTrue is_fine ↔ HasNothingToTell bytes
+fine_where bytes told is_fine explained empty = (
+  λ fine. (nothing_to_tell bytes).0 (subst (IsExplained bytes) (empty.0 fine) explained),
+  λ nothing. empty.1 (one_text bytes told [] explained ((nothing_to_tell bytes).1 nothing)),
+)
+
+pub ran_explain : (input : Option Bytes) (file : Path → Option Bytes) (script : Path) (told : Bytes) (is_fine : Bool) (old new : Option Bytes) → IsExplainedAt input file script told → Appends old new (written_of told) → (IsTrue is_fine ↔ (told ≡ [])) → RanExplain input file script is_fine old new
+ran_explain input file script told is_fine old new at wrote empty = record {
+  bytes = at.bytes;
+  own = at.own;
+  told = told;
+  explained = at.explained;
+  writes = wrote;
+  fine = fine_where at.bytes told is_fine at.explained empty;
+}

@@ -1,0 +1,24 @@
+use Rattle.std.proofs.Common.{subst}
+use Rattle.std.proofs.lemmas.Result.{err_from_is_err_and}
+use Rattle.script_load.specs.Script.{HasLoadFault}
+use Rattle.script_notes.specs.Explained.{IsExplained}
+use Rattle.xvsh_read.specs.Starting.{unread_script, bad_script}
+use Rattle.xvsh_read.proofs.Begins.{load_fault}
+use Rattle.xvsh_checks.proofs.explaining.explain_at.Goals as goal
+
+pub returns-in_err-bytes-clause-fault : goal.returns-in_err-bytes-clause-fault
+returns-in_err-bytes-clause-fault g c =
+    let p = err_from_is_err_and c.from_residual.result c.from_residual.ensures.1 in
+    rw (p.1, p.2) (unread_script c.in_err-bytes.ensures.fault)
+
+pub returns-in_err-told-clause-fault : goal.returns-in_err-told-clause-fault
+returns-in_err-told-clause-fault g c =
+    let p = err_from_is_err_and c.from_residual-in_err-told.result c.from_residual-in_err-told.ensures.1 in
+    rw (p.1, p.2) (bad_script c.in_ok-bytes.bytes.items c.in_ok-bytes.ensures.bytes (load_fault c.in_ok-bytes.bytes.items c.in_err-told.field-0.0 (subst (λ b. HasLoadFault b c.in_err-told.field-0.0) c.as_slice.ensures.value c.in_err-told.ensures.fault)))
+
+pub returns-clause-told : goal.returns-clause-told
+returns-clause-told g c = record {
+  bytes = c.in_ok-bytes.bytes.items;
+  own = c.in_ok-bytes.ensures.bytes;
+  explained = subst (λ b. IsExplained b c.in_ok-told.told.items) c.as_slice.ensures.value c.in_ok-told.ensures.told;
+}

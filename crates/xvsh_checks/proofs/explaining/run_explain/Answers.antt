@@ -1,0 +1,28 @@
+use Rattle.std.proofs.Common.{◌≡◌, ◌∙◌, [], ap, subst, sym}
+use Rattle.std.specs.Prelude.{◌↔◌, IsTrue}
+use Rattle.std.specs.Io.KnownBytes.{Appends}
+use Rattle.std.proofs.lemmas.Result.{err_from_is_err_and}
+use Rattle.xvsh_read.specs.Status.{IsTellFault}
+use Rattle.xvsh_checks.specs.Check.{no_script_told, not_told}
+use Rattle.xvsh_checks.specs.Explain.{written_of}
+use Rattle.xvsh_checks.proofs.Sentences.{ran_explain}
+use Rattle.xvsh_checks.proofs.explaining.run_explain.Goals as goal
+
+pub returns-in_err-told-clause-fault : goal.returns-in_err-told-clause-fault
+returns-in_err-told-clause-fault g c =
+    let p = err_from_is_err_and c.from_residual.result c.from_residual.ensures.1 in
+    rw (p.1, p.2) (no_script_told c.in_err-told.ensures.fault)
+
+pub returns-in_err-write-clause-fault : goal.returns-in_err-write-clause-fault
+returns-in_err-write-clause-fault g c =
+    let p = err_from_is_err_and c.from_residual-in_err-write.result c.from_residual-in_err-write.ensures.1 in
+    rw (p.1, p.2) (not_told (subst IsTellFault (sym c.in_err-write.ensures.fault) tt))
+
+pub returns-clause-ran : goal.returns-clause-ran
+returns-clause-ran g c =
+    let old = g.W.Write.contents c.args.out.now in
+    let new = g.W.Write.contents c.write.new.out in
+    let told = c.in_ok-told.told.items in
+    ran_explain (g.H.Host.input c.args.host.now) (g.H.Host.file c.args.host.now) c.args.script.now told c.is_nothing.result old new c.in_ok-told.ensures.told
+    (subst (Appends old new) (c.written_of.ensures ∙ ap written_of c.as_slice-text.ensures.value) c.in_ok-write.ensures.written)
+    (subst (λ b. IsTrue c.is_nothing.result ↔ (b ≡ [])) c.as_slice-text.ensures.value c.is_nothing.ensures)

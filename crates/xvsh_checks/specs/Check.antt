@@ -1,0 +1,86 @@
+-- What is told of a script's lines before any run.
+use Rattle.std.specs.Prelude.{◌≡◌, ◌↔◌, ℕ, ◌+◌, Bool, true, false, IsTrue, List, [], ◌∷◌, ◌++◌, Option, codes, ◌⊎◌}
+use Rattle.std.specs.Fmt.{decimal}
+use Rattle.std.specs.Io.KnownBytes.{Appends}
+use Rattle.sh_tree.specs.declared.fault.ParseFault.{ParseFault}
+use Rattle.sh_tree.specs.declared.fault.ParseFault.TheVariants.{MissingFile, MissingParen, TooManyWords, Unexpected, Leftover, Memory}
+use Rattle.sh_tree.specs.Tree.{Tree}
+use Rattle.conflict_check.specs.declared.conflict.ClashKind.{ClashKind}
+use Rattle.conflict_check.specs.declared.conflict.ClashKind.TheVariants.{PipeSides, Enclosing}
+use Rattle.conflict_check.specs.Clash.{IsFirstClash}
+use Rattle.conflict_check.specs.Clear.{IsClear, has_back}
+use Rattle.mem_files.specs.Name.{Bytes}
+use Rattle.script_load.specs.Line.{ScriptLine, command, bad, cd}
+use Rattle.xvsh_read.specs.declared.fault.Fault.{Fault}
+use Rattle.xvsh_read.specs.Path.{Path}
+use Rattle.xvsh_read.specs.Starting.{AreLinesAt, IsScriptAtFault}
+use Rattle.xvsh_read.specs.Status.{IsTellFault}
+
+-- `N fault K NAME at P` and LF
+abbrev pub fault_line : ℕ → ℕ → Bytes → ℕ → Bytes
+fault_line number kind name at =
+    decimal number ++ (codes " fault " ++ (decimal kind ++ (32 ∷ (name ++ (codes " at " ++ (decimal at ++ 10 ∷ []))))))
+
+-- the kinds by their numbers and names; want of memory, which no loaded script tells, has no place
+abbrev pub fault_text : ℕ → ParseFault → Bytes
+fault_text number (MissingFile at) = fault_line number 1 (codes "MissingFile") at
+fault_text number (MissingParen at) = fault_line number 2 (codes "MissingParen") at
+fault_text number (TooManyWords at) = fault_line number 3 (codes "TooManyWords") at
+fault_text number (Unexpected at) = fault_line number 4 (codes "Unexpected") at
+fault_text number (Leftover at) = fault_line number 5 (codes "Leftover") at
+fault_text number Memory = fault_line number 6 (codes "Memory") 0
+
+-- `N background` and LF, where the line holds a `&`
+abbrev pub back_text : ℕ → Bool → Bytes
+back_text number false = []
+back_text number true = decimal number ++ (codes " background" ++ 10 ∷ [])
+
+abbrev pub kind_name : ClashKind → Bytes
+kind_name PipeSides = codes "PipeSides"
+kind_name Enclosing = codes "Enclosing"
+
+-- `N clash KIND NAME` and LF
+abbrev pub clash_text : ℕ → ClashKind → Bytes → Bytes
+clash_text number kind name = decimal number ++ (codes " clash " ++ (kind_name kind ++ (32 ∷ (name ++ 10 ∷ []))))
+
+-- the first clash of a tree, if it is not clear
+abbrev pub IsClashTold : ℕ → Tree → Bytes → Type 0
+IsClashTold number tree text =
+    (IsClear tree × (text ≡ [])) ⊎ ((kind : ClashKind) × (name : Bytes) × IsFirstClash tree kind name × (text ≡ clash_text number kind name))
+
+-- what is told of the line of this number
+abbrev pub IsTold : ℕ → ScriptLine → Bytes → Type 0
+IsTold number (bad fault whole) text = text ≡ fault_text number fault
+IsTold number (cd folder) text = text ≡ []
+IsTold number (command tree) text =
+    (clash : Bytes) × IsClashTold number tree clash × (text ≡ back_text number (has_back tree) ++ clash)
+
+-- of lines that are numbered from this number on
+abbrev pub AreTold : ℕ → List ScriptLine → Bytes → Type 0
+AreTold number [] text = text ≡ []
+AreTold number (line ∷ lines) text =
+    (first : Bytes) × (later : Bytes) × IsTold number line first × AreTold (number + 1) lines later × (text ≡ first ++ later)
+
+-- the line holds no `&` and no clash
+abbrev pub IsHarmless : ScriptLine → Type 0
+IsHarmless (bad fault whole) = Unit {0}
+IsHarmless (cd folder) = Unit {0}
+IsHarmless (command tree) = (has_back tree ≡ false) × IsClear tree
+
+abbrev pub AreHarmless : List ScriptLine → Type 0
+AreHarmless [] = Unit {0}
+AreHarmless (line ∷ lines) = IsHarmless line × AreHarmless lines
+
+-- what is told of the lines of the script at a path was added to the writer
+pub record RanCheck (input : Option Bytes) (file : Path → Option Bytes) (script : Path) (is_harmless : Bool) (old new : Option (List ℕ)) : Type 0 where
+  pub lines : List ScriptLine
+  pub loaded : AreLinesAt input file script lines
+  pub text : Bytes
+  pub told : AreTold 1 lines text
+  pub writes : Appends old new text
+  pub harmless : IsTrue is_harmless ↔ AreHarmless lines
+
+-- why nothing is told of the script at a path, or not all: there is no script, or it can't be told
+pub data IsCheckFault (input : Option Bytes) (file : Path → Option Bytes) (script : Path) : Fault → Type 0 where
+  no_script_told : {fault : Fault} → IsScriptAtFault input file script fault → IsCheckFault input file script fault
+  not_told : {fault : Fault} → IsTellFault fault → IsCheckFault input file script fault

@@ -1,0 +1,10 @@
+//! What is told of a script before any run: what `check` and `explain` read and write.
+#![tactic(auto)]
+
+mod checking;
+mod explaining;
+mod turns;
+
+pub use checking::run_check;
+pub use explaining::run_explain;
+pub use turns::run_turns;

@@ -1,0 +1,41 @@
+use Rattle.std.proofs.Common.{IsTrue, subst}
+use Rattle.std.specs.Prelude.{◌↔◌, IfErr, IfOk, OnOk}
+use Rattle.std.proofs.lemmas.Result.{err_from_is_err_and, IfErr-weaker}
+use Rattle.mem_files.specs.Files.{files}
+use Rattle.script_load.specs.Line.{lines_of}
+use Rattle.sh_meaning.specs.Meaning.{script_meaning}
+use Rattle.sh_meaning.specs.Settled.{IsSettledScript}
+use Rattle.xvsh_plain.specs.Running.{no_start, no_run, IsRunFault, WritesRun}
+use Rattle.xvsh_plain.proofs.Ran.{ran_plain}
+use Rattle.xvsh_plain.proofs.running.run_plain.Goals as goal
+
+pub returns-in_err-start-clause-fault : goal.returns-in_err-start-clause-fault
+returns-in_err-start-clause-fault g c =
+    let p = err_from_is_err_and c.from_residual.result c.from_residual.ensures.1 in
+    rw (p.1, p.2) (no_start c.in_err-start.ensures.fault)
+
+pub returns-clause-ran : goal.returns-clause-ran
+returns-clause-ran g c =
+    let start = c.in_ok-start.start in
+    let lines = lines_of start.script.lines in
+    let given = files start.files in
+    let stdin = start.stdin.items in
+    let result = c.run_script.result in
+    let out = g.W.Write.contents c.args.out.now in
+    let out' = g.W.Write.contents c.run_script.new.out in
+    let lists = c.args.lists_files in
+    let profile = start.script.profile in
+    ran_plain (g.H.Host.input c.args.host.now) (g.H.Host.file c.args.host.now) c.args.script.now c.args.profile c.args.paths.now lists out out' lines start.files stdin result c.in_ok-start.ensures.prepared
+    (subst (λ profile. IfOk result (λ is. IsTrue is ↔ IsSettledScript profile lines stdin given)) c.in_ok-start.ensures.profile (subst (λ s. IfOk result (λ is. IsTrue is ↔ IsSettledScript profile lines s given)) c.as_slice-stdin.ensures.value c.run_script.ensures.settled))
+    (subst (λ profile. OnOk result (WritesRun lists (script_meaning profile lines stdin given) out out')) c.in_ok-start.ensures.profile (subst (λ s. OnOk result (WritesRun lists (script_meaning profile lines s given) out out')) c.as_slice-stdin.ensures.value c.run_script.ensures.meaning))
+
+pub returns-clause-fault : goal.returns-clause-fault
+returns-clause-fault g c =
+    let start = c.in_ok-start.start in
+    let lines = lines_of start.script.lines in
+    let given = files start.files in
+    let stdin = start.stdin.items in
+    let result = c.run_script.result in
+    let profile = start.script.profile in
+    IfErr-weaker result (IsRunFault c.args.profile lines stdin given) _ (λ fault due. no_run lines start.files stdin c.in_ok-start.ensures.prepared due)
+    (subst (λ profile. IfErr result (IsRunFault profile lines stdin given)) c.in_ok-start.ensures.profile (subst (λ s. IfErr result (IsRunFault profile lines s given)) c.as_slice-stdin.ensures.value c.run_script.ensures.run))
