@@ -175,7 +175,7 @@ fn the_version_is_told(rt: HostRuntime) -> Result<(), Fail> {
     assert_eq!(rt; status, 0);
     assert!(rt;
         out.as_slice()
-            .starts_with(b"xvsh 0.1.0 (rattle-kit-".as_slice())
+            .starts_with(b"xvsh 0.1.0 (rattle logic ".as_slice())
     );
     assert!(rt; err.is_empty());
     Ok(())

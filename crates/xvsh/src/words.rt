@@ -62,7 +62,7 @@ Status: 0 done; 1 something can't be read, is refused, or can't be written, or i
 whole run; 2 usage; 3 `check` told of a clash or a `&`, `explain` told anything, or `--strict` ran a
 script that isn't settled; 4 full, spent, too large, or no memory.";
 
-const VERSION: &str = "0.1.0 (rattle-kit-13b logic dac8208d650f15bf)";
+const VERSION: &str = "0.1.0 (rattle logic dac8208d650f15bf)";
 
 // `--files`, which lists all files after the output.
 fn files_flag<'a>(alloc: Global, help: &'static str) -> Arg<'a> {
