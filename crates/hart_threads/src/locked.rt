@@ -1,10 +1,10 @@
 //! The kernel that harts share, as it is under its lock.
 
-ghost use Rattle.std.specs.Prelude.{◌≡◌, ◌≢◌, ◌<◌, ◌≤◌, ◌+◌, ◌*◌, ◌↔◌, IsTrue, IfOk, IfErr, IfSome, OnErr, None, Some, Ok, [], ℕ, false, All, is_some, is_ok, if◌then◌else◌, length, count_by, vec_len};
+ghost use Rattle.std.specs.Prelude.{◌≡◌, ◌≢◌, ◌<◌, ◌≤◌, ◌+◌, ◌*◌, ◌↔◌, IsTrue, IfOk, IfErr, IfSome, OnErr, None, Some, Ok, [], ℕ, false, All, is_some, is_ok, true, if◌then◌else◌, length, count_by, vec_len};
 ghost use Rattle.std.specs.Bool.{OnFalse, OnTrue};
 ghost use Rattle.proc_table.specs.Slots.{at, is_running, is_running_on, is_runnable};
 ghost use Rattle.kernel_model.specs.Events.{IsFinished, run};
-ghost use Rattle.kernel_model.specs.History.{IsOwed};
+ghost use Rattle.kernel_model.specs.History.{IsOwed, IsTask};
 ghost use Rattle.kernel_lengths.specs.Kinds.{is_dispatch};
 ghost use Rattle.hart_threads.specs.Boots.{number_of};
 ghost use Rattle.hart_threads.specs.Events.{AreOfHarts};
@@ -21,7 +21,7 @@ use proc_table::Pid;
 use std::alloc::{AllocError, Allocator, Global};
 use std::marker::Model;
 use std::sync::ledger::{Book, Share};
-use user_calls::{Machine, Ran};
+use user_calls::{Call, Machine};
 
 /// The kernel of a run, with the count of its events and the number of its turns. There is a turn for each event, and for
 /// the trap of each process that runs.
@@ -128,11 +128,12 @@ impl<N: Run, M: Machine> Locked<N, M> {
     }
 
     // A process begins to run on the hart of the seat, if one is Runnable and the hart runs nothing.
-    pub(crate) fn dispatch(&mut self, seat: &mut Seat<N>) -> Result<Option<Task<M>>, AllocError>
+    pub(crate) fn dispatch(&mut self, seat: &mut Seat<N>) -> Result<Option<Pid>, AllocError>
         requires { length self.old.schedule + count_by is_running self.old.now.table + 2 ≤ N.turns }
         ensures hart { seat.new.hart ≡ seat.old.hart }
         ensures events { IfOk result (λ found. seat.new.events ≡ seat.old.events + (if is_some found then 1 else 0)) }
-        ensures event { IfOk result (λ found. IfSome found (λ task. GoesOn M.call_of M.next_of self.old (Dispatch seat.old.hart task.pid) self.new)) }
+        ensures event { IfOk result (λ found. IfSome found (λ pid. GoesOn M.call_of M.next_of self.old (Dispatch seat.old.hart pid) self.new)) }
+        ensures runs { IfOk result (λ found. IfSome found (λ pid. is_running_on seat.old.hart (at self.new.now.table pid) ≡ true)) }
         ensures idle { result ≡ Ok None → self.new ≡ self.old }
         ensures none { result ≡ Ok None → All (λ slot. is_running_on seat.old.hart slot ≡ false) self.old.now.table → All (λ slot. is_runnable slot ≡ false) self.old.now.table }
         ensures err { OnErr result ((seat.new ≡ seat.old) × (self.new ≡ self.old)) }
@@ -141,7 +142,7 @@ impl<N: Run, M: Machine> Locked<N, M> {
         if !self.kernel.is_idle(seat.hart()) {
             return Ok(None);
         }
-        let found = self.kernel.dispatch(seat.hart())?;
+        let found = self.kernel.dispatch_next(seat.hart())?;
         if found.is_some() {
             seat.count(&mut self.counts);
         }
@@ -149,10 +150,11 @@ impl<N: Run, M: Machine> Locked<N, M> {
     }
 
     // The next process begins to run on the hart of the seat; or why none does.
-    pub(crate) fn begin(&mut self, seat: &mut Seat<N>) -> Result<Result<Task<M>, Turn>, AllocError>
+    pub(crate) fn begin(&mut self, seat: &mut Seat<N>) -> Result<Result<Pid, Turn>, AllocError>
         ensures hart { seat.new.hart ≡ seat.old.hart }
         ensures events { IfOk result (λ next. seat.new.events ≡ seat.old.events + (if is_ok next then 1 else 0)) }
-        ensures event { IfOk result (λ next. IfOk next (λ task. GoesOn M.call_of M.next_of self.old (Dispatch seat.old.hart task.pid) self.new)) }
+        ensures event { IfOk result (λ next. IfOk next (λ pid. GoesOn M.call_of M.next_of self.old (Dispatch seat.old.hart pid) self.new)) }
+        ensures runs { IfOk result (λ next. IfOk next (λ pid. is_running_on seat.old.hart (at self.new.now.table pid) ≡ true)) }
         ensures no_event { IfOk result (λ next. IfErr next (λ turn. events_of turn ≡ 0)) }
         ensures says { IfOk result (λ next. IfErr next (λ turn. Says N.turns seat.old.hart turn self.old.now self.old.schedule)) }
         ensures err { OnErr result ((seat.new ≡ seat.old) × (self.new ≡ self.old)) }
@@ -161,21 +163,35 @@ impl<N: Run, M: Machine> Locked<N, M> {
             return Ok(Err(turn));
         }
         match self.dispatch(seat)? {
-            Some(task) => Ok(Ok(task)),
+            Some(pid) => Ok(Ok(pid)),
             None => Ok(Err(Turn::Idle)),
         }
     }
 
-    // The call of a process that runs on the hart of the seat is carried out. It says whether it was; where the process
-    // doesn't run there, or the run isn't its own, nothing changes.
-    pub(crate) fn trap(&mut self, seat: &mut Seat<N>, pid: Pid, ran: Ran<M>) -> bool
+    // What the hart of the seat needs to run the process, which runs there.
+    pub(crate) fn task(&self, seat: &Seat<N>, pid: Pid) -> Task<M>
+        requires { is_running_on seat.now.hart (at self.now.now.table pid) ≡ true }
+        ensures pid { result.pid ≡ pid }
+        ensures task { IsTask (at self.now.now.table pid) (M.view result.machine) result.reply }
+    {
+        self.kernel.task(pid)
+    }
+
+    // The call that the machine of a task made, and the machine after it, come back to the kernel. It says whether the call
+    // was carried out; where the process doesn't run on the hart of the seat, or the task isn't its own, nothing changes.
+    pub(crate) fn trap(&mut self, seat: &mut Seat<N>, task: &Task<M>, call: &Call, after: M) -> bool
+        requires call { call.now ≡ M.call_of (M.view task.now.machine) task.now.reply }
+        requires after { M.view after ≡ M.next_of (M.view task.now.machine) task.now.reply }
         ensures hart { seat.new.hart ≡ seat.old.hart }
         ensures events { seat.new.events ≡ seat.old.events + (if result then 1 else 0) }
-        ensures owed { IsTrue result ↔ IsOwed seat.old.hart (at self.old.now.table pid) ran }
-        ensures event { OnTrue result (GoesOn M.call_of M.next_of self.old (Trap seat.old.hart pid) self.new) }
+        ensures owed { IsTrue result ↔ IsOwed seat.old.hart (at self.old.now.table task.now.pid) (record { before = M.view task.now.machine; reply = task.now.reply }) }
+        ensures event { OnTrue result (GoesOn M.call_of M.next_of self.old (Trap seat.old.hart task.now.pid) self.new) }
         ensures same { OnFalse result (self.new ≡ self.old) }
     {
-        let done = self.kernel.trap(seat.hart(), pid, ran).is_ok();
+        let done = self
+            .kernel
+            .trap_task(seat.hart(), task, call, after)
+            .is_ok();
         if done {
             seat.count(&mut self.counts);
         }

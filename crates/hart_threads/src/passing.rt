@@ -1,34 +1,26 @@
-//! A process on its way through user code and back to the kernel.
+//! A process on its way through user code.
+
+ghost use Rattle.std.specs.Prelude.{◌≡◌};
 
 use crate::gates::Gate;
 use crate::naming::Run;
 use crate::seats::Seat;
 use kernel_core::Task;
-use proc_table::Pid;
 use std::sync::Wait;
-use user_calls::{Machine, Ran};
+use user_calls::{Call, Machine};
 
-// A process that ran its user code, as it comes back to the kernel with its next call.
-pub(crate) struct Back<M: Machine> {
-    pub(crate) pid: Pid,
-    pub(crate) ran: Ran<M>,
-}
-
-// The process runs on the hart of the seat, up to its next call.
+// The process of the task runs on the hart of the seat, up to its next call; a twin of its machine runs in its place.
 pub(crate) fn run_task<N: Run, M: Machine, R: Wait, G: Gate>(
     rt: &R,
     seat: &Seat<N>,
-    task: Task<M>,
+    task: &Task<M>,
     gate: &G,
-) -> Back<M> {
-    let Task {
-        pid,
-        machine,
-        reply,
-    } = task;
-    gate.enter(rt, seat.hart(), pid);
-    Back {
-        pid,
-        ran: Ran::make(machine, reply),
-    }
+    twin: &mut M,
+) -> Call
+    requires twin { M.view twin.old ≡ M.view task.now.machine }
+    ensures call { result ≡ M.call_of (M.view task.now.machine) task.now.reply }
+    ensures after { M.view twin.new ≡ M.next_of (M.view task.now.machine) task.now.reply }
+{
+    gate.enter(rt, seat.hart(), task.pid);
+    twin.run(&task.reply)
 }

@@ -21,7 +21,7 @@ use crate::passing::run_task;
 use crate::patience::Patience;
 use crate::seats::Seat;
 use crate::sharing::{Shared, Turn};
-use kernel_core::{Kernel, Report};
+use kernel_core::{Kernel, Report, Task};
 use mem_files::Files;
 use mem_files::laws::are_files;
 use script_load::Script;
@@ -36,6 +36,24 @@ use std::thread::Threads;
 use std::time::Clock;
 use user_calls::Machine;
 
+// The hart of the seat runs a task after the other while it finds one, and tells why it finds none.
+fn run_tasks<N: Run, M: Machine, R: Wait, G: Gate>(
+    rt: &R,
+    shared: &Shared<N, M>,
+    seat: &mut Seat<N>,
+    gate: &G,
+    mut task: Task<M>,
+) -> Result<Turn, AllocError> {
+    for _ in rt.forever() {
+        let mut twin = task.machine.twin();
+        let call = run_task(rt, seat, &task, gate, &mut twin);
+        if let Some(turn) = shared.pass(rt, seat, &mut task, &call, twin)? {
+            return Ok(turn);
+        }
+    }
+    unreachable!()
+}
+
 // The hart of the seat takes turns until there are none to take.
 fn take_turns<N: Run, M: Machine, R: Wait + Clock, G: Gate>(
     rt: &R,
@@ -44,19 +62,18 @@ fn take_turns<N: Run, M: Machine, R: Wait + Clock, G: Gate>(
     gate: &G,
 ) -> Result<(), AllocError> {
     let mut patience = Patience::new();
-    let mut back = None;
     for _ in rt.forever() {
-        back = match shared.pass(rt, seat, back)? {
+        let turn = match shared.begin(rt, seat)? {
             Ok(task) => {
                 patience.ends();
-                Some(run_task(rt, seat, task, gate))
+                run_tasks(rt, shared, seat, gate, task)?
             }
-            Err(Turn::Finished | Turn::Spent) => return Ok(()),
-            Err(_) => {
-                patience.wait(rt);
-                None
-            }
+            Err(turn) => turn,
         };
+        match turn {
+            Turn::Finished | Turn::Spent => return Ok(()),
+            _ => patience.wait(rt),
+        }
     }
     unreachable!()
 }

@@ -11,13 +11,13 @@ use crate::faults::{RunFault, range_fault};
 use crate::gates::Gate;
 use crate::locked::Locked;
 use crate::naming::Run;
-use crate::passing::{Back, run_task};
+use crate::passing::run_task;
 use crate::seats::Seat;
 use kernel_core::{Kernel, Report, Task};
 use std::alloc::{AllocError, Global};
 use std::sync::ledger::Blank;
 use std::sync::{Mutex, Wait};
-use user_calls::Machine;
+use user_calls::{Call, Machine};
 
 /// What a turn came to.
 #[derive(Clone, Copy, Debug, PartialEq, Eq)]
@@ -95,34 +95,60 @@ impl<N: Run, M: Machine> Shared<N, M> {
     {
         let mut guard = self.lock.lock(rt);
         guard.is_run();
-        let task = match guard.begin(seat)? {
-            Ok(task) => task,
+        let pid = match guard.begin(seat)? {
+            Ok(pid) => pid,
             Err(turn) => return Ok(turn),
         };
+        let task = guard.task(seat, pid);
         drop(guard);
-        let Back { pid, ran } = run_task(rt, seat, task, gate);
-        if self.lock.lock(rt).trap(seat, pid, ran) {
+        let mut twin = task.machine.twin();
+        let call = run_task(rt, seat, &task, gate, &mut twin);
+        if self.lock.lock(rt).trap(seat, &task, &call, twin) {
             Ok(Turn::Stepped)
         } else {
             Ok(Turn::Lost)
         }
     }
 
-    // The process that ran on the hart of the seat, if one did, comes back to the kernel, which carries out its call, and
-    // the next process begins to run there; or why none does. The kernel is locked once for both.
-    pub(crate) fn pass<R: Wait>(
+    // The next process begins to run on the hart of the seat; or why none does.
+    pub(crate) fn begin<R: Wait>(
         &self,
         rt: &R,
         seat: &mut Seat<N>,
-        back: Option<Back<M>>,
     ) -> Result<Result<Task<M>, Turn>, AllocError>
         ensures { seat.new.hart ≡ seat.old.hart }
     {
         let mut guard = self.lock.lock(rt);
-        if let Some(Back { pid, ran }) = back {
-            guard.trap(seat, pid, ran);
+        match guard.begin(seat)? {
+            Ok(pid) => Ok(Ok(guard.task(seat, pid))),
+            Err(turn) => Ok(Err(turn)),
         }
-        guard.begin(seat)
+    }
+
+    // The call that the machine of the task made, and the machine after it, come back to the kernel, which carries out the
+    // call, and the next process begins to run on the hart of the seat: its task takes the place of the one before; or why
+    // none does. The kernel is locked once for both.
+    pub(crate) fn pass<R: Wait>(
+        &self,
+        rt: &R,
+        seat: &mut Seat<N>,
+        task: &mut Task<M>,
+        call: &Call,
+        after: M,
+    ) -> Result<Option<Turn>, AllocError>
+        requires call { call.now ≡ M.call_of (M.view task.old.machine) task.old.reply }
+        requires after { M.view after ≡ M.next_of (M.view task.old.machine) task.old.reply }
+        ensures { seat.new.hart ≡ seat.old.hart }
+    {
+        let mut guard = self.lock.lock(rt);
+        guard.trap(seat, task, call, after);
+        match guard.begin(seat)? {
+            Ok(pid) => {
+                *task = guard.task(seat, pid);
+                Ok(None)
+            }
+            Err(turn) => Ok(Some(turn)),
+        }
     }
 
     /// What the run leaves, when all seats come back. Takes no memory, and waits for nobody.

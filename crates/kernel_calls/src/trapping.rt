@@ -20,13 +20,13 @@ use user_calls::{Call, Machine};
 pub fn trap<M: Machine, A: Allocator + Copy>(
     state: &mut State<M, A>,
     pid: Pid,
-    call: Call,
+    call: &Call,
     after: M,
 ) -> bool
     requires runs { is_running (at state.old.table pid) ≡ true }
     requires sound { IsSound state.old.table state.old.entries }
     requires fits { state.old.events + 1 < 2 ^ 64 }
-    ensures after { state.new ≡ acted (counted state.old) pid (M.view after) call result }
+    ensures after { state.new ≡ acted (counted state.old) pid (M.view after) call.now result }
     ensures keeps { Keeps (count_by is_running state.old.table) state.new.table state.new.entries }
 {
     state.events += 1;
@@ -38,12 +38,12 @@ pub fn trap<M: Machine, A: Allocator + Copy>(
 fn act<M: Machine, A: Allocator + Copy>(
     state: &mut State<M, A>,
     pid: Pid,
-    call: Call,
+    call: &Call,
     after: M,
 ) -> bool
     requires runs { is_running (at state.old.table pid) ≡ true }
     requires sound { IsSound state.old.table state.old.entries }
-    ensures { state.new ≡ acted state.old pid (M.view after) call result }
+    ensures { state.new ≡ acted state.old pid (M.view after) call.now result }
 {
     match call {
         Call::Fork => {
@@ -51,7 +51,7 @@ fn act<M: Machine, A: Allocator + Copy>(
             false
         }
         Call::Exec(found) => {
-            state.exec(pid, after, found);
+            state.exec(pid, after, *found);
             false
         }
         Call::Exit => {
@@ -64,17 +64,17 @@ fn act<M: Machine, A: Allocator + Copy>(
         }
         Call::MakePipe => make_pipe(state, pid, after),
         Call::Read(fd, n) => {
-            read(state, pid, after, fd, n);
+            read(state, pid, after, *fd, *n);
             false
         }
-        Call::Write(fd, block) => write(state, pid, after, fd, block.as_slice()),
-        Call::OpenFile(name, mode) => open_file(state, pid, after, &name, mode),
+        Call::Write(fd, block) => write(state, pid, after, *fd, block.as_slice()),
+        Call::OpenFile(name, mode) => open_file(state, pid, after, name, *mode),
         Call::Close(fd) => {
-            close(state, pid, after, fd);
+            close(state, pid, after, *fd);
             false
         }
         Call::Dup(fd) => {
-            dup(state, pid, after, fd);
+            dup(state, pid, after, *fd);
             false
         }
     }

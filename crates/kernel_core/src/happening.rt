@@ -3,13 +3,11 @@
 ghost use Rattle.std.specs.Prelude.{◌≡◌, ◌↔◌, IsTrue, IfOk, OnErr, IsErr, Ok, false, true};
 ghost use Rattle.std.specs.Bool.{OnFalse, OnTrue};
 ghost use Rattle.proc_table.specs.Slots.{at, is_running_on};
-ghost use Rattle.proc_table.specs.Calls.{CanDispatch};
 ghost use Rattle.kernel_model.specs.History.{GoesOn};
-ghost use Rattle.kernel_model.specs.declared.events.Event.TheVariants.{Dispatch, Trap};
+ghost use Rattle.kernel_model.specs.declared.events.Event.TheVariants.{Trap};
 ghost use Rattle.kernel_core.specs.Possible.{CanHappen};
 
 use crate::kernel::Kernel;
-use kernel_calls::trap;
 use kernel_model::Event;
 use std::alloc::{AllocError, Allocator};
 use user_calls::Machine;
@@ -27,29 +25,9 @@ impl<M: Machine, A: Allocator + Copy> Kernel<M, A> {
         ensures could { IsErr result → CanHappen self.old.now.table event }
     {
         match event {
-            Event::Dispatch(hart, pid) => self.begin(hart, pid),
+            Event::Dispatch(hart, pid) => Ok(self.begin(hart, pid)?.is_some()),
             Event::Trap(hart, pid) => Ok(self.go_on(hart, pid)),
         }
-    }
-
-    // The process in slot `pid` begins to run on the hart, if it can.
-    fn begin(&mut self, hart: u8, pid: usize) -> Result<bool, AllocError>
-        ensures can { IfOk result (λ happened. IsTrue happened ↔ CanDispatch self.old.now.table hart pid) }
-        ensures event { result ≡ Ok true → GoesOn M.call_of M.next_of self.old (Dispatch hart pid) self.new }
-        ensures same { result ≡ Ok false → self.new ≡ self.old }
-        ensures err { OnErr result (self.new ≡ self.old) }
-        ensures could { IsErr result → CanDispatch self.old.now.table hart pid }
-    {
-        if !self.state.can_dispatch(hart, pid) {
-            return Ok(false);
-        }
-        self.log.reserve()?;
-        self.log.fits();
-        if !self.state.dispatch_pid(hart, pid) {
-            return Ok(false);
-        }
-        self.log.write(Event::Dispatch(hart, pid), false);
-        Ok(true)
     }
 
     // The call of the process in slot `pid` is carried out, if it runs on the hart.
@@ -61,10 +39,9 @@ impl<M: Machine, A: Allocator + Copy> Kernel<M, A> {
         let Some(slot) = self.state.found_on(hart, pid) else {
             return false;
         };
-        self.log.fits();
-        let (call, after) = self.state.run(slot);
-        let refused = trap(&mut self.state, slot, call, after);
-        self.log.write(Event::Trap(hart, slot.index()), refused);
+        let mut twin = self.state.twin(slot);
+        let call = self.state.run(slot, &mut twin);
+        self.carry_out(hart, slot, &call, twin);
         true
     }
 }

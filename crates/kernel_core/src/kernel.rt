@@ -1,8 +1,9 @@
 //! The kernel.
 
-ghost use Rattle.std.specs.Prelude.{◌≡◌, ◌<◌, ◌≤◌, ◌+◌, IsTrue, ◌↔◌, false, true, IfOk, OnOk, OnErr, IsErr, IsOk, IfSome, None, Some, Ok, All, position, count_by};
+ghost use Rattle.std.specs.Prelude.{◌≡◌, ◌<◌, ◌≤◌, ◌+◌, IsTrue, ◌↔◌, false, true, IfOk, OnOk, OnErr, IsErr, IsOk, IfSome, None, Some, Ok, All, if◌then◌else◌, is_some, position, count_by};
 ghost use Rattle.proc_table.specs.Slots.{at, is_running, is_running_on, is_runnable};
-ghost use Rattle.proc_table.specs.Calls.{CanDispatch};
+ghost use Rattle.proc_table.specs.Calls.{CanDispatch, with_status};
+ghost use Rattle.proc_table.specs.declared.states.Status.TheVariants.{Running};
 ghost use Rattle.proc_table.specs.declared.pid.TheConstants.{PROCS};
 ghost use Rattle.proc_table.specs.declared.table.TheConstants.{HARTS};
 ghost use Rattle.kernel_model.specs.Events.{IsFinished};
@@ -19,7 +20,7 @@ use proc_table::Pid;
 use std::alloc::{AllocError, Allocator};
 use std::marker::Model;
 use std::snapshot::Snapshot;
-use user_calls::{Machine, Ran};
+use user_calls::{Call, Machine, Ran};
 
 /// The trap is not one that the kernel waits for.
 #[derive(Debug, Drop)]
@@ -66,6 +67,25 @@ impl<M: Machine, A: Allocator> Kernel<M, A> {
         ensures event { IfOk result (λ found. IfSome found (λ task. GoesOn M.call_of M.next_of self.old (Dispatch hart task.pid) self.new)) }
         ensures task { IfOk result (λ found. IfSome found (λ task. IsTask (at self.old.now.table task.pid) (M.view task.machine) task.reply)) }
     {
+        match self.dispatch_next(hart)? {
+            Some(pid) => Ok(Some(self.task(pid))),
+            None => Ok(None),
+        }
+    }
+
+    /// `dispatch` that tells the process alone: what its hart needs is what `task` gives.
+    pub fn dispatch_next(&mut self, hart: u8) -> Result<Option<Pid>, AllocError>
+        requires hart { hart < HARTS }
+        requires idle { All (λ slot. is_running_on hart slot ≡ false) self.old.now.table }
+        ensures none { result ≡ Ok None → All (λ slot. is_runnable slot ≡ false) self.old.now.table }
+        ensures same { result ≡ Ok None → self.new ≡ self.old }
+        ensures err { OnErr result (self.new ≡ self.old) }
+        ensures could { IsErr result → 0 < count_by is_runnable self.old.now.table }
+        ensures event { IfOk result (λ found. IfSome found (λ pid. GoesOn M.call_of M.next_of self.old (Dispatch hart pid) self.new)) }
+        ensures runs { IfOk result (λ found. IfSome found (λ pid. is_running_on hart (at self.new.now.table pid) ≡ true)) }
+        ensures slot { IfOk result (λ found. IfSome found (λ pid. at self.new.now.table pid ≡ with_status (Running hart) (at self.old.now.table pid))) }
+        ensures running { IfOk result (λ found. count_by is_running self.new.now.table ≡ count_by is_running self.old.now.table + (if is_some found then 1 else 0)) }
+    {
         if self.state.runnable() == 0 {
             return Ok(None);
         }
@@ -75,7 +95,16 @@ impl<M: Machine, A: Allocator> Kernel<M, A> {
             return Ok(None);
         };
         self.log.write(Event::Dispatch(hart, pid.index()), false);
-        Ok(Some(self.state.task(pid)))
+        Ok(Some(pid))
+    }
+
+    /// What a hart needs to run the process, which runs.
+    pub fn task(&self, pid: Pid) -> Task<M>
+        requires { is_running (at self.now.now.table pid) ≡ true }
+        ensures pid { result.pid ≡ pid }
+        ensures task { IsTask (at self.now.now.table pid) (M.view result.machine) result.reply }
+    {
+        self.state.task(pid)
     }
 
     /// The process in slot `pid` begins to run on the hart; `None`, with nothing changed, where it can't: where there is
@@ -90,6 +119,22 @@ impl<M: Machine, A: Allocator> Kernel<M, A> {
         ensures event { IfOk result (λ found. IfSome found (λ task. GoesOn M.call_of M.next_of self.old (Dispatch hart pid) self.new)) }
         ensures task { IfOk result (λ found. IfSome found (λ task. (task.pid ≡ pid) × IsTask (at self.old.now.table pid) (M.view task.machine) task.reply)) }
     {
+        match self.begin(hart, pid)? {
+            Some(slot) => Ok(Some(self.task(slot))),
+            None => Ok(None),
+        }
+    }
+
+    // The process in slot `pid` begins to run on the hart, if it can.
+    pub(crate) fn begin(&mut self, hart: u8, pid: usize) -> Result<Option<Pid>, AllocError>
+        ensures can { IfOk result (λ found. IsTrue (is_some found) ↔ CanDispatch self.old.now.table hart pid) }
+        ensures same { result ≡ Ok None → self.new ≡ self.old }
+        ensures err { OnErr result (self.new ≡ self.old) }
+        ensures could { IsErr result → CanDispatch self.old.now.table hart pid }
+        ensures pid { IfOk result (λ found. IfSome found (λ slot. slot ≡ pid)) }
+        ensures event { IfOk result (λ found. IfSome found (λ slot. GoesOn M.call_of M.next_of self.old (Dispatch hart pid) self.new)) }
+        ensures slot { IfOk result (λ found. IfSome found (λ slot. at self.new.now.table pid ≡ with_status (Running hart) (at self.old.now.table pid))) }
+    {
         if !self.state.can_dispatch(hart, pid) {
             return Ok(None);
         }
@@ -99,7 +144,7 @@ impl<M: Machine, A: Allocator> Kernel<M, A> {
             return Ok(None);
         };
         self.log.write(Event::Dispatch(hart, pid), false);
-        Ok(Some(self.state.task(slot)))
+        Ok(Some(slot))
     }
 
     /// The process that runs on the hart, if any.
@@ -230,11 +275,46 @@ impl<M: Machine, A: Allocator + Copy> Kernel<M, A> {
         if !self.state.is_owed(hart, pid, &ran) {
             return Err(Stranger);
         }
-        self.log.fits();
         let (call, after) = ran.into_parts();
+        self.carry_out(hart, pid, &call, after);
+        Ok(())
+    }
+
+    /// `trap` of a task that was run where it lies: `call` is the call that its machine made, and `after` the machine after
+    /// it.
+    ///
+    /// `Stranger`, with nothing changed, as with `trap`.
+    pub fn trap_task(
+        &mut self,
+        hart: u8,
+        task: &Task<M>,
+        call: &Call,
+        after: M,
+    ) -> Result<(), Stranger>
+        requires call { call.now ≡ M.call_of (M.view task.now.machine) task.now.reply }
+        requires after { M.view after ≡ M.next_of (M.view task.now.machine) task.now.reply }
+        ensures owed { IsOk result ↔ IsOwed hart (at self.old.now.table task.now.pid) (record { before = M.view task.now.machine; reply = task.now.reply }) }
+        ensures event { OnOk result (GoesOn M.call_of M.next_of self.old (Trap hart task.now.pid) self.new) }
+        ensures err { OnErr result (self.new ≡ self.old) }
+    {
+        if !self.state.has_given(hart, task.pid, &task.machine, &task.reply) {
+            return Err(Stranger);
+        }
+        self.carry_out(hart, task.pid, call, after);
+        Ok(())
+    }
+
+    // The call of the process, which runs on the hart, is carried out, with its machine after it.
+    pub(crate) fn carry_out(&mut self, hart: u8, pid: Pid, call: &Call, after: M)
+        requires runs { is_running_on hart (at self.old.now.table pid) ≡ true }
+        requires call { IfSome (at self.old.now.table pid) (λ p. call.now ≡ M.call_of p.machine p.reply) }
+        requires after { IfSome (at self.old.now.table pid) (λ p. M.view after ≡ M.next_of p.machine p.reply) }
+        ensures event { GoesOn M.call_of M.next_of self.old (Trap hart pid) self.new }
+        ensures running { count_by is_running self.new.now.table + 1 ≡ count_by is_running self.old.now.table }
+    {
+        self.log.fits();
         let refused = trap(&mut self.state, pid, call, after);
         self.log.write(Event::Trap(hart, pid.index()), refused);
-        Ok(())
     }
 
     /// A dispatch on the hart, which runs nothing, and the trap that follows it, at once: nothing is handed out, and no
@@ -251,18 +331,12 @@ impl<M: Machine, A: Allocator + Copy> Kernel<M, A> {
         ensures events { result ≡ Ok true → Steps M.call_of M.next_of self.old hart self.new }
         ensures running { OnOk result (count_by is_running self.new.now.table ≡ count_by is_running self.old.now.table) }
     {
-        if self.state.runnable() == 0 {
-            return Ok(false);
-        }
-        self.log.reserve()?;
-        self.log.fits();
-        let Some(pid) = self.state.dispatch(hart) else {
+        let Some(pid) = self.dispatch_next(hart)? else {
             return Ok(false);
         };
-        self.log.write(Event::Dispatch(hart, pid.index()), false);
-        let (call, after) = self.state.run(pid);
-        let refused = trap(&mut self.state, pid, call, after);
-        self.log.write(Event::Trap(hart, pid.index()), refused);
+        let mut twin = self.state.twin(pid);
+        let call = self.state.run(pid, &mut twin);
+        self.carry_out(hart, pid, &call, twin);
         Ok(true)
     }
 }

@@ -87,20 +87,36 @@ impl<M: Machine, A: Allocator> State<M, A> {
     {
         Task {
             pid,
-            machine: self.procs.machine(pid).twin(),
+            machine: self.twin(pid),
             reply: self.procs.reply(pid).twin(),
         }
     }
 
-    /// The call that the process makes, and its machine after it.
-    pub fn run(&self, pid: Pid) -> (Call, M)
+    /// A machine in the state of the process's.
+    pub fn twin(&self, pid: Pid) -> M
         requires { is_running (at self.now.table pid) ≡ true }
-        ensures call { IfSome (at self.now.table pid) (λ p. result.0 ≡ M.call_of p.machine p.reply) }
-        ensures after { IfSome (at self.now.table pid) (λ p. M.view result.1 ≡ M.next_of p.machine p.reply) }
+        ensures { IfSome (at self.now.table pid) (λ p. M.view result ≡ p.machine) }
     {
-        let mut after = self.procs.machine(pid).twin();
-        let call = after.run(self.procs.reply(pid));
-        (call, after)
+        self.procs.machine(pid).twin()
+    }
+
+    /// The call that the process makes; its twin runs in its place.
+    pub fn run(&self, pid: Pid, twin: &mut M) -> Call
+        requires runs { is_running (at self.now.table pid) ≡ true }
+        requires twin { IfSome (at self.now.table pid) (λ p. M.view twin.old ≡ p.machine) }
+        ensures call { IfSome (at self.now.table pid) (λ p. result ≡ M.call_of p.machine p.reply) }
+        ensures after { IfSome (at self.now.table pid) (λ p. M.view twin.new ≡ M.next_of p.machine p.reply) }
+    {
+        twin.run(self.procs.reply(pid))
+    }
+
+    /// Whether the process runs on the hart, with this machine and this reply.
+    pub fn has_given(&self, hart: u8, pid: Pid, machine: &M, reply: &Reply) -> bool
+        ensures { IsTrue result ↔ IsOwed hart (at self.now.table pid) (record { before = M.view machine.now; reply = reply.now }) }
+    {
+        self.procs.runs_on(hart, pid)
+            && self.procs.machine(pid).same(machine)
+            && self.procs.reply(pid).same(reply)
     }
 
     /// Whether the run is one that the kernel waits for: of the machine of a process that runs on the hart, with the
@@ -108,9 +124,7 @@ impl<M: Machine, A: Allocator> State<M, A> {
     pub fn is_owed(&self, hart: u8, pid: Pid, ran: &Ran<M>) -> bool
         ensures { IsTrue result ↔ IsOwed hart (at self.now.table pid) ran.now }
     {
-        self.procs.runs_on(hart, pid)
-            && self.procs.machine(pid).same(ran.before())
-            && self.procs.reply(pid).same(ran.reply())
+        self.has_given(hart, pid, ran.before(), ran.reply())
     }
 
     /// The process that runs on the hart, if any (`myproc`).

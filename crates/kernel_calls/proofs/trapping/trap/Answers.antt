@@ -15,6 +15,6 @@ returns-clause-keeps g c =
     let n = count_by is_running k.table in
     let after = g.M.Machine.view c.args.after in
     let are : AreFiles k.files = rw (sym (ap (λ (x : KernelState g.row.M-State.Denot). x.files) c.state.view_is)) c.are_files.ensures in
-    let is : c.act.new.state ≡ acted (counted k) c.args.pid after c.args.call c.act.result = search rules in
+    let is : c.act.new.state ≡ acted (counted k) c.args.pid after c.args.call.now c.act.result = search rules in
     let P : KernelState g.row.M-State.Denot → Type 0 = λ x. Keeps n x.table x.entries in
-    subst P (sym is) (acted_after n c.args.pid (counted k) after c.args.call c.act.result are (mid k.table k.entries c.args.pid c.requires.sound c.requires.runs))
+    subst P (sym is) (acted_after n c.args.pid (counted k) after c.args.call.now c.act.result are (mid k.table k.entries c.args.pid c.requires.sound c.requires.runs))
