@@ -1,6 +1,6 @@
 //! The kernel that harts share, as it is under its lock.
 
-ghost use Rattle.std.specs.Prelude.{◌≡◌, ◌≢◌, ◌<◌, ◌≤◌, ◌+◌, ◌*◌, ◌↔◌, IsTrue, IfOk, IfErr, IfSome, OnErr, None, Some, Ok, [], ℕ, false, All, is_some, is_ok, true, if◌then◌else◌, length, count_by, vec_len};
+ghost use Rattle.std.specs.Prelude.{◌≡◌, ◌<◌, ◌≤◌, ◌+◌, ◌*◌, ◌↔◌, IsTrue, IfOk, IfErr, IfSome, OnErr, None, Some, Ok, [], ℕ, false, All, is_some, is_ok, true, if◌then◌else◌, length, count_by, vec_len};
 ghost use Rattle.std.specs.Bool.{OnFalse, OnTrue};
 ghost use Rattle.proc_table.specs.Slots.{at, is_running, is_running_on, is_runnable};
 ghost use Rattle.kernel_model.specs.Events.{IsFinished, run};

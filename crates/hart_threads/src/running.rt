@@ -1,6 +1,6 @@
 //! Runs of a script on harts that are threads.
 
-ghost use Rattle.std.specs.Prelude.{◌≡◌, ◌≤◌, ◌↔◌, IfOk, Err, [], length, vec_len};
+ghost use Rattle.std.specs.Prelude.{◌≡◌, ◌≤◌, ◌↔◌, IfOk, Err, [], length};
 ghost use Rattle.std.specs.Thread.{IsSend, IsSync};
 ghost use Rattle.script_load.specs.Line.{lines_of};
 ghost use Rattle.kernel_core.specs.Answer.{IsAnswerIfSettled};

@@ -297,7 +297,10 @@ impl<M: Machine, A: Allocator + Copy> Kernel<M, A> {
         ensures event { OnOk result (GoesOn M.call_of M.next_of self.old (Trap hart task.now.pid) self.new) }
         ensures err { OnErr result (self.new ≡ self.old) }
     {
-        if !self.state.has_given(hart, task.pid, &task.machine, &task.reply) {
+        if !self
+            .state
+            .has_given(hart, task.pid, &task.machine, &task.reply)
+        {
             return Err(Stranger);
         }
         self.carry_out(hart, task.pid, call, after);
