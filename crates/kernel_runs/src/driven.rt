@@ -1,7 +1,7 @@
 //! A kernel whose processes are driven one by one.
 
 use crate::walker::Walker;
-use kernel_core::Kernel;
+use kernel_core::{Kernel, Task};
 use mem_files::Files;
 use proc_table::Pid;
 use std::alloc::{AllocError, Allocator};
@@ -26,6 +26,18 @@ pub(crate) fn boot<A: Allocator + Copy>(
     )
 }
 
+/// The task's own run is taken on the hart.
+pub(crate) fn trap<A: Allocator + Copy>(
+    kernel: &mut Kernel<Walker, A>,
+    hart: u8,
+    task: Task<Walker>,
+) -> Result<(), Fail> {
+    match kernel.trap(hart, task.pid, Ran::make(task.machine, task.reply)) {
+        Ok(()) => Ok(()),
+        Err(_) => Err(Fail::from("a stranger")),
+    }
+}
+
 /// The process makes its call on hart 0; the reply that it was given before. `None` where it can't run.
 pub(crate) fn turn<A: Allocator + Copy>(
     kernel: &mut Kernel<Walker, A>,
@@ -34,14 +46,8 @@ pub(crate) fn turn<A: Allocator + Copy>(
     let Some(task) = kernel.dispatch_pid(0, pid)? else {
         return Ok(None);
     };
-    let slot = task.pid;
     let reply = task.reply.twin();
-    if kernel
-        .trap(0, slot, Ran::make(task.machine, task.reply))
-        .is_err()
-    {
-        return Err(Fail::from("a stranger"));
-    }
+    trap(kernel, 0, task)?;
     Ok(Some(reply))
 }
 
@@ -59,15 +65,28 @@ pub(crate) fn turns<A: Allocator + Copy>(
     Ok(())
 }
 
-// Hands the kernel a run of this machine with this reply on the hart; tells whether it is taken.
+// Hands the kernel the task's run on the hart, as this process's; tells whether it is taken.
 fn takes<A: Allocator + Copy>(
     kernel: &mut Kernel<Walker, A>,
     hart: u8,
     pid: Pid,
-    run: (&Walker, &Reply),
+    task: &Task<Walker>,
 ) -> bool {
-    let ran = Ran::make(run.0.twin(), run.1.twin());
+    let ran = Ran::make(task.machine.twin(), task.reply.twin());
     kernel.trap(hart, pid, ran).is_ok()
+}
+
+// Whether the task of hart 0 is taken there once, and not on hart 1, nor from another process.
+fn is_taken_once<A: Allocator + Copy>(
+    kernel: &mut Kernel<Walker, A>,
+    task: &Task<Walker>,
+    other: Pid,
+) -> bool {
+    !takes(kernel, 1, task.pid, task)
+        && !takes(kernel, 0, other, task)
+        && kernel.running_on(0) == Some(task.pid)
+        && takes(kernel, 0, task.pid, task)
+        && !takes(kernel, 0, task.pid, task)
 }
 
 #[test]
@@ -77,30 +96,42 @@ fn a_dispatched_run_is_taken_once(rt: HostRuntime) -> Result<(), Fail> {
         return Err(Fail::from("hart 0 is busy"));
     }
     let task = kernel.dispatch(0)?.ok_or("nothing is Runnable")?;
-    let run = (&task.machine, &task.reply);
-    let pid = task.pid;
-    let other = if pid == Pid::init() {
-        Pid::shell()
-    } else {
-        Pid::init()
+    let other = match task.pid.index() {
+        0 => Pid::shell(),
+        1 => Pid::init(),
+        _ => return Err(Fail::from("neither init nor the shell")),
     };
-    assert!(rt; pid == Pid::init() || pid == Pid::shell());
-    assert!(rt; !takes(&mut kernel, 1, pid, run) && !takes(&mut kernel, 0, other, run));
-    assert!(rt; kernel.running_on(0) == Some(pid));
-    assert!(rt; takes(&mut kernel, 0, pid, run) && !takes(&mut kernel, 0, pid, run));
+    assert!(rt; is_taken_once(&mut kernel, &task, other));
+    Ok(())
+}
+
+// Whether the shell, whose child of this slot makes three calls and exits, sleeps until then.
+fn sleeps_for<A: Allocator + Copy>(
+    kernel: &mut Kernel<Walker, A>,
+    child: usize,
+) -> Result<bool, Fail> {
+    if turn(kernel, 1)?.is_some() {
+        return Ok(false);
+    }
+    turns(kernel, child, 3)?;
+    // The wait is made again, and has come to something at the next turn.
+    turns(kernel, 1, 1)?;
+    Ok(matches!(turn(kernel, 1)?, Some(Reply::Done)))
+}
+
+// Whether the shell sleeps until its child 3 exits, and then until its child 2 does.
+fn sleeps_for_both<A: Allocator + Copy>(kernel: &mut Kernel<Walker, A>) -> Result<(), Fail> {
+    turns(kernel, 1, 6)?;
+    let third = sleeps_for(kernel, 3)?;
+    let second = sleeps_for(kernel, 2)?;
+    if !third || !second {
+        return Err(Fail::from("it doesn't sleep so long"));
+    }
     Ok(())
 }
 
 #[test]
 fn the_parent_of_a_pipe_sleeps_until_a_child_exits(rt: HostRuntime) -> Result<(), Fail> {
     let mut kernel = boot(rt.alloc(), b"p.f.f.c3c4z.z.x.|c3c4x.")?;
-    turns(&mut kernel, 1, 6)?;
-    for child in [3, 2] {
-        assert!(rt; turn(&mut kernel, 1)?.is_none());
-        turns(&mut kernel, child, 3)?;
-        // The wait is made again, and has come to something at the next turn.
-        turns(&mut kernel, 1, 1)?;
-        assert!(rt; matches!(turn(&mut kernel, 1)?, Some(Reply::Done)));
-    }
-    Ok(())
+    sleeps_for_both(&mut kernel)
 }

@@ -3,6 +3,8 @@
 #![tactic(auto)]
 
 #[cfg(test)]
+mod doer;
+#[cfg(test)]
 mod driven;
 #[cfg(test)]
 mod forged;
@@ -11,6 +13,8 @@ mod memory;
 #[cfg(test)]
 mod schedules;
 pub mod sleepers;
+#[cfg(test)]
+mod strange;
 #[cfg(test)]
 mod tables;
 #[cfg(test)]

@@ -2,13 +2,12 @@
 
 ghost use Rattle.std.specs.Prelude.{◌<◌};
 
-use crate::driven::boot;
+use crate::driven::{boot, trap};
 use crate::sleepers::whoever_sleeps_has_to;
 use crate::walker::Walker;
 use kernel_core::{Kernel, Task};
-use std::alloc::Allocator;
+use std::alloc::{AllocError, Allocator};
 use std::test::Fail;
-use user_calls::Ran;
 
 // Scripts in which nobody waits for what only he himself could give: who reads a pipe has closed its write end, and who
 // waits for his children has closed the ends that they wait for.
@@ -56,11 +55,12 @@ pub(crate) fn begins<A: Allocator + Copy>(
     kernel: &mut Kernel<Walker, A>,
     seed: &mut u64,
     hart: u8,
-) -> Result<Option<Task<Walker>>, Fail> {
+) -> Result<Option<Task<Walker>>, AllocError> {
     let first = draw(seed, SLOTS_USED);
     for offset in 0..SLOTS_USED {
-        if let Some(task) = kernel.dispatch_pid(hart, (first.wrapping_add(offset)) % SLOTS_USED)? {
-            return Ok(Some(task));
+        match kernel.dispatch_pid(hart, first.wrapping_add(offset) % SLOTS_USED) {
+            Ok(None) => {}
+            found => return found,
         }
     }
     Ok(None)
@@ -74,52 +74,92 @@ fn event<A: Allocator + Copy>(
     running: &mut Option<Task<Walker>>,
 ) -> Result<(), Fail> {
     match running.take() {
-        Some(task) => {
-            let pid = task.pid;
-            let ran = Ran::make(task.machine, task.reply);
-            if kernel.trap(hart, pid, ran).is_err() {
-                return Err(Fail::from("a stranger"));
-            }
+        Some(task) => trap(kernel, hart, task),
+        None => {
+            *running = begins(kernel, seed, hart)?;
+            Ok(())
         }
-        None => *running = begins(kernel, seed, hart)?,
     }
-    Ok(())
 }
 
-// Runs a script to its end in an order that is drawn; nobody may be left who sleeps while nobody can wake him.
+// What is wrong with the kernel: nobody may be left who sleeps while nobody can wake him.
+fn mistake<A: Allocator + Copy>(kernel: &Kernel<Walker, A>) -> Option<&'static str> {
+    if kernel.runnable() == 0 && kernel.running() == 0 {
+        return Some("all sleep");
+    }
+    if kernel.full().is_some() {
+        return Some("something was full");
+    }
+    if !whoever_sleeps_has_to(kernel) {
+        return Some("a wake-up is lost");
+    }
+    None
+}
+
+// Makes one event happen on a hart that is drawn; nothing may be wrong then.
+fn turn<A: Allocator + Copy>(
+    kernel: &mut Kernel<Walker, A>,
+    seed: &mut u64,
+    running: &mut [Option<Task<Walker>>],
+) -> Result<(), Fail> {
+    let hart = draw(seed, HARTS_USED);
+    match running.get_mut(hart) {
+        Some(task) => event(kernel, seed, hart as u8, task)?,
+        None => return Err(Fail::from("no such hart")),
+    }
+    match mistake(kernel) {
+        Some(mistake) => Err(Fail::from(mistake)),
+        None => Ok(()),
+    }
+}
+
+// Goes on until the run is finished.
+fn drive<A: Allocator + Copy>(
+    kernel: &mut Kernel<Walker, A>,
+    seed: &mut u64,
+    running: &mut [Option<Task<Walker>>],
+) -> Result<(), Fail> {
+    for _turn in 0..2000usize {
+        if kernel.is_finished() {
+            return Ok(());
+        }
+        turn(kernel, seed, running)?;
+    }
+    Err(Fail::from("it has no end"))
+}
+
+// Runs a script to its end in an order that is drawn.
+fn run_drawn<A: Allocator + Copy>(
+    kernel: &mut Kernel<Walker, A>,
+    seed: &mut u64,
+) -> Result<(), Fail> {
+    let mut running = [None, None, None];
+    drive(kernel, seed, &mut running)
+}
+
+// The same of a new kernel.
 fn run_script<A: Allocator + Copy>(
     alloc: A,
     script: &'static [u8],
     seed: &mut u64,
 ) -> Result<(), Fail> {
     let mut kernel = boot(alloc, script)?;
-    let mut running = [None, None, None];
-    for _turn in 0..2000usize {
-        if kernel.is_finished() {
-            return Ok(());
-        }
-        let hart = draw(seed, HARTS_USED);
-        event(&mut kernel, seed, hart as u8, &mut running[hart])?;
-        if kernel.runnable() == 0 && kernel.running() == 0 {
-            return Err(Fail::from("all sleep"));
-        }
-        if kernel.full().is_some() {
-            return Err(Fail::from("something was full"));
-        }
-        if !whoever_sleeps_has_to(&kernel) {
-            return Err(Fail::from("a wake-up is lost"));
-        }
+    run_drawn(&mut kernel, seed)
+}
+
+// Runs each script once.
+fn run_round<A: Allocator + Copy>(alloc: A, seed: &mut u64) -> Result<(), Fail> {
+    for script in SCRIPTS {
+        run_script(alloc, script, seed)?;
     }
-    Err(Fail::from("it has no end"))
+    Ok(())
 }
 
 #[test]
 fn nobody_sleeps_in_vain(rt: HostRuntime) -> Result<(), Fail> {
     let mut seed = 20240229;
-    for _run in 0..1000 {
-        for script in SCRIPTS {
-            run_script(rt.alloc(), script, &mut seed)?;
-        }
+    for _round in 0..1000 {
+        run_round(rt.alloc(), &mut seed)?;
     }
     Ok(())
 }

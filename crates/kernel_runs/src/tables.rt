@@ -1,109 +1,56 @@
 //! Tasks that are handed back, dispatches that can't take place, and tables that are full.
 
-ghost use Rattle.std.specs.Prelude.{◌≡◌, [], ◌∷◌};
-ghost use Rattle.user_calls.specs.declared.calls.Call.TheVariants.{OpenFile};
-ghost use Rattle.user_calls.specs.declared.calls.Mode.TheVariants.{Input};
-ghost use Rattle.kernel_runs.specs.Doer.{opens};
-
-use kernel_core::{Event, Full, Kernel};
-use mem_files::Files;
+use crate::doer::{Doer, boot, expect, trap, turn, turns};
+use kernel_core::{Event, Full, Kernel, Report};
 use proc_table::Pid;
 use std::alloc::Allocator;
 use std::test::Fail;
-use user_calls::{Block, Call, Machine, Mode, Ran, Reply};
+use user_calls::{Ran, Reply};
 
-/// Its state is a number, which says what it calls (`specs/Doer.antt`).
-#[derive(Drop)]
-struct Doer {
-    state: u8,
-}
-
-impl Machine for Doer {
-    ghost use Rattle.std.specs.Coded.{coded_ℕ};
-    ghost use Rattle.kernel_runs.specs.Doer.{doer_call, doer_next};
-
-    type State = u8;
-
-    ghost view = { λ m. m.state };
-
-    ghost code = { coded_ℕ };
-
-    ghost call_of = { doer_call };
-
-    ghost next_of = { doer_next };
-
-    fn run(&mut self, reply: &Reply) -> Call {
-        match self.state {
-            0 => Call::Wait,
-            1 => Call::Exit,
-            2 => open(),
-            3 => { if opens(reply) { open() } else { Call::Fork } }
-            4 => Call::MakePipe,
-            _ => Call::Write(1, Block::from_slice(b"x")),
-        }
-    }
-
-    fn twin(&self) -> Self {
-        Doer { state: self.state }
-    }
-
-    fn same(&self, other: &Self) -> bool {
-        self.state == other.state
+// After so many turns of the process, at the next one, there is no more room of this kind, which it is told.
+fn fills<A: Allocator + Copy>(
+    kernel: &mut Kernel<Doer, A>,
+    pid: usize,
+    count: usize,
+    opens: bool,
+    full: Full,
+) -> Result<(), Fail> {
+    turns(kernel, pid, count, opens)?;
+    turn(kernel, pid)?;
+    match kernel.dispatch_pid(0, pid)? {
+        Some(task) => expect(kernel.full() == Some(full) && matches!(task.reply, Reply::Refused)),
+        None => Err(Fail::from("it can't be dispatched")),
     }
 }
 
-// An open of the file p.
-fn open() -> Call
-    ensures { result ≡ OpenFile (112 ∷ []) Input }
-{
-    Call::OpenFile(Block::from_slice(b"p"), Mode::Input)
+#[test]
+fn the_fourteenth_open_finds_no_descriptor(rt: HostRuntime) -> Result<(), Fail> {
+    let mut kernel = boot(rt.alloc(), 2)?;
+    fills(&mut kernel, 1, 13, true, Full::Fds)
 }
 
-fn opens(reply: &Reply) -> bool
-    ensures { result ≡ opens reply.now }
-{
-    matches!(reply, Reply::Child | Reply::Fd(_))
-}
-
-// Init waits; the shell is in this state; there is a file p.
-fn boot<A: Allocator + Copy>(alloc: A, shell: u8) -> Result<Kernel<Doer, A>, Fail> {
-    let mut files = Files::new(alloc);
-    files.put(b"p", b"aab")?;
-    let kernel = Kernel::boot(alloc, Doer { state: 0 }, Doer { state: shell }, b"", &files)?;
-    Ok(kernel)
-}
-
-// Dispatches the process on hart 0 and carries out its call; tells whether that is an open.
-fn turn<A: Allocator + Copy>(kernel: &mut Kernel<Doer, A>, pid: usize) -> Result<bool, Fail> {
-    let task = kernel
-        .dispatch_pid(0, pid)?
-        .ok_or("it can't be dispatched")?;
-    let slot = task.pid;
-    let ran = Ran::make(task.machine, task.reply);
-    let opens = matches!(ran.call(), Call::OpenFile(_, _));
-    if kernel.trap(0, slot, ran).is_err() {
-        return Err(Fail::from("a stranger"));
+// Seven children open 13 files each, and one opens six and finds no room for a seventh.
+fn fill_entries<A: Allocator + Copy>(kernel: &mut Kernel<Doer, A>) -> Result<(), Fail> {
+    turns(kernel, 1, 8, false)?;
+    for child in 2..9usize {
+        turns(kernel, child, 13, true)?;
     }
-    Ok(opens)
+    fills(kernel, 9, 6, true, Full::Open)
 }
 
-// The reply that waits for the process, which is dispatched for it.
-fn reply_of<A: Allocator + Copy>(kernel: &mut Kernel<Doer, A>, pid: usize) -> Result<Reply, Fail> {
-    let task = kernel
-        .dispatch_pid(0, pid)?
-        .ok_or("it can't be dispatched")?;
-    Ok(task.reply)
+#[test]
+fn the_98th_open_finds_no_entry(rt: HostRuntime) -> Result<(), Fail> {
+    let mut kernel = boot(rt.alloc(), 3)?;
+    fill_entries(&mut kernel)
 }
 
-// Some Runnable process makes its call.
-fn step<A: Allocator + Copy>(kernel: &mut Kernel<Doer, A>) -> Result<bool, Fail> {
-    if !kernel.is_idle(0) {
-        return Err(Fail::from("hart 0 is busy"));
-    }
-    Ok(kernel.step(0)?)
+#[test]
+fn the_63rd_fork_finds_no_slot(rt: HostRuntime) -> Result<(), Fail> {
+    let mut kernel = boot(rt.alloc(), 3)?;
+    fills(&mut kernel, 1, 62, false, Full::Procs)
 }
 
-// Hands the kernel a run of the machine in this state with this reply; tells whether it is taken.
+// Hands the kernel a run of the machine in this state; tells whether it is taken.
 fn takes<A: Allocator + Copy>(
     kernel: &mut Kernel<Doer, A>,
     hart: u8,
@@ -116,41 +63,56 @@ fn takes<A: Allocator + Copy>(
         .is_ok()
 }
 
+// Whether a run of another machine, with another reply, of another process or on another hart is taken.
+fn takes_a_stranger<A: Allocator + Copy>(kernel: &mut Kernel<Doer, A>) -> bool {
+    takes(kernel, 0, Pid::shell(), 4, Reply::Start)
+        || takes(kernel, 0, Pid::shell(), 5, Reply::Done)
+        || takes(kernel, 0, Pid::init(), 5, Reply::Start)
+        || takes(kernel, 1, Pid::shell(), 5, Reply::Start)
+}
+
+// Whether, once the shell is dispatched, strangers are refused, and its own run is taken once.
+fn takes_its_own<A: Allocator + Copy>(kernel: &mut Kernel<Doer, A>) -> bool {
+    !takes_a_stranger(kernel)
+        && kernel.schedule().len() == 1
+        && takes(kernel, 0, Pid::shell(), 5, Reply::Start)
+        && !takes(kernel, 0, Pid::shell(), 5, Reply::Start)
+        && kernel.schedule() == [Event::Dispatch(0, 1), Event::Trap(0, 1)].as_slice()
+}
+
 #[test]
 fn a_task_of_another_run_is_a_stranger(rt: HostRuntime) -> Result<(), Fail> {
     let mut kernel = boot(rt.alloc(), 5)?;
-    assert!(rt; matches!(reply_of(&mut kernel, 1)?, Reply::Start));
-    assert!(rt; !takes(&mut kernel, 0, Pid::shell(), 4, Reply::Start));
-    assert!(rt; !takes(&mut kernel, 0, Pid::shell(), 5, Reply::Done));
-    assert!(rt; !takes(&mut kernel, 0, Pid::init(), 5, Reply::Start));
-    assert!(rt; !takes(&mut kernel, 1, Pid::shell(), 5, Reply::Start));
-    assert_eq!(rt; kernel.schedule().len(), 1);
-    assert!(rt; takes(&mut kernel, 0, Pid::shell(), 5, Reply::Start));
-    assert!(rt; !takes(&mut kernel, 0, Pid::shell(), 5, Reply::Start));
-    assert!(rt; kernel.schedule() == [Event::Dispatch(0, 1), Event::Trap(0, 1)].as_slice());
-    Ok(())
+    match kernel.dispatch_pid(0, 1)? {
+        Some(task) => expect(matches!(task.reply, Reply::Start) && takes_its_own(&mut kernel)),
+        None => Err(Fail::from("it can't be dispatched")),
+    }
 }
 
-// Whether the process can be dispatched on the hart; if so, it is.
-fn begins<A: Allocator + Copy>(
-    kernel: &mut Kernel<Doer, A>,
-    hart: u8,
-    pid: usize,
-) -> Result<bool, Fail> {
-    Ok(kernel.dispatch_pid(hart, pid)?.is_some())
+// Harts, slots, and whether the process of that slot is dispatched on the hart.
+const DISPATCHES: [(u8, usize, bool); 6] = [
+    (8, 1, false),
+    (0, 64, false),
+    (0, 2, false),
+    (0, 1, true),
+    (0, 0, false),
+    (1, 1, false),
+];
+
+// The dispatches take place that do, and the others change nothing.
+fn dispatches<A: Allocator + Copy>(kernel: &mut Kernel<Doer, A>) -> Result<(), Fail> {
+    for (hart, pid, want) in DISPATCHES {
+        if kernel.dispatch_pid(hart, pid)?.is_some() != want {
+            return Err(Fail::from((hart, pid)));
+        }
+    }
+    expect(kernel.schedule().len() == 1)
 }
 
 #[test]
 fn what_cannot_be_dispatched_changes_nothing(rt: HostRuntime) -> Result<(), Fail> {
     let mut kernel = boot(rt.alloc(), 1)?;
-    assert!(rt; !begins(&mut kernel, 8, 1)?);
-    assert!(rt; !begins(&mut kernel, 0, 64)?);
-    assert!(rt; !begins(&mut kernel, 0, 2)?);
-    assert!(rt; begins(&mut kernel, 0, 1)?);
-    assert!(rt; !begins(&mut kernel, 0, 0)?);
-    assert!(rt; !begins(&mut kernel, 1, 1)?);
-    assert_eq!(rt; kernel.schedule().len(), 1);
-    Ok(())
+    dispatches(&mut kernel)
 }
 
 // The process that a dispatch on hart 0 picks makes its call; tells which one it is.
@@ -160,103 +122,56 @@ fn picked<A: Allocator + Copy>(kernel: &mut Kernel<Doer, A>) -> Result<usize, Fa
     }
     let task = kernel.dispatch(0)?.ok_or("nothing is Runnable")?;
     let pid = task.pid;
-    if kernel
-        .trap(0, pid, Ran::make(task.machine, task.reply))
-        .is_err()
-    {
-        return Err(Fail::from("a stranger"));
-    }
+    trap(kernel, task)?;
     Ok(pid.index())
+}
+
+// Some Runnable process makes its call, so many times, if the run isn't finished before.
+fn steps<A: Allocator + Copy>(kernel: &mut Kernel<Doer, A>, count: usize) -> Result<(), Fail> {
+    for _step in 0..count {
+        if kernel.is_finished() {
+            return Ok(());
+        }
+        if !kernel.is_idle(0) || !kernel.step(0)? {
+            return Err(Fail::from("no step"));
+        }
+    }
+    Ok(())
+}
+
+// Whether the run is finished without anything full, and hart 0 had all its events.
+fn is_whole<A: Allocator>(report: &Report<A>) -> bool {
+    report.finished
+        && report.full.is_none()
+        && report.by_hart[0] == report.schedule.as_slice().len() as u64
+}
+
+// Runs to its end.
+fn run_out<A: Allocator + Copy>(kernel: &mut Kernel<Doer, A>) -> Result<(), Fail> {
+    let first = picked(kernel)?;
+    steps(kernel, 4)?;
+    expect(first < 2 && kernel.is_finished())
 }
 
 #[test]
 fn a_shell_that_exits_is_reaped_by_init(rt: HostRuntime) -> Result<(), Fail> {
     let mut kernel = boot(rt.alloc(), 1)?;
-    assert!(rt; picked(&mut kernel)? < 2);
-    for _turn in 0..4 {
-        if !kernel.is_finished() {
-            assert!(rt; step(&mut kernel)?);
-        }
-    }
-    assert!(rt; kernel.is_finished());
-    let report = kernel.into_report();
-    assert!(rt; report.finished);
-    assert!(rt; report.full.is_none());
-    assert_eq!(rt;
-        report.by_hart[0] as usize,
-        report.schedule.as_slice().len()
-    );
-    Ok(())
+    run_out(&mut kernel)?;
+    expect(is_whole(&kernel.into_report()))
+}
+
+// Whether three writes are told, by a run that isn't finished, and the files are as they were.
+fn are_written<A: Allocator>(report: &Report<A>) -> bool {
+    report.out.as_slice() == b"xxx".as_slice()
+        && report.diag.is_empty()
+        && report.files.get(b"p") == Some(b"aab".as_slice())
+        && !report.finished
+        && report.by_hart[0] == 6
 }
 
 #[test]
 fn what_is_written_is_reported(rt: HostRuntime) -> Result<(), Fail> {
     let mut kernel = boot(rt.alloc(), 5)?;
-    for _write in 0..3 {
-        turn(&mut kernel, 1)?;
-    }
-    let report = kernel.into_report();
-    assert!(rt; report.out.as_slice() == b"xxx".as_slice());
-    assert!(rt; report.diag.is_empty());
-    assert!(rt; report.files.get(b"p") == Some(b"aab".as_slice()));
-    assert!(rt; !report.finished);
-    assert_eq!(rt; report.by_hart[0], 6);
-    Ok(())
-}
-
-#[test]
-fn the_fourteenth_open_finds_no_descriptor(rt: HostRuntime) -> Result<(), Fail> {
-    let mut kernel = boot(rt.alloc(), 2)?;
-    for _open in 0..13 {
-        assert!(rt; turn(&mut kernel, 1)?);
-        assert!(rt; kernel.full().is_none());
-    }
-    turn(&mut kernel, 1)?;
-    assert_eq!(rt; kernel.full(), Some(Full::Fds));
-    assert!(rt; matches!(reply_of(&mut kernel, 1)?, Reply::Refused));
-    Ok(())
-}
-
-// So many opens by the process, which is a child.
-fn opens_of<A: Allocator + Copy>(
-    kernel: &mut Kernel<Doer, A>,
-    pid: usize,
-    count: usize,
-) -> Result<(), Fail> {
-    for _open in 0..count {
-        if !turn(kernel, pid)? {
-            return Err(Fail::from("no open"));
-        }
-    }
-    Ok(())
-}
-
-#[test]
-fn the_98th_open_finds_no_entry(rt: HostRuntime) -> Result<(), Fail> {
-    let mut kernel = boot(rt.alloc(), 3)?;
-    for _fork in 0..8 {
-        turn(&mut kernel, 1)?;
-    }
-    for pid in 2..9usize {
-        opens_of(&mut kernel, pid, 13)?;
-    }
-    opens_of(&mut kernel, 9, 6)?;
-    assert!(rt; kernel.full().is_none());
-    opens_of(&mut kernel, 9, 1)?;
-    assert_eq!(rt; kernel.full(), Some(Full::Open));
-    assert!(rt; matches!(reply_of(&mut kernel, 9)?, Reply::Refused));
-    Ok(())
-}
-
-#[test]
-fn the_63rd_fork_finds_no_slot(rt: HostRuntime) -> Result<(), Fail> {
-    let mut kernel = boot(rt.alloc(), 3)?;
-    for _fork in 0..62 {
-        turn(&mut kernel, 1)?;
-        assert!(rt; kernel.full().is_none());
-    }
-    turn(&mut kernel, 1)?;
-    assert_eq!(rt; kernel.full(), Some(Full::Procs));
-    assert!(rt; matches!(reply_of(&mut kernel, 1)?, Reply::Refused));
-    Ok(())
+    turns(&mut kernel, 1, 3, false)?;
+    expect(are_written(&kernel.into_report()))
 }

@@ -2,7 +2,13 @@
 #![tactic(auto)]
 
 #[cfg(test)]
+mod alike;
+#[cfg(test)]
 mod clashes;
+#[cfg(test)]
+mod depths;
+#[cfg(test)]
+mod faults;
 #[cfg(test)]
 mod names;
 #[cfg(test)]

@@ -4,54 +4,87 @@ use bumpalo::Bump;
 use linked_list_allocator::LocalHeap;
 use script_load::{Line, LineTooLarge, Lines, LoadFault, Profile, Script, load, load_with};
 use sh_lexer::Bytes;
-use sh_tree::{Cmd, ParseFault, Words, same};
-use std::alloc::{AllocError, Global};
+use sh_tree::{Cmd, ParseFault, Words, parse, same};
+use std::alloc::{AllocError, Allocator, Global};
 use std::test::Fail;
+
+// Whether the line is the command of this text.
+fn is_tree<A: Allocator>(alloc: Global, line: &Line<A>, text: &[u8]) -> Result<bool, Fail> {
+    let Line::Tree(tree) = line else {
+        return Ok(false);
+    };
+    let want = parse(alloc, text)?;
+    Ok(same(tree, &want))
+}
+
+// Whether the line is no command, by this fault, and has this text.
+fn is_bad<A: Allocator>(line: &Line<A>, want: ParseFault, text: &[u8]) -> bool {
+    match line {
+        Line::Bad(fault, bytes) => *fault == want && bytes.as_slice() == text,
+        _ => false,
+    }
+}
+
+// Whether the line would change to the directory of this name.
+fn is_cd<A: Allocator>(line: &Line<A>, name: &[u8]) -> bool {
+    match line {
+        Line::Cd(bytes) => bytes.as_slice() == name,
+        _ => false,
+    }
+}
+
+// Whether the second line is no command, the third a change of directory, and the others are commands.
+fn are_kept(alloc: Global, lines: &[Line<Global>]) -> Result<bool, Fail> {
+    let [first, second, third, fourth, fifth] = lines else {
+        return Ok(false);
+    };
+    let is_first = is_tree(alloc, first, b"echo 1 2 3 4 5 6 7 8")?;
+    let is_fourth = is_tree(alloc, fourth, b"")?;
+    let is_fifth = is_tree(alloc, fifth, b"last")?;
+    Ok(
+        is_first
+            && is_bad(
+                second,
+                ParseFault::TooManyWords(21),
+                b"echo 1 2 3 4 5 6 7 8 9",
+            )
+            && is_cd(third, b"x")
+            && is_fourth
+            && is_fifth,
+    )
+}
 
 #[test]
 fn keeps_bad_lines(rt: HostRuntime) -> Result<(), Fail> {
-    let bytes = b"echo 1 2 3 4 5 6 7 8\necho 1 2 3 4 5 6 7 8 9\ncd x\n\nlast".as_slice();
+    let bytes = b"echo 1 2 3 4 5 6 7 8\necho 1 2 3 4 5 6 7 8 9\ncd x\n\nlast";
     let script = load(rt.alloc(), bytes)?;
-    let lines = script.lines.as_slice();
-    assert_eq!(rt; script.profile, Profile::Xv6);
-    assert_eq!(rt; lines.len(), 5);
-    assert!(rt; matches!(&lines[0], Line::Tree(_)));
-    let Line::Bad(fault, text) = &lines[1] else {
-        return Err(Fail::from("no bad line"));
-    };
-    assert_eq!(rt; *fault, ParseFault::TooManyWords(21));
-    assert_eq!(rt; text.as_slice(), b"echo 1 2 3 4 5 6 7 8 9".as_slice());
-    let Line::Cd(text) = &lines[2] else {
-        return Err(Fail::from("no change of directory"));
-    };
-    assert_eq!(rt; text.as_slice(), b"x".as_slice());
-    assert!(rt; matches!(&lines[3], Line::Tree(_)));
-    assert!(rt; matches!(&lines[4], Line::Tree(_)));
-    assert!(rt;
-        load(rt.alloc(), b"".as_slice())?
-            .lines
-            .as_slice()
-            .is_empty()
-    );
+    let are_kept = are_kept(rt.alloc(), script.lines.as_slice())?;
+    assert!(rt; are_kept && script.profile == Profile::Xv6);
     Ok(())
 }
 
 #[test]
-fn limits_a_line(rt: HostRuntime) -> Result<(), Fail> {
-    let mut line = vec![in rt.alloc(); b'x'; 511]?;
-    assert!(rt; load(rt.alloc(), line.as_slice()).is_ok());
-    line.push(b'x')?;
-    let rows = [
-        (line.as_slice(), LoadFault::LineTooLong(1)),
-        (b"a\nb\0\n".as_slice(), LoadFault::ByteZero(2)),
-        (b"\0\n\0".as_slice(), LoadFault::ByteZero(1)),
-    ];
-    for (bytes, want) in rows {
-        let Err(fault) = load(rt.alloc(), bytes) else {
-            return Err(Fail::from("no fault"));
-        };
-        assert_eq!(rt; fault, want);
+fn an_empty_script_has_no_lines(rt: HostRuntime) -> Result<(), Fail> {
+    let script = load(rt.alloc(), b"")?;
+    assert!(rt; script.lines.as_slice().is_empty());
+    Ok(())
+}
+
+// Whether a script of these bytes is refused, by this fault.
+fn is_refused<A: Allocator + Copy>(memory: A, bytes: &[u8], want: LoadFault) -> bool {
+    match load(memory, bytes) {
+        Ok(_) => false,
+        Err(fault) => fault == want,
     }
+}
+
+#[test]
+fn limits_a_line(rt: HostRuntime) -> Result<(), Fail> {
+    let line = vec![in rt.alloc(); b'x'; 512]?;
+    assert!(rt; load(rt.alloc(), &line.as_slice()[..511]).is_ok());
+    assert!(rt; is_refused(rt.alloc(), line.as_slice(), LoadFault::LineTooLong(1)));
+    assert!(rt; is_refused(rt.alloc(), b"a\nb\0\n", LoadFault::ByteZero(2)));
+    assert!(rt; is_refused(rt.alloc(), b"\0\n\0", LoadFault::ByteZero(1)));
     Ok(())
 }
 
@@ -60,91 +93,94 @@ fn limits_a_line(rt: HostRuntime) -> Result<(), Fail> {
 fn faults_come_before_memory(rt: HostRuntime) -> Result<(), Fail> {
     let line = vec![in rt.alloc(); 0; 512]?;
     let heap = LocalHeap::new(rt.alloc(), 16)?;
-    let Err(fault) = load(&heap, line.as_slice()) else {
-        return Err(Fail::from("no fault"));
-    };
-    assert_eq!(rt; fault, LoadFault::LineTooLong(1));
+    assert!(rt; is_refused(&heap, line.as_slice(), LoadFault::LineTooLong(1)));
     Ok(())
+}
+
+// Whether these are a command, a change of directory and a line that is no command.
+fn are_of_each_kind<A: Allocator>(alloc: Global, lines: &[Line<A>]) -> Result<bool, Fail> {
+    let [first, second, third] = lines else {
+        return Ok(false);
+    };
+    let is_first = is_tree(alloc, first, b"echo a > x > y")?;
+    Ok(is_first && is_cd(second, b"/tmp") && is_bad(third, ParseFault::MissingParen(7), b"(echo a"))
+}
+
+// Whether a script that stands in such memory has these lines.
+fn stands_in<A: Allocator + Copy>(alloc: Global, memory: A) -> Result<bool, Fail> {
+    let script = load(memory, b"echo a > x > y\ncd /tmp\n(echo a\n")?;
+    are_of_each_kind(alloc, script.lines.as_slice())
 }
 
 // The lines of a script that stands in an arena of the caller are those of one whose words have blocks of their own.
 #[test]
 fn a_script_stands_in_an_arena(rt: HostRuntime) -> Result<(), Fail> {
-    let bytes = b"echo a > x > y\ncd /tmp\n(echo a\n".as_slice();
     let arena = Bump::new(rt.alloc());
-    let near = load(&arena, bytes)?;
-    let far = load(rt.alloc(), bytes)?;
-    let lines = near.lines.as_slice();
-    let others = far.lines.as_slice();
-    assert_eq!(rt; lines.len(), 3);
-    assert_eq!(rt; others.len(), 3);
-    let (Line::Tree(tree), Line::Tree(copy)) = (&lines[0], &others[0]) else {
-        return Err(Fail::from("no tree"));
-    };
-    assert!(rt; same(tree, copy));
-    let Line::Cd(text) = &lines[1] else {
-        return Err(Fail::from("no change of directory"));
-    };
-    assert_eq!(rt; text.as_slice(), b"/tmp".as_slice());
-    let Line::Bad(fault, text) = &lines[2] else {
-        return Err(Fail::from("no bad line"));
-    };
-    assert_eq!(rt; *fault, ParseFault::MissingParen(7));
-    assert_eq!(rt; text.as_slice(), b"(echo a".as_slice());
+    assert!(rt; stands_in(rt.alloc(), &arena)?);
+    assert!(rt; stands_in(rt.alloc(), rt.alloc())?);
     Ok(())
+}
+
+// Whether there is memory for a script, which then has three lines.
+fn is_loaded<A: Allocator + Copy>(memory: A, bytes: &[u8]) -> Result<bool, Fail> {
+    match load_with(memory, bytes, Profile::Append) {
+        Ok(script) => {
+            if script.lines.as_slice().len() != 3 || script.profile != Profile::Append {
+                return Err(Fail::from("another script"));
+            }
+            Ok(true)
+        }
+        Err(LoadFault::Memory) => Ok(false),
+        Err(_) => Err(Fail::from("another fault")),
+    }
 }
 
 // With a heap that grows step by step, each allocation is refused in turn, until none is.
 #[test]
 fn refused_memory_is_told(rt: HostRuntime) -> Result<(), Fail> {
-    let bytes = b"echo a; echo b\ncd x\necho 1 2 3 4 5 6 7 8 9\n".as_slice();
+    let bytes = b"echo a; echo b\ncd x\necho 1 2 3 4 5 6 7 8 9\n";
     let mut refused = 0;
-    for blocks in 1..400 {
+    for blocks in 1..400usize {
         let heap = LocalHeap::new(rt.alloc(), blocks * 16)?;
-        match load_with(&heap, bytes, Profile::Append) {
-            Ok(script) => {
-                assert_eq!(rt; script.lines.as_slice().len(), 3);
-                assert_eq!(rt; script.profile, Profile::Append);
-            }
-            Err(fault) => {
-                assert_eq!(rt; fault, LoadFault::Memory);
-                refused = blocks;
-            }
+        if !is_loaded(&heap, bytes)? {
+            refused = blocks;
         }
     }
-    assert!(rt; 1 < refused);
-    assert!(rt; refused < 399);
+    assert!(rt; 1 < refused && refused < 399);
     Ok(())
 }
 
 // A command of so many words of so many bytes each.
 fn command(alloc: Global, words: usize, bytes: usize) -> Result<Line<Global>, AllocError> {
     let mut all = Vec::new(alloc);
-    for _ in 0..words {
+    for _word in 0..words {
         all.push(Bytes::from_vec(vec![in alloc; b'x'; bytes]?))?;
     }
     Ok(Line::Tree(Cmd::Exec(Words::from_vec(all))))
 }
 
+// Whether the script of these lines is taken, which has two.
+fn is_taken(lines: Vec<Line<Global>>) -> Result<bool, Fail> {
+    match Script::from_lines(Lines::from_vec(lines), Profile::Append) {
+        Ok(script) => {
+            if script.lines.as_slice().len() != 2 || script.profile != Profile::Append {
+                return Err(Fail::from("another script"));
+            }
+            Ok(true)
+        }
+        Err(LineTooLarge { line: 2 }) => Ok(false),
+        Err(_) => Err(Fail::from("another line")),
+    }
+}
+
 #[test]
 fn large_lines_are_refused(rt: HostRuntime) -> Result<(), Fail> {
     // the words of the second line's command, the bytes of each, and whether it is taken
-    let rows = [(9, 511, true), (10, 1, false), (1, 512, false)];
-    for (words, bytes, is_taken) in rows {
+    for (words, bytes, want) in [(9, 511, true), (10, 1, false), (1, 512, false)] {
         let mut lines = Vec::new(rt.alloc());
         lines.push(command(rt.alloc(), 1, 1)?)?;
         lines.push(command(rt.alloc(), words, bytes)?)?;
-        match Script::from_lines(Lines::from_vec(lines), Profile::Append) {
-            Ok(script) => {
-                assert!(rt; is_taken);
-                assert_eq!(rt; script.lines.as_slice().len(), 2);
-                assert_eq!(rt; script.profile, Profile::Append);
-            }
-            Err(fault) => {
-                assert!(rt; !is_taken);
-                assert_eq!(rt; fault, LineTooLarge { line: 2 });
-            }
-        }
+        assert!(rt; is_taken(lines)? == want);
     }
     Ok(())
 }

@@ -4,6 +4,10 @@
 #[cfg(test)]
 mod orders;
 #[cfg(test)]
+mod slots;
+#[cfg(test)]
+mod steps;
+#[cfg(test)]
 mod table;
 #[cfg(test)]
 mod waiters;

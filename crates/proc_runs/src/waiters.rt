@@ -6,10 +6,9 @@ ghost use Rattle.proc_table.specs.Slots.{at};
 ghost use Rattle.proc_table.specs.Calls.{fds_set};
 
 use fd_table::{Entry, FdFault, Fds};
-use proc_table::{Channel, HARTS, Pid, Procs, State, Waited};
+use proc_table::{Channel, FullProcs, HARTS, Pid, Procs, State, Waited};
 use std::alloc::Allocator;
 use std::mem;
-use std::test::Fail;
 use user_calls::{Call, Machine, Reply};
 
 /// Waits for ever; its state is a number.
@@ -51,24 +50,16 @@ pub(crate) fn machine(number: u8) -> Waiter
     Waiter { number }
 }
 
-pub(crate) fn pid(index: usize) -> Result<Pid, Fail> {
-    let pid = Pid::new(index).ok_or("no such slot")?;
-    Ok(pid)
-}
-
-// A child of the process, in the slot that is told.
-pub(crate) fn fork<A: Allocator>(
-    procs: &mut Procs<Waiter, A>,
-    parent: usize,
-) -> Result<usize, Fail> {
-    let parent = pid(parent)?;
-    if !procs.is_used(parent) {
-        return Err(Fail::from("no such parent"));
+/// The slot that the hart, if it is idle, dispatches.
+pub(crate) fn dispatch<A: Allocator>(procs: &mut Procs<Waiter, A>, hart: u8) -> Option<usize> {
+    if hart < HARTS && procs.is_idle(hart) {
+        let pid = procs.dispatch(hart)?;
+        return Some(pid.index());
     }
-    Ok(procs.fork(parent, machine(7), Fds::new())?.index())
+    None
 }
 
-// Dispatches on every idle hart, and tells how many processes run then.
+/// Dispatches on every idle hart, and tells how many processes run then.
 pub(crate) fn run_all<A: Allocator>(procs: &mut Procs<Waiter, A>) -> usize {
     for hart in 0..HARTS {
         if procs.is_idle(hart) {
@@ -78,73 +69,116 @@ pub(crate) fn run_all<A: Allocator>(procs: &mut Procs<Waiter, A>) -> usize {
     procs.running()
 }
 
-pub(crate) fn exit<A: Allocator>(procs: &mut Procs<Waiter, A>, index: usize) -> Result<(), Fail> {
-    let pid = pid(index)?;
-    if pid.index() == 0 || !procs.is_running(pid) {
-        return Err(Fail::from("it may not exit"));
-    }
-    procs.exit(pid);
-    Ok(())
-}
-
-pub(crate) fn wait<A: Allocator>(
+/// The process, if it runs, has made a call that doesn't sleep, and its machine has this number then.
+pub(crate) fn ready<A: Allocator>(
     procs: &mut Procs<Waiter, A>,
     index: usize,
-) -> Result<Waited, Fail> {
-    let pid = pid(index)?;
+    number: u8,
+) -> Option<()> {
+    let pid = Pid::new(index)?;
     if !procs.is_running(pid) {
-        return Err(Fail::from("it may not wait"));
+        return None;
     }
-    Ok(procs.wait(pid))
+    procs.ready(pid, machine(number), Reply::Done);
+    Some(())
 }
 
+/// The slot of a new child of the process, with this machine and these descriptors.
+pub(crate) fn fork_with<A: Allocator>(
+    procs: &mut Procs<Waiter, A>,
+    parent: usize,
+    number: u8,
+    fds: Fds,
+) -> Option<usize> {
+    let parent = Pid::new(parent)?;
+    if !procs.is_used(parent) {
+        return None;
+    }
+    match procs.fork(parent, machine(number), fds) {
+        Ok(child) => Some(child.index()),
+        Err(FullProcs) => None,
+    }
+}
+
+/// The slot of a new child of the process, whose machine has number 7.
+pub(crate) fn fork<A: Allocator>(procs: &mut Procs<Waiter, A>, parent: usize) -> Option<usize> {
+    fork_with(procs, parent, 7, Fds::new())
+}
+
+/// The process, if it runs and isn't init, has exited.
+pub(crate) fn exit<A: Allocator>(procs: &mut Procs<Waiter, A>, index: usize) -> Option<()> {
+    let pid = Pid::new(index)?;
+    if pid.index() == 0 || !procs.is_running(pid) {
+        return None;
+    }
+    procs.exit(pid);
+    Some(())
+}
+
+/// What a wait of the process comes to, if it runs.
+pub(crate) fn wait<A: Allocator>(procs: &mut Procs<Waiter, A>, index: usize) -> Option<Waited> {
+    let pid = Pid::new(index)?;
+    if !procs.is_running(pid) {
+        return None;
+    }
+    Some(procs.wait(pid))
+}
+
+/// The process, if it runs, sleeps on this channel, with so many bytes put.
 pub(crate) fn sleep<A: Allocator>(
     procs: &mut Procs<Waiter, A>,
     index: usize,
     channel: Channel,
     put: usize,
-) -> Result<(), Fail> {
-    let pid = pid(index)?;
+) -> Option<()> {
+    let pid = Pid::new(index)?;
     if !procs.is_running(pid) {
-        return Err(Fail::from("it may not sleep"));
+        return None;
     }
     procs.sleep(pid, channel, put);
-    Ok(())
+    Some(())
 }
 
-pub(crate) fn state<A: Allocator>(procs: &Procs<Waiter, A>, index: usize) -> Result<State, Fail> {
-    Ok(procs.state(pid(index)?))
+/// The state of the slot.
+pub(crate) fn state<A: Allocator>(procs: &Procs<Waiter, A>, index: usize) -> Option<State> {
+    Some(procs.state(Pid::new(index)?))
 }
 
-// The slot of the process's parent, and how many bytes it has put.
-pub(crate) fn parent_and_put<A: Allocator>(
-    procs: &Procs<Waiter, A>,
-    index: usize,
-) -> Result<(usize, usize), Fail> {
-    let pid = pid(index)?;
+/// The slot of the process's parent.
+pub(crate) fn parent<A: Allocator>(procs: &Procs<Waiter, A>, index: usize) -> Option<usize> {
+    let pid = Pid::new(index)?;
     if !procs.is_used(pid) {
-        return Err(Fail::from("no such process"));
+        return None;
     }
-    Ok((procs.parent(pid).index(), procs.put(pid)))
+    Some(procs.parent(pid).index())
 }
 
-// The number of the process's machine, and whether these are its reply and the count of its open descriptors.
+/// How many bytes the process has put.
+pub(crate) fn put<A: Allocator>(procs: &Procs<Waiter, A>, index: usize) -> Option<usize> {
+    let pid = Pid::new(index)?;
+    if !procs.is_used(pid) {
+        return None;
+    }
+    Some(procs.put(pid))
+}
+
+/// Whether the process's machine has this number, this is its reply, and whether its descriptor 0 is open.
 pub(crate) fn has<A: Allocator>(
     procs: &Procs<Waiter, A>,
     index: usize,
     number: u8,
     reply: &Reply,
     opened: bool,
-) -> Result<bool, Fail> {
-    let pid = pid(index)?;
+) -> bool {
+    let Some(pid) = Pid::new(index) else {
+        return false;
+    };
     if !procs.is_used(pid) {
-        return Err(Fail::from("no such process"));
+        return false;
     }
-    Ok(
-        procs.machine(pid).number == number
-            && procs.reply(pid).same(reply)
-            && procs.fds(pid).get(0).is_ok() == opened,
-    )
+    procs.machine(pid).number == number
+        && procs.reply(pid).same(reply)
+        && procs.fds(pid).get(0).is_ok() == opened
 }
 
 // Opens the lowest descriptor of a process that isn't open.
