@@ -1,243 +1,109 @@
 //! The calls on files.
 
+use crate::steps::{LINES, Step, go, with_p};
+use FilesFault::{Gap, Missing};
 use mem_files::{Files, FilesFault};
-use std::alloc::{Allocator, Global};
-use std::process::Abort;
+use std::alloc::Global;
 use std::test::Fail;
-
-// Fourteen bytes in four lines.
-pub(crate) fn lines() -> &'static [u8] {
-    b"b\naab\naabc\ncb\n".as_slice()
-}
-
-// A set with the file `p` alone.
-pub(crate) fn with_p(alloc: Global) -> Result<Files<Global>, FilesFault> {
-    let mut set = Files::new(alloc);
-    set.put(b"p".as_slice(), lines())?;
-    Ok(set)
-}
-
-pub(crate) fn holds<A: Allocator>(set: &Files<A>, name: &[u8], bytes: &[u8]) -> bool {
-    set.get(name) == Some(bytes)
-}
 
 #[test]
 fn one_file(rt: HostRuntime) -> Result<(), Fail> {
-    let mut set = Files::new(rt.alloc());
-    assert_eq!(rt; set.count(), 0);
-    set.put(b"p".as_slice(), lines())?;
-    assert_eq!(rt; set.count(), 1);
-    assert!(rt; holds(&set, b"p".as_slice(), lines()));
-    assert_eq!(rt; set.get(b"q".as_slice()), None);
-    set.put(b"p".as_slice(), b"other".as_slice())?;
-    assert_eq!(rt; set.count(), 1);
-    assert!(rt; holds(&set, b"p".as_slice(), b"other".as_slice()));
-    Ok(())
-}
-
-#[test]
-fn names_that_cannot_be_opened(rt: HostRuntime) -> Result<(), Fail> {
-    let mut set = with_p(rt.alloc())?;
-    let before = set.copy(rt.alloc())?;
-    let names = [
-        b"123456789abcdef".as_slice(),
-        b"".as_slice(),
-        b"a/b".as_slice(),
-        b"a\0b".as_slice(),
+    let steps = [
+        Step::Count(0),
+        Step::Put(b"p", LINES, Ok(())),
+        Step::Count(1),
+        Step::Holds(b"p", LINES),
+        Step::HasNo(b"q"),
+        Step::Put(b"p", b"other", Ok(())),
+        Step::Count(1),
+        Step::Holds(b"p", b"other"),
     ];
-    for name in names {
-        assert_eq!(rt; set.put(name, lines()), Err(FilesFault::BadName));
-        assert_eq!(rt; set.create(name), Err(FilesFault::BadName));
-        assert_eq!(rt; set.get(name), None);
-        assert_eq!(rt; set.truncate(name), Err(FilesFault::Missing));
-        assert_eq!(rt; set.write_at(name, 0, lines()), Err(FilesFault::Missing));
-        assert_eq!(rt; set.append(name, lines()), Err(FilesFault::Missing));
-    }
-    assert!(rt; set.same(&before));
-    set.put(b"123456789abcde".as_slice(), lines())?;
-    assert_eq!(rt; set.count(), 2);
-    Ok(())
-}
-
-#[test]
-fn at_most_200_files(rt: HostRuntime) -> Result<(), Fail> {
     let mut set = Files::new(rt.alloc());
-    for n in 0..200u8 {
-        // From the last name to the first.
-        set.put(&[b'n', 255 - n], &[n])?;
-    }
-    assert_eq!(rt; set.count(), 200);
-    let before = set.copy(rt.alloc())?;
-    assert_eq!(rt;
-        set.put(b"m".as_slice(), lines()),
-        Err(FilesFault::FullFiles)
-    );
-    assert_eq!(rt; set.create(b"m".as_slice()), Err(FilesFault::FullFiles));
-    assert_eq!(rt; set.create(b"n/".as_slice()), Err(FilesFault::BadName));
-    assert!(rt; set.same(&before));
-    set.put(&[b'n', 255], lines())?;
-    set.create(&[b'n', 56])?;
-    assert_eq!(rt; set.count(), 200);
-    for i in 0..200u8 {
-        assert_eq!(rt;
-            set.name_at(usize::from(i)),
-            Some([b'n', 56 + i].as_slice())
-        );
-    }
-    assert_eq!(rt; set.name_at(200), None);
-    Ok(())
+    go(&mut set, &steps)
 }
 
 #[test]
 fn names_in_byte_order(rt: HostRuntime) -> Result<(), Fail> {
+    let steps = [
+        Step::Create(b"b", Ok(())),
+        Step::Create(b"ab", Ok(())),
+        Step::Create(b"\xff", Ok(())),
+        Step::Create(b"a", Ok(())),
+        Step::Create(b"B", Ok(())),
+        Step::NameAt(0, Some(b"B")),
+        Step::NameAt(1, Some(b"a")),
+        Step::NameAt(2, Some(b"ab")),
+        Step::NameAt(3, Some(b"b")),
+        Step::NameAt(4, Some(b"\xff")),
+    ];
     let mut set = Files::new(rt.alloc());
-    let made = [
-        b"b".as_slice(),
-        b"ab".as_slice(),
-        b"\xff".as_slice(),
-        b"a".as_slice(),
-        b"B".as_slice(),
-    ];
-    for name in made {
-        set.create(name)?;
-    }
-    let ordered = [
-        b"B".as_slice(),
-        b"a".as_slice(),
-        b"ab".as_slice(),
-        b"b".as_slice(),
-        b"\xff".as_slice(),
-    ];
-    for (i, name) in ordered.iter().enumerate() {
-        assert_eq!(rt; set.name_at(i), Some(*name));
-    }
-    Ok(())
-}
-
-#[test]
-fn at_most_274432_bytes(rt: HostRuntime) -> Result<(), Fail> {
-    let most = vec![in rt.alloc(); 7u8; 274_432]?;
-    let more = vec![in rt.alloc(); 7u8; 274_433]?;
-    let mut set = with_p(rt.alloc())?;
-    let before = set.copy(rt.alloc())?;
-    assert_eq!(rt;
-        set.put(b"p".as_slice(), more.as_slice()),
-        Err(FilesFault::FullSize)
-    );
-    assert_eq!(rt;
-        set.put(b"q".as_slice(), more.as_slice()),
-        Err(FilesFault::FullSize)
-    );
-    assert_eq!(rt;
-        set.write_at(b"p".as_slice(), 0, more.as_slice()),
-        Err(FilesFault::FullSize)
-    );
-    assert_eq!(rt;
-        set.write_at(b"p".as_slice(), 1, most.as_slice()),
-        Err(FilesFault::FullSize)
-    );
-    assert!(rt; set.same(&before));
-    set.put(b"q".as_slice(), most.as_slice())?;
-    set.write_at(b"p".as_slice(), 0, most.as_slice())?;
-    assert!(rt; holds(&set, b"p".as_slice(), most.as_slice()));
-    assert_eq!(rt;
-        set.write_at(b"p".as_slice(), 274_432, b"z".as_slice()),
-        Err(FilesFault::FullSize)
-    );
-    assert_eq!(rt;
-        set.write_at(b"p".as_slice(), 274_433, b"z".as_slice()),
-        Err(FilesFault::Gap)
-    );
-    set.write_at(b"p".as_slice(), 274_432, &[])?;
-    assert!(rt; holds(&set, b"p".as_slice(), most.as_slice()));
-    Ok(())
+    go(&mut set, &steps)
 }
 
 #[test]
 fn reads_and_writes(rt: HostRuntime) -> Result<(), Fail> {
+    let steps = [
+        Step::WriteAt(b"p", 15, b"z", Err(Gap)),
+        Step::Holds(b"p", LINES),
+        Step::WriteAt(b"p", 14, b"z", Ok(())),
+        Step::Holds(b"p", b"b\naab\naabc\ncb\nz"),
+        Step::ReadAt(b"p", 15, Ok(0), b"...."),
+        Step::ReadAt(b"p", 99, Ok(0), b"...."),
+        Step::ReadAt(b"q", 0, Err(Missing), b"...."),
+        Step::ReadAt(b"p", 12, Ok(3), b"b\nz."),
+        Step::ReadAt(b"p", 2, Ok(4), b"aab\n"),
+        Step::WriteAt(b"p", 13, b"123", Ok(())),
+        Step::WriteAt(b"p", 0, b"X", Ok(())),
+        Step::Holds(b"p", b"X\naab\naabc\ncb123"),
+    ];
     let mut set = with_p(rt.alloc())?;
-    assert_eq!(rt;
-        set.write_at(b"p".as_slice(), 15, b"z".as_slice()),
-        Err(FilesFault::Gap)
-    );
-    assert!(rt; holds(&set, b"p".as_slice(), lines()));
-    set.write_at(b"p".as_slice(), 14, b"z".as_slice())?;
-    assert!(rt; holds(&set, b"p".as_slice(), b"b\naab\naabc\ncb\nz".as_slice()));
-    let mut buf = [b'.'; 4];
-    assert_eq!(rt; set.read_at(b"p".as_slice(), 15, &mut buf), Ok(0));
-    assert_eq!(rt; set.read_at(b"p".as_slice(), 99, &mut buf), Ok(0));
-    assert_eq!(rt;
-        set.read_at(b"q".as_slice(), 0, &mut buf),
-        Err(FilesFault::Missing)
-    );
-    assert_eq!(rt; buf.as_slice(), b"....".as_slice());
-    assert_eq!(rt; set.read_at(b"p".as_slice(), 12, &mut buf), Ok(3));
-    assert_eq!(rt; buf.as_slice(), b"b\nz.".as_slice());
-    assert_eq!(rt; set.read_at(b"p".as_slice(), 2, &mut buf), Ok(4));
-    assert_eq!(rt; buf.as_slice(), b"aab\n".as_slice());
-    set.write_at(b"p".as_slice(), 13, b"123".as_slice())?;
-    set.write_at(b"p".as_slice(), 0, b"X".as_slice())?;
-    assert!(rt; holds(&set, b"p".as_slice(), b"X\naab\naabc\ncb123".as_slice()));
-    Ok(())
-}
-
-#[test]
-fn appends(rt: HostRuntime) -> Result<(), Fail> {
-    let mut set = with_p(rt.alloc())?;
-    assert_eq!(rt; set.append(b"p".as_slice(), b"z".as_slice()), Ok(15));
-    assert!(rt; holds(&set, b"p".as_slice(), b"b\naab\naabc\ncb\nz".as_slice()));
-    assert_eq!(rt; set.append(b"p".as_slice(), &[]), Ok(15));
-    let before = set.copy(rt.alloc())?;
-    assert_eq!(rt;
-        set.append(b"q".as_slice(), lines()),
-        Err(FilesFault::Missing)
-    );
-    let most = vec![in rt.alloc(); 7u8; 274_417]?;
-    let more = vec![in rt.alloc(); 7u8; 274_418]?;
-    assert_eq!(rt;
-        set.append(b"p".as_slice(), more.as_slice()),
-        Err(FilesFault::FullSize)
-    );
-    assert!(rt; set.same(&before));
-    assert_eq!(rt; set.append(b"p".as_slice(), most.as_slice()), Ok(274_432));
-    assert_eq!(rt; set.append(b"p".as_slice(), &[]), Ok(274_432));
-    assert_eq!(rt;
-        set.append(b"p".as_slice(), b"z".as_slice()),
-        Err(FilesFault::FullSize)
-    );
-    Ok(())
+    go(&mut set, &steps)
 }
 
 #[test]
 fn empties_and_creates(rt: HostRuntime) -> Result<(), Fail> {
+    let steps = [
+        Step::Create(b"q", Ok(())),
+        Step::Count(2),
+        Step::Holds(b"q", b""),
+        Step::Create(b"p", Ok(())),
+        Step::Count(2),
+        Step::Holds(b"p", LINES),
+        Step::Truncate(b"p", Ok(())),
+    ];
     let mut set = with_p(rt.alloc())?;
-    set.create(b"q".as_slice())?;
-    assert_eq!(rt; set.count(), 2);
-    assert!(rt; holds(&set, b"q".as_slice(), b"".as_slice()));
-    set.create(b"p".as_slice())?;
-    assert_eq!(rt; set.count(), 2);
-    assert!(rt; holds(&set, b"p".as_slice(), lines()));
-    set.truncate(b"p".as_slice())?;
-    let copy = set.copy(rt.alloc())?;
-    assert_eq!(rt; copy.count(), 2);
-    assert!(rt; holds(&copy, b"p".as_slice(), b"".as_slice()));
-    assert!(rt; set.same(&copy));
-    Ok(())
+    go(&mut set, &steps)?;
+    is_copied(rt.alloc(), &set)
+}
+
+// A copy is the same, and holds the same.
+fn is_copied(alloc: Global, set: &Files<Global>) -> Result<(), Fail> {
+    let mut copy = set.copy(alloc)?;
+    if !set.same(&copy) {
+        return Err(Fail::from("another set"));
+    }
+    go(&mut copy, &[Step::Count(2), Step::Holds(b"p", b"")])
+}
+
+const FAULTS: [(FilesFault, &str); 6] = [
+    (FilesFault::BadName, "bad file name"),
+    (FilesFault::Missing, "no such file"),
+    (FilesFault::FullFiles, "too many files"),
+    (FilesFault::FullSize, "file too large"),
+    (FilesFault::Memory, "no memory"),
+    (FilesFault::Gap, "write past the end of the file"),
+];
+
+// Whether the fault has this number and this text.
+fn is_told(alloc: Global, fault: FilesFault, number: usize, text: &str) -> Result<bool, Fail> {
+    let told = fault.to_string(alloc)?;
+    Ok(fault as usize == number && told.as_str() == text)
 }
 
 #[test]
 fn faults_have_numbers_and_texts(rt: HostRuntime) -> Result<(), Fail> {
-    let faults = [
-        (FilesFault::BadName, "bad file name"),
-        (FilesFault::Missing, "no such file"),
-        (FilesFault::FullFiles, "too many files"),
-        (FilesFault::FullSize, "file too large"),
-        (FilesFault::Memory, "no memory"),
-        (FilesFault::Gap, "write past the end of the file"),
-    ];
-    for (i, (fault, text)) in faults.iter().enumerate() {
-        assert_eq!(rt; *fault as usize, i + 1);
-        assert_eq!(rt; fault.to_string(rt.alloc())?.as_str(), *text);
+    for (i, (fault, text)) in FAULTS.iter().enumerate() {
+        assert!(rt; is_told(rt.alloc(), *fault, i + 1, text)?, "{text}");
     }
     Ok(())
 }

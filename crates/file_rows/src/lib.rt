@@ -4,6 +4,10 @@
 #[cfg(test)]
 mod files;
 #[cfg(test)]
+mod full_heaps;
+#[cfg(test)]
+mod limits;
+#[cfg(test)]
 mod lists;
 #[cfg(test)]
 mod machines;
@@ -13,3 +17,5 @@ mod memory;
 mod named;
 #[cfg(test)]
 mod pipes;
+#[cfg(test)]
+mod steps;

@@ -27,18 +27,15 @@ fn push(lists: &mut SlotLists, list: usize, slot: usize) {
 #[test]
 fn slots_come_in_the_order_of_their_pushes(rt: HostRuntime) {
     let mut lists = SlotLists::new();
-    assert_eq!(rt; (lists.first(0), lists.list_with(7)), (None, None));
+    assert!(rt; lists.first(0).is_none() && lists.list_with(7).is_none());
     for slot in [7usize, 0, 63] {
         push(&mut lists, 0, slot);
     }
     push(&mut lists, 71, 5);
-    assert_eq!(rt;
-        (lists.list_with(63), lists.list_with(5)),
-        (Some(0), Some(71))
-    );
-    assert_eq!(rt; taken(&mut lists, 0), [Some(7), Some(0), Some(63), None]);
-    assert_eq!(rt; taken(&mut lists, 71), [Some(5), None, None, None]);
-    assert_eq!(rt; (lists.list_with(63), lists.list_with(5)), (None, None));
+    assert!(rt; lists.list_with(63) == Some(0) && lists.list_with(5) == Some(71));
+    assert!(rt; taken(&mut lists, 0) == [Some(7), Some(0), Some(63), None]);
+    assert!(rt; taken(&mut lists, 71) == [Some(5), None, None, None]);
+    assert!(rt; lists.list_with(63).is_none() && lists.list_with(5).is_none());
 }
 
 #[test]
@@ -51,5 +48,5 @@ fn a_slot_is_taken_out_of_any_place(rt: HostRuntime) {
     lists.remove(2);
     lists.remove(9);
     push(&mut lists, 8, 2);
-    assert_eq!(rt; taken(&mut lists, 8), [Some(1), Some(3), Some(4), Some(2)]);
+    assert!(rt; taken(&mut lists, 8) == [Some(1), Some(3), Some(4), Some(2)]);
 }

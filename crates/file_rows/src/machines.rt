@@ -41,38 +41,56 @@ impl Machine for Countdown {
     }
 }
 
+// Whether the call writes this one byte on descriptor 1.
+fn writes(call: &Call, byte: u8) -> bool {
+    match call {
+        Call::Write(1, block) => block.as_slice() == [byte].as_slice(),
+        _ => false,
+    }
+}
+
 #[test]
 fn a_run_keeps_what_belongs_together(rt: HostRuntime) {
     let machine = Countdown { left: 2 };
     let ran = Ran::make(machine.twin(), Reply::Start);
-    assert!(rt; ran.before().same(&machine));
-    assert!(rt; matches!(ran.reply(), Reply::Start));
-    assert!(rt;
-        matches!(ran.call(), Call::Write(1, block) if block.as_slice() == [2u8].as_slice())
-    );
-    let after = ran.into_after();
-    assert_eq!(rt; after.left, 1);
+    assert!(rt; ran.before().same(&machine) && matches!(ran.reply(), Reply::Start));
+    assert!(rt; writes(ran.call(), 2));
+    assert!(rt; ran.into_after().left == 1);
+}
 
+#[test]
+fn a_run_is_taken_apart(rt: HostRuntime) {
     let last = Ran::make(Countdown { left: 0 }, Reply::Done);
     assert!(rt; matches!(last.call(), Call::Exit));
-
     let (call, after) = Ran::make(Countdown { left: 9 }, Reply::Done).into_parts();
-    assert!(rt; matches!(call, Call::Write(1, block) if block.as_slice() == [9u8].as_slice()));
-    assert_eq!(rt; after.left, 8);
+    assert!(rt; writes(&call, 9) && after.left == 8);
 }
 
 #[test]
 fn blocks_hold_1024_bytes(rt: HostRuntime) {
     let long = [7u8; 1025];
-    assert_eq!(rt; Block::from_slice(&long).as_slice().len(), 1024);
-    let mut block = Block::from_slice(b"ab".as_slice());
-    block.append(b"".as_slice());
-    block.append(b"cd".as_slice());
-    assert_eq!(rt; block.as_slice(), b"abcd".as_slice());
+    assert!(rt; Block::from_slice(&long).as_slice().len() == 1024);
+    let mut block = Block::from_slice(b"ab");
+    block.append(b"");
+    block.append(b"cd");
+    assert!(rt; block.as_slice() == b"abcd".as_slice());
     assert!(rt; block.same(&block.twin()) && !block.same(&Block::new()));
     block.append(&long);
-    assert_eq!(rt; block.as_slice().len(), 1024);
-    assert_eq!(rt; block.as_slice()[4], 7);
+    assert!(rt; block.as_slice().len() == 1024 && block.as_slice()[4] == 7);
+}
+
+// Whether of these replies the one at the place alone is the same as its twin.
+fn is_same_alone(replies: &[Reply], place: usize) -> bool {
+    let Some(reply) = replies.get(place) else {
+        return false;
+    };
+    let twin = reply.twin();
+    for (other, reply) in replies.iter().enumerate() {
+        if twin.same(reply) != (other == place) {
+            return false;
+        }
+    }
+    true
 }
 
 #[test]
@@ -82,17 +100,14 @@ fn replies_are_same_as_their_twins_alone(rt: HostRuntime) {
         Reply::Child,
         Reply::Done,
         Reply::Bytes(Block::new()),
-        Reply::Bytes(Block::from_slice(b"a".as_slice())),
+        Reply::Bytes(Block::from_slice(b"a")),
         Reply::Fd(3),
         Reply::Fd(4),
         Reply::Ends(3, 4),
         Reply::Ends(4, 3),
         Reply::Refused,
     ];
-    for i in 0..replies.len() {
-        let twin = replies[i].twin();
-        for j in 0..replies.len() {
-            assert_eq!(rt; twin.same(&replies[j]), i == j, "at {i} and {j}");
-        }
+    for place in 0..replies.len() {
+        assert!(rt; is_same_alone(&replies, place), "at {place}");
     }
 }
