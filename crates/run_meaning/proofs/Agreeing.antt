@@ -13,7 +13,7 @@ use Rattle.kernel_core.specs.ScriptRun.{script_kernel}
 use Rattle.xvsh_read.specs.Path.{Path}
 use Rattle.xvsh_read.specs.Starting.{Starts}
 use Rattle.xvsh_runs.specs.Lists.{IsWritten}
-use Rattle.xvsh.specs.Ends.{How, on_harts, by_schedule, RanBy}
+use Rattle.xvsh_ends.specs.Ends.{How, on_harts, by_schedule, RanBy}
 use Rattle.xvsh_plain.specs.Running.{RanPlain}
 use Rattle.run_meaning.specs.Told.{IsTold, IsSettledAt}
 use Rattle.run_meaning.specs.Written.{AddsTheSame, no_lists}

@@ -9,11 +9,10 @@ use Rattle.xvsh_read.specs.Path.{Path}
 use Rattle.xvsh_runs.specs.declared.fault.RunFault.{RunFault}
 use Rattle.xvsh_runs.specs.declared.fault.RunFault.TheVariants.{Common, BadHarts, BadTurns, Spent, SharedInput, NoEvent, NotRunnable, NotRunning, Unfinished}
 use Rattle.xvsh_runs.specs.Status.{run_status}
-use Rattle.xvsh.specs.Drive.{verdict_text}
-use Rattle.xvsh.specs.Ends.{Request, asks_plain, asks_run, asks_strict, asks_check, asks_turns, asks_explain, verdict_status, help, misuse, How, by_schedule, RanBy, Ends, plain_ran, no_plain, ran, ran_full, no_run, ran_strict, strict_full, no_strict, harmless, harmful, no_check, counted, not_counted, explained, not_explained, helped, misused, no_memory, unwritten}
+use Rattle.xvsh_ends.specs.Ends.{verdict_text, Request, asks_plain, asks_run, asks_strict, asks_check, asks_turns, asks_explain, verdict_status, help, misuse, How, by_schedule, RanBy, Ends, plain_ran, no_plain, ran, ran_full, no_run, ran_strict, strict_full, no_strict, harmless, harmful, no_check, counted, not_counted, explained, not_explained, helped, misused, no_memory, unwritten}
 use Rattle.xvsh_plain.specs.Running.{RanPlain}
-use Rattle.xvsh.specs.Strict.{RanStrict}
-use Rattle.xvsh.proofs.Ending.{some_status}
+use Rattle.xvsh_strict.specs.Strict.{RanStrict}
+use Rattle.xvsh_ends.proofs.Ending.{some_status}
 use Rattle.run_meaning.specs.Told.{IsTold, IsSettledAt}
 use Rattle.run_meaning.specs.Written.{AddsTheSame, no_lists}
 use Rattle.run_meaning.proofs.Agreeing.{agrees, runs_agree}

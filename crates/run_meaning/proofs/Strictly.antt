@@ -9,8 +9,8 @@ use Rattle.sh_meaning.specs.Meaning.{script_meaning}
 use Rattle.sh_meaning.specs.Settled.{IsSettledScript}
 use Rattle.xvsh_read.specs.Path.{Path}
 use Rattle.xvsh_runs.specs.declared.report.Lists.{Lists}
-use Rattle.xvsh.specs.Ends.{Ends, asks_strict}
-use Rattle.xvsh.specs.Strict.{RanStrict}
+use Rattle.xvsh_ends.specs.Ends.{Ends, asks_strict}
+use Rattle.xvsh_strict.specs.Strict.{RanStrict}
 use Rattle.run_meaning.specs.Told.{IsTold}
 use Rattle.run_meaning.specs.Written.{AddsTheSame, WritesMeaningAt, no_lists}
 use Rattle.run_meaning.proofs.Meant.{means}

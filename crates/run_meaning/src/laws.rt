@@ -11,7 +11,7 @@ ghost use Rattle.sh_meaning.specs.Settled.{IsSettledScript};
 ghost use Rattle.xvsh_read.specs.Path.{Path};
 ghost use Rattle.xvsh_runs.specs.Runs.{RanReplay, RanRun};
 ghost use Rattle.xvsh_runs.specs.declared.report.Lists.{Lists};
-ghost use Rattle.xvsh.specs.Ends.{Ends, How, RanBy, asks_plain, asks_run, asks_strict, by_schedule};
+ghost use Rattle.xvsh_ends.specs.Ends.{Ends, How, RanBy, asks_plain, asks_run, asks_strict, by_schedule};
 ghost use Rattle.xvsh_plain.specs.Running.{RanPlain};
 ghost use Rattle.run_meaning.specs.Told.{IsSettledAt, IsTold};
 ghost use Rattle.run_meaning.specs.Written.{AddsTheSame, WritesMeaningAt, WritesValue, no_lists};

@@ -1,7 +1,6 @@
 -- What the program does with the script that its host holds.
-use Rattle.std.specs.Prelude.{ℕ, Bool, true, false, List, [], Option, IfSome, codes}
+use Rattle.std.specs.Prelude.{ℕ, List, [], Option, IfSome}
 use Rattle.std.specs.Io.KnownBytes.{Appends}
-use Rattle.mem_files.specs.Name.{Bytes}
 use Rattle.mem_files.specs.Files.{no_files}
 use Rattle.script_load.specs.declared.profile.Profile.TheVariants.{Xv6}
 use Rattle.script_load.specs.Line.{ScriptLine}
@@ -13,8 +12,3 @@ use Rattle.script_load.specs.Script.{IsScript}
 abbrev pub WritesMeaning : Option (List ℕ) → Option (List ℕ) → Option (List ℕ) → Type 0
 WritesMeaning told old new =
     IfSome told (λ bytes. (lines : List ScriptLine) × IsScript bytes lines × Appends old new (script_meaning Xv6 lines [] no_files).out)
-
--- what is told of the verdict
-abbrev pub verdict_text : Bool → Bytes
-verdict_text true = codes "settled\n"
-verdict_text false = codes "not settled\n"

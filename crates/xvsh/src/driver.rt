@@ -1,10 +1,8 @@
-ghost use Rattle.std.specs.Prelude.{◌≡◌, ◌≢◌, ℕ, List, [], codes, IsTrue, false, Option};
-ghost use Rattle.xvsh.specs.Drive.{WritesMeaning, verdict_text};
-ghost use Rattle.xvsh.specs.Ends.{Ends, Request, asks_plain, asks_check, asks_turns, asks_explain, check_status};
+ghost use Rattle.std.specs.Prelude.{◌≡◌, ◌≢◌, ℕ, List, [], codes, false, Option};
+ghost use Rattle.xvsh_ends.specs.Ends.{Ends, Request, asks_plain};
+ghost use Rattle.xvsh.specs.Drive.{WritesMeaning};
 
 use crate::processes::{do_replay, do_run};
-use crate::told::{tell, tell_text, verdict_status};
-use crate::words::{command_line, profile_of};
 use clap::ArgMatches;
 use clap::error::ErrorKind;
 use script_load::Profile;
@@ -13,107 +11,9 @@ use std::io::Write;
 use std::sync::Wait;
 use std::thread::Threads;
 use std::time::Clock;
-use xvsh_checks::{run_check, run_explain, run_turns};
-use xvsh_plain::run_plain;
+use xvsh_ends::{end_check, end_explain, end_plain, end_turns, tell, tell_text};
 use xvsh_read::{Fault, Host, STDIN};
-
-// What is told of the verdict.
-fn verdict(is_settled: bool) -> &'static str
-    ensures { result.now ≡ verdict_text is_settled }
-{
-    if is_settled {
-        "settled\n"
-    } else {
-        "not settled\n"
-    }
-}
-
-// Runs a script, tells whether it is settled or why it wasn't run, and gives the status.
-fn end_plain<'a, H: Host, W: Write, E: Write>(
-    alloc: Global,
-    host: &mut H,
-    profile: Profile,
-    script: &'a str,
-    paths: &[&'a str],
-    lists_files: bool,
-    is_strict: bool,
-    out: &mut W,
-    err: &mut E,
-) -> u8
-    ensures ends { Ends (H.input host.old) (H.file host.old) (W.contents out.old) (W.contents out.new)
-        (E.contents err.old) (E.contents err.new) (asks_plain profile script.now paths.now lists_files is_strict) result }
-    ensures nothing_written { result ≢ 0 → result ≢ 1 → (IsTrue is_strict → result ≢ 3) → out.new ≡ out.old }
-{
-    match run_plain(alloc, host, profile, script, paths, lists_files, out) {
-        Ok(is_settled) => {
-            let status = verdict_status(is_strict, is_settled);
-            tell_text(verdict(is_settled), status, err)
-        }
-        Err(fault) => tell(fault, err),
-    }
-}
-
-// The status of a check, and of what is told in sentences.
-fn check_status(is_harmless: bool) -> u8
-    ensures { result ≡ check_status is_harmless }
-{
-    if is_harmless { 0 } else { 3 }
-}
-
-// Checks a script, tells why where it can't, and gives the status.
-fn end_check<H: Host, W: Write, E: Write>(
-    alloc: Global,
-    host: &mut H,
-    script: &str,
-    out: &mut W,
-    err: &mut E,
-) -> u8
-    ensures ends { Ends (H.input host.old) (H.file host.old) (W.contents out.old) (W.contents out.new)
-        (E.contents err.old) (E.contents err.new) (asks_check script.now) result }
-    ensures nothing_written { result ≢ 0 → result ≢ 1 → result ≢ 3 → out.new ≡ out.old }
-{
-    match run_check(alloc, host, script, out) {
-        Ok(is_harmless) => check_status(is_harmless),
-        Err(fault) => tell(fault, err),
-    }
-}
-
-// Checks a script and counts its turns, tells why where it can't, and gives the status.
-fn end_turns<'a, H: Host, W: Write, E: Write>(
-    alloc: Global,
-    host: &mut H,
-    script: &'a str,
-    paths: &[&'a str],
-    out: &mut W,
-    err: &mut E,
-) -> u8
-    ensures ends { Ends (H.input host.old) (H.file host.old) (W.contents out.old) (W.contents out.new)
-        (E.contents err.old) (E.contents err.new) (asks_turns script.now paths.now) result }
-    ensures nothing_written { result ≢ 0 → result ≢ 1 → result ≢ 3 → out.new ≡ out.old }
-{
-    match run_turns(alloc, host, script, paths, out) {
-        Ok(is_harmless) => check_status(is_harmless),
-        Err(fault) => tell(fault, err),
-    }
-}
-
-// Tells of a script in sentences, or why it can't, and gives the status.
-fn end_explain<H: Host, W: Write, E: Write>(
-    alloc: Global,
-    host: &mut H,
-    script: &str,
-    out: &mut W,
-    err: &mut E,
-) -> u8
-    ensures ends { Ends (H.input host.old) (H.file host.old) (W.contents out.old) (W.contents out.new)
-        (E.contents err.old) (E.contents err.new) (asks_explain script.now) result }
-    ensures nothing_written { result ≢ 0 → result ≢ 1 → result ≢ 3 → out.new ≡ out.old }
-{
-    match run_explain(alloc, host, script, out) {
-        Ok(is_fine) => check_status(is_fine),
-        Err(fault) => tell(fault, err),
-    }
-}
+use xvsh_words::{command_line, profile_of};
 
 // `plain` with these words.
 fn do_plain<'a, H: Host, W: Write, E: Write>(

@@ -4,10 +4,7 @@
 mod driver;
 mod processes;
 mod program;
-mod strict;
 mod system;
-mod told;
-mod words;
 
 pub use driver::drive;
 pub use program::run;

@@ -1,4 +1,4 @@
-use Rattle.xvsh.proofs.Ending.{run_writes_meaning}
+use Rattle.xvsh.proofs.Meaning.{run_writes_meaning}
 use Rattle.xvsh.proofs.driver.drive.Goals as goal
 
 pub returns-then-is_empty-clause-meaning : goal.returns-then-is_empty-clause-meaning

@@ -1,6 +1,6 @@
 use Rattle.std.proofs.Common.{[]}
-use Rattle.xvsh.specs.Ends.{misuse, misused}
-use Rattle.xvsh.proofs.Ending.{keeps_same, appends_none}
+use Rattle.xvsh_ends.specs.Ends.{misuse, misused}
+use Rattle.xvsh_ends.proofs.Ending.{keeps_same, appends_none}
 use Rattle.xvsh.proofs.driver.end_command.Goals as goal
 
 pub returns-in_default-subcommand_matches-4-clause-ends :

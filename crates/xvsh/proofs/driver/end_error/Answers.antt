@@ -1,5 +1,5 @@
 use Rattle.std.proofs.Common.{refl}
-use Rattle.xvsh.proofs.Ending.{no_words, told_misuse, told_help}
+use Rattle.xvsh_ends.proofs.Ending.{no_words, told_misuse, told_help}
 use Rattle.xvsh.proofs.driver.end_error.Goals as goal
 
 pub returns-then-eq-clause-ends : goal.returns-then-eq-clause-ends

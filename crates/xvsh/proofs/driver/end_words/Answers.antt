@@ -1,5 +1,5 @@
 use Rattle.std.proofs.Common.{refl}
-use Rattle.xvsh.proofs.Ending.{no_words}
+use Rattle.xvsh_ends.proofs.Ending.{no_words}
 use Rattle.xvsh.proofs.driver.end_words.Goals as goal
 
 pub returns-in_default-clause-ends : goal.returns-in_default-clause-ends

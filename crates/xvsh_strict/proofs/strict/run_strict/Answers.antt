@@ -1,0 +1,49 @@
+use Rattle.std.proofs.Common.{IsTrue, subst}
+use Rattle.std.specs.Prelude.{◌↔◌}
+use Rattle.std.proofs.lemmas.Result.{err_from_is_err_and}
+use Rattle.mem_files.specs.Files.{files}
+use Rattle.script_load.specs.Line.{lines_of}
+use Rattle.sh_meaning.specs.Settled.{IsSettledScript}
+use Rattle.kernel_core.specs.ScriptRun.{script_kernel}
+use Rattle.xvsh_runs.specs.Runs.{RanOn}
+use Rattle.xvsh_runs.specs.Why.{IsHartsFault, no_start, no_run}
+use Rattle.xvsh_plain.specs.Running.{IsRunFault}
+use Rattle.xvsh_strict.specs.Strict.{no_verdict, no_strict_run}
+use Rattle.xvsh_strict.proofs.strict.run_strict.Goals as goal
+
+pub returns-in_err-start-clause-fault : goal.returns-in_err-start-clause-fault
+returns-in_err-start-clause-fault g c =
+    let p = err_from_is_err_and c.from_residual.result c.from_residual.ensures.1 in
+    rw (p.1, p.2) (no_strict_run (no_start c.in_err-start.ensures.fault))
+
+pub returns-in_err-is_settled-clause-fault : goal.returns-in_err-is_settled-clause-fault
+returns-in_err-is_settled-clause-fault g c =
+    let p = err_from_is_err_and c.from_residual-in_err-is_settled.result c.from_residual-in_err-is_settled.ensures.1 in
+    let start = c.in_ok-start.start in
+    let lines = lines_of start.script.lines in
+    rw (p.1, p.2) (no_verdict lines start.files start.stdin.items c.in_ok-start.ensures.prepared (subst (λ profile. IsRunFault profile lines start.stdin.items (files start.files) c.in_err-is_settled.field-0.0) c.in_ok-start.ensures.profile c.in_err-is_settled.ensures.fault))
+
+pub returns-in_err-full-clause-fault : goal.returns-in_err-full-clause-fault
+returns-in_err-full-clause-fault g c =
+    let p = err_from_is_err_and c.from_residual-in_err-full.result c.from_residual-in_err-full.ensures.1 in
+    let start = c.in_ok-start.start in
+    let lines = lines_of start.script.lines in
+    rw (p.1, p.2) (no_strict_run (no_run lines start.files start.stdin.items c.in_ok-start.ensures.prepared (subst (λ profile. IsHartsFault (script_kernel profile lines start.stdin.items start.files) c.args.harts c.args.turns c.in_err-full.field-0.0) c.in_ok-start.ensures.profile c.in_err-full.ensures.fault)))
+
+pub returns-clause-ran : goal.returns-clause-ran
+returns-clause-ran g c =
+    let start = c.in_ok-start.start in
+    let lines = lines_of start.script.lines in
+    let given = start.files in
+    let stdin = start.stdin.items in
+    let same = c.in_ok-start.ensures.profile in
+    record {
+      ran = record {
+        lines = lines;
+        given = given;
+        stdin = stdin;
+        starts = c.in_ok-start.ensures.prepared;
+        on = subst (λ profile. RanOn (script_kernel profile lines stdin given) c.args.harts c.args.turns c.args.lists c.in_ok-full.full (g.W.Write.contents c.args.out.now) (g.W.Write.contents c.run_prepared.new.out) (g.E.Write.contents c.args.err.now) (g.E.Write.contents c.run_prepared.new.err)) same c.in_ok-full.ensures.ran;
+      };
+      settled = subst (λ profile. IsTrue c.in_ok-is_settled.is_settled ↔ IsSettledScript profile lines stdin (files given)) same c.in_ok-is_settled.ensures.settled;
+    }

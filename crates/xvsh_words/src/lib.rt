@@ -1,0 +1,6 @@
+//! The command line of the program.
+#![tactic(auto)]
+
+mod words;
+
+pub use words::{command_line, profile_of};

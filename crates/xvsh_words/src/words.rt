@@ -1,0 +1,268 @@
+//! The words that the program takes.
+ghost use Rattle.std.specs.Prelude.{◌≡◌};
+ghost use Rattle.xvsh_words.specs.Words.{profile_of};
+
+use clap::builder::ValueParser;
+use clap::{Arg, ArgAction, Command};
+use hart_threads::MAX_HARTS;
+use kernel_core::MAX_TURNS;
+use script_load::Profile;
+use std::alloc::{AllocError, Global};
+
+const ABOUT: &str = "Runs scripts of xv6's shell";
+
+const AFTER_HELP: &str = "\
+Without any words xvsh reads a script from standard input, as `xvsh plain -` does.
+
+A script is lines of at most 511 bytes. A line is commands joined by `|` (the left side's output is
+the right side's input) and `;` (one after the other); `( )` groups, `&` after a command doesn't wait
+for it, `< FILE`, `> FILE` and `>> FILE` take and put input and output. `>` empties the file, and
+`>>` writes over it from its beginning, as xv6 does, or with `--append` at its end. A command has at
+most nine words. There are no quotes, variables, patterns or comments. A line that is no command does
+nothing.
+
+Programs, which work on their input where no FILE is given:
+  cat [FILE]..            copies it
+  echo [WORD]..           writes its words
+  grep PATTERN [FILE]..   the lines that match; `^` is a line's beginning, `$` its end, `.` any byte,
+                          and `*` after a byte any number of it
+  head [-N] [FILE]..      the first 10 lines, or N
+  tee [FILE]..            copies its input to its output and to each FILE
+  wc [FILE]..             counts lines, words and bytes
+Any other name does nothing.
+
+Files live in memory, and none of them on the disk: at most 200, with names of 1 to 14 bytes and at
+most 274,432 bytes each. A script and a standard input have at most 1,048,576 bytes.
+
+Examples:
+  echo 'echo hello | cat > f; cat f' | xvsh
+  xvsh run script.sh notes/todo              # `todo` is a file of the script
+  xvsh plain --files script.sh notes/todo
+
+`run` has xv6's processes take turns, each until its next system call, on harts that work side by side,
+and tells what they tell, such as `open f failed`. Where something was full, as at a pipeline of more processes than there are, a
+last line `xvsh: full procs`, `open`, `descriptors`, `files`, `size` or `memory` says so. `run
+--schedule` ends its output with a line an event, and `replay` runs the script by those lines again.
+
+After `plain` one line goes to standard error: `settled` where the script prints the same in whatever
+order its processes run, and else `not settled`. `--files` marks as `soft` a file whose bytes may
+depend on that order.
+
+`xvsh check SCRIPT` writes, for the script's line N: `N fault K NAME at P` where it is no command,
+`N background` where it has a `&`, and `N clash KIND NAME` where two of its commands may come upon
+each other at a file: at the two sides of a pipe (PipeSides), or inside a redirection (Enclosing).
+`check --turns` ends with a line `turns N`: with `run --turns N` the script runs to its end, whatever
+the order of its processes, if it has no clash and no `&` and nothing is full.
+
+`xvsh explain SCRIPT` tells the same in sentences, and more: a `#` or a quote that is a letter here, a
+command that is no program, a name that no file can have, a `>>` that writes over. Each sentence comes
+with its line and marks under the place.
+
+Status: 0 done; 1 something can't be read, is refused, or can't be written, or is no schedule of a
+whole run; 2 usage; 3 `check` told of a clash or a `&`, `explain` told anything, or `--strict` ran a
+script that isn't settled; 4 full, spent, too large, or no memory.";
+
+const VERSION: &str = "0.1.0 (rattle logic dac8208d650f15bf)";
+
+// `--files`, which lists all files after the output.
+fn files_flag<'a>(alloc: Global, help: &'static str) -> Arg<'a> {
+    Arg::new(alloc, "files")
+        .long("files")
+        .help(help)
+        .action(ArgAction::SetTrue)
+}
+
+// `--append`, which names the profile.
+fn append_flag<'a>(alloc: Global) -> Arg<'a> {
+    Arg::new(alloc, "append")
+        .long("append")
+        .help("`>>` writes at a file's end; without it, from its beginning, as xv6 does")
+        .action(ArgAction::SetTrue)
+}
+
+// SCRIPT.
+fn script_word<'a>(alloc: Global, help: &'static str) -> Arg<'a> {
+    Arg::new(alloc, "script")
+        .value_name("SCRIPT")
+        .help(help)
+        .required(true)
+        .action(ArgAction::Set)
+}
+
+// The files of the script.
+fn file_words<'a>(alloc: Global) -> Arg<'a> {
+    Arg::new(alloc, "paths")
+        .value_name("FILE")
+        .help("Files for the script, each under the part of its path after the last `/`")
+        .num_args(0..)
+        .action(ArgAction::Append)
+}
+
+const SCRIPT_HELP: &str =
+    "The script's path; `-` is standard input, and the script's own input is then empty";
+
+const RUN_ABOUT: &str = "Runs a script by its processes, as xv6 does, and tells their diagnostics";
+
+// `--strict`, under which the status tells whether a script is settled.
+fn strict_flag<'a>(alloc: Global) -> Arg<'a> {
+    Arg::new(alloc, "strict")
+        .long("strict")
+        .help("End with status 3 if the script isn't settled")
+        .action(ArgAction::SetTrue)
+}
+
+// `--harts` of `run`.
+fn harts_option<'a>(alloc: Global) -> Arg<'a> {
+    Arg::new(alloc, "harts")
+        .long("harts")
+        .value_name("N")
+        .help("On so many harts (hardware threads, each a thread here), 1 to 8; 4 without it")
+        .value_parser(ValueParser::unsigned(1, MAX_HARTS as u64))
+        .action(ArgAction::Set)
+}
+
+// `--turns` of `run`.
+fn turns_option<'a>(alloc: Global) -> Arg<'a> {
+    Arg::new(alloc, "turns")
+        .long("turns")
+        .value_name("N")
+        .help("In at most so many events, 1 to 1000000000; 10000000 without it")
+        .value_parser(ValueParser::unsigned(1, MAX_TURNS))
+        .action(ArgAction::Set)
+}
+
+// `--schedule`, which lists the events last.
+fn schedule_flag<'a>(alloc: Global) -> Arg<'a> {
+    Arg::new(alloc, "schedule")
+        .long("schedule")
+        .help("Write a line an event last: `D HART PROCESS` or `T HART PROCESS`")
+        .action(ArgAction::SetTrue)
+}
+
+fn run_command<'a>(alloc: Global) -> Result<Command<'a>, AllocError> {
+    let args = vec![in alloc;
+        harts_option(alloc),
+        turns_option(alloc),
+        schedule_flag(alloc),
+        strict_flag(alloc),
+        append_flag(alloc),
+        files_flag(alloc, RUN_FILES_HELP),
+        script_word(alloc, SCRIPT_HELP),
+        file_words(alloc),
+    ]?;
+    Command::new(alloc, "run").about(RUN_ABOUT).args(args)
+}
+
+const RUN_FILES_HELP: &str =
+    "Write all files after the output: `-- NAME LENGTH`, the bytes, a line's end";
+
+const REPLAY_ABOUT: &str = "Runs a script by the events that `run --schedule` wrote";
+
+// SCHEDULE.
+fn schedule_word<'a>(alloc: Global) -> Arg<'a> {
+    Arg::new(alloc, "events")
+        .value_name("SCHEDULE")
+        .help(
+            "The schedule's path; `-` is standard input, and the script's own input is then empty",
+        )
+        .required(true)
+        .action(ArgAction::Set)
+}
+
+fn replay_command<'a>(alloc: Global) -> Result<Command<'a>, AllocError> {
+    let args = vec![in alloc;
+        append_flag(alloc),
+        files_flag(alloc, RUN_FILES_HELP),
+        schedule_word(alloc),
+        script_word(alloc, SCRIPT_HELP),
+        file_words(alloc),
+    ]?;
+    Command::new(alloc, "replay").about(REPLAY_ABOUT).args(args)
+}
+
+const PLAIN_ABOUT: &str = "Runs a script, each pipe's left side to its end before its right side";
+
+const PLAIN_FILES_HELP: &str =
+    "Write all files after the output: `-- NAME LENGTH`, `soft` if it is soft, the bytes, a line's end";
+
+fn plain_command<'a>(alloc: Global) -> Result<Command<'a>, AllocError> {
+    let args = vec![in alloc;
+        strict_flag(alloc),
+        append_flag(alloc),
+        files_flag(alloc, PLAIN_FILES_HELP),
+        script_word(alloc, SCRIPT_HELP),
+        file_words(alloc),
+    ]?;
+    Command::new(alloc, "plain").about(PLAIN_ABOUT).args(args)
+}
+
+const CHECK_ABOUT: &str = "Tells where commands of a script may clash, and runs nothing";
+
+// `--turns` of `check`.
+fn counts_turns_flag<'a>(alloc: Global) -> Arg<'a> {
+    Arg::new(alloc, "turns")
+        .long("turns")
+        .help("Write last in how many turns the script runs to its end on the FILEs and its input")
+        .action(ArgAction::SetTrue)
+}
+
+fn check_command<'a>(alloc: Global) -> Result<Command<'a>, AllocError> {
+    let files = file_words(alloc).requires_arg("turns")?;
+    let args = vec![in alloc;
+        counts_turns_flag(alloc),
+        script_word(alloc, "The script's path; `-` is standard input"),
+        files,
+    ]?;
+    Command::new(alloc, "check").about(CHECK_ABOUT).args(args)
+}
+
+const EXPLAIN_ABOUT: &str =
+    "Tells in sentences what is wrong or unexpected in a script, and runs nothing";
+
+fn explain_command<'a>(alloc: Global) -> Result<Command<'a>, AllocError> {
+    Command::new(alloc, "explain").about(EXPLAIN_ABOUT).arg(script_word(
+        alloc,
+        "The script's path; `-` is standard input",
+    ))
+}
+
+/// What `>>` means, by whether `--append` is given.
+pub fn profile_of(appends: bool) -> Profile
+    ensures { result ≡ profile_of appends }
+{
+    if appends {
+        Profile::Append
+    } else {
+        Profile::Xv6
+    }
+}
+
+// The program's name, version and help, without a command.
+fn bare_command<'a>(alloc: Global) -> Result<Command<'a>, AllocError> {
+    let command = Command::new(alloc, "xvsh")
+        .no_binary_name(true)
+        .bin_name("xvsh")?
+        .about(ABOUT)
+        .version(VERSION)
+        .after_help(AFTER_HELP)
+        .disable_help_subcommand(true)
+        .subcommand_required(true);
+    Ok(command)
+}
+
+// What can be asked for: the commands that run scripts, and those that run nothing.
+fn commands<'a>(alloc: Global) -> Result<Vec<Command<'a>>, AllocError> {
+    let mut commands = Vec::new(alloc);
+    commands.push(run_command(alloc)?)?;
+    commands.push(replay_command(alloc)?)?;
+    commands.push(plain_command(alloc)?)?;
+    commands.push(check_command(alloc)?)?;
+    commands.push(explain_command(alloc)?)?;
+    Ok(commands)
+}
+
+/// The command line of the program.
+pub fn command_line<'a>(alloc: Global) -> Result<Command<'a>, AllocError> {
+    let commands = commands(alloc)?;
+    bare_command(alloc)?.subcommands(commands)
+}
