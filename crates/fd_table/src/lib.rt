@@ -10,8 +10,6 @@ mod entries;
 mod faults;
 pub mod laws;
 mod names;
-#[cfg(test)]
-mod tests;
 
 pub use descriptors::{DESCRIPTORS, Fds};
 pub use entries::{ENTRIES, Entry, OpenFiles};

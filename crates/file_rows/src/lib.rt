@@ -1,6 +1,8 @@
-//! Tests alone: files in memory, pipes, lists of slots, and the calls and replies of machines.
+//! Tests alone: files in memory, descriptors, pipes, lists of slots, and the calls and replies of machines.
 #![tactic(auto)]
 
+#[cfg(test)]
+mod descriptors;
 #[cfg(test)]
 mod files;
 #[cfg(test)]

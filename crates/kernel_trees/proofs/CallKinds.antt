@@ -6,7 +6,7 @@ use Rattle.std.proofs.lemmas.Bool.{ne_eqb}
 use Rattle.script_load.specs.declared.profile.Profile.{Profile}
 use Rattle.tree_machine.specs.Rules.{silent}
 use Rattle.kernel_shape.specs.Seen.{Entry, input, out, diag, reader, writer, file, Fds, Act, Seen, free, zombie, live, View}
-use Rattle.kernel_shape.specs.Shape.{Node, Has, same, occurs, names, is_there, is_up, is_used, stands_for}
+use Rattle.kernel_shape.specs.Shape.{Node, Has, same, occurs, names, is_there, is_used, stands_for}
 use Rattle.kernel_shape.specs.Effect.{ParentIs, Sets, Rest, Quiet, Forks, Exits, Reaps, given, EffectBy, IsCall}
 use Rattle.kernel_shape.specs.Part.{name_of, CanBeInput, CanBeOutput, Same, Moves, stays as stay, calls_left, After}
 use Rattle.kernel_shape.proofs.Counts.{same_self, same_cases, called_once, not_called}
@@ -32,12 +32,6 @@ module _ (V W : View) where
   not_given p free none = refl
   not_given p (zombie q) none = ap (λ (b : Bool). zombie (if b then 0 else q)) (ne_eqb p q (λ e. none (sym e)))
   not_given p (live q act put d) none = ap (λ (b : Bool). live (if b then 0 else q) act put d) (ne_eqb p q (λ e. none (sym e)))
-
-  not_free : (c q : ℕ) → V.slots c ≡ free → is_used (V.slots q) ≡ 1 → q ≢ c
-  not_free c q is used e = absurd (omega (arith, used, ap is_used (ap V.slots e ∙ is)))
-
-  not_child : (p c q : ℕ) → V.slots c ≡ zombie p → (ParentIs (V.slots q) p → ⊥) → q ≢ c
-  not_child p c q is none e = none (subst (λ s. ParentIs s p) (sym (ap V.slots e ∙ is)) refl)
 
   -- ---- names that stay
 

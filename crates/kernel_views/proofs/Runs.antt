@@ -1,6 +1,6 @@
 -- Along a run of a kernel from its start: what holds at the start and is kept by each event of a settled kernel, holds of
 -- each kernel of a run in which nothing was full.
-use Rattle.std.proofs.Common.{◌≡◌, List, [], ◌∷◌, ◌++◌, Bool, Option, Some, None, refl, sym, ap, ◌∙◌, subst}
+use Rattle.std.proofs.Common.{◌≡◌, List, [], ◌∷◌, ◌++◌, Bool, Option, Some, None, refl, sym, ◌∙◌, subst}
 use Rattle.mem_files.specs.Name.{Name, Bytes}
 use Rattle.mem_files.specs.Listing.{AreFiles}
 use Rattle.kernel_model.specs.declared.events.Event.{Event}
@@ -22,10 +22,6 @@ no_run [] [] m is = let z : ⊥ = cc in z
 no_run (e ∷ es) (n ∷ ns) m is = no_run es ns m is
 no_run [] (n ∷ ns) m is = let z : ⊥ = cc in z
 no_run (e ∷ es) [] m is = let z : ⊥ = cc in z
-
-appends_nothing : {X : Type 0} (xs : List X) (x : X) (ys : List X) → (xs ++ x ∷ []) ++ ys ≡ xs ++ x ∷ ys
-appends_nothing [] x ys = refl
-appends_nothing (y ∷ xs) x ys = ap (λ l. y ∷ l) (appends_nothing xs x ys)
 
 pub unmarked : (o : Option Full) → ((full : Full) → o ≡ Some full → ⊥) → o ≡ None
 unmarked None h = refl

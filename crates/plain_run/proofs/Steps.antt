@@ -27,9 +27,6 @@ pub output_is : (b : Bool) (input : Bytes) (F : FileMap) (done : Value) → b �
 output_is true input F done is = refl
 output_is false input F done is = let e : false ≡ true = is in cc
 
-on_opened : (b : Bool) (full body large : Type 0) → b ≡ true → OnOpened b full body large ≡ OnOpened true full body large
-on_opened b full body large is = ap (λ x. OnOpened x full body large) is
-
 -- over no bytes nothing else stands
 end_of_none : (profile : Profile) (w : Bytes) → over_end profile [] w ≡ w
 end_of_none Xv6 w = ap (λ x. w ++ x) (drop_all (length w) [] (omega arith)) ∙ append-nil w

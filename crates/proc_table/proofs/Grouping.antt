@@ -1,16 +1,16 @@
 -- The slots are grouped by what their heads are: a head that is put into a slot goes with it, and a test of heads is a key.
-use Rattle.std.proofs.Common.{◌≡◌, ◌⊎◌, inl, inr, ℕ, zero, suc, ◌+◌, ◌<◌, ◌≤◌, List, [], ◌∷◌, Bool, true, false, Option, Some, None, length, get_or, refl, sym, ap, subst, ◌∙◌, arith}
+use Rattle.std.proofs.Common.{◌≡◌, ◌⊎◌, inl, inr, ℕ, zero, suc, ◌+◌, ◌<◌, ◌≤◌, List, [], ◌∷◌, Bool, false, Option, Some, None, length, get_or, refl, sym, ap, subst, ◌∙◌, arith}
 use Rattle.std.proofs.Math.ListN.{set}
 use Rattle.std.proofs.lemmas.Bool.{cases_lt, le-ltb, ne_eqb}
 use Rattle.std.proofs.lemmas.List.{get_or_default, get_or_past, length-map, map-set}
-use Rattle.std.specs.Prelude.{All, IsTrue, ◌↔◌, ◌==◌, ◌&&◌, cond, map, count_by, nat_lt, not, position}
+use Rattle.std.specs.Prelude.{All, ◌==◌, ◌&&◌, cond, map, count_by, nat_lt, not, position}
 use Rattle.std.specs.List.{position_or_len}
 use Rattle.slot_lists.specs.Sets.{AreGrouped, both_of, is_key}
 use Rattle.slot_lists.proofs.Found.{counted_by, found_by}
 use Rattle.proc_table.specs.declared.heads.Head.{Head}
 use Rattle.proc_table.specs.declared.states.Status.{Status}
 use Rattle.proc_table.specs.declared.states.Status.TheVariants.{Runnable, Running, Asleep, Zombie}
-use Rattle.proc_table.specs.Slots.{is_number, is_runnable_status, is_running_on_status, is_running_status, is_zombie_status}
+use Rattle.proc_table.specs.Slots.{is_number, is_running_on_status, is_zombie_status}
 use Rattle.proc_table.specs.Heads.{IsOnHart, hart_by, hart_key, head_at, head_has, head_is_child_of, head_is_free, head_is_zombie_child_of, parent_key, state_key, state_number}
 use Rattle.proc_table.proofs.Kept.{all_fail, none_first}
 
@@ -35,24 +35,6 @@ free_key : (head : Option Head) → is_key 0 (state_key head) ≡ head_is_free h
 free_key None = refl
 free_key (Some head) = by head.status where
   by : (status : Status) → (0 == state_number status) ≡ false
-  by Runnable = refl
-  by (Running h) = refl
-  by (Asleep c) = refl
-  by Zombie = refl
-
-runnable_key : (head : Option Head) → is_key 1 (state_key head) ≡ head_has is_runnable_status head
-runnable_key None = refl
-runnable_key (Some head) = by head.status where
-  by : (status : Status) → (1 == state_number status) ≡ is_runnable_status status
-  by Runnable = refl
-  by (Running h) = refl
-  by (Asleep c) = refl
-  by Zombie = refl
-
-running_key : (head : Option Head) → is_key 2 (state_key head) ≡ head_has is_running_status head
-running_key None = refl
-running_key (Some head) = by head.status where
-  by : (status : Status) → (2 == state_number status) ≡ is_running_status status
   by Runnable = refl
   by (Running h) = refl
   by (Asleep c) = refl
@@ -94,12 +76,6 @@ first_on hart heads = found_by hart_key (is_key hart) (head_has (is_running_on_s
 
 pub count_free : (heads : List (Option Head)) → count_by (is_key 0) (map state_key heads) ≡ count_by head_is_free heads
 count_free heads = counted_by state_key (is_key 0) head_is_free free_key heads
-
-pub count_runnable : (heads : List (Option Head)) → count_by (is_key 1) (map state_key heads) ≡ count_by (head_has is_runnable_status) heads
-count_runnable heads = counted_by state_key (is_key 1) (head_has is_runnable_status) runnable_key heads
-
-pub count_running : (heads : List (Option Head)) → count_by (is_key 2) (map state_key heads) ≡ count_by (head_has is_running_status) heads
-count_running heads = counted_by state_key (is_key 2) (head_has is_running_status) running_key heads
 
 -- what has both keys
 both : (pid : ℕ) (heads : List (Option Head)) → both_of (map (is_key pid) (map parent_key heads)) (map (is_key 4) (map state_key heads)) ≡ map (head_is_zombie_child_of pid) heads

@@ -1,36 +1,23 @@
 -- wc's counts of some bytes and of those that follow them.
-use Rattle.std.proofs.Common.{◌≡◌, ◌∙◌, ℕ, ◌+◌, ◌^◌, ◌<◌, ◌≤◌, ◌==◌, Bool, [], ◌∷◌, ◌++◌, length, drop, refl, sym, ap, arith}
-use Rattle.std.specs.Prelude.{not, if◌then◌else◌}
+use Rattle.std.proofs.Common.{◌≡◌, ◌∙◌, ℕ, ◌+◌, ◌^◌, ◌<◌, ◌≤◌, Bool, [], ◌∷◌, ◌++◌, length, drop, refl, sym, ap, arith}
 use Rattle.std.specs.Fmt.{decimal}
 use Rattle.std.proofs.lemmas.List.{length-append, take_all, append-nil}
-use Rattle.std.proofs.lemmas.List.Sums.{sum_by-append}
 use Rattle.std.proofs.lemmas.Fmt.{length-decimal-le_wide}
-use Rattle.sh_lexer.specs.Tokens.{is_white}
 use Rattle.mem_files.specs.Name.{Name, Bytes}
 use Rattle.user_calls.specs.declared.block.TheConstants.{BLOCK_SIZE}
 use Rattle.prog_parts.specs.Wc.{line_ends, words_after, ends_inside, capped}
 use Rattle.user_progs.specs.State.{counting, wc_reads}
 use Rattle.user_progs.specs.Turn.{yields, counts_line, wc_got, block}
+use Rattle.prog_parts.proofs.CountsOfParts.{line_ends_more, words_more}
 use Rattle.prog_laws.specs.Alone.{Takes}
 use Rattle.prog_laws.specs.Still.{work_out}
 use Rattle.prog_laws.proofs.Work.{Kept, left_over}
-
-capped_more : (a b : ℕ) → capped (capped a + b) ≡ capped (a + b)
-capped_more a b = omega arith
 
 pub capped_again : (a : ℕ) → capped (capped a) ≡ capped a
 capped_again a = omega arith
 
 capped_small : (a : ℕ) → capped a ≡ a → a < 2 ^ 128
 capped_small a e = omega (arith, e)
-
-pub line_ends_more : (bytes more : Bytes) → line_ends (bytes ++ more) ≡ line_ends bytes + line_ends more
-line_ends_more bytes more = sum_by-append (λ (byte : ℕ). if byte == 10 then 1 else 0) bytes more
-
-pub words_more : (inside : Bool) (bytes more : Bytes) → words_after inside (bytes ++ more) ≡ words_after inside bytes + words_after (ends_inside inside bytes) more
-words_more inside [] more = omega arith
-words_more inside (b ∷ bytes) more =
-    let ih = words_more (not (is_white b)) bytes more in omega (arith, ih)
 
 digits_few : (n : ℕ) → n < 2 ^ 128 → length (decimal n) ≤ 39
 digits_few n small = length-decimal-le_wide 39 n (omega arith) (omega (arith, small)) (omega (arith, small))

@@ -24,7 +24,7 @@ use Rattle.prog_laws.specs.Tame.{Among}
 use Rattle.prog_laws.specs.Exits.{calls_on, bytes_told, bytes_read, most_calls, calls_after, calls_in, calls_of_tee, calls_left, tee_width, width}
 use Rattle.user_progs.proofs.Buffer.{at_match, at_other}
 use Rattle.prog_laws.proofs.Search.{by_lines}
-use Rattle.prog_laws.proofs.Counting.{line_ends_more}
+use Rattle.prog_parts.proofs.CountsOfParts.{line_ends_more}
 
 -- a turn calls Exit, or it makes one of so many calls
 abbrev pub Goes : ℕ → ℕ → Turn → Type 0

@@ -20,7 +20,7 @@ use Rattle.user_calls.specs.declared.calls.Reply.TheVariants.{Done, Bytes as Byt
 use Rattle.sh_meaning.specs.Inputs.{found}
 use Rattle.prog_parts.specs.Head.{line_count}
 use Rattle.user_progs.specs.State.{Filter, copying, heading, counting, searching, Source, standard, file, Work, Tee, tee_opens, tee_reads, tee_writes, tee_gives, State, begins, echo_word, echo_space, opens, works, closes, tees, told, ended}
-use Rattle.user_progs.specs.Turn.{Answer, yields, denies, strays, Step, reads, writes, finishes, fails, quits, bytes_in, fd_in, done_in, block, turn, turn_by, first_step, work_step, filter_of, name_of, fd_of, closed_by, begun_by, opens_next, begins_filter, begins_head, begins_program, echo_next, echo_end, tee_waits, tee_opens_next, tee_cannot_open, tee_opened, tee_got, tee_wrote, tee_turn}
+use Rattle.user_progs.specs.Turn.{Answer, yields, denies, strays, Step, reads, writes, finishes, fails, quits, bytes_in, fd_in, done_in, block, turn, turn_by, first_step, work_step, filter_of, name_of, fd_of, begun_by, opens_next, begins_filter, begins_head, begins_program, echo_next, echo_end, tee_waits, tee_opens_next, tee_cannot_open, tee_opened, tee_got, tee_wrote, tee_turn}
 use Rattle.prog_laws.specs.Alone.{OwnFile, World, is_to_read, held, moved_on, left_of_file, left_at, Takes, MayOpen, May, done_if, after_read, after_call}
 use Rattle.prog_laws.specs.Waits.{IsOpen, WorkWaits, TeeWaits, Waits}
 use Rattle.prog_laws.specs.Frame.{is_held, depends_on}
@@ -78,11 +78,6 @@ begun_ahead : (program : Program) (arguments : List Bytes) (said : Answer (Unit 
 begun_ahead program arguments (yields done) own L = program_ahead program arguments own L
 begun_ahead program arguments denies own L = omega arith
 begun_ahead program arguments strays own L = omega arith
-
-closed_ahead : (filter : Filter) (later : List Name) (said : Answer (Unit {0})) (own : List OwnFile) (L : Sizes) → files_ahead (closed_by filter later said).next own L ≤ all_sizes later L
-closed_ahead filter later (yields done) own L = next_ahead filter later own L
-closed_ahead filter later denies own L = omega arith
-closed_ahead filter later strays own L = omega arith
 
 -- tee reads no files
 wrote_none : (fds : List ℕ) (at : ℕ) (bytes : Bytes) (said : Answer (Unit {0})) (own : List OwnFile) (L : Sizes) → files_ahead (tee_wrote fds at bytes said).next own L ≤ 0

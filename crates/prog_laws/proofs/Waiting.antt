@@ -27,7 +27,7 @@ use Rattle.user_calls.specs.declared.calls.Reply.{Reply}
 use Rattle.user_calls.specs.declared.calls.Reply.TheVariants.{Done, Bytes as Bytes', Fd, Refused}
 use Rattle.prog_parts.specs.Head.{line_count}
 use Rattle.user_progs.specs.State.{Filter, copying, heading, counting, searching, Source, standard, file, Work, cat_reads, cat_writes, head_reads, head_writes, wc_reads, wc_writes, grep_reads, grep_writes, Tee, tee_opens, tee_reads, tee_writes, tee_gives, State, begins, echo_word, echo_space, opens, works, closes, tees, told, ended}
-use Rattle.user_progs.specs.Turn.{Answer, yields, denies, strays, Turn, Step, reads, writes, finishes, fails, quits, exits, tells, name_of_program, bytes_in, fd_in, done_in, turn, turn_by, first_step, work_step, filter_of, fd_of, block, opened_by, closed_by, begun_by, opens_next, begins_filter, begins_head, begins_program, echo_next, echo_end, cat_got, cat_wrote, head_got, head_goes_on, head_wrote, wc_got, grep_got, grep_goes_on, grep_lines, name_of, tee_opened, tee_turn}
+use Rattle.user_progs.specs.Turn.{Answer, yields, denies, strays, Turn, Step, reads, writes, finishes, fails, quits, tells, name_of_program, bytes_in, fd_in, done_in, turn, turn_by, first_step, work_step, filter_of, fd_of, block, opened_by, closed_by, begun_by, opens_next, begins_filter, begins_head, begins_program, echo_next, echo_end, cat_got, cat_wrote, head_got, head_goes_on, head_wrote, wc_got, grep_got, grep_goes_on, grep_lines, name_of, tee_opened, tee_turn}
 use Rattle.prog_laws.specs.Alone.{OwnFile, World, held, moved_on, MayOpen, may_write, done_if, May, can_open, after_read, after_write, after_call}
 use Rattle.prog_laws.specs.Waits.{AreShort, BeginsShort, IsWrite, IsOpenToRead, IsOpen, WorkWaits, TeeWaits, Waits}
 
@@ -126,9 +126,6 @@ step_waits (grep_writes pattern rest) source call reply world waits ready may = 
 
 abbrev pub TurnWaits : Turn → World → Type 0
 TurnWaits turn world = Waits turn.next turn.call world
-
-exits_wait : (world : World) → TurnWaits exits world
-exits_wait world = refl
 
 pub tells_wait : (message : Bytes) (world : World) → TurnWaits (tells message) world
 tells_wait message world = (2, omega arith, omega arith, (block message, refl))

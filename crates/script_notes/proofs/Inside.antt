@@ -54,10 +54,6 @@ fault_inside line (Unexpected at) other has = stop_inside line has.0 (Unexpected
 fault_inside line (Leftover at) other has = stop_inside line has.0 (Leftover at) has.1 has.2
 fault_inside line Memory other has = omega arith
 
--- the first of these places
-pub first_span : (text : Bytes) (from : ℕ) (all : List Span) (span : Span) (after : List Span) → all ≡ span ∷ after → AreSpansFrom text from all → AreSpansFrom text from (span ∷ after)
-first_span text from all span after cut are = subst (AreSpansFrom text from) cut are
-
 -- the first of these tokens
 pub first_token : (text : Bytes) (from : ℕ) (all : List Token) (t : Token) (after : List Token) → all ≡ t ∷ after → AreTokensFrom text from all → AreTokensFrom text from (t ∷ after)
 first_token text from all t after cut are = subst (AreTokensFrom text from) cut are

@@ -1,5 +1,5 @@
 -- What a simple command costs, in its program's numbers.
-use Rattle.std.proofs.Common.{◌≡◌, ℕ, ◌+◌, ◌*◌, List, [], ◌∷◌, false, Some, None, length, sym, ap, arith}
+use Rattle.std.proofs.Common.{◌≡◌, ℕ, ◌+◌, ◌*◌, List, [], ◌∷◌, false, Some, length, sym, ap, arith}
 use Rattle.mem_files.specs.Name.{Bytes}
 use Rattle.sh_tree.specs.Tree.{exec}
 use Rattle.prog_parts.specs.declared.program.Program.{Program}
@@ -24,9 +24,3 @@ module _ (word : Bytes) (arguments : List Bytes) (n : ℕ) (L : Sizes) where
 
     pub steps_are : tree_steps (exec (word ∷ arguments)) n L ≡ 10 + 4 * length arguments + reads * (length arguments + 2) + begin_bytes program arguments reads
     steps_are = omega (arith, ap (λ o. begun_steps (begun o arguments) n L) named, ap (λ r. r * (length arguments + 2) + begin_bytes program arguments r) reads_own)
-
-  pub bytes_none : program_of word ≡ None → tree_bytes (exec (word ∷ arguments)) n L ≡ 0
-  bytes_none none = ap (λ o. begun_bytes (begun o arguments) n L) none
-
-  pub steps_none : program_of word ≡ None → tree_steps (exec (word ∷ arguments)) n L ≡ 1
-  steps_none none = ap (λ o. 1 + begun_steps (begun o arguments) n L) none

@@ -7,8 +7,6 @@ mod cost;
 mod enough;
 mod program;
 mod steps;
-#[cfg(test)]
-mod tests;
 mod tree;
 
 pub use capped::MAX_STEPS;

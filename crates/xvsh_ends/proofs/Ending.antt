@@ -189,11 +189,6 @@ verdict_written strict is_settled status err err' (inl told) some one three =
     let found = verdict_or strict is_settled (λ zero. some (told.0 ∙ zero)) in
     absurd (three found.0 (told.0 ∙ found.1))
 
--- the status of a check is 0 or 3
-pub check_written : {X : Type 0} (is_harmless : Bool) → check_status is_harmless ≢ 0 → check_status is_harmless ≢ 3 → X
-check_written true some three = absurd (some refl)
-check_written false some three = absurd (three refl)
-
 -- the same of a strict run, whose status is 3 where its script isn't settled
 strict_or : (is_settled : Bool) → verdict_status true is_settled ≢ 0 → verdict_status true is_settled ≡ 3
 strict_or true some = absurd (some refl)

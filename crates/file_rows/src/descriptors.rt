@@ -1,4 +1,6 @@
-use super::*;
+//! The descriptors of a process and the entries of open files.
+
+use fd_table::{FdFault, Fds, Mode, Name, Object, OpenFiles};
 use std::test::Fail;
 
 #[test]

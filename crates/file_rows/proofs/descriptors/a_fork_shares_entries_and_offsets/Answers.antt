@@ -6,7 +6,7 @@ use Rattle.fd_table.specs.Entries.{Entries, entry_at, count_of, lowest_free_entr
 use Rattle.fd_table.specs.Descriptors.{Descriptors, lowest_free}
 use Rattle.fd_table.proofs.Holding.{fit_if_few}
 use Rattle.fd_table.proofs.Counting.{added_few, new_few, length-installed_at}
-use Rattle.fd_table.proofs.tests.a_fork_shares_entries_and_offsets.Goals as goal
+use Rattle.file_rows.proofs.descriptors.a_fork_shares_entries_and_offsets.Goals as goal
 
 pub fork_copy-child-requires-clause-fits : goal.fork_copy-child-requires-clause-fits
 fork_copy-child-requires-clause-fits g c =

@@ -1,9 +1,9 @@
-use crate::enough::turns_enough;
-use crate::steps::most_steps;
+//! The steps that scripts make at most, and the turns that are enough for them, computed by hand.
+
 use mem_files::Files;
 use script_load::load;
-use std::process::Abort;
 use std::test::Fail;
+use step_bounds::{most_steps, turns_enough};
 
 // The most steps of a script on this standard input, with the file f, which holds 3 bytes.
 fn steps_of<R: AllocGlobal>(rt: &R, script: &str, stdin: &[u8]) -> Result<Option<u64>, Fail> {
