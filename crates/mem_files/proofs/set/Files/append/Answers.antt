@@ -1,5 +1,7 @@
 -- The file that was there goes on with the bytes.
-use Rattle.std.proofs.Common.{arith, ◌≡◌, ◌≤◌, ◌++◌, length, set, Option, Some, subst, ap, sym, ◌∙◌, length-append}
+use borrow.Author.Tests.{tests}
+use Rattle.std.proofs.lemmas.Grind.{common_steps}
+use Rattle.std.proofs.Common.{rules, arith, ◌≡◌, ◌≤◌, ◌++◌, length, set, Option, Some, subst, ap, sym, ◌∙◌, length-append}
 use Rattle.mem_files.specs.Name.{Bytes}
 use Rattle.mem_files.specs.Files.{files, bytes_of}
 use Rattle.mem_files.specs.Listing.{Holds, max_size}
@@ -28,3 +30,27 @@ returns-clause-holds g c =
     (holds_changed list c.args.self.now c.args.name.now c.in-Some.found entry
     c.self.invariant.ascending c.self.view_is stands c.index_mut-entry.ensures.value c.append.new.self (entry.1 ++ c.args.bytes.now)
     c.in_ok-append.ensures.ok)
+
+pub invariant_of-self : goal.invariant_of-self
+invariant_of-self g c = search (tests, rules, common_steps)
+
+pub returns-then-bytes-size-clause-full_size : goal.returns-then-bytes-size-clause-full_size
+returns-then-bytes-size-clause-full_size g c = search (tests, rules, common_steps)
+
+pub returns-then-bytes-size-clause-same : goal.returns-then-bytes-size-clause-same
+returns-then-bytes-size-clause-same g c = search (tests, rules, common_steps)
+
+pub invariant_of-self-in_err-append : goal.invariant_of-self-in_err-append
+invariant_of-self-in_err-append g c = search (tests, rules, common_steps)
+
+pub returns-in_err-append-clause-same : goal.returns-in_err-append-clause-same
+returns-in_err-append-clause-same g c = search (tests, rules, common_steps)
+
+pub returns-in_err-append-clause-full_size : goal.returns-in_err-append-clause-full_size
+returns-in_err-append-clause-full_size g c = grind (arith, common_steps)
+
+pub returns-clause-size : goal.returns-clause-size
+returns-clause-size g c = grind (arith, common_steps)
+
+pub returns-clause-full_size : goal.returns-clause-full_size
+returns-clause-full_size g c = grind (arith, common_steps)

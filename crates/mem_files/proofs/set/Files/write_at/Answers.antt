@@ -1,5 +1,7 @@
 -- The file that was there was written over.
-use Rattle.std.proofs.Common.{arith, ◌≡◌, ◌<◌, ◌≤◌, length, set, Option, IsSomeAnd, Some, subst, ap, sym, ◌∙◌}
+use borrow.Author.Tests.{tests}
+use Rattle.std.proofs.lemmas.Grind.{common_steps}
+use Rattle.std.proofs.Common.{rules, arith, ◌≡◌, ◌<◌, ◌≤◌, length, set, Option, IsSomeAnd, Some, subst, ap, sym, ◌∙◌}
 use Rattle.mem_files.specs.Name.{Bytes}
 use Rattle.mem_files.specs.Files.{files, bytes_of}
 use Rattle.mem_files.specs.Overlay.{written}
@@ -42,3 +44,21 @@ returns-clause-gap g c =
           let past : length entry.1 < c.args.at = subst (λ (o : Option Bytes). IsSomeAnd o (λ old. length old < c.args.at)) is h in
           absurd (omega (arith, ap length c.bytes.ensures)),
     )
+
+pub invariant_of-self : goal.invariant_of-self
+invariant_of-self g c = search (tests, rules, common_steps)
+
+pub returns-then-at-bytes-clause-same : goal.returns-then-at-bytes-clause-same
+returns-then-at-bytes-clause-same g c = search (tests, rules, common_steps)
+
+pub invariant_of-self-then-bytes-at : goal.invariant_of-self-then-bytes-at
+invariant_of-self-then-bytes-at g c = search (tests, rules, common_steps)
+
+pub returns-then-bytes-at-clause-same : goal.returns-then-bytes-at-clause-same
+returns-then-bytes-at-clause-same g c = search (tests, rules, common_steps)
+
+pub invariant_of-self-in_err-write : goal.invariant_of-self-in_err-write
+invariant_of-self-in_err-write g c = search (tests, rules, common_steps)
+
+pub returns-in_err-write-clause-same : goal.returns-in_err-write-clause-same
+returns-in_err-write-clause-same g c = search (tests, rules, common_steps)
