@@ -1,7 +1,7 @@
 -- Every slot but init's is free where so many slots are.
-use Rattle.std.proofs.Common.{◌≡◌, ◌≢◌, ℕ, zero, suc, ◌+◌, ◌≤◌, List, [], ◌∷◌, Bool, true, false, cond, Option, Some, None, length, get_or, refl, ap, subst, ◌∙◌, arith}
+use Rattle.std.proofs.Common.{◌≡◌, ◌≢◌, ℕ, zero, suc, ◌+◌, [], ◌∷◌, Bool, true, false, cond, Some, None, length, refl, arith}
 use Rattle.std.proofs.lemmas.List.Sums.{count_by-le-length, sum_by-cons}
-use Rattle.std.specs.Prelude.{count_by, slice_get}
+use Rattle.std.specs.Prelude.{count_by}
 use Rattle.proc_table.specs.Slots.{IsAlone, Slot, Table, at, is_free, tally}
 
 counted : {S : Type 0} (x : Slot S) (t : Table S) → count_by is_free (x ∷ t) ≡ tally (is_free x) + count_by is_free t

@@ -1,11 +1,8 @@
 -- What is searched in a table says what is in its slots.
-use Rattle.std.proofs.Common.{◌≡◌, ℕ, zero, suc, ◌+◌, ◌<◌, List, [], ◌∷◌, Bool, true, false, Option, Some, None, length, get_or, refl, sym, ap, ◌∙◌, arith}
+use Rattle.std.proofs.Common.{◌≡◌, ℕ, zero, suc, ◌<◌, List, [], ◌∷◌, Bool, false, Some, None, length, get_or, refl, sym, ap, ◌∙◌, arith}
 use Rattle.std.proofs.lemmas.List.{length-map}
-use Rattle.std.proofs.lemmas.List.Sums.{sum_by-cons}
-use Rattle.std.specs.Prelude.{All, ◌↔◌, cond, map, count_by, position, nat_lt, not}
-use Rattle.std.specs.List.{position_or_len}
+use Rattle.std.specs.Prelude.{All, ◌↔◌, map, count_by, position}
 use Rattle.slot_lists.proofs.Found.{counted_by, found_by}
-use Rattle.proc_table.specs.declared.heads.Head.{Head}
 use Rattle.proc_table.specs.declared.states.Status.{Status}
 use Rattle.proc_table.specs.Slots.{Slot, Table, at, has_status, is_child_of, is_free, is_zombie_child_of}
 use Rattle.proc_table.specs.Heads.{head_at, head_has, head_is_child_of, head_is_free, head_is_zombie_child_of, head_of}

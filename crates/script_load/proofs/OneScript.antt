@@ -1,18 +1,14 @@
 -- Each text has one reading as a line, so fine bytes have exactly one script.
-use Rattle.std.proofs.Common.{◌≡◌, ◌≢◌, ℕ, suc, Bool, true, false, List, [], ◌∷◌, ◌++◌, take, drop, refl, sym, ◌∙◌, ap, subst, arith, inl, inr, ⊎_elim}
-use Rattle.std.specs.Prelude.{All, ◌⊎◌}
+use Rattle.std.proofs.Common.{◌≡◌, ℕ, Bool, true, false, List, [], ◌∷◌, ◌++◌, take, drop, refl, sym, ◌∙◌, ap, subst, inl, inr, ⊎_elim}
+use Rattle.std.specs.Prelude.{◌⊎◌}
 use Rattle.std.specs.List.{AllZip}
 use Rattle.std.specs.Str.{bytes_eq}
 use Rattle.std.proofs.lemmas.List.{take-append-drop}
 use Rattle.std.proofs.lemmas.Slice.Eq.{bytes_eq-Decides}
-use Rattle.sh_tree.specs.declared.fault.ParseFault.{ParseFault}
-use Rattle.sh_tree.specs.declared.fault.ParseFault.TheVariants.{Memory as no_memory}
-use Rattle.sh_tree.specs.Fault.{HasFault, HasTree}
-use Rattle.sh_tree.specs.Tree.{Tree}
 use Rattle.sh_tree.proofs.Answer.{one_tree_of, one_fault, never_both, some_answer}
-use Rattle.prog_parts.proofs.Cuts.{all_tail, one_cut}
+use Rattle.prog_parts.proofs.Cuts.{one_cut}
 use Rattle.script_load.specs.Line.{ScriptLine, command, bad, cd}
-use Rattle.script_load.specs.Script.{AllFine, IsFine, BeginsCd, IsLineOf, IsScript}
+use Rattle.script_load.specs.Script.{AllFine, BeginsCd, IsLineOf, IsScript}
 
 abbrev cd_and_space : List ℕ
 cd_and_space = 99 ∷ 100 ∷ 32 ∷ []

@@ -1,7 +1,7 @@
 -- The lines of a script are within its limits, and of other lines the first that is not is found.
-use Rattle.std.proofs.Common.{◌≡◌, ℕ, suc, ◌+◌, ◌<◌, List, [], ◌∷◌, ◌++◌, length, take, drop, get_or, Bool, true, false, ◌&&◌, le-leb, refl, sym, ◌∙◌, ap, arith}
+use Rattle.std.proofs.Common.{◌≡◌, ℕ, suc, ◌+◌, ◌<◌, List, [], ◌∷◌, length, take, drop, get_or, true, false, le-leb, refl, sym, ◌∙◌, ap, arith}
 use Rattle.std.specs.Prelude.{All, map}
-use Rattle.std.specs.List.{AllZip, list_all}
+use Rattle.std.specs.List.{AllZip}
 use Rattle.std.proofs.Math.Seq.{split_at}
 use Rattle.std.proofs.lemmas.List.{get_or-map, length-map, length-take-le}
 use Rattle.std.proofs.lemmas.Bool.{and_from}

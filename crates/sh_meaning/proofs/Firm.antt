@@ -1,5 +1,5 @@
 -- What a simple command gives doesn't depend on the order in which processes run.
-use Rattle.std.proofs.Common.{◌≡◌, Bool, true, false, List, [], ◌∷◌, Option, Some, None, refl}
+use Rattle.std.proofs.Common.{Bool, true, false, List, [], ◌∷◌, Option, Some, None, refl}
 use Rattle.std.specs.Prelude.{if◌then◌else◌}
 use Rattle.mem_files.specs.Name.{Name, Bytes}
 use Rattle.mem_files.specs.Files.{FileMap}
@@ -13,7 +13,7 @@ use Rattle.sh_meaning.specs.Firm.{IsFirm}
 use Rattle.sh_meaning.specs.Inputs.{filter_value}
 use Rattle.sh_meaning.specs.Programs.{program_value, words_value}
 use Rattle.sh_meaning.specs.Tee.{are_openable}
-use Rattle.sh_meaning.specs.Value.{Value, fixed, nothing}
+use Rattle.sh_meaning.specs.Value.{Value, fixed}
 
 pub is_firm : (out rest : Bytes) (F : FileMap) → IsFirm (fixed out rest F)
 is_firm out rest F = record { loose = refl; soft = λ n. refl; met = λ n. refl }

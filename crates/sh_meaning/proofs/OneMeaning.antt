@@ -1,13 +1,11 @@
 -- A tree without >> has one meaning under both profiles.
-use Rattle.std.proofs.Common.{◌≡◌, Bool, true, false, Option, Some, None, refl, sym, ◌∙◌, ap}
-use Rattle.std.specs.Prelude.{◌||◌}
+use Rattle.std.proofs.Common.{◌≡◌, true, false, Option, Some, None, refl, ◌∙◌, ap}
 use Rattle.std.proofs.lemmas.Bool.{or_parts}
 use Rattle.sh_tree.specs.declared.tree.Mode.TheVariants.{Input, Fresh, Over}
 use Rattle.sh_tree.specs.Tree.{Tree, exec, redir, pipe, list, back}
 use Rattle.mem_files.specs.Name.{Bytes, is_openable}
 use Rattle.mem_files.specs.Files.{FileMap}
 use Rattle.conflict_check.specs.Names.{names, writes, uses_input}
-use Rattle.script_load.specs.declared.profile.Profile.{Profile}
 use Rattle.script_load.specs.declared.profile.Profile.TheVariants.{Xv6, Append}
 use Rattle.sh_meaning.specs.Inputs.{found}
 use Rattle.sh_meaning.specs.Meaning.{input_value, opened, output_value, written_value, meaning}

@@ -1,5 +1,5 @@
 -- The grammar gives no simple command more than nine words.
-use Rattle.std.proofs.Common.{◌≡◌, ℕ, List, [], ◌∷◌, length, Bool, true, ◌&&◌, le-leb}
+use Rattle.std.proofs.Common.{◌≡◌, ℕ, List, [], ◌∷◌, length, true, le-leb}
 use Rattle.std.proofs.lemmas.Bool.{and_from}
 use Rattle.sh_tree.specs.declared.tree.Mode.{Mode}
 use Rattle.sh_tree.specs.Fault.{HasTree}

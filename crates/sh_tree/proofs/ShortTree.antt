@@ -1,5 +1,5 @@
 -- The words and names of a tree are texts of its line, so they are no longer.
-use Rattle.std.proofs.Common.{◌≡◌, ℕ, ◌≤◌, List, [], ◌∷◌, length, length-take, length-drop, slice_range, Bool, true, false, ◌&&◌, refl, arith, le-leb}
+use Rattle.std.proofs.Common.{◌≡◌, ℕ, ◌≤◌, List, [], ◌∷◌, length, length-take, length-drop, slice_range, Bool, true, refl, arith, le-leb}
 use Rattle.std.specs.List.{list_all}
 use Rattle.std.proofs.lemmas.Bool.{and_from, and_parts}
 use Rattle.sh_lexer.specs.declared.token.Kind.{Kind}

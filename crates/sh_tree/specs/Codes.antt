@@ -1,5 +1,5 @@
 -- A code for trees, which tells them apart: a ghost field that speaks of a tree needs one.
-use Rattle.std.specs.Prelude.{◌≡◌, refl, ℕ, zero, suc, List}
+use Rattle.std.specs.Prelude.{◌≡◌, refl, ℕ, zero, suc}
 use Rattle.std.specs.Coded.{Coded, coded_list, coded_ℕ}
 use mathlib.Core.Path.{ap, subst}
 use base.Stored.{Gv, gnil, gnum, gcons}

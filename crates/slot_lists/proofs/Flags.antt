@@ -1,6 +1,6 @@
 -- A number whose bits are a list of flags: what a bit more or less, the bits of two, the lowest and the count are.
-use Rattle.std.proofs.Common.{◌≡◌, ◌≢◌, ◌⊎◌, inl, inr, ℕ, zero, suc, ◌+◌, ◌-◌, ◌^◌, ◌<◌, ◌≤◌, List, [], ◌∷◌, Bool, true, false, cond, Option, Some, None, length, get_or, refl, sym, ap, subst, ◌∙◌, arith, w64, bit_and, bit_or, min, max, ◌%◌, get_or-set_other, get_or-set_same}
-use Rattle.std.proofs.Math.ListN.{set, length-set}
+use Rattle.std.proofs.Common.{◌≡◌, ◌≢◌, ◌⊎◌, inl, inr, ℕ, zero, suc, ◌+◌, ◌-◌, ◌^◌, ◌<◌, ◌≤◌, List, [], ◌∷◌, Bool, true, false, cond, Some, None, length, get_or, refl, sym, ap, subst, ◌∙◌, arith, w64, bit_and, bit_or, min, max, ◌%◌, get_or-set_other, get_or-set_same}
+use Rattle.std.proofs.Math.ListN.{set}
 use Rattle.std.proofs.lemmas.Bool.{cases_eq, cases_lt, lt-ltb, le-ltb}
 use Rattle.std.proofs.lemmas.Nat.Bits.{bit_at_and, bit_at_or, bit_at_xor, bit_at-pow_same, bit_at-pow_other, bit_at_ones, bit_at_above, bit_at-lt, bit_at-trailing_zeros, same_from_bits}
 use Rattle.std.proofs.lemmas.Simd.{bit_mask_l, leading_from_mask_l, mask_l-lt, ones-mask_l, trailing_mask_l}
@@ -9,9 +9,9 @@ use Rattle.std.specs.Int.{bit_at}
 use Rattle.std.specs.Int.Count.{count_trailing_zeros}
 use Rattle.std.specs.Int.Bits.{bit_xor}
 use Rattle.std.specs.List.{position_or_len}
-use Rattle.std.specs.Prelude.{map, count_by, count_ones, position, nat_lt, ◌&&◌}
+use Rattle.std.specs.Prelude.{map, count_by, count_ones, position, ◌&&◌}
 use Rattle.std.specs.Simd.Lanes.{mask_l}
-use Rattle.slot_lists.specs.Sets.{HasFlags, both_of}
+use Rattle.slot_lists.specs.Sets.{both_of}
 
 abbrev bit : Bool → ℕ
 bit b = cond b 1 0

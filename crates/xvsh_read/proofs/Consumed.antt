@@ -1,5 +1,5 @@
 -- Reads one after the other consume what they read, in a row.
-use Rattle.std.proofs.Common.{◌≡◌, List, ℕ, ◌++◌, Option, Some, None, ◌∙◌, ap, sym}
+use Rattle.std.proofs.Common.{List, ℕ, ◌++◌, Option, Some, None, ◌∙◌, ap, sym}
 use Rattle.std.specs.Io.KnownBytes.{Consumes}
 use Rattle.std.proofs.lemmas.List.{append_assoc}
 

@@ -1,5 +1,5 @@
 -- Why `run` and `replay` tell no run.
-use Rattle.std.specs.Prelude.{◌≡◌, ◌-◌, ◌⊎◌, ℕ, Bool, true, false, List, Option, Some, slice_get, length, codes}
+use Rattle.std.specs.Prelude.{◌≡◌, ◌-◌, ◌⊎◌, ℕ, false, List, Option, Some, slice_get, length, codes}
 use Rattle.std.specs.Borrow.{Bor}
 use Rattle.std.specs.Str.{bytes_eq}
 use Rattle.mem_files.specs.Name.{Name, Bytes}

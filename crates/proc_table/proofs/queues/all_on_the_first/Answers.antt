@@ -1,5 +1,5 @@
 -- Each entry is 0.
-use Rattle.std.proofs.Common.{ℕ, ◌<◌, replicate, get_or, refl, sym, subst, arith}
+use Rattle.std.proofs.Common.{ℕ, ◌<◌, refl, sym, subst, arith}
 use Rattle.std.proofs.lemmas.List.{get_or-replicate}
 use Rattle.proc_table.proofs.queues.all_on_the_first.Goals as goal
 

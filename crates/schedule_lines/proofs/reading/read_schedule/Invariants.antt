@@ -1,4 +1,4 @@
-use Rattle.std.proofs.Common.{◌≡◌, ◌++◌, List, ℕ, length}
+use Rattle.std.proofs.Common.{◌++◌, List, ℕ, length}
 use Rattle.std.specs.Prelude.{All, map}
 use Rattle.prog_parts.specs.Lines.{AreLines}
 use Rattle.schedule_lines.specs.EventLines.{event_text, IsHeld}

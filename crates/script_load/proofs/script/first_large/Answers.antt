@@ -1,4 +1,4 @@
-use Rattle.std.proofs.Common.{◌≡◌, true, false, sym, ◌∙◌, rules}
+use Rattle.std.proofs.Common.{◌≡◌, true, false, rules}
 use Rattle.script_load.specs.Limits.{is_small_line}
 use Rattle.script_load.specs.Line.{line_of}
 use Rattle.script_load.proofs.SmallLines.{first_large, small_more}

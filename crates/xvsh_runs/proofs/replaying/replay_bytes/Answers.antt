@@ -1,5 +1,4 @@
 use Rattle.std.proofs.Common.{inl, inr, subst}
-use Rattle.std.specs.Prelude.{IfErr, IfOk}
 use Rattle.std.proofs.lemmas.Result.{err_from_is_err_and, IfErr-weaker}
 use Rattle.script_load.specs.Line.{lines_of}
 use Rattle.kernel_core.specs.ScriptRun.{script_kernel}

@@ -1,9 +1,7 @@
 -- All slots are in the group of the free ones, and in no other, and in no list.
-use Rattle.std.proofs.Common.{◌≡◌, ℕ, List, Option, Some, None, replicate, refl, sym, subst, ap, ◌∙◌}
-use Rattle.std.specs.Prelude.{map}
-use Rattle.slot_lists.specs.Sets.{AreGrouped}
+use Rattle.std.proofs.Common.{List, Option, sym, subst}
 use Rattle.proc_table.specs.declared.heads.Head.{Head}
-use Rattle.proc_table.specs.Heads.{IsOnHart, hart_key, head_at, parent_key, state_key}
+use Rattle.proc_table.specs.Heads.{IsOnHart}
 use Rattle.proc_table.specs.Searched.{AreSearched}
 use Rattle.proc_table.proofs.Queueing.{none_at}
 use Rattle.proc_table.proofs.heads.Heads.empty.Goals as goal

@@ -1,7 +1,7 @@
 -- It runs where it ran.
-use Rattle.std.proofs.Common.{None, length, subst, ◌∙◌, arith}
+use Rattle.std.proofs.Common.{None, subst, ◌∙◌, arith}
 use Rattle.std.proofs.lemmas.List.{get_or_default}
-use Rattle.proc_table.specs.Heads.{IsOnHart, head_at}
+use Rattle.proc_table.specs.Heads.{IsOnHart}
 use Rattle.proc_table.proofs.heads.Heads.give.Goals as goal
 
 pub put-requires-clause-on_hart : goal.put-requires-clause-on_hart

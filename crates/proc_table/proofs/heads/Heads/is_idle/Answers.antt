@@ -1,6 +1,5 @@
 -- Nothing runs where the search finds nothing.
-use Rattle.std.proofs.Common.{◌≡◌, Bool, not, Option, ℕ, Some, None, false, true, refl, sym, subst, ap, ◌∙◌}
-use Rattle.std.specs.Prelude.{All, IsTrue, ◌↔◌}
+use Rattle.std.proofs.Common.{◌≡◌, Bool, not, Option, ℕ, Some, None, false, true, refl, sym, ap, ◌∙◌}
 use Rattle.std.specs.Option.{is_some}
 use Rattle.proc_table.specs.Slots.{is_running_on_status}
 use Rattle.proc_table.specs.Heads.{head_has}

@@ -1,9 +1,8 @@
 -- The slot goes from group to group, and from list to list.
-use Rattle.std.proofs.Common.{◌≡◌, ◌⊎◌, inl, inr, ◌<◌, ℕ, List, Option, Some, None, length, get_or, refl, sym, subst, ap, ◌∙◌, arith, get_or-set_other, get_or-set_same}
+use Rattle.std.proofs.Common.{◌≡◌, ◌⊎◌, inl, inr, ◌<◌, ℕ, List, Option, None, length, sym, subst, ap, ◌∙◌, arith, get_or-set_other, get_or-set_same}
 use Rattle.std.proofs.Math.ListN.{set}
 use Rattle.std.proofs.lemmas.Bool.{cases_eq}
 use Rattle.std.proofs.lemmas.List.{get_or_default}
-use Rattle.std.specs.Prelude.{map}
 use Rattle.proc_table.specs.declared.heads.Head.{Head}
 use Rattle.proc_table.specs.Heads.{IsOnHart, hart_key, head_at, parent_key, state_key}
 use Rattle.proc_table.proofs.Grouping.{put_group}

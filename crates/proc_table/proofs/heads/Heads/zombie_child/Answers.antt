@@ -1,5 +1,5 @@
 -- The lowest slot in the groups of its parent and of the zombies.
-use Rattle.std.proofs.Common.{ap, ◌∙◌, arith}
+use Rattle.std.proofs.Common.{ap, ◌∙◌}
 use Rattle.std.specs.Prelude.{map, position}
 use Rattle.slot_lists.specs.Sets.{both_of, is_key}
 use Rattle.proc_table.specs.Heads.{head_is_zombie_child_of, parent_key, state_key}

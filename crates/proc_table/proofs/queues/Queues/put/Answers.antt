@@ -1,5 +1,5 @@
 -- The slot is moved where its list changes.
-use Rattle.std.proofs.Common.{◌≡◌, ◌≢◌, ◌<◌, ℕ, List, None, Some, get_or, sym, ap, ◌∙◌}
+use Rattle.std.proofs.Common.{◌≡◌, ◌≢◌, ◌<◌, ℕ, List, get_or, sym, ap, ◌∙◌}
 use Rattle.slot_lists.specs.Links.{has, slots_of, without}
 use Rattle.slot_lists.proofs.Removed.{has_not}
 use Rattle.proc_table.specs.Queues.{Queues, place_of}

@@ -1,5 +1,5 @@
 -- The head is given with the slot.
-use Rattle.std.proofs.Common.{None, Some, length, subst, sym, ◌∙◌, arith}
+use Rattle.std.proofs.Common.{None, Some, subst, sym, ◌∙◌, arith}
 use Rattle.std.proofs.lemmas.List.{get_or_default}
 use Rattle.std.proofs.Math.ListN.{set}
 use Rattle.proc_table.specs.Heads.{AreHeads}

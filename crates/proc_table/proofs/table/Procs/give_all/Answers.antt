@@ -2,7 +2,7 @@
 use Rattle.std.proofs.Common.{◌∙◌, ap, sym, ◌<◌, subst}
 use Rattle.std.specs.Prelude.{map, count_by}
 use Rattle.proc_table.specs.Calls.{given}
-use Rattle.proc_table.specs.Slots.{Table, is_child_of}
+use Rattle.proc_table.specs.Slots.{is_child_of}
 use Rattle.proc_table.proofs.Kept.{one_given, fewer_children, no_children}
 use Rattle.proc_table.proofs.table.Procs.give_all.Goals as goal
 

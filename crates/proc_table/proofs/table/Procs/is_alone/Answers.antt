@@ -1,5 +1,5 @@
 -- So many slots are free.
-use Rattle.std.proofs.Common.{◌≡◌, ℕ, Bool, None, true, false, refl, ap, subst, sym, ◌∙◌, arith}
+use Rattle.std.proofs.Common.{◌≡◌, None, true, false, ap, subst, sym, ◌∙◌, arith}
 use Rattle.std.proofs.lemmas.Bool.{eq-eqb, eqb-true}
 use Rattle.std.proofs.lemmas.List.{get_or_default}
 use Rattle.std.specs.Prelude.{IsTrue, ◌↔◌, count_by, nat_eq}

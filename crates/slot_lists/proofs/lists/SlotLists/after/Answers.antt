@@ -1,5 +1,5 @@
 -- The node after the slot.
-use Rattle.std.proofs.Common.{◌≡◌, ◌<◌, ◌++◌, ◌∷◌, List, ℕ, ◌+◌, ◌∙◌, ap, sym, subst, get_or, arith}
+use Rattle.std.proofs.Common.{◌≡◌, ◌++◌, ◌∷◌, List, ℕ, ◌+◌, ◌∙◌, ap, sym, subst, get_or, arith}
 use Rattle.slot_lists.specs.Links.{slots_of, list_of, Path}
 use Rattle.slot_lists.proofs.Walks.{list_at, walked_list, path_behind, path_first}
 use Rattle.slot_lists.proofs.lists.SlotLists.after.Goals as goal

@@ -1,5 +1,5 @@
 -- The node after the list's end.
-use Rattle.std.proofs.Common.{List, ℕ, ◌+◌, ◌≤◌, get_or, length, subst, ◌∙◌, ap, sym, arith}
+use Rattle.std.proofs.Common.{List, ℕ, ◌≤◌, length, subst, ◌∙◌, ap, sym, arith}
 use Rattle.std.specs.Prelude.{slice_get}
 use Rattle.slot_lists.specs.Links.{slots_of}
 use Rattle.slot_lists.proofs.Walks.{first_some, first_none, list_at, list_short}

@@ -1,5 +1,5 @@
 -- Both bits are set.
-use Rattle.std.proofs.Common.{◌∙◌, bit_and, arith, sym}
+use Rattle.std.proofs.Common.{◌∙◌, bit_and, sym}
 use Rattle.slot_lists.proofs.Flags.{both_bits, length-both}
 use Rattle.slot_lists.proofs.sets.SlotSet.and.Goals as goal
 
