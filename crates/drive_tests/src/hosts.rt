@@ -152,18 +152,26 @@ pub fn expect<H: Host>(
     host: &mut H,
     want: (u8, &str, &str),
 ) -> Result<(), Otherwise> {
+    let words = words_of(rt.alloc(), words)?;
     let mut out = Vec::new(rt.alloc());
     let mut err = Vec::new(rt.alloc());
-    let words = words_of(rt.alloc(), words)?;
     let status = drive(rt, rt.alloc(), words, host, &mut out, &mut err);
-    if out.as_slice() != want.1.as_bytes() {
-        return Err(Otherwise::Wrote(String::from_utf8_lossy(rt.alloc(), &out)?));
+    compared(rt.alloc(), (status, out.as_slice(), err.as_slice()), want)
+}
+
+fn compared(
+    alloc: Global,
+    got: (u8, &[u8], &[u8]),
+    want: (u8, &str, &str),
+) -> Result<(), Otherwise> {
+    if got.1 != want.1.as_bytes() {
+        return Err(Otherwise::Wrote(String::from_utf8_lossy(alloc, got.1)?));
     }
-    if err.as_slice() != want.2.as_bytes() {
-        return Err(Otherwise::Told(String::from_utf8_lossy(rt.alloc(), &err)?));
+    if got.2 != want.2.as_bytes() {
+        return Err(Otherwise::Told(String::from_utf8_lossy(alloc, got.2)?));
     }
-    if status != want.0 {
-        return Err(Otherwise::Ended(status));
+    if got.0 != want.0 {
+        return Err(Otherwise::Ended(got.0));
     }
     Ok(())
 }

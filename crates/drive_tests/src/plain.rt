@@ -1,51 +1,86 @@
 //! `plain` and `check`, and words that are no command line.
 use crate::hosts::{Anything, Broken, Failing, Full, Memory, expect, words_of};
 use mem_files::MAX_SIZE;
+use std::alloc::Global;
 use std::process::Abort;
 use std::sync::Wait;
 use std::test::Fail;
 use std::thread::Threads;
 use std::time::Clock;
 use xvsh::drive;
-use xvsh_read::MAX_INPUT;
+use xvsh_read::{Host, MAX_INPUT};
+
+// What the program ends with, writes and tells.
+type Want<'a> = (u8, &'a str, &'a str);
+
+// Runs a script of standard input, without words and by its name.
+fn expect_input<'a>(
+    rt: &(impl Abort + AllocGlobal + Threads + Wait + Clock + Sync),
+    script: &'a str,
+    want: Want<'_>,
+) -> Result<(), Fail> {
+    let mut host = Memory {
+        input: script.as_bytes(),
+        files: &[],
+    };
+    expect(rt, "", &mut host, want)?;
+    Ok(expect(rt, "plain -", &mut host, want)?)
+}
+
+fn expect_inputs(
+    rt: &(impl Abort + AllocGlobal + Threads + Wait + Clock + Sync),
+    rows: &[(&'static str, Want<'static>)],
+) -> Result<(), Fail> {
+    for (script, want) in rows {
+        expect_input(rt, script, *want)?;
+    }
+    Ok(())
+}
+
+const SCRIPTS: [(&str, Want<'static>); 9] = [
+    ("echo hello\n", (0, "hello\n", "settled\n")),
+    ("", (0, "", "settled\n")),
+    (";;", (0, "", "settled\n")),
+    ("()", (0, "", "settled\n")),
+    ("echo a b;foo\ncd x\necho c", (0, "a b\nc\n", "settled\n")),
+    (
+        "echo 1 2 3 4 5 6 7 8\necho 1 2 3 4 5 6 7 8 9\n",
+        (0, "1 2 3 4 5 6 7 8\n", "settled\n"),
+    ),
+    ("a & b\necho ok\n", (0, "ok\n", "settled\n")),
+    (
+        "echo hello > f; echo J >> f; cat f",
+        (0, "J\nllo\n", "settled\n"),
+    ),
+    ("echo a\na\0b", (1, "", "xvsh: line 2 holds a zero byte\n")),
+];
 
 #[test]
 fn runs_scripts(rt: HostRuntime) -> Result<(), Fail> {
-    let long = "x".repeat(rt.alloc(), 511)?;
-    let longer = "x".repeat(rt.alloc(), 512)?;
-    let mut nested = "(".repeat(rt.alloc(), 255)?;
-    for _ in 0..255 {
-        nested.push(')')?;
-    }
-    let rows = [
-        ("echo hello\n", (0, "hello\n", "settled\n")),
-        ("", (0, "", "settled\n")),
-        (";;", (0, "", "settled\n")),
-        ("()", (0, "", "settled\n")),
-        (nested.as_str(), (0, "", "settled\n")),
-        ("echo a b;foo\ncd x\necho c", (0, "a b\nc\n", "settled\n")),
-        (
-            "echo 1 2 3 4 5 6 7 8\necho 1 2 3 4 5 6 7 8 9\n",
-            (0, "1 2 3 4 5 6 7 8\n", "settled\n"),
-        ),
-        ("a & b\necho ok\n", (0, "ok\n", "settled\n")),
-        (
-            "echo hello > f; echo J >> f; cat f",
-            (0, "J\nllo\n", "settled\n"),
-        ),
-        (long.as_str(), (0, "", "settled\n")),
-        (longer.as_str(), (1, "", "xvsh: line 1 is too long\n")),
-        ("echo a\na\0b", (1, "", "xvsh: line 2 holds a zero byte\n")),
-    ];
-    for (script, want) in rows {
-        let mut host = Memory {
-            input: script.as_bytes(),
-            files: &[],
-        };
-        expect(&rt, "", &mut host, want)?;
-        expect(&rt, "plain -", &mut host, want)?;
-    }
-    Ok(())
+    expect_inputs(&rt, &SCRIPTS)?;
+    runs_nested(&rt)?;
+    runs_long(&rt, 511, (0, "", "settled\n"))?;
+    runs_long(&rt, 512, (1, "", "xvsh: line 1 is too long\n"))
+}
+
+// As many parentheses within each other as a line can hold.
+fn runs_nested(
+    rt: &(impl Abort + AllocGlobal + Threads + Wait + Clock + Sync),
+) -> Result<(), Fail> {
+    let opened = "(".repeat(rt.alloc(), 255)?;
+    let closed = ")".repeat(rt.alloc(), 255)?;
+    let script = format!(in rt.alloc(); "{opened}{closed}")?;
+    expect_input(rt, script.as_str(), (0, "", "settled\n"))
+}
+
+// A line of so many bytes.
+fn runs_long(
+    rt: &(impl Abort + AllocGlobal + Threads + Wait + Clock + Sync),
+    bytes: usize,
+    want: Want<'_>,
+) -> Result<(), Fail> {
+    let script = "x".repeat(rt.alloc(), bytes)?;
+    expect_input(rt, script.as_str(), want)
 }
 
 // `>>` writes over a file from its beginning, or with `--append` at its end; `check` knows no profile.
@@ -53,6 +88,31 @@ fn runs_scripts(rt: HostRuntime) -> Result<(), Fail> {
 fn appends_where_it_is_asked_to(rt: HostRuntime) -> Result<(), Fail> {
     let big = "0123456789ab\n".repeat(rt.alloc(), 100)?;
     let large = "x".repeat(rt.alloc(), 274_432)?;
+    appends_to(&rt, big.as_str(), large.as_str())
+}
+
+const APPENDS: [(&str, Want<'static>); 8] = [
+    ("plain s", (0, "J\nllo\n", "settled\n")),
+    ("plain --append s", (0, "hello\nJ\n", "settled\n")),
+    ("plain --files two f", (0, "-- f 4\na\nb\n\n", "settled\n")),
+    (
+        "plain --append --files two f",
+        (0, "-- f 6\nz\na\nb\n\n", "settled\n"),
+    ),
+    ("plain twice big g", (0, "100 100 1300 g\n", "settled\n")),
+    (
+        "plain --append twice big g",
+        (0, "200 200 2600 g\n", "settled\n"),
+    ),
+    ("plain grow a f", (0, "", "settled\n")),
+    ("plain --append grow a f", (4, "", "xvsh: too large\n")),
+];
+
+fn appends_to<'a>(
+    rt: &(impl Abort + AllocGlobal + Threads + Wait + Clock + Sync),
+    big: &'a str,
+    large: &'a str,
+) -> Result<(), Fail> {
     let files = [
         ("s", b"echo hello > f; echo J >> f; cat f".as_slice()),
         ("two", b"(echo a; echo b) >> f".as_slice()),
@@ -63,31 +123,41 @@ fn appends_where_it_is_asked_to(rt: HostRuntime) -> Result<(), Fail> {
         ("grow", b"cat a >> f".as_slice()),
         ("a", large.as_bytes()),
     ];
-    let rows = [
-        ("plain s", (0, "J\nllo\n", "settled\n")),
-        ("plain --append s", (0, "hello\nJ\n", "settled\n")),
-        ("plain --files two f", (0, "-- f 4\na\nb\n\n", "settled\n")),
-        (
-            "plain --append --files two f",
-            (0, "-- f 6\nz\na\nb\n\n", "settled\n"),
-        ),
-        ("plain twice big g", (0, "100 100 1300 g\n", "settled\n")),
-        (
-            "plain --append twice big g",
-            (0, "200 200 2600 g\n", "settled\n"),
-        ),
-        ("plain grow a f", (0, "", "settled\n")),
-        ("plain --append grow a f", (4, "", "xvsh: too large\n")),
-    ];
+    expect_all(rt, b"".as_slice(), &files, &APPENDS)
+}
+
+// Runs these words, each on this input and these files.
+fn expect_all<'a>(
+    rt: &(impl Abort + AllocGlobal + Threads + Wait + Clock + Sync),
+    input: &'a [u8],
+    files: &'a [(&'a str, &'a [u8])],
+    rows: &[(&'static str, Want<'static>)],
+) -> Result<(), Fail> {
+    let mut host = Memory { input, files };
     for (words, want) in rows {
-        let mut host = Memory {
-            input: b"".as_slice(),
-            files: &files,
-        };
-        expect(&rt, words, &mut host, want)?;
+        expect(rt, words, &mut host, *want)?;
     }
     Ok(())
 }
+
+const LISTS: [(&str, Want<'static>); 3] = [
+    (
+        "plain --files s dir/p",
+        (
+            0,
+            "b\naab\naabc\ncb\n-- p 14\nb\naab\naabc\ncb\n\n",
+            "settled\n",
+        ),
+    ),
+    (
+        "plain --files -",
+        (0, "-- x 2\na\n\n-- y 0\n\n", "settled\n"),
+    ),
+    (
+        "plain --files copy",
+        (0, "-- o 14\necho a > x > y\n", "settled\n"),
+    ),
+];
 
 #[test]
 fn takes_and_lists_files(rt: HostRuntime) -> Result<(), Fail> {
@@ -96,91 +166,89 @@ fn takes_and_lists_files(rt: HostRuntime) -> Result<(), Fail> {
         ("dir/p", b"b\naab\naabc\ncb\n".as_slice()),
         ("copy", b"cat > o".as_slice()),
     ];
-    let mut host = Memory {
-        input: b"echo a > x > y".as_slice(),
-        files: &files,
-    };
-    let want = "b\naab\naabc\ncb\n-- p 14\nb\naab\naabc\ncb\n\n";
-    expect(
-        &rt,
-        "plain --files s dir/p",
-        &mut host,
-        (0, want, "settled\n"),
-    )?;
-    let want = "-- x 2\na\n\n-- y 0\n\n";
-    expect(&rt, "plain --files -", &mut host, (0, want, "settled\n"))?;
-    let want = "-- o 14\necho a > x > y\n";
-    expect(&rt, "plain --files copy", &mut host, (0, want, "settled\n"))?;
-    Ok(())
+    expect_all(&rt, b"echo a > x > y".as_slice(), &files, &LISTS)
 }
+
+const NOT_TAKEN: [(&str, Want<'static>); 6] = [
+    ("plain none", (1, "", "xvsh: cannot read none\n")),
+    (
+        "plain s dir/p none dir/p",
+        (1, "", "xvsh: cannot read none\n"),
+    ),
+    ("plain s large", (1, "", "xvsh: large is too long\n")),
+    (
+        "plain s dir/aaaaaaaaaaaaaaa",
+        (1, "", "xvsh: bad file name dir/aaaaaaaaaaaaaaa\n"),
+    ),
+    ("plain zero", (1, "", "xvsh: line 1 holds a zero byte\n")),
+    ("plain grow in", (4, "", "xvsh: too large\n")),
+];
 
 #[test]
 fn tells_what_it_cannot_take(rt: HostRuntime) -> Result<(), Fail> {
+    for words in ["", "plain s"] {
+        expect(&rt, words, &mut Broken, (1, "", "xvsh: cannot read -\n"))?;
+    }
     let large = vec![in rt.alloc(); b'x'; MAX_SIZE + 1]?;
+    takes_none_of(&rt, large.as_slice(), &large.as_slice()[1..])
+}
+
+// Words that are not taken, with a file that is too long, and one that is as long as can be.
+fn takes_none_of<'a>(
+    rt: &(impl Abort + AllocGlobal + Threads + Wait + Clock + Sync),
+    large: &'a [u8],
+    whole: &'a [u8],
+) -> Result<(), Fail> {
     let files = [
         ("s", b"echo a".as_slice()),
         ("dir/p", b"b\n".as_slice()),
-        ("large", large.as_slice()),
+        ("large", large),
         ("dir/aaaaaaaaaaaaaaa", b"".as_slice()),
         ("zero", b"\0".as_slice()),
         ("grow", b"cat in in > out".as_slice()),
-        ("in", &large.as_slice()[1..]),
+        ("in", whole),
     ];
-    let mut host = Memory {
-        input: b"".as_slice(),
-        files: &files,
-    };
-    let rows = [
-        ("plain none", (1, "xvsh: cannot read none\n")),
-        ("plain s dir/p none dir/p", (1, "xvsh: cannot read none\n")),
-        ("plain s large", (1, "xvsh: large is too long\n")),
-        (
-            "plain s dir/aaaaaaaaaaaaaaa",
-            (1, "xvsh: bad file name dir/aaaaaaaaaaaaaaa\n"),
-        ),
-        ("plain zero", (1, "xvsh: line 1 holds a zero byte\n")),
-        ("plain grow in", (4, "xvsh: too large\n")),
-    ];
-    for (words, (status, fault)) in rows {
-        expect(&rt, words, &mut host, (status, "", fault))?;
-    }
-    expect(&rt, "", &mut Broken, (1, "", "xvsh: cannot read -\n"))?;
-    expect(
-        &rt,
-        "plain s",
-        &mut Broken,
-        (1, "", "xvsh: cannot read -\n"),
-    )?;
-    Ok(())
+    expect_all(rt, b"".as_slice(), &files, &NOT_TAKEN)
 }
 
 #[test]
 fn limits_standard_input(rt: HostRuntime) -> Result<(), Fail> {
     let long = vec![in rt.alloc(); b'\n'; MAX_INPUT + 1]?;
+    limits_input(&rt, long.as_slice(), &long.as_slice()[1..])
+}
+
+// An input that is too long, and one that is as long as can be.
+fn limits_input<'a>(
+    rt: &(impl Abort + AllocGlobal + Threads + Wait + Clock + Sync),
+    long: &'a [u8],
+    whole: &'a [u8],
+) -> Result<(), Fail> {
     let files = [("s", b"echo a".as_slice())];
-    let mut host = Memory {
-        input: long.as_slice(),
-        files: &files,
-    };
-    expect(&rt, "", &mut host, (1, "", "xvsh: - is too long\n"))?;
-    expect(&rt, "plain s", &mut host, (1, "", "xvsh: - is too long\n"))?;
-    let mut host = Memory {
-        input: &long.as_slice()[1..],
-        files: &[],
-    };
-    expect(&rt, "", &mut host, (0, "", "settled\n"))?;
-    Ok(())
+    let too_long = (1, "", "xvsh: - is too long\n");
+    expect_all(rt, long, &files, &[("", too_long), ("plain s", too_long)])?;
+    expect_all(rt, whole, &[], &[("", (0, "", "settled\n"))])
 }
 
 #[test]
 fn takes_two_hundred_files(rt: HostRuntime) -> Result<(), Fail> {
-    let mut words = String::from_str(rt.alloc(), "plain s")?;
+    let words = two_hundred_files(rt.alloc())?;
+    takes_no_more_than(&rt, words.as_str())
+}
+
+fn two_hundred_files(alloc: Global) -> Result<String, Fail> {
+    let mut words = String::from_str(alloc, "plain s")?;
     for i in 0..200 {
-        let word = format!(in rt.alloc(); " f{i}")?;
+        let word = format!(in alloc; " f{i}")?;
         words.push_str(word.as_str())?;
     }
-    let want = (0, "", "settled\n");
-    expect(&rt, words.as_str(), &mut Anything, want)?;
+    Ok(words)
+}
+
+fn takes_no_more_than(
+    rt: &(impl Abort + AllocGlobal + Threads + Wait + Clock + Sync),
+    words: &str,
+) -> Result<(), Fail> {
+    expect(rt, words, &mut Anything, (0, "", "settled\n"))?;
     for (path, fault) in [
         (" f200", "xvsh: too many files\n"),
         (
@@ -188,40 +256,48 @@ fn takes_two_hundred_files(rt: HostRuntime) -> Result<(), Fail> {
             "xvsh: bad file name d/aaaaaaaaaaaaaaa\n",
         ),
     ] {
-        let mut more = words.clone()?;
-        more.push_str(path)?;
-        expect(&rt, more.as_str(), &mut Anything, (1, "", fault))?;
+        takes_not_one_more(rt, words, path, fault)?;
     }
     Ok(())
+}
+
+fn takes_not_one_more(
+    rt: &(impl Abort + AllocGlobal + Threads + Wait + Clock + Sync),
+    words: &str,
+    path: &str,
+    fault: &str,
+) -> Result<(), Fail> {
+    let more = format!(in rt.alloc(); "{words}{path}")?;
+    Ok(expect(rt, more.as_str(), &mut Anything, (1, "", fault))?)
 }
 
 // A script of standard input that makes a file too large: each line of `cat` makes one eight times as
 // long as the last.
 #[test]
 fn tells_a_limit_without_words(rt: HostRuntime) -> Result<(), Fail> {
-    let mut script = String::from_str(rt.alloc(), "echo ")?;
-    for _ in 0..500 {
-        script.push('x')?;
-    }
-    script.push_str(" > a\n")?;
+    let script = growing_script(rt.alloc())?;
+    expect_input(&rt, script.as_str(), (4, "", "xvsh: too large\n"))
+}
+
+fn growing_script(alloc: Global) -> Result<String, Fail> {
+    let text = "x".repeat(alloc, 500)?;
+    let mut script = format!(in alloc; "echo {text} > a\n")?;
     for (from, to) in [("a", "b"), ("b", "c"), ("c", "d"), ("d", "e")] {
-        script.push_str("cat")?;
-        for _ in 0..8 {
-            script.push(' ')?;
-            script.push_str(from)?;
-        }
-        script.push_str(" > ")?;
-        script.push_str(to)?;
-        script.push('\n')?;
+        add_copies(&mut script, from, to)?;
     }
-    let mut host = Memory {
-        input: script.as_bytes(),
-        files: &[],
-    };
-    let want = (4, "", "xvsh: too large\n");
-    expect(&rt, "", &mut host, want)?;
-    expect(&rt, "plain -", &mut host, want)?;
-    Ok(())
+    Ok(script)
+}
+
+// Adds a line that writes eight copies of a file to another.
+fn add_copies(script: &mut String, from: &str, to: &str) -> Result<(), Fail> {
+    script.push_str("cat")?;
+    for _ in 0..8 {
+        script.push(' ')?;
+        script.push_str(from)?;
+    }
+    script.push_str(" > ")?;
+    script.push_str(to)?;
+    Ok(script.push('\n')?)
 }
 
 #[test]
@@ -232,40 +308,56 @@ fn tells_want_of_memory(rt: HostRuntime) -> Result<(), Fail> {
     Ok(())
 }
 
+const OTHER_WORDS: [&str; 14] = [
+    "run",
+    "run --harts 0 s",
+    "run --harts 9 s",
+    "run --harts x s",
+    "run --turns 0 s",
+    "run --turns 1000000001 s",
+    "replay s",
+    "replay --schedule s t",
+    "check",
+    "check s t",
+    "plain",
+    "plain --no s",
+    "--no",
+    "nothing",
+];
+
 #[test]
 fn refuses_other_words(rt: HostRuntime) -> Result<(), Fail> {
-    for line in [
-        "run",
-        "run --harts 0 s",
-        "run --harts 9 s",
-        "run --harts x s",
-        "run --turns 0 s",
-        "run --turns 1000000001 s",
-        "replay s",
-        "replay --schedule s t",
-        "check",
-        "check s t",
-        "plain",
-        "plain --no s",
-        "--no",
-        "nothing",
-    ] {
-        let mut out = Vec::new(rt.alloc());
-        let mut err = Vec::new(rt.alloc());
-        let words = words_of(rt.alloc(), line)?;
-        let status = drive(&rt, rt.alloc(), words, &mut Broken, &mut out, &mut err);
+    expect_refused(&rt, &OTHER_WORDS)?;
+    let (status, writes, tells) = done_by(&rt, "--help")?;
+    assert_eq!(rt; status, 0);
+    assert!(rt; writes);
+    assert!(rt; !tells);
+    Ok(())
+}
+
+fn expect_refused(
+    rt: &(impl Abort + AllocGlobal + Threads + Wait + Clock + Sync),
+    lines: &[&'static str],
+) -> Result<(), Fail> {
+    for line in lines {
+        let (status, writes, tells) = done_by(rt, line)?;
         assert_eq!(rt; status, 2, "at {line}");
-        assert!(rt; out.is_empty());
-        assert!(rt; !err.is_empty());
+        assert!(rt; !writes);
+        assert!(rt; tells);
     }
+    Ok(())
+}
+
+// The status of these words on a host that can't be read, and whether anything is written and told.
+fn done_by(
+    rt: &(impl Abort + AllocGlobal + Threads + Wait + Clock + Sync),
+    line: &str,
+) -> Result<(u8, bool, bool), Fail> {
+    let words = words_of(rt.alloc(), line)?;
     let mut out = Vec::new(rt.alloc());
     let mut err = Vec::new(rt.alloc());
-    let words = words_of(rt.alloc(), "--help")?;
-    let status = drive(&rt, rt.alloc(), words, &mut Broken, &mut out, &mut err);
-    assert_eq!(rt; status, 0);
-    assert!(rt; !out.is_empty());
-    assert!(rt; err.is_empty());
-    Ok(())
+    let status = drive(rt, rt.alloc(), words, &mut Broken, &mut out, &mut err);
+    Ok((status, !out.is_empty(), !err.is_empty()))
 }
 
 // Neither the first write nor a later one may fail unseen, and nothing is said of it.
@@ -273,60 +365,124 @@ fn refuses_other_words(rt: HostRuntime) -> Result<(), Fail> {
 fn ends_where_its_output_fails(rt: HostRuntime) -> Result<(), Fail> {
     for line in ["", "plain --files -", "--help"] {
         for calls in 0..4 {
-            let mut host = Memory {
-                input: b"echo abc".as_slice(),
-                files: &[],
-            };
-            let mut out = Failing { calls };
-            let mut err = Vec::new(rt.alloc());
-            let words = words_of(rt.alloc(), line)?;
-            let status = drive(&rt, rt.alloc(), words, &mut host, &mut out, &mut err);
+            let (status, tells) = done_where_output_fails(&rt, line, calls)?;
             assert_eq!(rt; status, 1);
-            assert!(rt; err.is_empty());
+            assert!(rt; !tells);
         }
     }
     Ok(())
 }
+
+// The status of these words where the output fails after so many writes, and whether anything is told.
+fn done_where_output_fails(
+    rt: &(impl Abort + AllocGlobal + Threads + Wait + Clock + Sync),
+    line: &str,
+    calls: usize,
+) -> Result<(u8, bool), Fail> {
+    let mut host = Memory {
+        input: b"echo abc".as_slice(),
+        files: &[],
+    };
+    let words = words_of(rt.alloc(), line)?;
+    let mut out = Failing { calls };
+    let mut err = Vec::new(rt.alloc());
+    let status = drive(rt, rt.alloc(), words, &mut host, &mut out, &mut err);
+    Ok((status, !err.is_empty()))
+}
+
+// Words, standard input, and what is written.
+const WRITTEN: [(&str, &str, &str); 5] = [
+    ("", "echo abc", "abc\n"),
+    ("plain -", "echo a &", "a\n"),
+    ("plain -", "a\0", ""),
+    ("plain", "", ""),
+    ("check none", "", ""),
+];
 
 // Whatever was to be told on standard error, the status is 1 where it can't be, and standard output
 // holds what was written before.
 #[test]
 fn ends_where_standard_error_fails(rt: HostRuntime) -> Result<(), Fail> {
-    let rows = [
-        ("", "echo abc", "abc\n"),
-        ("plain -", "echo a &", "a\n"),
-        ("plain -", "a\0", ""),
-        ("plain", "", ""),
-        ("check none", "", ""),
-    ];
-    for (line, script, written) in rows {
+    for (line, script, written) in &WRITTEN {
         for calls in 0..4 {
             let mut host = Memory {
                 input: script.as_bytes(),
                 files: &[],
             };
-            let mut out = Vec::new(rt.alloc());
-            let mut err = Failing { calls };
-            let words = words_of(rt.alloc(), line)?;
-            let status = drive(&rt, rt.alloc(), words, &mut host, &mut out, &mut err);
-            assert_eq!(rt; status, 1, "at {line}");
-            assert_eq!(rt; out.as_slice(), written.as_bytes());
+            expect_untold(&rt, line, &mut host, calls, written)?;
         }
     }
-    for words in ["", "check s"] {
-        let mut out = Vec::new(rt.alloc());
-        let mut err = Failing { calls: 0 };
-        let words = words_of(rt.alloc(), words)?;
-        let status = drive(&rt, rt.alloc(), words, &mut Full, &mut out, &mut err);
-        assert_eq!(rt; status, 1);
-        assert!(rt; out.is_empty());
+    for line in ["", "check s"] {
+        expect_untold(&rt, line, &mut Full, 0, "")?;
     }
     Ok(())
 }
 
+// Runs these words where standard error fails after so many writes, and compares the status and the output.
+fn expect_untold<H: Host>(
+    rt: &(impl Abort + AllocGlobal + Threads + Wait + Clock + Sync),
+    line: &str,
+    host: &mut H,
+    calls: usize,
+    written: &str,
+) -> Result<(), Fail> {
+    let words = words_of(rt.alloc(), line)?;
+    let mut out = Vec::new(rt.alloc());
+    let mut err = Failing { calls };
+    let status = drive(rt, rt.alloc(), words, host, &mut out, &mut err);
+    compare(rt, line, (status, out.as_slice()), written);
+    Ok(())
+}
+
+fn compare(rt: &(impl Abort + AllocGlobal), line: &str, got: (u8, &[u8]), written: &str) {
+    assert_eq!(rt; got.0, 1, "at {line}");
+    assert_eq!(rt; got.1, written.as_bytes());
+}
+
+const OF_PROGRAMS: [(&str, Want<'static>); 8] = [
+    (
+        "plain wc in/p in/big",
+        (
+            0,
+            "4 4 14 p\n100 100 1300 big\n4 4 14 \n0 0 0 \n",
+            "settled\n",
+        ),
+    ),
+    ("plain grep in/p", (0, "b\naab\n", "settled\n")),
+    (
+        "plain head in/p in/big",
+        (
+            0,
+            "0123456789ab\n0123456789ab\n98 98 1274 \nb\n0123456789ab\n",
+            "settled\n",
+        ),
+    ),
+    (
+        "plain all in/big in/p",
+        (0, "100 100 1300 \n100 100 1300 \n", "settled\n"),
+    ),
+    (
+        "plain --files tee",
+        (0, "a\n-- x 2\na\n\n-- y 2\na\n\n", "settled\n"),
+    ),
+    ("plain input", (0, "a\n2 2 4 \n", "settled\n")),
+    ("plain --files none", (0, "-- f 2\na\n\n", "not settled\n")),
+    (
+        "plain --files enclosing",
+        (0, "-- f 6\naaa\nc\n\n", "not settled\n"),
+    ),
+];
+
 #[test]
 fn runs_all_programs(rt: HostRuntime) -> Result<(), Fail> {
     let big = "0123456789ab\n".repeat(rt.alloc(), 100)?;
+    runs_programs(&rt, big.as_str())
+}
+
+fn runs_programs<'a>(
+    rt: &(impl Abort + AllocGlobal + Threads + Wait + Clock + Sync),
+    big: &'a str,
+) -> Result<(), Fail> {
     let files = [
         ("wc", b"wc p big; cat p | grep b | wc; echo | wc".as_slice()),
         ("grep", b"grep ^a*b$ p".as_slice()),
@@ -348,86 +504,66 @@ fn runs_all_programs(rt: HostRuntime) -> Result<(), Fail> {
         ("in/big", big.as_bytes()),
         ("in/p", b"b\naab\naabc\ncb\n".as_slice()),
     ];
-    let mut host = Memory {
-        input: b"a\nb\nc\n".as_slice(),
-        files: &files,
-    };
-    let rows = [
-        (
-            "plain wc in/p in/big",
-            "4 4 14 p\n100 100 1300 big\n4 4 14 \n0 0 0 \n",
-        ),
-        ("plain grep in/p", "b\naab\n"),
-        (
-            "plain head in/p in/big",
-            "0123456789ab\n0123456789ab\n98 98 1274 \nb\n0123456789ab\n",
-        ),
-        ("plain all in/big in/p", "100 100 1300 \n100 100 1300 \n"),
-        ("plain --files tee", "a\n-- x 2\na\n\n-- y 2\na\n\n"),
-        ("plain input", "a\n2 2 4 \n"),
-    ];
-    for (words, out) in rows {
-        expect(&rt, words, &mut host, (0, out, "settled\n"))?;
-    }
-    let want = (0, "-- f 2\na\n\n", "not settled\n");
-    expect(&rt, "plain --files none", &mut host, want)?;
-    let want = (0, "-- f 6\naaa\nc\n\n", "not settled\n");
-    expect(&rt, "plain --files enclosing", &mut host, want)?;
-    Ok(())
+    expect_all(rt, b"a\nb\nc\n".as_slice(), &files, &OF_PROGRAMS)
 }
+
+const CHECKS: [(&str, (u8, &str)); 8] = [
+    (
+        "a & b\ncat f | tee f\necho a &",
+        (
+            3,
+            "1 fault 5 Leftover at 4\n2 clash PipeSides f\n3 background\n",
+        ),
+    ),
+    ("(echo a; cat f) > f", (3, "1 clash Enclosing f\n")),
+    (
+        "cd x\n(cat n m; echo a > n) | (cat n > m) &",
+        (3, "2 background\n2 clash PipeSides n\n"),
+    ),
+    ("cat f > g | tee f g", (3, "1 clash PipeSides g\n")),
+    (
+        "(echo aaa; echo b > f; echo c) > f",
+        (3, "1 clash Enclosing f\n"),
+    ),
+    (
+        "cat >\n(\necho 1 2 3 4 5 6 7 8 9\necho (a)",
+        (
+            0,
+            "1 fault 1 MissingFile at 5\n2 fault 2 MissingParen at 1\n3 fault 3 TooManyWords at 21\n4 fault 4 Unexpected at 5\n",
+        ),
+    ),
+    ("echo a > x > y\ncat x | wc", (0, "")),
+    ("", (0, "")),
+];
 
 #[test]
 fn checks_scripts(rt: HostRuntime) -> Result<(), Fail> {
-    let rows = [
-        (
-            "a & b\ncat f | tee f\necho a &",
-            (
-                3,
-                "1 fault 5 Leftover at 4\n2 clash PipeSides f\n3 background\n",
-            ),
-        ),
-        ("(echo a; cat f) > f", (3, "1 clash Enclosing f\n")),
-        (
-            "cd x\n(cat n m; echo a > n) | (cat n > m) &",
-            (3, "2 background\n2 clash PipeSides n\n"),
-        ),
-        ("cat f > g | tee f g", (3, "1 clash PipeSides g\n")),
-        (
-            "(echo aaa; echo b > f; echo c) > f",
-            (3, "1 clash Enclosing f\n"),
-        ),
-        (
-            "cat >\n(\necho 1 2 3 4 5 6 7 8 9\necho (a)",
-            (
-                0,
-                "1 fault 1 MissingFile at 5\n2 fault 2 MissingParen at 1\n3 fault 3 TooManyWords at 21\n4 fault 4 Unexpected at 5\n",
-            ),
-        ),
-        ("echo a > x > y\ncat x | wc", (0, "")),
-        ("", (0, "")),
-    ];
-    for (script, (status, out)) in rows {
-        let files = [("s", script.as_bytes())];
-        let mut host = Memory {
-            input: script.as_bytes(),
-            files: &files,
-        };
-        expect(&rt, "check s", &mut host, (status, out, ""))?;
-        expect(&rt, "check -", &mut host, (status, out, ""))?;
+    for (script, (status, out)) in &CHECKS {
+        expect_check(&rt, script, (*status, out, ""))?;
     }
     let zero = (1, "", "xvsh: line 1 holds a zero byte\n");
-    let mut host = Memory {
-        input: b"\0".as_slice(),
-        files: &[],
-    };
-    expect(&rt, "check -", &mut host, zero)?;
-    expect(
+    let none = (1, "", "xvsh: cannot read none\n");
+    expect_all(
         &rt,
-        "check none",
-        &mut host,
-        (1, "", "xvsh: cannot read none\n"),
-    )?;
-    Ok(())
+        b"\0".as_slice(),
+        &[],
+        &[("check -", zero), ("check none", none)],
+    )
+}
+
+// Checks a script of a file and of standard input.
+fn expect_check<'a>(
+    rt: &(impl Abort + AllocGlobal + Threads + Wait + Clock + Sync),
+    script: &'a str,
+    want: Want<'_>,
+) -> Result<(), Fail> {
+    let files = [("s", script.as_bytes())];
+    let mut host = Memory {
+        input: script.as_bytes(),
+        files: &files,
+    };
+    expect(rt, "check s", &mut host, want)?;
+    Ok(expect(rt, "check -", &mut host, want)?)
 }
 
 // Runs a script on one file.
@@ -447,19 +583,35 @@ fn expect_on_file<'a>(
 
 #[test]
 fn tests_lines_that_fit(rt: HostRuntime) -> Result<(), Fail> {
-    let mut fits = "x".repeat(rt.alloc(), 1022)?;
-    fits.push('\n')?;
-    let mut long = "x".repeat(rt.alloc(), 1023)?;
-    long.push('\n')?;
-    let mut after = String::from_str(rt.alloc(), "x\n")?;
-    after.push_str(long.as_str())?;
-    expect_on_file(&rt, "grep x w", fits.as_str(), fits.as_str())?;
-    expect_on_file(&rt, "grep x w", long.as_str(), "")?;
-    expect_on_file(&rt, "grep x w", after.as_str(), "x\n")?;
-    expect_on_file(&rt, "grep x w", "x\nx", "x\n")?;
-    expect_on_file(&rt, "grep a w", "a\nx\0\na\n", "a\n")?;
-    expect_on_file(&rt, "cat w | grep x", fits.as_str(), fits.as_str())?;
-    expect_on_file(&rt, "cat w | grep x", long.as_str(), "")?;
+    let fits = line_of(rt.alloc(), "", 1022)?;
+    let long = line_of(rt.alloc(), "", 1023)?;
+    let after = line_of(rt.alloc(), "x\n", 1023)?;
+    tests_lines(&rt, fits.as_str(), long.as_str(), after.as_str())
+}
+
+// A line of so many `x` after this text.
+fn line_of(alloc: Global, before: &str, count: usize) -> Result<String, Fail> {
+    let line = "x".repeat(alloc, count)?;
+    Ok(format!(in alloc; "{before}{line}\n")?)
+}
+
+fn tests_lines<'a>(
+    rt: &(impl Abort + AllocGlobal + Threads + Wait + Clock + Sync),
+    fits: &'a str,
+    long: &'a str,
+    after: &'a str,
+) -> Result<(), Fail> {
+    for (script, text, out) in [
+        ("grep x w", fits, fits),
+        ("grep x w", long, ""),
+        ("grep x w", after, "x\n"),
+        ("grep x w", "x\nx", "x\n"),
+        ("grep a w", "a\nx\0\na\n", "a\n"),
+        ("cat w | grep x", fits, fits),
+        ("cat w | grep x", long, ""),
+    ] {
+        expect_on_file(rt, script, text, out)?;
+    }
     Ok(())
 }
 
@@ -482,39 +634,47 @@ fn expect_told<'a>(
     Ok(expect(rt, "plain s in/big in/p", &mut host, want)?)
 }
 
+const SETTLED: [(&str, &str); 8] = [
+    ("cat big | wc", "100 100 1300 \n"),
+    (
+        "cat big | (head -2; wc)",
+        "0123456789ab\n0123456789ab\n98 98 1274 \n",
+    ),
+    ("cat big | head -1", "0123456789ab\n"),
+    ("cat < big | head -1; wc p", "0123456789ab\n4 4 14 p\n"),
+    ("cat | head -1\nwc p", "0123456789ab\n4 4 14 p\n"),
+    ("tee c < big | head -1; echo c", "0123456789ab\nc\n"),
+    ("tee c < big | cat | head -1", "0123456789ab\n"),
+    ("(tee c < big; cat c) | head -1", "0123456789ab\n"),
+];
+
+const LOOSE: [(&str, &str); 6] = [
+    ("echo a &", "a\n"),
+    ("echo a | tee f | cat f", "a\n"),
+    ("(echo a; cat f) > f", ""),
+    (
+        "tee c < big | head -1; wc c",
+        "0123456789ab\n100 100 1300 c\n",
+    ),
+    ("cat | head -1\nwc", "0123456789ab\n0 0 0 \n"),
+    ("cat big | (cat | head -1; cat)", "0123456789ab\n"),
+];
+
 #[test]
 fn tells_whether_a_script_is_settled(rt: HostRuntime) -> Result<(), Fail> {
-    let line = "0123456789ab\n";
-    let big = line.repeat(rt.alloc(), 100)?;
-    let settled = [
-        ("cat big | wc", "100 100 1300 \n"),
-        (
-            "cat big | (head -2; wc)",
-            "0123456789ab\n0123456789ab\n98 98 1274 \n",
-        ),
-        ("cat big | head -1", line),
-        ("cat < big | head -1; wc p", "0123456789ab\n4 4 14 p\n"),
-        ("cat | head -1\nwc p", "0123456789ab\n4 4 14 p\n"),
-        ("tee c < big | head -1; echo c", "0123456789ab\nc\n"),
-        ("tee c < big | cat | head -1", line),
-        ("(tee c < big; cat c) | head -1", line),
-    ];
-    for (script, out) in settled {
-        expect_told(&rt, big.as_str(), script, (0, out, "settled\n"))?;
+    let big = "0123456789ab\n".repeat(rt.alloc(), 100)?;
+    tells_whether_settled(&rt, big.as_str())
+}
+
+fn tells_whether_settled<'a>(
+    rt: &(impl Abort + AllocGlobal + Threads + Wait + Clock + Sync),
+    big: &'a str,
+) -> Result<(), Fail> {
+    for (script, out) in &SETTLED {
+        expect_told(rt, big, script, (0, out, "settled\n"))?;
     }
-    let loose = [
-        ("echo a &", "a\n"),
-        ("echo a | tee f | cat f", "a\n"),
-        ("(echo a; cat f) > f", ""),
-        (
-            "tee c < big | head -1; wc c",
-            "0123456789ab\n100 100 1300 c\n",
-        ),
-        ("cat | head -1\nwc", "0123456789ab\n0 0 0 \n"),
-        ("cat big | (cat | head -1; cat)", line),
-    ];
-    for (script, out) in loose {
-        expect_told(&rt, big.as_str(), script, (0, out, "not settled\n"))?;
+    for (script, out) in &LOOSE {
+        expect_told(rt, big, script, (0, out, "not settled\n"))?;
     }
     Ok(())
 }
@@ -522,8 +682,25 @@ fn tells_whether_a_script_is_settled(rt: HostRuntime) -> Result<(), Fail> {
 // A file that a cut pipe's left side writes is marked, also where the script isn't settled.
 #[test]
 fn marks_soft_files(rt: HostRuntime) -> Result<(), Fail> {
-    let line = "0123456789ab\n";
-    let big = line.repeat(rt.alloc(), 100)?;
+    let big = "0123456789ab\n".repeat(rt.alloc(), 100)?;
+    marks_files(&rt, big.as_str())
+}
+
+fn marks_files<'a>(
+    rt: &(impl Abort + AllocGlobal + Threads + Wait + Clock + Sync),
+    big: &'a str,
+) -> Result<(), Fail> {
+    let list = format!(in rt.alloc(); "0123456789ab\n-- big 1300\n{big}\n-- c 1300 soft\n{big}\n")?;
+    let more = format!(in rt.alloc(); "{list}-- d 1300\n{big}\n")?;
+    expect_lists(rt, big, list.as_str(), more.as_str())
+}
+
+fn expect_lists<'a>(
+    rt: &(impl Abort + AllocGlobal + Threads + Wait + Clock + Sync),
+    big: &'a str,
+    list: &str,
+    more: &str,
+) -> Result<(), Fail> {
     let files = [
         ("s", b"cat big | tee c | head -1".as_slice()),
         ("t", b"tee c < big | head -1; cat c > d".as_slice()),
@@ -533,11 +710,8 @@ fn marks_soft_files(rt: HostRuntime) -> Result<(), Fail> {
         input: b"".as_slice(),
         files: &files,
     };
-    let list = format!(in rt.alloc(); "{line}-- big 1300\n{big}\n-- c 1300 soft\n{big}\n")?;
-    let want = (0, list.as_str(), "settled\n");
-    expect(&rt, "plain --files s in/big", &mut host, want)?;
-    let list = format!(in rt.alloc(); "{list}-- d 1300\n{big}\n")?;
-    let want = (0, list.as_str(), "not settled\n");
-    expect(&rt, "plain --files t in/big", &mut host, want)?;
-    Ok(())
+    let want = (0, list, "settled\n");
+    expect(rt, "plain --files s in/big", &mut host, want)?;
+    let want = (0, more, "not settled\n");
+    Ok(expect(rt, "plain --files t in/big", &mut host, want)?)
 }

@@ -29,6 +29,27 @@ struct Left<'a> {
     // All of them.
     files: &'a Files<Global>,
     full: Option<Full>,
+    // Whether the last of the 64 slots has to have run.
+    last_slot: bool,
+}
+
+// Nothing is full.
+fn plain<'a>(out: &'a [u8], diag: &'a str, files: &'a Files<Global>) -> Left<'a> {
+    Left {
+        out,
+        diag,
+        files,
+        full: None,
+        last_slot: false,
+    }
+}
+
+// Whether the last of the 64 slots ran.
+fn has_last_run(report: &Report<Global>) -> bool {
+    let events = report.schedule.as_slice();
+    events
+        .iter()
+        .any(|event| matches!(event, Event::Dispatch(_, 63)))
 }
 
 // Whether the report tells of a run that is finished and left this.
@@ -38,32 +59,49 @@ fn is_left(report: &Report<Global>, left: &Left<'_>) -> bool {
         && report.out.as_slice() == left.out
         && report.diag.as_slice() == left.diag.as_bytes()
         && report.files.same(left.files)
+        && (!left.last_slot || has_last_run(report))
 }
 
-// Runs a script with this standard input and these files on one, two and eight harts, and compares what each run leaves; the
-// text tells which script it is.
-fn leaves<R: AllocGlobal + Abort + Threads + Wait + Clock + Sync>(
+// Whether a script on so many harts leaves this.
+fn leaves_on<R: AllocGlobal + Abort + Threads + Wait + Clock + Sync>(
     rt: &R,
-    text: &str,
     script: &Script<Global>,
     stdin: &[u8],
     given: &Files<Global>,
     left: &Left<'_>,
+    harts: u8,
+) -> Result<bool, Fail> {
+    let alloc = rt.alloc();
+    let report = run_harts(rt, alloc, script, stdin, given, harts, TURNS, &OpenGate)?;
+    Ok(is_left(&report, left))
+}
+
+// Runs a script with this standard input and these files on one, two and eight harts, and compares what each run leaves.
+fn leaves<R: AllocGlobal + Abort + Threads + Wait + Clock + Sync>(
+    rt: &R,
+    text: &str,
+    profile: Profile,
+    stdin: &[u8],
+    given: &Files<Global>,
+    left: &Left<'_>,
 ) -> Result<(), Fail> {
+    let script = load_with(rt.alloc(), text.as_bytes(), profile)?;
     for harts in HARTS {
-        let report = run_harts(
-            rt,
-            rt.alloc(),
-            script,
-            stdin,
-            given,
-            harts,
-            TURNS,
-            &OpenGate,
-        )?;
-        assert!(rt; is_left(&report, left), "{text} on {harts}");
+        let is_left = leaves_on(rt, &script, stdin, given, left, harts)?;
+        assert!(rt; is_left, "{text} on {harts}");
     }
     Ok(())
+}
+
+// The same with the files p and big alone.
+fn leaves_beside<R: AllocGlobal + Abort + Threads + Wait + Clock + Sync>(
+    rt: &R,
+    text: &str,
+    stdin: &[u8],
+    left: &Left<'_>,
+) -> Result<(), Fail> {
+    let given = files_of(rt.alloc(), &[])?;
+    leaves(rt, text, Profile::Xv6, stdin, &given, left)
 }
 
 // A script, its standard input, its output, its diagnostics, and the files that it leaves beside p and big.
@@ -75,27 +113,29 @@ type Row = (
     &'static [(&'static str, &'static [u8])],
 );
 
-// Rows on the files p and big, in each of which nothing is full.
+// A row on the files p and big, in which nothing is full.
+fn expect<R: AllocGlobal + Abort + Threads + Wait + Clock + Sync>(
+    rt: &R,
+    row: &Row,
+) -> Result<(), Fail> {
+    let (text, stdin, out, diag, files) = row;
+    let files = files_of(rt.alloc(), files)?;
+    let left = plain(out.as_bytes(), diag, &files);
+    leaves_beside(rt, text, stdin.as_bytes(), &left)
+}
+
+// Each of these rows.
 fn expect_all<R: AllocGlobal + Abort + Threads + Wait + Clock + Sync>(
     rt: &R,
     rows: &[Row],
 ) -> Result<(), Fail> {
-    let alloc = rt.alloc();
-    let given = files_of(alloc, &[])?;
-    for (text, stdin, out, diag, files) in rows {
-        let script = load(alloc, text.as_bytes())?;
-        let left = Left {
-            out: out.as_bytes(),
-            diag,
-            files: &files_of(alloc, files)?,
-            full: None,
-        };
-        leaves(rt, text, &script, stdin.as_bytes(), &given, &left)?;
+    for row in rows {
+        expect(rt, row)?;
     }
     Ok(())
 }
 
-const FED: [Row; 22] = [
+static FED: [Row; 22] = [
     ("cat", "a\nno end", "a\nno end", "", &[]),
     ("cat; cat", "in\n", "in\n", "", &[]),
     ("echo a", "in\n", "a\n", "", &[]),
@@ -146,7 +186,7 @@ type Long = (
     &'static [&'static str],
 );
 
-const LONG: [Long; 14] = [
+static LONG: [Long; 14] = [
     ("cat", None, "", &[]),
     ("cat | cat | cat", None, "", &[]),
     ("grep 0", None, "", &[]),
@@ -179,27 +219,35 @@ const LONG: [Long; 14] = [
     ),
 ];
 
-// Rows whose input is the file big, in each of which nothing is full.
+// The files p and big, and those of these names, each of which holds these bytes.
+fn copies_of(alloc: Global, names: &[&str], bytes: &[u8]) -> Result<Files<Global>, Fail> {
+    let mut files = files_of(alloc, &[])?;
+    for name in names {
+        files.put(name.as_bytes(), bytes)?;
+    }
+    Ok(files)
+}
+
+// A row whose input is the file big, in which nothing is full.
+fn expect_copies<R: AllocGlobal + Abort + Threads + Wait + Clock + Sync>(
+    rt: &R,
+    big: &str,
+    row: &Long,
+) -> Result<(), Fail> {
+    let (text, out, diag, names) = row;
+    let files = copies_of(rt.alloc(), names, big.as_bytes())?;
+    let left = plain(out.unwrap_or(big).as_bytes(), diag, &files);
+    leaves_beside(rt, text, big.as_bytes(), &left)
+}
+
+// Each of these rows.
 fn expect_long<R: AllocGlobal + Abort + Threads + Wait + Clock + Sync>(
     rt: &R,
     rows: &[Long],
 ) -> Result<(), Fail> {
-    let alloc = rt.alloc();
-    let given = files_of(alloc, &[])?;
-    let big = LINE.repeat(alloc, 100)?;
-    for (text, out, diag, copies) in rows {
-        let script = load(alloc, text.as_bytes())?;
-        let mut files = files_of(alloc, &[])?;
-        for name in *copies {
-            files.put(name.as_bytes(), big.as_bytes())?;
-        }
-        let left = Left {
-            out: out.unwrap_or(big.as_str()).as_bytes(),
-            diag,
-            files: &files,
-            full: None,
-        };
-        leaves(rt, text, &script, big.as_bytes(), &given, &left)?;
+    let big = LINE.repeat(rt.alloc(), 100)?;
+    for row in rows {
+        expect_copies(rt, big.as_str(), row)?;
     }
     Ok(())
 }
@@ -209,7 +257,7 @@ fn inputs_are_longer_than_a_block(rt: HostRuntime) -> Result<(), Fail> {
     expect_long(&rt, &LONG)
 }
 
-const TOLD_BY_THE_SHELL: [Row; 16] = [
+static TOLD_BY_THE_SHELL: [Row; 16] = [
     (
         "cat < none > o",
         "in\n",
@@ -277,7 +325,7 @@ fn the_shell_tells_mistakes(rt: HostRuntime) -> Result<(), Fail> {
     expect_all(&rt, &TOLD_BY_THE_SHELL)
 }
 
-const TOLD_BY_PROGRAMS: [Row; 19] = [
+static TOLD_BY_PROGRAMS: [Row; 19] = [
     ("cat none", "in\n", "", "cat: cannot open none\n", &[]),
     ("cat p none p", "", P, "cat: cannot open none\n", &[]),
     (
@@ -381,7 +429,7 @@ type Over = (
     (&'static str, &'static str),
 );
 
-const OVER: [Over; 9] = [
+static OVER: [Over; 9] = [
     (
         "echo hello > f; echo J >> f; cat f",
         "",
@@ -429,6 +477,11 @@ const OVER: [Over; 9] = [
     ),
 ];
 
+// The files p and big, f, which holds this, and g, which is empty.
+fn f_and_g(alloc: Global, f: &str) -> Result<Files<Global>, Fail> {
+    files_of(alloc, &[("f", f.as_bytes()), ("g", b"")])
+}
+
 // Runs a row under one of the two.
 fn writes_over<R: AllocGlobal + Abort + Threads + Wait + Clock + Sync>(
     rt: &R,
@@ -438,17 +491,16 @@ fn writes_over<R: AllocGlobal + Abort + Threads + Wait + Clock + Sync>(
     want: (&str, &str),
 ) -> Result<(), Fail> {
     let alloc = rt.alloc();
-    let script = load_with(alloc, text.as_bytes(), profile)?;
-    let given = files_of(alloc, &[("f", before.as_bytes()), ("g", b"")])?;
-    let mut files = given.copy(alloc)?;
-    files.put(b"f", want.1.as_bytes())?;
+    let given = f_and_g(alloc, before)?;
+    let files = f_and_g(alloc, want.1)?;
     let left = Left {
         out: want.0.as_bytes(),
         diag: "",
         files: &files,
         full: None,
+        last_slot: false,
     };
-    leaves(rt, text, &script, b"in\n", &given, &left)
+    leaves(rt, text, profile, b"in\n", &given, &left)
 }
 
 // Runs each row under both.
@@ -463,19 +515,35 @@ fn all_write_over<R: AllocGlobal + Abort + Threads + Wait + Clock + Sync>(
     Ok(())
 }
 
+// f holds what big holds before, and in the end that or twice as much.
+fn big_writes_over<R: AllocGlobal + Abort + Threads + Wait + Clock + Sync>(
+    rt: &R,
+    big: &str,
+    twice: &str,
+) -> Result<(), Fail> {
+    let text = "cat big >> f; wc f";
+    writes_over(rt, text, Profile::Xv6, big, ("100 100 1300 f\n", big))?;
+    writes_over(rt, text, Profile::Append, big, ("200 200 2600 f\n", twice))
+}
+
 #[test]
 fn over_means_what_the_profile_says(rt: HostRuntime) -> Result<(), Fail> {
     all_write_over(&rt, &OVER)?;
     let big = LINE.repeat(rt.alloc(), 100)?;
     let twice = LINE.repeat(rt.alloc(), 200)?;
-    let text = "cat big >> f; wc f";
-    let xv6 = ("100 100 1300 f\n", big.as_str());
-    writes_over(&rt, text, Profile::Xv6, big.as_str(), xv6)?;
-    let append = ("200 200 2600 f\n", twice.as_str());
-    writes_over(&rt, text, Profile::Append, big.as_str(), append)
+    big_writes_over(&rt, big.as_str(), twice.as_str())
 }
 
-// A file that can't grow to this end: a is as large as a file may be, f and n have a byte.
+// The files p and big, a, which is as large as a file may be, f, which holds this, and n, which has a byte.
+fn with_f(alloc: Global, f: &[u8]) -> Result<Files<Global>, Fail> {
+    let whole = vec![in alloc; b'x'; MAX_SIZE]?;
+    let held = [("a", whole.as_slice()), ("f", b"y"), ("n", b"n")];
+    let mut files = files_of(alloc, &held)?;
+    files.put(b"f", f)?;
+    Ok(files)
+}
+
+// A file that can't grow to this end: before, f has a byte.
 fn fills_a_file<R: AllocGlobal + Abort + Threads + Wait + Clock + Sync>(
     rt: &R,
     text: &str,
@@ -483,36 +551,44 @@ fn fills_a_file<R: AllocGlobal + Abort + Threads + Wait + Clock + Sync>(
     f: &[u8],
     is_full: bool,
 ) -> Result<(), Fail> {
-    let alloc = rt.alloc();
-    let script = load_with(alloc, text.as_bytes(), profile)?;
-    let whole = vec![in alloc; b'x'; MAX_SIZE]?;
-    let held = [("a", whole.as_slice()), ("f", b"y"), ("n", b"n")];
-    let given = files_of(alloc, &held)?;
-    let mut files = given.copy(alloc)?;
-    files.put(b"f", f)?;
+    let given = with_f(rt.alloc(), b"y")?;
+    let files = with_f(rt.alloc(), f)?;
     let left = Left {
         out: b"",
         diag: if is_full { "cat: write error\n" } else { "" },
         files: &files,
         full: if is_full { Some(Full::Size) } else { None },
+        last_slot: false,
     };
-    leaves(rt, text, &script, b"", &given, &left)
+    leaves(rt, text, profile, b"", &given, &left)
+}
+
+// What f holds when a was appended: after its byte 535 blocks of 512 bytes fit.
+fn grown(alloc: Global) -> Result<Vec<u8>, Fail> {
+    let mut grown = vec![in alloc; b'x'; 273_921]?;
+    if let Some(first) = grown.first_mut() {
+        *first = b'y';
+    }
+    Ok(grown)
+}
+
+// Each way to fill f, of which a holds this.
+fn fills_it_each_way<R: AllocGlobal + Abort + Threads + Wait + Clock + Sync>(
+    rt: &R,
+    a: &[u8],
+    grown: &[u8],
+) -> Result<(), Fail> {
+    fills_a_file(rt, "cat a > f", Profile::Xv6, a, false)?;
+    fills_a_file(rt, "cat a n > f", Profile::Xv6, a, true)?;
+    fills_a_file(rt, "cat a >> f", Profile::Xv6, a, false)?;
+    fills_a_file(rt, "cat a >> f", Profile::Append, grown, true)
 }
 
 #[test]
 fn a_file_has_no_more_room(rt: HostRuntime) -> Result<(), Fail> {
     let whole = vec![in rt.alloc(); b'x'; MAX_SIZE]?;
-    let a = whole.as_slice();
-    fills_a_file(&rt, "cat a > f", Profile::Xv6, a, false)?;
-    fills_a_file(&rt, "cat a n > f", Profile::Xv6, a, true)?;
-    fills_a_file(&rt, "cat a >> f", Profile::Xv6, a, false)?;
-    // After the byte of f 535 blocks of 512 bytes fit.
-    let mut grown = vec![in rt.alloc(); b'x'; 273_921]?;
-    if let Some(first) = grown.first_mut() {
-        *first = b'y';
-    }
-    let f = grown.as_slice();
-    fills_a_file(&rt, "cat a >> f", Profile::Append, f, true)
+    let grown = grown(rt.alloc())?;
+    fills_it_each_way(&rt, whole.as_slice(), grown.as_slice())
 }
 
 // So many parentheses round `echo a;`, each of which is one more process.
@@ -522,131 +598,200 @@ fn nested(alloc: Global, count: usize) -> Result<String, Fail> {
     Ok(format!(in alloc; "{}echo a{}", left.as_str(), right.as_str())?)
 }
 
-// Whether the last of the 64 slots ran.
-fn has_last_run(report: &Report<Global>) -> bool {
-    let events = report.schedule.as_slice();
-    events
-        .iter()
-        .any(|event| matches!(event, Event::Dispatch(_, 63)))
+// So many parentheses, and the output, the diagnostics and what is full then.
+type Nest = (usize, &'static str, &'static str, Option<Full>);
+
+static NESTS: [Nest; 2] = [(61, "a\n", "", None), (62, "", "fork\n", Some(Full::Procs))];
+
+// Runs a row, which leaves these files as they are, and in which the last slot runs.
+fn nests<R: AllocGlobal + Abort + Threads + Wait + Clock + Sync>(
+    rt: &R,
+    given: &Files<Global>,
+    row: &Nest,
+) -> Result<(), Fail> {
+    let (count, out, diag, full) = row;
+    let text = nested(rt.alloc(), *count)?;
+    let left = Left {
+        out: out.as_bytes(),
+        diag,
+        files: given,
+        full: *full,
+        last_slot: true,
+    };
+    leaves(rt, text.as_str(), Profile::Xv6, b"", given, &left)
 }
 
 #[test]
 fn no_65th_process_is_made(rt: HostRuntime) -> Result<(), Fail> {
-    let alloc = rt.alloc();
-    let given = files_of(alloc, &[])?;
-    let rows = [
-        (61, b"a\n".as_slice(), "", None),
-        (62, b"", "fork\n", Some(Full::Procs)),
-    ];
-    for (count, out, diag, full) in rows {
-        let text = nested(alloc, count)?;
-        let script = load(alloc, text.as_bytes())?;
-        let left = Left {
-            out,
-            diag,
-            files: &given,
-            full,
-        };
-        for harts in HARTS {
-            let report = run_harts(&rt, alloc, &script, &[], &given, harts, TURNS, &OpenGate)?;
-            assert!(&rt; is_left(&report, &left), "{count} on {harts}");
-            assert!(&rt; has_last_run(&report), "{count} on {harts}");
-        }
+    let given = files_of(rt.alloc(), &[])?;
+    for row in &NESTS {
+        nests(&rt, &given, row)?;
     }
     Ok(())
+}
+
+// As many files as there can be, all empty.
+fn all_files(alloc: Global) -> Result<Files<Global>, Fail> {
+    let mut files = Files::new(alloc);
+    for i in 0..MAX_FILES {
+        let name = format!(in alloc; "f{i}")?;
+        files.put(name.as_bytes(), &[])?;
+    }
+    Ok(files)
+}
+
+// A script, its output, its diagnostics and what is full, where there are as many files as there can be. The input is a line
+// `in`.
+type NoMore = (&'static str, &'static str, &'static str, Option<Full>);
+
+static NO_MORE: [NoMore; 5] = [
+    ("> f0", "", "", None),
+    ("> zz", "", "open zz failed\n", Some(Full::Files)),
+    (">> zz", "", "open zz failed\n", Some(Full::Files)),
+    (
+        "tee zz; cat",
+        "in\n",
+        "tee: cannot open zz\n",
+        Some(Full::Files),
+    ),
+    // There is none to be made.
+    ("cat zz", "", "cat: cannot open zz\n", None),
+];
+
+// Runs a row, which leaves these files as they are.
+fn makes_none<R: AllocGlobal + Abort + Threads + Wait + Clock + Sync>(
+    rt: &R,
+    given: &Files<Global>,
+    row: &NoMore,
+) -> Result<(), Fail> {
+    let (text, out, diag, full) = row;
+    let left = Left {
+        out: out.as_bytes(),
+        diag,
+        files: given,
+        full: *full,
+        last_slot: false,
+    };
+    leaves(rt, text, Profile::Xv6, b"in\n", given, &left)
 }
 
 #[test]
 fn no_201st_file_is_made(rt: HostRuntime) -> Result<(), Fail> {
-    let alloc = rt.alloc();
-    let mut given = Files::new(alloc);
-    for i in 0..MAX_FILES {
-        let name = format!(in alloc; "f{i}")?;
-        given.put(name.as_bytes(), &[])?;
-    }
-    let rows = [
-        ("> f0", "", "", None),
-        ("> zz", "", "open zz failed\n", Some(Full::Files)),
-        (">> zz", "", "open zz failed\n", Some(Full::Files)),
-        (
-            "tee zz; cat",
-            "in\n",
-            "tee: cannot open zz\n",
-            Some(Full::Files),
-        ),
-        // There is none to be made.
-        ("cat zz", "", "cat: cannot open zz\n", None),
-    ];
-    for (text, out, diag, full) in rows {
-        let script = load(alloc, text.as_bytes())?;
-        let left = Left {
-            out: out.as_bytes(),
-            diag,
-            files: &given,
-            full,
-        };
-        leaves(&rt, text, &script, b"in\n", &given, &left)?;
+    let given = all_files(rt.alloc())?;
+    for row in &NO_MORE {
+        makes_none(&rt, &given, row)?;
     }
     Ok(())
 }
 
-// Ten `tee` in a row, each with eight files, the last one with so many; and the names of these.
-fn tees(alloc: Global, last: usize) -> Result<(String, Vec<String>), Fail> {
-    let mut text = String::new(alloc);
+// The names of so many files, of which eight at a time have the same first digit.
+fn names_of(alloc: Global, count: usize) -> Result<Vec<String>, Fail> {
     let mut names = Vec::new(alloc);
-    for stage in 0..10 {
-        text.push_str(if stage == 0 { "tee" } else { " | tee" })?;
-        for place in 0..if stage < 9 { 8 } else { last } {
-            let name = format!(in alloc; "t{stage}{place}")?;
-            text.push(' ')?;
-            text.push_str(name.as_str())?;
-            names.push(name)?;
-        }
+    for i in 0..count {
+        names.push(format!(in alloc; "t{}{}", i / 8, i % 8)?)?;
     }
-    Ok((text, names))
+    Ok(names)
+}
+
+// Writes the file of this number behind those before it: each eighth begins with a further `tee`.
+fn add_file(text: &mut String, number: usize, name: &str) -> Result<(), Fail> {
+    if number == 0 {
+        text.push_str("tee")?;
+    } else if number % 8 == 0 {
+        text.push_str(" | tee")?;
+    }
+    text.push(' ')?;
+    text.push_str(name)?;
+    Ok(())
+}
+
+// As many `tee` in a row as it takes, each with eight of these files, the last one with those that are left.
+fn tees(alloc: Global, names: &[String]) -> Result<String, Fail> {
+    let mut text = String::new(alloc);
+    for i in 0..names.len() {
+        add_file(&mut text, i, names[i].as_str())?;
+    }
+    Ok(text)
+}
+
+// The files p and big, and those of these names, each of which holds these bytes.
+fn filled(alloc: Global, names: &[String], bytes: &[u8]) -> Result<Files<Global>, Fail> {
+    let mut files = files_of(alloc, &[])?;
+    for name in names {
+        files.put(name.as_bytes(), bytes)?;
+    }
+    Ok(files)
+}
+
+// All of these files get the input.
+fn fills_all<R: AllocGlobal + Abort + Threads + Wait + Clock + Sync>(
+    rt: &R,
+    input: &str,
+    names: &[String],
+) -> Result<(), Fail> {
+    let text = tees(rt.alloc(), names)?;
+    let files = filled(rt.alloc(), names, input.as_bytes())?;
+    let left = plain(input.as_bytes(), "", &files);
+    leaves_beside(rt, text.as_str(), input.as_bytes(), &left)
 }
 
 // The input is more than nine pipes and ten programs hold, so that all files are open at one time: 79 of them, 18 ends of
 // pipes and the shell's three.
 #[test]
 fn a_hundred_open_files_fit(rt: HostRuntime) -> Result<(), Fail> {
-    let alloc = rt.alloc();
-    let given = files_of(alloc, &[])?;
-    let input = LINE.repeat(alloc, 2_000)?;
-    let (text, names) = tees(alloc, 7)?;
-    let mut files = files_of(alloc, &[])?;
-    for name in &names {
-        files.put(name.as_bytes(), input.as_bytes())?;
+    let input = LINE.repeat(rt.alloc(), 2_000)?;
+    let names = names_of(rt.alloc(), 79)?;
+    fills_all(&rt, input.as_str(), names.as_slice())
+}
+
+// Whether the report tells of a run for which the table of open files was full: the output and each of these files hold the
+// beginning of the input.
+fn are_beginnings(report: &Report<Global>, input: &[u8], names: &[String]) -> bool {
+    for name in names {
+        let held = report.files.get(name.as_bytes()).unwrap_or_default();
+        if !input.starts_with(held) {
+            return false;
+        }
     }
+    report.finished
+        && report.full == Some(Full::Open)
+        && !report.diag.is_empty()
+        && input.starts_with(report.out.as_slice())
+}
+
+// Whether so many harts refuse one of these files.
+fn refuses_one<R: AllocGlobal + Abort + Threads + Wait + Clock + Sync>(
+    rt: &R,
+    text: &str,
+    input: &[u8],
+    names: &[String],
+    harts: u8,
+) -> Result<bool, Fail> {
+    let alloc = rt.alloc();
     let script = load(alloc, text.as_bytes())?;
-    let left = Left {
-        out: input.as_bytes(),
-        diag: "",
-        files: &files,
-        full: None,
-    };
-    leaves(&rt, text.as_str(), &script, input.as_bytes(), &given, &left)
+    let given = files_of(alloc, &[])?;
+    let report = run_harts(rt, alloc, &script, input, &given, harts, TURNS, &OpenGate)?;
+    Ok(are_beginnings(&report, input, names))
+}
+
+// One of these files is refused, on one, two and eight harts.
+fn all_refuse_one<R: AllocGlobal + Abort + Threads + Wait + Clock + Sync>(
+    rt: &R,
+    input: &[u8],
+    names: &[String],
+) -> Result<(), Fail> {
+    let text = tees(rt.alloc(), names)?;
+    for harts in HARTS {
+        let is_refused = refuses_one(rt, text.as_str(), input, names, harts)?;
+        assert!(rt; is_refused, "on {harts}");
+    }
+    Ok(())
 }
 
 // Who finds no entry for the 101st depends on the order; each file then holds the beginning of the input.
 #[test]
 fn the_101st_open_file_is_refused(rt: HostRuntime) -> Result<(), Fail> {
-    let alloc = rt.alloc();
-    let given = files_of(alloc, &[])?;
-    let input = LINE.repeat(alloc, 2_000)?;
-    let (text, names) = tees(alloc, 8)?;
-    let script = load(alloc, text.as_bytes())?;
-    for harts in HARTS {
-        let stdin = input.as_bytes();
-        let report = run_harts(&rt, alloc, &script, stdin, &given, harts, TURNS, &OpenGate)?;
-        assert!(&rt; report.finished);
-        assert!(&rt; report.full == Some(Full::Open), "on {harts}");
-        assert!(&rt; !report.diag.is_empty());
-        assert!(&rt; input.as_bytes().starts_with(report.out.as_slice()));
-        for name in &names {
-            let held = report.files.get(name.as_bytes()).unwrap_or_default();
-            assert!(&rt; input.as_bytes().starts_with(held));
-        }
-    }
-    Ok(())
+    let input = LINE.repeat(rt.alloc(), 2_000)?;
+    let names = names_of(rt.alloc(), 80)?;
+    all_refuse_one(&rt, input.as_bytes(), names.as_slice())
 }

@@ -7,6 +7,7 @@ ghost use Rattle.hart_threads.specs.Boots.{number_of};
 use crate::rows::files_of;
 use hart_threads::{OpenGate, Run, RunFault, Seat, Shared, Turn};
 use kernel_core::{Kernel, Report};
+use mem_files::Files;
 use script_load::{Script, load};
 use sh_machine::{Naming, User};
 use std::alloc::{AllocError, Global};
@@ -96,15 +97,15 @@ fn take_of<M: Machine, R: Wait>(
 fn take_named<N: Naming, R: AllocGlobal + Wait>(
     rt: &R,
     script: &Script<Global>,
+    files: &Files<Global>,
     turns: u64,
     order: &[usize],
 ) -> Result<Turns, Fail>
     requires { lines_of script.now.lines ≡ N.script }
 {
     let alloc = rt.alloc();
-    let files = files_of(alloc, &[])?;
     let init = User::<Global, N>::init();
-    let kernel = Kernel::boot(alloc, init, User::shell(script), &[], &files)?;
+    let kernel = Kernel::boot(alloc, init, User::shell(script), &[], files)?;
     Ok(take_of(rt, alloc, kernel, turns, order)?)
 }
 
@@ -116,39 +117,55 @@ fn take<R: AllocGlobal + Wait>(
     order: &[usize],
 ) -> Result<Turns, Fail> {
     let script = load(rt.alloc(), script.as_bytes())?;
-    take_named::<Brand, R>(rt, &script, turns, order)
+    let files = files_of(rt.alloc(), &[])?;
+    take_named::<Brand, R>(rt, &script, &files, turns, order)
+}
+
+// All turns were those of this hart, which finished.
+fn ran_alone<R: Abort>(rt: &R, turns: &Turns, hart: usize) {
+    let events = turns.report.schedule.as_slice().len() as u64;
+    assert!(rt; turns.stepped == 2 || turns.stepped == 3);
+    assert_eq!(rt; turns.last, Turn::Finished);
+    assert!(rt; turns.report.finished);
+    assert_eq!(rt; events, 2 * turns.stepped);
+    assert!(rt; turns.report.by_hart.get(hart) == Some(&events));
 }
 
 #[test]
 fn one_seat_runs_alone(rt: HostRuntime) -> Result<(), Fail> {
     for hart in [0usize, 1] {
         let turns = take(&rt, "", 6, &[hart, hart])?;
-        assert!(&rt; turns.stepped == 2 || turns.stepped == 3);
-        assert_eq!(&rt; turns.last, Turn::Finished);
-        assert!(&rt; turns.report.finished);
-        let events = turns.report.schedule.as_slice().len() as u64;
-        assert_eq!(&rt; events, 2 * turns.stepped);
-        assert_eq!(&rt; turns.report.by_hart[hart], events);
+        ran_alone(&rt, &turns, hart);
     }
     Ok(())
+}
+
+// The seats finished, and had as many turns as each other, or nearly.
+fn took_turns<R: Abort>(rt: &R, turns: &Turns) {
+    assert_eq!(rt; turns.last, Turn::Finished);
+    assert_eq!(rt; turns.idle, 0);
+    assert_eq!(rt; turns.report.out.as_slice(), b"100 100 1300 \n".as_slice());
+    let [first, second, ..] = turns.report.by_hart;
+    assert!(rt; 0 < second && first.abs_diff(second) <= 2);
 }
 
 #[test]
 fn seats_take_turns_one_after_the_other(rt: HostRuntime) -> Result<(), Fail> {
     let turns = take(&rt, "cat big | wc", 10_000, &[0, 1])?;
-    assert_eq!(&rt; turns.last, Turn::Finished);
-    assert_eq!(&rt; turns.idle, 0);
-    assert_eq!(&rt; turns.report.out.as_slice(), b"100 100 1300 \n".as_slice());
-    let [first, second, ..] = turns.report.by_hart;
-    assert!(&rt; 0 < second && first.abs_diff(second) <= 2);
+    took_turns(&rt, &turns);
     Ok(())
+}
+
+// Three steps were made, and then no turn was left.
+fn are_spent<R: Abort>(rt: &R, turns: &Turns) {
+    assert_eq!(rt; turns.last, Turn::Spent);
+    assert_eq!(rt; turns.report.schedule.as_slice().len(), 6usize);
+    assert!(rt; !turns.report.finished);
 }
 
 #[test]
 fn turns_are_spent(rt: HostRuntime) -> Result<(), Fail> {
     let turns = take(&rt, "cat big | wc", 7, &[0, 1])?;
-    assert_eq!(&rt; turns.last, Turn::Spent);
-    assert_eq!(&rt; turns.report.schedule.as_slice().len(), 6usize);
-    assert!(&rt; !turns.report.finished);
+    are_spent(&rt, &turns);
     Ok(())
 }

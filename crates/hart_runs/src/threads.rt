@@ -1,20 +1,19 @@
 //! That harts are threads, of which none is left, and that user code of two overlaps.
 
-use crate::rows::files_of;
-use hart_run::replay;
+use crate::rows::{TURNS, files_of, replays, run_text};
 use hart_threads::{Gate, OpenGate, run_harts};
 use proc_table::Pid;
 use script_load::load;
+use std::alloc::Global;
 use std::hint::spin_loop;
 use std::process::Abort;
 use std::rt::Files;
 use std::sync::Wait;
 use std::sync::atomic::{AtomicBool, AtomicU64, Ordering};
 use std::test::Fail;
-use std::time::Duration;
+use std::thread::Threads;
+use std::time::{Clock, Duration};
 use std::{fs, io, thread};
-
-const TURNS: u64 = 10_000_000;
 
 // So often a hart looks whether another one comes.
 const LOOKS: u64 = 100_000_000;
@@ -76,17 +75,19 @@ impl Gate for TwoInside {
     }
 }
 
+// Two harts were inside at one time, and the run wrote this.
+fn have_met<R: Abort>(rt: &R, gate: &TwoInside, out: &[u8]) {
+    assert!(rt; gate.met.load(Ordering::SeqCst));
+    assert!(rt; !gate.missed.load(Ordering::SeqCst));
+    assert_eq!(rt; out, b"100 100 1300 \n".as_slice());
+}
+
 #[test]
 fn two_inside(rt: HostRuntime) -> Result<(), Fail> {
-    let alloc = rt.alloc();
-    let script = load(alloc, b"cat big | wc")?;
-    let given = files_of(alloc, &[])?;
     for harts in [2, 8] {
         let gate = TwoInside::new();
-        let report = run_harts(&rt, alloc, &script, &[], &given, harts, TURNS, &gate)?;
-        assert!(&rt; gate.met.load(Ordering::SeqCst));
-        assert!(&rt; !gate.missed.load(Ordering::SeqCst));
-        assert_eq!(&rt; report.out.as_slice(), b"100 100 1300 \n".as_slice());
+        let report = run_text(&rt, "cat big | wc", harts, &gate)?;
+        have_met(&rt, &gate, report.out.as_slice());
     }
     Ok(())
 }
@@ -103,19 +104,21 @@ impl Gate for Counting {
     }
 }
 
+// As many steps began as there are dispatches, and none begins later.
+fn are_dispatches<R: Abort + Clock>(rt: &R, begun: &AtomicU64, events: usize) {
+    let dispatches = events as u64 / 2;
+    assert_eq!(rt; begun.load(Ordering::SeqCst), dispatches);
+    thread::sleep(rt, Duration::from_millis(20));
+    assert_eq!(rt; begun.load(Ordering::SeqCst), dispatches);
+}
+
 #[test]
 fn each_dispatch_passes_the_gate_once_and_none_comes_later(rt: HostRuntime) -> Result<(), Fail> {
-    let alloc = rt.alloc();
-    let script = load(alloc, b"cat big | (head -2; wc)")?;
-    let given = files_of(alloc, &[])?;
     let gate = Counting {
         begun: AtomicU64::new(0),
     };
-    let report = run_harts(&rt, alloc, &script, &[], &given, 8, TURNS, &gate)?;
-    let dispatches = report.schedule.as_slice().len() as u64 / 2;
-    assert_eq!(&rt; gate.begun.load(Ordering::SeqCst), dispatches);
-    thread::sleep(&rt, Duration::from_millis(20));
-    assert_eq!(&rt; gate.begun.load(Ordering::SeqCst), dispatches);
+    let report = run_text(&rt, "cat big | (head -2; wc)", 8, &gate)?;
+    are_dispatches(&rt, &gate.begun, report.schedule.as_slice().len());
     Ok(())
 }
 
@@ -130,17 +133,23 @@ fn threads_here<R: Files + Alloc>(rt: &R) -> io::Result<u64> {
     Ok(0)
 }
 
+// Runs a script so often, and each run is finished.
+fn runs_often<R: AllocGlobal + Abort + Threads + Wait + Clock + Sync>(
+    rt: &R,
+    count: usize,
+) -> Result<(), Fail> {
+    for _run in 0..count {
+        let report = run_text(rt, "cat p | grep b | wc", 8, &OpenGate)?;
+        assert!(rt; report.finished);
+    }
+    Ok(())
+}
+
 #[test]
 fn no_thread_is_left(rt: HostRuntime) -> Result<(), Fail> {
-    let alloc = rt.alloc();
-    let script = load(alloc, b"cat p | grep b | wc")?;
-    let given = files_of(alloc, &[])?;
     let before = threads_here(&rt)?;
     assert!(&rt; 0 < before);
-    for _run in 0..10 {
-        let report = run_harts(&rt, alloc, &script, &[], &given, 8, TURNS, &OpenGate)?;
-        assert!(&rt; report.finished);
-    }
+    runs_often(&rt, 10)?;
     // The system may need a moment to take the last threads away.
     let mut after = threads_here(&rt)?;
     for _look in 0..1_000 {
@@ -154,29 +163,39 @@ fn no_thread_is_left(rt: HostRuntime) -> Result<(), Fail> {
     Ok(())
 }
 
+static REPLAYED: [&str; 10] = [
+    "cat big | wc",
+    "cat p | grep b | wc",
+    "cat big | (head -2; wc)",
+    "(echo a; echo b) > f; cat f | tee g",
+    "echo a | cat > o; cat o",
+    "cat big | head -1",
+    "echo a & echo b",
+    "(cat big | wc) | cat",
+    "echo a | cat | cat | cat | cat",
+    "wc p big | grep p",
+];
+
+// Twenty runs of a script on these files, each of which replays.
+fn twenty_runs_replay<R: AllocGlobal + Abort + Threads + Wait + Clock + Sync>(
+    rt: &R,
+    given: &mem_files::Files<Global>,
+    text: &str,
+) -> Result<(), Fail> {
+    let alloc = rt.alloc();
+    let script = load(alloc, text.as_bytes())?;
+    for _run in 0..20 {
+        let report = run_harts(rt, alloc, &script, &[], given, 8, TURNS, &OpenGate)?;
+        assert!(rt; replays(alloc, &script, given, &report)?, "{text}");
+    }
+    Ok(())
+}
+
 #[test]
 fn two_hundred_runs_replay(rt: HostRuntime) -> Result<(), Fail> {
-    let alloc = rt.alloc();
-    let given = files_of(alloc, &[])?;
-    for text in [
-        "cat big | wc",
-        "cat p | grep b | wc",
-        "cat big | (head -2; wc)",
-        "(echo a; echo b) > f; cat f | tee g",
-        "echo a | cat > o; cat o",
-        "cat big | head -1",
-        "echo a & echo b",
-        "(cat big | wc) | cat",
-        "echo a | cat | cat | cat | cat",
-        "wc p big | grep p",
-    ] {
-        let script = load(alloc, text.as_bytes())?;
-        for _run in 0..20 {
-            let report = run_harts(&rt, alloc, &script, &[], &given, 8, TURNS, &OpenGate)?;
-            let events = report.schedule.as_slice();
-            let again = replay(alloc, &script, &[], &given, events)?;
-            assert!(&rt; again.same(&report), "{text}");
-        }
+    let given = files_of(rt.alloc(), &[])?;
+    for text in &REPLAYED {
+        twenty_runs_replay(&rt, &given, text)?;
     }
     Ok(())
 }

@@ -1,9 +1,11 @@
 //! Orders that a generator draws.
 
+use crate::given::{Given, files_of};
 use crate::runs::{Driver, run_by};
-use mem_files::{Files, FilesFault};
-use script_load::load;
+use mem_files::Files;
+use script_load::{Script, load};
 use std::alloc::Global;
+use std::process::Abort;
 use std::test::Fail;
 
 // Scripts, and what each leaves as its output; the input is three lines.
@@ -22,27 +24,51 @@ const SCRIPTS: [(&str, &str); 10] = [
     ("(echo a | cat) | (cat | cat)", "a\n"),
 ];
 
-fn given(alloc: Global) -> Result<Files<Global>, FilesFault> {
-    let mut files = Files::new(alloc);
-    let mut long = Vec::new(alloc);
-    for _line in 0..60 {
-        long.extend_from_slice(b"0123456789ab\n")?;
+const FILES: [Given; 2] = [
+    ("p", "b\naab\naabc\ncb\n", "", 0, ""),
+    ("long", "", "0123456789ab\n", 60, ""),
+];
+
+// Whether the script leaves this output, drawn from this number on.
+fn leaves(
+    alloc: Global,
+    script: &Script<Global>,
+    files: &Files<Global>,
+    out: &str,
+    seed: u64,
+) -> Result<bool, Fail> {
+    let report = run_by(alloc, script, b"a\nb\nc\n", files, Driver::Drawn(seed))?;
+    Ok(report.out.as_slice() == out.as_bytes())
+}
+
+// The text is the script's.
+fn leaves_always<R: AllocGlobal + Abort>(
+    rt: &R,
+    script: &Script<Global>,
+    files: &Files<Global>,
+    (text, out): (&str, &str),
+) -> Result<(), Fail> {
+    for seed in 0..1000u64 {
+        let leaves = leaves(rt.alloc(), script, files, out, seed)?;
+        assert!(rt; leaves, "{text} {seed}");
     }
-    files.put(b"p", b"b\naab\naabc\ncb\n")?;
-    files.put(b"long", long.as_slice())?;
-    Ok(files)
+    Ok(())
+}
+
+fn all_leave_always<R: AllocGlobal + Abort>(
+    rt: &R,
+    files: &Files<Global>,
+    rows: &[(&str, &str)],
+) -> Result<(), Fail> {
+    for (text, out) in rows {
+        let script = load(rt.alloc(), text.as_bytes())?;
+        leaves_always(rt, &script, files, (text, out))?;
+    }
+    Ok(())
 }
 
 #[test]
 fn somebody_is_awake_in_every_order(rt: HostRuntime) -> Result<(), Fail> {
-    let alloc = rt.alloc();
-    let files = given(alloc)?;
-    for (text, out) in SCRIPTS {
-        let script = load(alloc, text.as_bytes())?;
-        for seed in 0..1000u64 {
-            let report = run_by(alloc, &script, b"a\nb\nc\n", &files, Driver::Drawn(seed))?;
-            assert!(rt; report.out.as_slice() == out.as_bytes(), "{text} {seed}");
-        }
-    }
-    Ok(())
+    let files = files_of(rt.alloc(), &FILES)?;
+    all_leave_always(&rt, &files, &SCRIPTS)
 }

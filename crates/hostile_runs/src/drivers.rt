@@ -87,6 +87,29 @@ pub(crate) fn calls<M: Machine, A: Allocator + Copy>(
     Ok(())
 }
 
+fn calls_and_looks<M: Machine, A: Allocator + Copy>(
+    kernel: &mut Kernel<M, A>,
+    hart: u8,
+    task: Task<M>,
+) -> Result<(), Fail> {
+    calls(kernel, hart, task)?;
+    looks(kernel)
+}
+
+// A dispatch on hart 0, and the call.
+fn turns<M: Machine, A: Allocator + Copy>(
+    kernel: &mut Kernel<M, A>,
+    order: Order,
+) -> Result<(), Fail> {
+    match begins(kernel, 0, order)? {
+        Some(task) => {
+            looks(kernel)?;
+            calls_and_looks(kernel, 0, task)
+        }
+        None => Err(Fail::from("nobody is Runnable")),
+    }
+}
+
 /// On hart 0 alone, in this order, to the end.
 pub(crate) fn on_one_hart<M: Machine, A: Allocator + Copy>(
     kernel: &mut Kernel<M, A>,
@@ -96,14 +119,22 @@ pub(crate) fn on_one_hart<M: Machine, A: Allocator + Copy>(
         if kernel.is_finished() {
             return Ok(());
         }
-        let Some(task) = begins(kernel, 0, order)? else {
-            return Err(Fail::from("nobody is Runnable"));
-        };
-        looks(kernel)?;
-        calls(kernel, 0, task)?;
-        looks(kernel)?;
+        turns(kernel, order)?;
     }
     Err(Fail::from("it has no end"))
+}
+
+// The hart dispatches the lowest that can run, if any can.
+fn begins_lowest<M: Machine, A: Allocator + Copy>(
+    kernel: &mut Kernel<M, A>,
+    hart: u8,
+    begun: &mut Vec<(u8, Task<M>), A>,
+) -> Result<(), Fail> {
+    if let Some(task) = begins(kernel, hart, Order::Lowest)? {
+        begun.push((hart, task))?;
+        looks(kernel)?;
+    }
+    Ok(())
 }
 
 // Each of the eight harts dispatches the lowest that can run.
@@ -113,12 +144,20 @@ fn all_begin<M: Machine, A: Allocator + Copy>(
 ) -> Result<Vec<(u8, Task<M>), A>, Fail> {
     let mut begun = Vec::new(alloc);
     for hart in 0..HARTS {
-        if let Some(task) = begins(kernel, hart, Order::Lowest)? {
-            looks(kernel)?;
-            begun.push((hart, task))?;
-        }
+        begins_lowest(kernel, hart, &mut begun)?;
     }
     Ok(begun)
+}
+
+// Each of these makes its call.
+fn all_call<M: Machine, A: Allocator + Copy>(
+    kernel: &mut Kernel<M, A>,
+    begun: Vec<(u8, Task<M>), A>,
+) -> Result<(), Fail> {
+    for (hart, task) in begun {
+        calls_and_looks(kernel, hart, task)?;
+    }
+    Ok(())
 }
 
 /// On eight harts that dispatch all that they can before any call is made, to the end.
@@ -130,10 +169,8 @@ pub(crate) fn on_eight_harts<M: Machine, A: Allocator + Copy>(
         if kernel.is_finished() {
             return Ok(());
         }
-        for (hart, task) in all_begin(alloc, kernel)? {
-            calls(kernel, hart, task)?;
-            looks(kernel)?;
-        }
+        let begun = all_begin(alloc, kernel)?;
+        all_call(kernel, begun)?;
     }
     Err(Fail::from("it has no end"))
 }
@@ -178,6 +215,38 @@ fn taken<M: Machine, A: Allocator>(
     }
 }
 
+// A call where something runs on the hart, else a dispatch.
+fn goes_on<M: Machine, A: Allocator + Copy>(
+    kernel: &mut Kernel<M, A>,
+    running: &mut Vec<(u8, Task<M>), A>,
+    seed: &mut u64,
+    hart: u8,
+) -> Result<(), Fail> {
+    if let Some(task) = taken(running, hart) {
+        return calls(kernel, hart, task);
+    }
+    if let Some(task) = begins_drawn(kernel, seed, hart)? {
+        running.push((hart, task))?;
+    }
+    Ok(())
+}
+
+fn go_on_as_drawn<M: Machine, A: Allocator + Copy>(
+    kernel: &mut Kernel<M, A>,
+    running: &mut Vec<(u8, Task<M>), A>,
+    seed: &mut u64,
+) -> Result<(), Fail> {
+    for _event in 0..MOST_EVENTS {
+        if kernel.is_finished() {
+            return Ok(());
+        }
+        let hart = draw(seed, DRAWN_HARTS) as u8;
+        goes_on(kernel, running, seed, hart)?;
+        looks(kernel)?;
+    }
+    Err(Fail::from("it has no end"))
+}
+
 /// On three harts, of which each event's is drawn, to the end: a call where something runs there, else a dispatch.
 pub(crate) fn as_drawn<M: Machine, A: Allocator + Copy>(
     alloc: A,
@@ -185,17 +254,5 @@ pub(crate) fn as_drawn<M: Machine, A: Allocator + Copy>(
     seed: &mut u64,
 ) -> Result<(), Fail> {
     let mut running = Vec::new(alloc);
-    for _event in 0..MOST_EVENTS {
-        if kernel.is_finished() {
-            return Ok(());
-        }
-        let hart = draw(seed, DRAWN_HARTS) as u8;
-        if let Some(task) = taken(&mut running, hart) {
-            calls(kernel, hart, task)?;
-        } else if let Some(task) = begins_drawn(kernel, seed, hart)? {
-            running.push((hart, task))?;
-        }
-        looks(kernel)?;
-    }
-    Err(Fail::from("it has no end"))
+    go_on_as_drawn(kernel, &mut running, seed)
 }

@@ -6,6 +6,8 @@ mod drawn;
 #[cfg(test)]
 mod drivers;
 #[cfg(test)]
+mod given;
+#[cfg(test)]
 mod rows;
 #[cfg(test)]
 mod runs;

@@ -1,123 +1,136 @@
 //! Scripts with what they leave, under each driver.
 
 use crate::drivers::Order;
+use crate::given::{Given, files_of};
 use crate::runs::{Driver, run_by};
-use mem_files::{Files, FilesFault};
+use crate::settled::STAGES;
+use kernel_core::Report;
 use script_load::load;
 use std::alloc::Global;
 use std::process::Abort;
 use std::test::Fail;
 
-type Row<'a> = (&'a str, &'a [u8]);
+const P: &str = "b\naab\naabc\ncb\n";
 
-const P: &[u8] = b"b\naab\naabc\ncb\n";
+// 1,300 bytes are more than a pipe holds.
+const FILES: [Given; 2] = [("p", P, "", 0, ""), ("big", "", "0123456789ab\n", 100, "")];
 
-// The file p, and big: 100 lines, 1,300 bytes.
-fn given(alloc: Global) -> Result<Files<Global>, FilesFault> {
-    let mut files = Files::new(alloc);
-    let mut big = Vec::new(alloc);
-    for _line in 0..100 {
-        big.extend_from_slice(b"0123456789ab\n")?;
-    }
-    files.put(b"p", P)?;
-    files.put(b"big", big.as_slice())?;
-    Ok(files)
+// A script and its input, its output and its diagnostics.
+type Row = (&'static str, &'static str, &'static str, &'static str);
+
+const ROWS: [Row; 19] = [
+    ("", "", "", ""),
+    ("echo a > x > y", "", "", ""),
+    ("echo hello > f; echo J >> f; cat f", "", "J\nllo\n", ""),
+    ("(echo a; echo b) > f", "", "", ""),
+    ("(echo aaa; echo b > f; echo c) > f", "", "", ""),
+    ("grep ^a*b$ p", "", "b\naab\n", ""),
+    ("wc p big", "", "4 4 14 p\n100 100 1300 big\n", ""),
+    ("head -1 p big", "", "b\n0123456789ab\n", ""),
+    // Mistakes.
+    ("cat < none > o", "", "", "open none failed\n"),
+    ("a & b\necho ok", "", "ok\n", "leftovers: b\n"),
+    ("foo\ncd x", "", "", "exec foo failed\ncannot cd x\n"),
+    // Pipes.
+    ("echo | wc", "", "0 0 0 \n", ""),
+    ("cat big | wc", "", "100 100 1300 \n", ""),
+    (
+        "cat big | (head -2; wc)",
+        "",
+        "0123456789ab\n0123456789ab\n98 98 1274 \n",
+        "",
+    ),
+    ("cat big | head -100 | wc", "", "100 100 1300 \n", ""),
+    ("cat p | grep b | wc", "", "4 4 14 \n", ""),
+    ("echo a | tee x y", "", "a\n", ""),
+    (STAGES, "", "a\n", ""),
+    // Lines that share the input.
+    ("head -1\nwc", "a\nb\nc\n", "a\n2 2 4 \n", ""),
+];
+
+// Readers that end early, where the diagnostics depend on the order of the processes; the output is a line of big.
+const EARLY: [&str; 2] = ["cat big | head -1", "cat big | tee c | head -1"];
+
+// A script, a file that it leaves, and the bytes of the file.
+type Left = (&'static str, &'static str, &'static str);
+
+const LEFT: [Left; 8] = [
+    ("", "p", P),
+    ("echo a > x > y", "x", "a\n"),
+    ("echo a > x > y", "y", ""),
+    ("(echo a; echo b) > f", "f", "a\nb\n"),
+    ("(echo aaa; echo b > f; echo c) > f", "f", "b\n"),
+    ("cat < none > o", "o", ""),
+    ("echo a | tee x y", "x", "a\n"),
+    ("echo a | tee x y", "y", "a\n"),
+];
+
+fn run(alloc: Global, driver: Driver, script: &str, stdin: &str) -> Result<Report<Global>, Fail> {
+    let script = load(alloc, script.as_bytes())?;
+    let files = files_of(alloc, &FILES)?;
+    run_by(alloc, &script, stdin.as_bytes(), &files, driver)
 }
 
-// Runs a script on these files and this input by the driver, and compares its output, its diagnostics unless they depend on
-// the order of the processes, and of the files those that are named.
-fn run_row<R: AllocGlobal + Abort>(
-    rt: &R,
-    driver: Driver,
-    script: &str,
-    stdin: &str,
-    out: &str,
-    diag: Option<&str>,
-    files: &[Row<'_>],
-) -> Result<(), Fail> {
-    let alloc = rt.alloc();
-    let loaded = load(alloc, script.as_bytes())?;
-    let report = run_by(alloc, &loaded, stdin.as_bytes(), &given(alloc)?, driver)?;
-    assert!(rt; report.finished, "{script}");
-    assert_eq!(rt; report.out.as_slice(), out.as_bytes());
-    if let Some(diag) = diag {
-        assert_eq!(rt; report.diag.as_slice(), diag.as_bytes());
-    }
-    for (name, bytes) in files {
-        assert!(rt;
-            report.files.get(name.as_bytes()) == Some(*bytes),
-            "{script}: {name}"
-        );
+// Whether the run is finished, with this output.
+fn has_written(report: &Report<Global>, out: &str) -> bool {
+    report.finished && report.out.as_slice() == out.as_bytes()
+}
+
+fn is_as_told(report: &Report<Global>, out: &str, diag: &str) -> bool {
+    has_written(report, out) && report.diag.as_slice() == diag.as_bytes()
+}
+
+fn holds(report: &Report<Global>, name: &str, bytes: &str) -> bool {
+    report.finished && report.files.get(name.as_bytes()) == Some(bytes.as_bytes())
+}
+
+fn tells(alloc: Global, driver: Driver, row: &Row) -> Result<bool, Fail> {
+    let report = run(alloc, driver, row.0, row.1)?;
+    Ok(is_as_told(&report, row.2, row.3))
+}
+
+fn writes_a_line(alloc: Global, driver: Driver, script: &str) -> Result<bool, Fail> {
+    let report = run(alloc, driver, script, "")?;
+    Ok(has_written(&report, "0123456789ab\n"))
+}
+
+fn leaves(alloc: Global, driver: Driver, row: &Left) -> Result<bool, Fail> {
+    let report = run(alloc, driver, row.0, "")?;
+    Ok(holds(&report, row.1, row.2))
+}
+
+fn all_tell<R: AllocGlobal + Abort>(rt: &R, driver: Driver, rows: &[Row]) -> Result<(), Fail> {
+    for row in rows {
+        let tells = tells(rt.alloc(), driver, row)?;
+        assert!(rt; tells, "{}", row.0);
     }
     Ok(())
 }
 
-// A script that leaves this output and these files, and no diagnostics.
-fn gives<R: AllocGlobal + Abort>(
+fn all_write_a_line<R: AllocGlobal + Abort>(
     rt: &R,
     driver: Driver,
-    script: &str,
-    out: &str,
-    files: &[Row<'_>],
+    scripts: &[&str],
 ) -> Result<(), Fail> {
-    run_row(rt, driver, script, "", out, Some(""), files)
-}
-
-fn commands<R: AllocGlobal + Abort>(rt: &R, driver: Driver) -> Result<(), Fail> {
-    gives(rt, driver, "", "", &[("p", P)])?;
-    let files = [("x", b"a\n".as_slice()), ("y", b"".as_slice())];
-    gives(rt, driver, "echo a > x > y", "", &files)?;
-    let script = "echo hello > f; echo J >> f; cat f";
-    gives(rt, driver, script, "J\nllo\n", &[])?;
-    gives(rt, driver, "(echo a; echo b) > f", "", &[("f", b"a\nb\n")])?;
-    let script = "(echo aaa; echo b > f; echo c) > f";
-    gives(rt, driver, script, "", &[("f", b"b\n")])?;
-    gives(rt, driver, "grep ^a*b$ p", "b\naab\n", &[])?;
-    gives(rt, driver, "wc p big", "4 4 14 p\n100 100 1300 big\n", &[])?;
-    gives(rt, driver, "head -1 p big", "b\n0123456789ab\n", &[])?;
+    for script in scripts {
+        let writes = writes_a_line(rt.alloc(), driver, script)?;
+        assert!(rt; writes, "{script}");
+    }
     Ok(())
 }
 
-fn mistakes<R: AllocGlobal + Abort>(rt: &R, driver: Driver) -> Result<(), Fail> {
-    let failed = Some("open none failed\n");
-    let script = "cat < none > o";
-    run_row(rt, driver, script, "", "", failed, &[("o", b"")])?;
-    let leftovers = Some("leftovers: b\n");
-    run_row(rt, driver, "a & b\necho ok", "", "ok\n", leftovers, &[])?;
-    let told = Some("exec foo failed\ncannot cd x\n");
-    run_row(rt, driver, "foo\ncd x", "", "", told, &[])
-}
-
-fn pipes<R: AllocGlobal + Abort>(rt: &R, driver: Driver) -> Result<(), Fail> {
-    gives(rt, driver, "echo | wc", "0 0 0 \n", &[])?;
-    gives(rt, driver, "cat big | wc", "100 100 1300 \n", &[])?;
-    let out = "0123456789ab\n0123456789ab\n98 98 1274 \n";
-    gives(rt, driver, "cat big | (head -2; wc)", out, &[])?;
-    let script = "cat big | head -100 | wc";
-    gives(rt, driver, script, "100 100 1300 \n", &[])?;
-    gives(rt, driver, "cat p | grep b | wc", "4 4 14 \n", &[])?;
-    let files = [("x", b"a\n".as_slice()), ("y", b"a\n".as_slice())];
-    gives(rt, driver, "echo a | tee x y", "a\n", &files)?;
-    let stages = " | cat".repeat(rt.alloc(), 30)?;
-    let script = format!(in rt.alloc(); "echo a{}", stages.as_str())?;
-    gives(rt, driver, script.as_str(), "a\n", &[])
-}
-
-// Readers that end early, and lines that share the input.
-fn readers<R: AllocGlobal + Abort>(rt: &R, driver: Driver) -> Result<(), Fail> {
-    let line = "0123456789ab\n";
-    run_row(rt, driver, "cat big | head -1", "", line, None, &[])?;
-    let script = "cat big | tee c | head -1";
-    run_row(rt, driver, script, "", line, None, &[])?;
-    let out = "a\n2 2 4 \n";
-    run_row(rt, driver, "head -1\nwc", "a\nb\nc\n", out, Some(""), &[])
+fn all_leave<R: AllocGlobal + Abort>(rt: &R, driver: Driver, rows: &[Left]) -> Result<(), Fail> {
+    for row in rows {
+        let leaves = leaves(rt.alloc(), driver, row)?;
+        assert!(rt; leaves, "{}: {}", row.0, row.1);
+    }
+    Ok(())
 }
 
 fn all_rows<R: AllocGlobal + Abort>(rt: &R, driver: Driver) -> Result<(), Fail> {
-    commands(rt, driver)?;
-    mistakes(rt, driver)?;
-    pipes(rt, driver)?;
-    readers(rt, driver)
+    all_tell(rt, driver, &ROWS)?;
+    all_write_a_line(rt, driver, &EARLY)?;
+    all_leave(rt, driver, &LEFT)
 }
 
 #[test]

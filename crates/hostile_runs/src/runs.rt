@@ -53,19 +53,27 @@ fn run_named<N: Naming, A: Allocator + Copy, B: Allocator, C: Allocator>(
     run_kernel(alloc, kernel, driver)
 }
 
+fn drive<M: Machine, A: Allocator + Copy>(
+    alloc: A,
+    kernel: &mut Kernel<M, A>,
+    driver: Driver,
+) -> Result<(), Fail> {
+    match driver {
+        Driver::One(order) => on_one_hart(kernel, order),
+        Driver::Eight => on_eight_harts(alloc, kernel),
+        Driver::Queues(harts) => by_queues(alloc, kernel, harts),
+        Driver::Drawn(first) => {
+            let mut seed = first;
+            as_drawn(alloc, kernel, &mut seed)
+        }
+    }
+}
+
 fn run_kernel<M: Machine, A: Allocator + Copy>(
     alloc: A,
     mut kernel: Kernel<M, A>,
     driver: Driver,
 ) -> Result<Report<A>, Fail> {
-    match driver {
-        Driver::One(order) => on_one_hart(&mut kernel, order)?,
-        Driver::Eight => on_eight_harts(alloc, &mut kernel)?,
-        Driver::Queues(harts) => by_queues(alloc, &mut kernel, harts)?,
-        Driver::Drawn(first) => {
-            let mut seed = first;
-            as_drawn(alloc, &mut kernel, &mut seed)?;
-        }
-    }
+    drive(alloc, &mut kernel, driver)?;
     Ok(kernel.into_report())
 }

@@ -2,12 +2,13 @@
 //! script means, and nothing is full, whoever goes next.
 
 use crate::drivers::Order;
+use crate::given::{Given, files_of};
 use crate::runs::{Driver, run_by};
 use answer_runs::agreeing::agree;
 use hart_threads::{OpenGate, run_harts};
 use kernel_core::{Report, run_one};
 use mem_files::Files;
-use plain_run::plain;
+use plain_run::{Plain, plain};
 use script_load::Profile::{Append, Xv6};
 use script_load::{Profile, Script, load_with};
 use std::alloc::Global;
@@ -23,12 +24,16 @@ const TURNS: u64 = 10_000_000;
 const NESTED: &str =
     "(((((((((((((((((((((((((((((((((((((((((((((((((((((((((((((echo a;););););););););););););););););););););););););););););););););););););););););););););););););););););););););););););)";
 
-const STAGES: &str =
+/// A pipe of 31 commands.
+pub(crate) const STAGES: &str =
     "echo a | cat | cat | cat | cat | cat | cat | cat | cat | cat | cat | cat | cat | cat | cat | cat | cat | cat | cat | cat | cat | cat | cat | cat | cat | cat | cat | cat | cat | cat | cat";
+
+// How many scripts there are.
+const COUNT: usize = 65;
 
 // What `>>` means to the script, the script, and the file whose bytes are its standard input, which is empty where there is
 // no such file.
-const SCRIPTS: [(Profile, &str, &str); 65] = [
+const SCRIPTS: [(Profile, &str, &str); COUNT] = [
     (Xv6, "", "abc"),
     (Xv6, "echo\n;;\n()\n| echo a", ""),
     (Xv6, "echo a  b;foo\ncd x\necho c", ""),
@@ -106,9 +111,8 @@ const SCRIPTS: [(Profile, &str, &str); 65] = [
     ),
 ];
 
-// Files by their names: a beginning, what comes behind it, how often, and an end. 1,300 bytes are more than a pipe holds, and
-// 1,022 in a line are as many as `grep` takes.
-const FILES: [(&str, &str, &str, usize, &str); 8] = [
+// 1,300 bytes are more than a pipe holds, and 1,022 in a line are as many as `grep` takes.
+const FILES: [Given; 8] = [
     ("p", "b\naab\naabc\ncb\n", "", 0, ""),
     ("abc", "a\nb\nc\n", "", 0, ""),
     ("l", "x\nx", "", 0, ""),
@@ -118,23 +122,6 @@ const FILES: [(&str, &str, &str, usize, &str); 8] = [
     ("w2", "", "x", 1023, "\n"),
     ("w3", "x\n", "x", 1023, "\n"),
 ];
-
-fn files_of(
-    alloc: Global,
-    rows: &[(&str, &str, &str, usize, &str)],
-) -> Result<Files<Global>, Fail> {
-    let mut files = Files::new(alloc);
-    for (name, first, middle, times, last) in rows {
-        let mut bytes = Vec::new(alloc);
-        bytes.extend_from_slice(first.as_bytes())?;
-        for _time in 0..*times {
-            bytes.extend_from_slice(middle.as_bytes())?;
-        }
-        bytes.extend_from_slice(last.as_bytes())?;
-        files.put(name.as_bytes(), bytes.as_slice())?;
-    }
-    Ok(files)
-}
 
 // How a script is run: by a driver, or by a call that runs it whole, on one hart or on so many threads.
 #[derive(Clone, Copy)]
@@ -161,6 +148,10 @@ fn run_in<R: AllocGlobal + Threads + Wait + Clock + Sync>(
 }
 
 // Whether the script is settled, and its run is finished, with nothing full, and leaves what it means.
+fn is_meant(report: &Report<Global>, means: &Plain<Global>) -> bool {
+    means.settled && report.finished && report.full.is_none() && agree(report, means)
+}
+
 fn leaves_what_it_means<R: AllocGlobal + Threads + Wait + Clock + Sync>(
     rt: &R,
     script: &Script<Global>,
@@ -170,26 +161,36 @@ fn leaves_what_it_means<R: AllocGlobal + Threads + Wait + Clock + Sync>(
 ) -> Result<bool, Fail> {
     let means = plain(rt.alloc(), script, stdin, files)?;
     let report = run_in(rt, script, stdin, files, way)?;
-    Ok(means.settled && report.finished && report.full.is_none() && agree(&report, &means))
+    Ok(is_meant(&report, &means))
 }
 
-// Runs each script in this way, beside its meaning; tells how many were compared.
+// Loads a script, and runs it in this way beside its meaning.
+fn is_as_it_means<R: AllocGlobal + Threads + Wait + Clock + Sync>(
+    rt: &R,
+    way: Way,
+    files: &Files<Global>,
+    (profile, text, input): (Profile, &str, &str),
+) -> Result<bool, Fail> {
+    let script = load_with(rt.alloc(), text.as_bytes(), profile)?;
+    let stdin = files.get(input.as_bytes()).unwrap_or_default();
+    leaves_what_it_means(rt, &script, stdin, files, way)
+}
+
+// Compares each of these scripts, which are all of the list.
 fn compare_all<R: AllocGlobal + Abort + Threads + Wait + Clock + Sync>(
     rt: &R,
     way: Way,
+    files: &Files<Global>,
     rows: &[(Profile, &str, &str)],
-) -> Result<usize, Fail> {
-    let alloc = rt.alloc();
-    let files = files_of(alloc, &FILES)?;
+) -> Result<(), Fail> {
     let mut compared = 0usize;
     for (profile, text, input) in rows {
-        let script = load_with(alloc, text.as_bytes(), *profile)?;
-        let stdin = files.get(input.as_bytes()).unwrap_or_default();
-        let agrees = leaves_what_it_means(rt, &script, stdin, &files, way)?;
+        let agrees = is_as_it_means(rt, way, files, (*profile, text, input))?;
         assert!(rt; agrees, "{text}");
         compared = compared.saturating_add(1);
     }
-    Ok(compared)
+    assert_eq!(rt; compared, COUNT);
+    Ok(())
 }
 
 // Compares all scripts of the list.
@@ -197,9 +198,8 @@ fn mean_what_they_leave<R: AllocGlobal + Abort + Threads + Wait + Clock + Sync>(
     rt: &R,
     way: Way,
 ) -> Result<(), Fail> {
-    let compared = compare_all(rt, way, &SCRIPTS)?;
-    assert_eq!(rt; compared, SCRIPTS.len());
-    Ok(())
+    let files = files_of(rt.alloc(), &FILES)?;
+    compare_all(rt, way, &files, &SCRIPTS)
 }
 
 #[test]

@@ -43,6 +43,45 @@ fn begins<M: Machine, A: Allocator>(
     Err(Fail::from("no idle hart"))
 }
 
+// The hart dispatches as its queue says, if there is anybody.
+fn begins_next<M: Machine, A: Allocator + Copy>(
+    kernel: &mut Kernel<M, A>,
+    hart: u8,
+    waited: &mut [usize; PROCS],
+    begun: &mut Vec<(u8, Task<M>), A>,
+) -> Result<(), Fail> {
+    if let Some(task) = begins(kernel, hart)? {
+        begun.push((hart, task))?;
+        counts(kernel, waited)?;
+    }
+    Ok(())
+}
+
+// Each of so many harts dispatches as its queue says.
+fn all_begin<M: Machine, A: Allocator + Copy>(
+    alloc: A,
+    kernel: &mut Kernel<M, A>,
+    harts: u8,
+    waited: &mut [usize; PROCS],
+) -> Result<Vec<(u8, Task<M>), A>, Fail> {
+    let mut begun = Vec::new(alloc);
+    for hart in 0..harts {
+        begins_next(kernel, hart, waited, &mut begun)?;
+    }
+    Ok(begun)
+}
+
+// Each of these makes its call.
+fn all_call<M: Machine, A: Allocator + Copy>(
+    kernel: &mut Kernel<M, A>,
+    begun: Vec<(u8, Task<M>), A>,
+) -> Result<(), Fail> {
+    for (hart, task) in begun {
+        calls(kernel, hart, task)?;
+    }
+    Ok(())
+}
+
 /// On so many harts, each of which dispatches as its queue says before any call is made, to the end.
 pub(crate) fn by_queues<M: Machine, A: Allocator + Copy>(
     alloc: A,
@@ -54,16 +93,8 @@ pub(crate) fn by_queues<M: Machine, A: Allocator + Copy>(
         if kernel.is_finished() {
             return Ok(());
         }
-        let mut begun = Vec::new(alloc);
-        for hart in 0..harts {
-            if let Some(task) = begins(kernel, hart)? {
-                counts(kernel, &mut waited)?;
-                begun.push((hart, task))?;
-            }
-        }
-        for (hart, task) in begun {
-            calls(kernel, hart, task)?;
-        }
+        let begun = all_begin(alloc, kernel, harts, &mut waited)?;
+        all_call(kernel, begun)?;
     }
     Err(Fail::from("it has no end"))
 }
