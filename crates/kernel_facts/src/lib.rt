@@ -2,5 +2,3 @@
 #![tactic(auto)]
 
 pub mod facts;
-#[cfg(test)]
-mod tests;

@@ -7,6 +7,8 @@ mod doer;
 #[cfg(test)]
 mod driven;
 #[cfg(test)]
+mod facts;
+#[cfg(test)]
 mod forged;
 #[cfg(test)]
 mod memory;

@@ -1,4 +1,5 @@
-//! Tests alone: scripts that a kernel runs on one hart, each replayed by its schedule, and schedules that were made by hand.
+//! Tests alone: scripts that a kernel runs on one hart, each replayed by its schedule, schedules that were made by hand, and a
+//! run in as many turns as are enough.
 #![tactic(auto)]
 
 #[cfg(test)]
@@ -7,3 +8,5 @@ mod arenas;
 mod rows;
 #[cfg(test)]
 mod schedules;
+#[cfg(test)]
+mod whole;

@@ -1,8 +1,6 @@
 //! A run of a script in as many turns as are enough for it.
 #![tactic(auto)]
 
-#[cfg(test)]
-mod tests;
 mod whole;
 
 pub use whole::run_whole;

@@ -11,9 +11,11 @@ use std::io::Write;
 use std::sync::Wait;
 use std::thread::Threads;
 use std::time::Clock;
-use xvsh_ends::{end_check, end_explain, end_plain, end_turns, tell, tell_text};
-use xvsh_read::{Fault, Host, STDIN};
-use xvsh_words::{command_line, profile_of};
+use xvsh_ends::{
+    MAX_HARTS, MAX_TURNS, end_check, end_explain, end_plain, end_turns, tell, tell_text,
+};
+use xvsh_read::{Fault, Host, STDIN, profile_of};
+use xvsh_words::command_line;
 
 // `plain` with these words.
 fn do_plain<'a, H: Host, W: Write, E: Write>(
@@ -149,7 +151,7 @@ fn end_words<R: Threads + Wait + Clock + Sync, H: Host, W: Write, E: Write>(
         (E.contents err.old) (E.contents err.new) request result }
     ensures nothing_written { result ≢ 0 → result ≢ 1 → result ≢ 3 → result ≢ 4 → out.new ≡ out.old }
 {
-    let Ok(command) = command_line(alloc) else {
+    let Ok(command) = command_line(alloc, u64::from(MAX_HARTS), MAX_TURNS) else {
         return tell(Fault::Memory, err);
     };
     match command.try_get_matches_from(words) {

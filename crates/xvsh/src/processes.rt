@@ -8,10 +8,8 @@ use std::io::Write;
 use std::sync::Wait;
 use std::thread::Threads;
 use std::time::Clock;
-use xvsh_ends::{end_replay, end_run, end_strict};
-use xvsh_read::{Host, STDIN};
-use xvsh_runs::Lists;
-use xvsh_words::profile_of;
+use xvsh_ends::{Lists, end_replay, end_run, end_strict};
+use xvsh_read::{Host, STDIN, profile_of};
 
 /// How many harts a run has, if the words name none (own).
 const HARTS: u8 = 4;

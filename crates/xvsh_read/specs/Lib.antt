@@ -3,3 +3,4 @@ pub mod Path
 pub mod Reading
 pub mod Starting
 pub mod Status
+pub mod Words

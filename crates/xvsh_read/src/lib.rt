@@ -15,5 +15,5 @@ pub use fault::Fault;
 pub use file_list::listing;
 pub use host::{Host, HostFault};
 pub use reading::{MAX_INPUT, STDIN, read};
-pub use starting::{Start, prepare, read_script};
+pub use starting::{Start, prepare, profile_of, read_script};
 pub use writing::write;

@@ -2,6 +2,7 @@
 ghost use Rattle.std.specs.Prelude.{◌≡◌, ◌≢◌, ◌⊎◌, codes, IfOk, IfErr, IsTrue, false};
 ghost use Rattle.script_load.specs.Line.{lines_of};
 ghost use Rattle.xvsh_read.specs.Reading.{max_input, IsReadFault};
+ghost use Rattle.xvsh_read.specs.Words.{profile_of};
 ghost use Rattle.xvsh_read.specs.Starting.{AreLinesAt, IsScriptAtFault, IsInputOf, IsStartFault, Starts};
 
 use crate::fault::Fault;
@@ -11,6 +12,17 @@ use mem_files::Files;
 use mem_files::laws::are_files;
 use script_load::{Profile, Script, load_with};
 use std::alloc::Global;
+
+/// What `>>` means, by whether `--append` is given.
+pub fn profile_of(appends: bool) -> Profile
+    ensures { result ≡ profile_of appends }
+{
+    if appends {
+        Profile::Append
+    } else {
+        Profile::Xv6
+    }
+}
 
 /// The script at a path, under this profile.
 pub fn read_script<'a, H: Host>(

@@ -3,4 +3,4 @@
 
 mod words;
 
-pub use words::{command_line, profile_of};
+pub use words::command_line;

@@ -1,12 +1,7 @@
 //! The words that the program takes.
-ghost use Rattle.std.specs.Prelude.{◌≡◌};
-ghost use Rattle.xvsh_words.specs.Words.{profile_of};
 
 use clap::builder::ValueParser;
 use clap::{Arg, ArgAction, Command};
-use hart_threads::MAX_HARTS;
-use kernel_core::MAX_TURNS;
-use script_load::Profile;
 use std::alloc::{AllocError, Global};
 
 const ABOUT: &str = "Runs scripts of xv6's shell";
@@ -112,22 +107,22 @@ fn strict_flag<'a>(alloc: Global) -> Arg<'a> {
 }
 
 // `--harts` of `run`.
-fn harts_option<'a>(alloc: Global) -> Arg<'a> {
+fn harts_option<'a>(alloc: Global, most: u64) -> Arg<'a> {
     Arg::new(alloc, "harts")
         .long("harts")
         .value_name("N")
         .help("On so many harts (hardware threads, each a thread here), 1 to 8; 4 without it")
-        .value_parser(ValueParser::unsigned(1, MAX_HARTS as u64))
+        .value_parser(ValueParser::unsigned(1, most))
         .action(ArgAction::Set)
 }
 
 // `--turns` of `run`.
-fn turns_option<'a>(alloc: Global) -> Arg<'a> {
+fn turns_option<'a>(alloc: Global, most: u64) -> Arg<'a> {
     Arg::new(alloc, "turns")
         .long("turns")
         .value_name("N")
         .help("In at most so many events, 1 to 1000000000; 10000000 without it")
-        .value_parser(ValueParser::unsigned(1, MAX_TURNS))
+        .value_parser(ValueParser::unsigned(1, most))
         .action(ArgAction::Set)
 }
 
@@ -139,10 +134,14 @@ fn schedule_flag<'a>(alloc: Global) -> Arg<'a> {
         .action(ArgAction::SetTrue)
 }
 
-fn run_command<'a>(alloc: Global) -> Result<Command<'a>, AllocError> {
+fn run_command<'a>(
+    alloc: Global,
+    most_harts: u64,
+    most_turns: u64,
+) -> Result<Command<'a>, AllocError> {
     let args = vec![in alloc;
-        harts_option(alloc),
-        turns_option(alloc),
+        harts_option(alloc, most_harts),
+        turns_option(alloc, most_turns),
         schedule_flag(alloc),
         strict_flag(alloc),
         append_flag(alloc),
@@ -226,43 +225,36 @@ fn explain_command<'a>(alloc: Global) -> Result<Command<'a>, AllocError> {
     ))
 }
 
-/// What `>>` means, by whether `--append` is given.
-pub fn profile_of(appends: bool) -> Profile
-    ensures { result ≡ profile_of appends }
-{
-    if appends {
-        Profile::Append
-    } else {
-        Profile::Xv6
-    }
-}
-
 // The program's name, version and help, without a command.
 fn bare_command<'a>(alloc: Global) -> Result<Command<'a>, AllocError> {
-    let command = Command::new(alloc, "xvsh")
+    Command::new(alloc, "xvsh")
         .no_binary_name(true)
-        .bin_name("xvsh")?
         .about(ABOUT)
         .version(VERSION)
         .after_help(AFTER_HELP)
         .disable_help_subcommand(true)
-        .subcommand_required(true);
-    Ok(command)
+        .subcommand_required(true)
+        .bin_name("xvsh")
 }
 
-// What can be asked for: the commands that run scripts, and those that run nothing.
-fn commands<'a>(alloc: Global) -> Result<Vec<Command<'a>>, AllocError> {
-    let mut commands = Vec::new(alloc);
-    commands.push(run_command(alloc)?)?;
-    commands.push(replay_command(alloc)?)?;
-    commands.push(plain_command(alloc)?)?;
-    commands.push(check_command(alloc)?)?;
-    commands.push(explain_command(alloc)?)?;
-    Ok(commands)
+// A command with one more that it may be asked for.
+fn with<'a>(
+    command: Command<'a>,
+    subcommand: Result<Command<'a>, AllocError>,
+) -> Result<Command<'a>, AllocError> {
+    command.subcommand(subcommand?)
 }
 
-/// The command line of the program.
-pub fn command_line<'a>(alloc: Global) -> Result<Command<'a>, AllocError> {
-    let commands = commands(alloc)?;
-    bare_command(alloc)?.subcommands(commands)
+/// The command line of the program, on which a run may be asked for on so many harts, and in so many turns, at most.
+pub fn command_line<'a>(
+    alloc: Global,
+    most_harts: u64,
+    most_turns: u64,
+) -> Result<Command<'a>, AllocError> {
+    let command = bare_command(alloc)?;
+    let command = with(command, run_command(alloc, most_harts, most_turns))?;
+    let command = with(command, replay_command(alloc))?;
+    let command = with(command, plain_command(alloc))?;
+    let command = with(command, check_command(alloc))?;
+    with(command, explain_command(alloc))
 }

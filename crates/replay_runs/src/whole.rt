@@ -1,8 +1,9 @@
-use crate::whole::run_whole;
+//! A run in as many turns as are enough for it.
+
 use mem_files::Files;
 use script_load::load;
-use std::process::Abort;
 use std::test::Fail;
+use turn_bounds::run_whole;
 
 // A run takes as many turns as it has events, far fewer than are enough.
 #[test]

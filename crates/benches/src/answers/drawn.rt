@@ -3,7 +3,7 @@
 ghost use Rattle.std.specs.Prelude.{◌≡◌};
 ghost use Rattle.script_load.specs.Line.{lines_of};
 
-use crate::draw::draw;
+use crate::answers::draw::draw;
 use kernel_core::{Kernel, Report, Task};
 use mem_files::Files;
 use script_load::Script;

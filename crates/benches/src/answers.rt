@@ -1,23 +1,24 @@
 //! Draws scripts until 2,000 of them were settled, and runs each of these twice by its processes, on one hart and on some
 //! harts in a drawn order: both runs must leave the output and the files of the script's recursive meaning, but for soft
-//! files. Standard error gets the count, or the first script of which a run differs; the status is 1 then. A number as the
-//! program's word begins another sequence.
-#![tactic(auto)]
+//! files. Standard error gets the count, or the first script of which a run differs; the status is 1 then.
 
 mod draw;
 mod drawn;
 mod script;
 
-use crate::draw::draw;
-use crate::drawn::drawn;
+use crate::answers::draw::draw;
+use crate::answers::drawn::drawn;
 use answer_runs::agreeing::agree;
 use kernel_core::{Report, run_one};
 use mem_files::Files;
 use plain_run::{Plain, plain};
 use script_load::{Profile, Script, load_with};
 use std::alloc::{AllocError, Global};
+use std::io;
 use std::process::ExitCode;
-use std::{env, io};
+
+/// Where the numbers that are drawn begin, if nothing else is asked for.
+pub(crate) const SEED: u64 = 20240229;
 
 const WANTED: u32 = 2_000;
 
@@ -114,8 +115,12 @@ fn tell<R: Eprint>(rt: &R, how: &str, text: &str, stdin: &str) -> io::Result<Exi
     Ok(ExitCode::FAILURE)
 }
 
-// Draws scripts until enough of them were settled.
-fn draw_all<R: Eprint>(rt: &R, alloc: Global, mut seed: u64) -> io::Result<ExitCode> {
+/// Draws scripts until enough of them were settled, and compares the runs of each with what it means.
+pub(crate) fn compare_drawn<R: Eprint>(
+    rt: &R,
+    alloc: Global,
+    mut seed: u64,
+) -> io::Result<ExitCode> {
     let Ok(files) = script::files(alloc) else {
         return Ok(ExitCode::FAILURE);
     };
@@ -155,15 +160,4 @@ fn draw_all<R: Eprint>(rt: &R, alloc: Global, mut seed: u64) -> io::Result<ExitC
         "{settled} settled scripts of {drawn} that were drawn: both runs of each left what it means, in {events} events"
     )?;
     Ok(ExitCode::SUCCESS)
-}
-
-fn main(rt: HostRuntime) -> io::Result<ExitCode> {
-    let alloc = rt.alloc();
-    let mut seed = 20240229u64;
-    for word in env::args(&rt)?.skip(1) {
-        if let Ok(number) = word.parse::<u64>() {
-            seed = number;
-        }
-    }
-    draw_all(&rt, alloc, seed)
 }

@@ -1,6 +1,5 @@
 //! How long the calls on a pipe take: a MiB goes through one pipe in blocks of 512 bytes, in single bytes through an
 //! empty pipe, and in single bytes through a pipe that is nearly full. The times go to standard error.
-#![tactic(auto)]
 
 use byte_pipe::{PIPE_SIZE, Pipe, Put, Take};
 use std::alloc::Global;
@@ -39,13 +38,14 @@ fn report(rt: &impl Eprint, what: &str, count: u32, run: (Duration, u64)) -> io:
     eprintln!(rt; "{what}: {each} ns per call, {bytes} bytes came out")
 }
 
-fn main(rt: HostRuntime) -> io::Result<()> {
-    let mut pipe = Pipe::new(rt.alloc())?;
-    let blocks = through(&rt, &mut pipe, 512, MIB / 512)?;
-    report(&rt, "blocks of 512", MIB / 512, blocks)?;
-    let bytes = through(&rt, &mut pipe, 1, MIB)?;
-    report(&rt, "single bytes, empty pipe", MIB, bytes)?;
+/// Times the calls on a pipe.
+pub(crate) fn measure<R: Clock + Eprint>(rt: &R, alloc: Global) -> io::Result<()> {
+    let mut pipe = Pipe::new(alloc)?;
+    let blocks = through(rt, &mut pipe, 512, MIB / 512)?;
+    report(rt, "blocks of 512", MIB / 512, blocks)?;
+    let bytes = through(rt, &mut pipe, 1, MIB)?;
+    report(rt, "single bytes, empty pipe", MIB, bytes)?;
     let _ = pipe.put(&[b'y'; 511]);
-    let full = through(&rt, &mut pipe, 1, MIB)?;
-    report(&rt, "single bytes, full pipe", MIB, full)
+    let full = through(rt, &mut pipe, 1, MIB)?;
+    report(rt, "single bytes, full pipe", MIB, full)
 }

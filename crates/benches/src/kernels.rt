@@ -2,11 +2,10 @@
 //! byte to the output again and again; of two that pass a MiB through a pipe in blocks of 512 bytes; of one that forks a
 //! child, which exits, and waits for it; and of one that writes while 61 sleep. Of several rounds the fastest counts. The
 //! figures, and the size of a slot of the table, go to standard error.
-#![tactic(auto)]
 
 mod worker;
 
-use crate::worker::{PASSED, Worker};
+use crate::kernels::worker::{PASSED, Worker};
 use kernel_core::Kernel;
 use linked_list_allocator::LocalHeap;
 use mem_files::Files;
@@ -130,7 +129,7 @@ fn time_of(clock: &impl Clock, alloc: Global, case: Case, way: Way) -> io::Resul
     Ok((fastest, made))
 }
 
-fn measure<R: Clock + Eprint>(rt: &R, alloc: Global, case: Case, way: Way) -> io::Result<()> {
+fn measure_case<R: Clock + Eprint>(rt: &R, alloc: Global, case: Case, way: Way) -> io::Result<()> {
     let (time, made) = time_of(rt, alloc, case, way)?;
     let nanos = time.as_nanos().max(1);
     let events = u128::from(made) * 2;
@@ -156,13 +155,13 @@ fn slot_size(alloc: Global) -> Result<usize, AllocError> {
     Ok(size)
 }
 
-fn main(rt: HostRuntime) -> io::Result<()> {
-    let alloc = rt.alloc();
+/// Times the events of a kernel.
+pub(crate) fn measure<R: Clock + Eprint>(rt: &R, alloc: Global) -> io::Result<()> {
     let size = slot_size(alloc)?;
     eprintln!(rt; "a slot takes {size} bytes; blocks have {PASSED}")?;
     for case in CASES {
-        measure(&rt, alloc, case, Way::Step)?;
-        measure(&rt, alloc, case, Way::DispatchAndTrap)?;
+        measure_case(rt, alloc, case, Way::Step)?;
+        measure_case(rt, alloc, case, Way::DispatchAndTrap)?;
     }
     Ok(())
 }

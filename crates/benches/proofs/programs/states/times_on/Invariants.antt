@@ -1,5 +1,5 @@
 use Rattle.script_load.specs.Line.{lines_of}
-use Rattle.prog_bench.proofs.states.times_on.Given as goal
+use Rattle.benches.proofs.programs.states.times_on.Given as goal
 
 -- the script that was given
 abbrev pub ghosts-shell_times : goal.ghosts-shell_times

@@ -2,7 +2,6 @@
 //! of words), beside a plain loop over as many bytes, and then twins of it are made as it is in the middle of its work.
 //! Of several rounds the fastest counts. Then states of init, of shells and of programs are copied and compared. The
 //! figures go to standard error.
-#![tactic(auto)]
 
 mod states;
 
@@ -237,7 +236,7 @@ fn twin_time(
 }
 
 // Measures the program that these words run, beside a plain loop.
-fn measure<R: Clock + AllocGlobal + Eprint>(
+fn measure_program<R: Clock + AllocGlobal + Eprint>(
     rt: &R,
     words: &[Bytes<Global>],
     input: &[u8],
@@ -263,7 +262,8 @@ fn measure<R: Clock + AllocGlobal + Eprint>(
     )
 }
 
-fn main(rt: HostRuntime) -> io::Result<()> {
+/// Times the programs as machines, and then the states of init, of shells and of programs.
+pub(crate) fn measure<R: Clock + AllocGlobal + Eprint>(rt: &R) -> io::Result<()> {
     let alloc = rt.alloc();
     let input = prose(alloc)?;
     let input = input.as_slice();
@@ -277,15 +277,15 @@ fn main(rt: HostRuntime) -> io::Result<()> {
     ];
     for (name, arguments, plain) in cases {
         let words = words_of(alloc, name, arguments)?;
-        measure(&rt, words.as_slice(), input, (name, plain), &mut buffer)?;
+        measure_program(rt, words.as_slice(), input, (name, plain), &mut buffer)?;
     }
     let words = long_echo(alloc)?;
-    measure(
-        &rt,
+    measure_program(
+        rt,
         words.as_slice(),
         input,
         ("echo", Plain::Copies),
         &mut buffer,
     )?;
-    states::measure_states(&rt)
+    states::measure_states(rt)
 }

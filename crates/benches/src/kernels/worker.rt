@@ -2,23 +2,23 @@
 
 ghost use Rattle.std.specs.Prelude.{◌≡◌, [], ◌∷◌, replicate, take};
 ghost use Rattle.user_calls.specs.declared.calls.Call.TheVariants.{Write};
-ghost use Rattle.kernel_bench.specs.Worker.{is_child, is_end, worker_call, worker_next};
+ghost use Rattle.benches.specs.Worker.{is_child, is_end, worker_call, worker_next};
 
 use user_calls::{Block, Call, Machine, Reply};
 
 /// How many bytes the block has that is passed through the pipe.
-pub(crate) const PASSED: usize = 512;
+pub const PASSED: usize = 512;
 
 /// Its state is a number, which says what it calls (`specs/Worker.antt`).
 #[derive(Drop)]
-pub(crate) struct Worker {
-    pub(crate) state: u32,
+pub struct Worker {
+    pub state: u32,
 }
 
 impl Machine for Worker {
     ghost use Rattle.std.specs.Prelude.{take, replicate};
     ghost use Rattle.std.specs.Coded.{coded_ℕ};
-    ghost use Rattle.kernel_bench.specs.Worker.{worker_call, worker_next};
+    ghost use Rattle.benches.specs.Worker.{worker_call, worker_next};
 
     type State = u32;
 

@@ -1,12 +1,12 @@
-//! Callers that use the facts: that they can is proved.
+//! Callers that use the laws of every run: that they can is proved.
 
 ghost use Rattle.std.specs.Prelude.{IfOk, OnOk, All, ◌≡◌, false};
 ghost use Rattle.proc_table.specs.Slots.{is_running_on};
 ghost use Rattle.kernel_laws.specs.Sleeping.{AllWait};
 ghost use Rattle.kernel_laws.specs.Limits.{IsWithin};
 
-use super::*;
 use kernel_core::Kernel;
+use kernel_facts::facts;
 use mem_files::Files;
 use std::alloc::{AllocError, Allocator};
 use std::test::Fail;

@@ -1,6 +1,6 @@
 //! Scripts that a generator draws, and the files and the input that they run on.
 
-use crate::draw::draw;
+use crate::answers::draw::draw;
 use mem_files::{Files, FilesFault};
 use std::alloc::{AllocError, Global};
 

@@ -1,7 +1,6 @@
 //! How fast files grow and are found, and what they take, for sizes that double: the time to fill a file at its end in
 //! blocks of 512 bytes and in single bytes, by writes and by appends; how many bytes the file then takes of a heap; and
 //! the time to find a name among 1 to 128. The figures go to standard error.
-#![tactic(auto)]
 
 use linked_list_allocator::LocalHeap;
 use mem_files::{Files, FilesFault};
@@ -109,19 +108,20 @@ fn time_gets<R: Clock + Eprint + AllocGlobal>(rt: &R, names: u8, rounds: u32) ->
     eprintln!(rt; "{count:>3} files: {nanos} ns a look-up, {found} found")
 }
 
-fn main(rt: HostRuntime) -> io::Result<()> {
+/// Times the calls on files, and tells what room these take.
+pub(crate) fn measure<R: Clock + Eprint + AllocGlobal>(rt: &R) -> io::Result<()> {
     let block = [b'x'; 512];
     for size in [34_304usize, 68_608, 137_216, 274_432] {
         for by in [By::Writes, By::Appends] {
-            time_fills(&rt, size, &block, by, 100)?;
-            time_fills(&rt, size, b"x".as_slice(), by, 5)?;
+            time_fills(rt, size, &block, by, 100)?;
+            time_fills(rt, size, b"x".as_slice(), by, 5)?;
         }
     }
     for size in [512usize, 4_096, 34_304, 137_216, 262_144, 262_656, 274_432] {
-        show_memory(&rt, size, &block)?;
+        show_memory(rt, size, &block)?;
     }
     for names in [1u8, 8, 64, 128] {
-        time_gets(&rt, names, 100_000)?;
+        time_gets(rt, names, 100_000)?;
     }
     Ok(())
 }
