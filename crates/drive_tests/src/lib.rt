@@ -1,9 +1,14 @@
-//! Hosts and writers in memory, on which the program is tested; and tests, which are the rest of this crate: `plain`, `check`
-//! and what the program reads.
+//! Tests alone: the program on hosts and writers in memory: `plain`, `check` and what the program reads; its runs by processes,
+//! replays and flags.
 #![tactic(auto)]
 
-pub mod hosts;
+#[cfg(test)]
+mod flags;
+#[cfg(test)]
+mod hosts;
 #[cfg(test)]
 mod plain;
 #[cfg(test)]
 mod reading;
+#[cfg(test)]
+mod runs;

@@ -37,7 +37,7 @@ fn expect_inputs(
     Ok(())
 }
 
-const SCRIPTS: [(&str, Want<'static>); 9] = [
+static SCRIPTS: [(&str, Want<'static>); 9] = [
     ("echo hello\n", (0, "hello\n", "settled\n")),
     ("", (0, "", "settled\n")),
     (";;", (0, "", "settled\n")),
@@ -91,7 +91,7 @@ fn appends_where_it_is_asked_to(rt: HostRuntime) -> Result<(), Fail> {
     appends_to(&rt, big.as_str(), large.as_str())
 }
 
-const APPENDS: [(&str, Want<'static>); 8] = [
+static APPENDS: [(&str, Want<'static>); 8] = [
     ("plain s", (0, "J\nllo\n", "settled\n")),
     ("plain --append s", (0, "hello\nJ\n", "settled\n")),
     ("plain --files two f", (0, "-- f 4\na\nb\n\n", "settled\n")),
@@ -140,7 +140,7 @@ fn expect_all<'a>(
     Ok(())
 }
 
-const LISTS: [(&str, Want<'static>); 3] = [
+static LISTS: [(&str, Want<'static>); 3] = [
     (
         "plain --files s dir/p",
         (
@@ -169,7 +169,7 @@ fn takes_and_lists_files(rt: HostRuntime) -> Result<(), Fail> {
     expect_all(&rt, b"echo a > x > y".as_slice(), &files, &LISTS)
 }
 
-const NOT_TAKEN: [(&str, Want<'static>); 6] = [
+static NOT_TAKEN: [(&str, Want<'static>); 6] = [
     ("plain none", (1, "", "xvsh: cannot read none\n")),
     (
         "plain s dir/p none dir/p",
@@ -308,7 +308,7 @@ fn tells_want_of_memory(rt: HostRuntime) -> Result<(), Fail> {
     Ok(())
 }
 
-const OTHER_WORDS: [&str; 14] = [
+static OTHER_WORDS: [&str; 14] = [
     "run",
     "run --harts 0 s",
     "run --harts 9 s",
@@ -391,7 +391,7 @@ fn done_where_output_fails(
 }
 
 // Words, standard input, and what is written.
-const WRITTEN: [(&str, &str, &str); 5] = [
+static WRITTEN: [(&str, &str, &str); 5] = [
     ("", "echo abc", "abc\n"),
     ("plain -", "echo a &", "a\n"),
     ("plain -", "a\0", ""),
@@ -439,7 +439,7 @@ fn compare(rt: &(impl Abort + AllocGlobal), line: &str, got: (u8, &[u8]), writte
     assert_eq!(rt; got.1, written.as_bytes());
 }
 
-const OF_PROGRAMS: [(&str, Want<'static>); 8] = [
+static OF_PROGRAMS: [(&str, Want<'static>); 8] = [
     (
         "plain wc in/p in/big",
         (
@@ -507,7 +507,7 @@ fn runs_programs<'a>(
     expect_all(rt, b"a\nb\nc\n".as_slice(), &files, &OF_PROGRAMS)
 }
 
-const CHECKS: [(&str, (u8, &str)); 8] = [
+static CHECKS: [(&str, (u8, &str)); 8] = [
     (
         "a & b\ncat f | tee f\necho a &",
         (
@@ -634,7 +634,7 @@ fn expect_told<'a>(
     Ok(expect(rt, "plain s in/big in/p", &mut host, want)?)
 }
 
-const SETTLED: [(&str, &str); 8] = [
+static SETTLED: [(&str, &str); 8] = [
     ("cat big | wc", "100 100 1300 \n"),
     (
         "cat big | (head -2; wc)",
@@ -648,7 +648,7 @@ const SETTLED: [(&str, &str); 8] = [
     ("(tee c < big; cat c) | head -1", "0123456789ab\n"),
 ];
 
-const LOOSE: [(&str, &str); 6] = [
+static LOOSE: [(&str, &str); 6] = [
     ("echo a &", "a\n"),
     ("echo a | tee f | cat f", "a\n"),
     ("(echo a; cat f) > f", ""),

@@ -85,7 +85,7 @@ fn is_copied(alloc: Global, set: &Files<Global>) -> Result<(), Fail> {
     go(&mut copy, &[Step::Count(2), Step::Holds(b"p", b"")])
 }
 
-const FAULTS: [(FilesFault, &str); 6] = [
+static FAULTS: [(FilesFault, &str); 6] = [
     (FilesFault::BadName, "bad file name"),
     (FilesFault::Missing, "no such file"),
     (FilesFault::FullFiles, "too many files"),

@@ -1,4 +1,5 @@
-//! Tests alone: files in memory, descriptors, pipes, lists of slots, and the calls and replies of machines.
+//! Tests alone: files in memory, descriptors, pipes, lists of slots, the calls and replies of machines, and the table of
+//! processes.
 #![tactic(auto)]
 
 #[cfg(test)]
@@ -19,5 +20,7 @@ mod memory;
 mod named;
 #[cfg(test)]
 mod pipes;
+#[cfg(test)]
+mod procs;
 #[cfg(test)]
 mod steps;

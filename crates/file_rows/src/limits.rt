@@ -19,11 +19,11 @@ fn is_no_name(alloc: Global, set: &mut Files<Global>, name: &[u8]) -> Result<(),
     go_in_vain(alloc, set, &steps)
 }
 
-const NO_NAMES: [&[u8]; 4] = [b"123456789abcdef", b"", b"a/b", b"a\0b"];
+static NO_NAMES: [&[u8]; 4] = [b"123456789abcdef", b"", b"a/b", b"a\0b"];
 
 // None of these is a name, but one of fourteen bytes is.
 fn names_are_told(alloc: Global, set: &mut Files<Global>) -> Result<(), Fail> {
-    for name in NO_NAMES {
+    for name in &NO_NAMES {
         is_no_name(alloc, set, name)?;
     }
     let longest = [Step::Put(b"123456789abcde", LINES, Ok(())), Step::Count(2)];

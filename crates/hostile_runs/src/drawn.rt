@@ -9,7 +9,7 @@ use std::process::Abort;
 use std::test::Fail;
 
 // Scripts, and what each leaves as its output; the input is three lines.
-const SCRIPTS: [(&str, &str); 10] = [
+static SCRIPTS: [(&str, &str); 10] = [
     ("echo a | cat", "a\n"),
     ("cat p | grep b | wc", "4 4 14 \n"),
     ("cat p | head -1", "b\n"),
@@ -24,7 +24,7 @@ const SCRIPTS: [(&str, &str); 10] = [
     ("(echo a | cat) | (cat | cat)", "a\n"),
 ];
 
-const FILES: [Given; 2] = [
+static FILES: [Given; 2] = [
     ("p", "b\naab\naabc\ncb\n", "", 0, ""),
     ("long", "", "0123456789ab\n", 60, ""),
 ];

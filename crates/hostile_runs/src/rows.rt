@@ -13,12 +13,12 @@ use std::test::Fail;
 const P: &str = "b\naab\naabc\ncb\n";
 
 // 1,300 bytes are more than a pipe holds.
-const FILES: [Given; 2] = [("p", P, "", 0, ""), ("big", "", "0123456789ab\n", 100, "")];
+static FILES: [Given; 2] = [("p", P, "", 0, ""), ("big", "", "0123456789ab\n", 100, "")];
 
 // A script and its input, its output and its diagnostics.
 type Row = (&'static str, &'static str, &'static str, &'static str);
 
-const ROWS: [Row; 19] = [
+static ROWS: [Row; 19] = [
     ("", "", "", ""),
     ("echo a > x > y", "", "", ""),
     ("echo hello > f; echo J >> f; cat f", "", "J\nllo\n", ""),
@@ -49,12 +49,12 @@ const ROWS: [Row; 19] = [
 ];
 
 // Readers that end early, where the diagnostics depend on the order of the processes; the output is a line of big.
-const EARLY: [&str; 2] = ["cat big | head -1", "cat big | tee c | head -1"];
+static EARLY: [&str; 2] = ["cat big | head -1", "cat big | tee c | head -1"];
 
 // A script, a file that it leaves, and the bytes of the file.
 type Left = (&'static str, &'static str, &'static str);
 
-const LEFT: [Left; 8] = [
+static LEFT: [Left; 8] = [
     ("", "p", P),
     ("echo a > x > y", "x", "a\n"),
     ("echo a > x > y", "y", ""),

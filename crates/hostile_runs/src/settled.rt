@@ -33,7 +33,7 @@ const COUNT: usize = 65;
 
 // What `>>` means to the script, the script, and the file whose bytes are its standard input, which is empty where there is
 // no such file.
-const SCRIPTS: [(Profile, &str, &str); COUNT] = [
+static SCRIPTS: [(Profile, &str, &str); COUNT] = [
     (Xv6, "", "abc"),
     (Xv6, "echo\n;;\n()\n| echo a", ""),
     (Xv6, "echo a  b;foo\ncd x\necho c", ""),
@@ -112,7 +112,7 @@ const SCRIPTS: [(Profile, &str, &str); COUNT] = [
 ];
 
 // 1,300 bytes are more than a pipe holds, and 1,022 in a line are as many as `grep` takes.
-const FILES: [Given; 8] = [
+static FILES: [Given; 8] = [
     ("p", "b\naab\naabc\ncb\n", "", 0, ""),
     ("abc", "a\nb\nc\n", "", 0, ""),
     ("l", "x\nx", "", 0, ""),

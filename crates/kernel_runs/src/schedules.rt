@@ -11,7 +11,7 @@ use std::test::Fail;
 
 // Scripts in which nobody waits for what only he himself could give: who reads a pipe has closed its write end, and who
 // waits for his children has closed the ends that they wait for.
-pub(crate) const SCRIPTS: [&[u8]; 10] = [
+pub(crate) static SCRIPTS: [&[u8]; 10] = [
     // A reader leaves while its child may still write.
     b"p.f.c4r3r3r3c3z.x.|c3W4W4x.",
     // The child reads to the end.
@@ -149,7 +149,7 @@ fn run_script<A: Allocator + Copy>(
 
 // Runs each script once.
 fn run_round<A: Allocator + Copy>(alloc: A, seed: &mut u64) -> Result<(), Fail> {
-    for script in SCRIPTS {
+    for script in &SCRIPTS {
         run_script(alloc, script, seed)?;
     }
     Ok(())

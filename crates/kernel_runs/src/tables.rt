@@ -90,7 +90,7 @@ fn a_task_of_another_run_is_a_stranger(rt: HostRuntime) -> Result<(), Fail> {
 }
 
 // Harts, slots, and whether the process of that slot is dispatched on the hart.
-const DISPATCHES: [(u8, usize, bool); 6] = [
+static DISPATCHES: [(u8, usize, bool); 6] = [
     (8, 1, false),
     (0, 64, false),
     (0, 2, false),
@@ -101,9 +101,9 @@ const DISPATCHES: [(u8, usize, bool); 6] = [
 
 // The dispatches take place that do, and the others change nothing.
 fn dispatches<A: Allocator + Copy>(kernel: &mut Kernel<Doer, A>) -> Result<(), Fail> {
-    for (hart, pid, want) in DISPATCHES {
-        if kernel.dispatch_pid(hart, pid)?.is_some() != want {
-            return Err(Fail::from((hart, pid)));
+    for (hart, pid, want) in &DISPATCHES {
+        if kernel.dispatch_pid(*hart, *pid)?.is_some() != *want {
+            return Err(Fail::from((*hart, *pid)));
         }
     }
     expect(kernel.schedule().len() == 1)

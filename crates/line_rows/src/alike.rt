@@ -24,7 +24,7 @@ fn different_trees_are_not_same(rt: HostRuntime) -> Result<(), Fail> {
     Ok(())
 }
 
-const UNLIKE: [&str; 9] = [
+static UNLIKE: [&str; 9] = [
     "a",
     "a b",
     "a > f",

@@ -15,7 +15,7 @@ fn clashes<A: Allocator>(tree: &Cmd<A>, kind: ClashKind, name: &[u8]) -> bool {
     }
 }
 
-const CLASHES: [(&str, ClashKind, &str); 15] = [
+static CLASHES: [(&str, ClashKind, &str); 15] = [
     ("cat f | tee f", PipeSides, "f"),
     ("tee f | tee f", PipeSides, "f"),
     ("echo a >> f | (cat g ; wc < f)", PipeSides, "f"),
@@ -49,9 +49,9 @@ fn line_clashes(
 
 #[test]
 fn tells_the_first_clash(rt: HostRuntime) -> Result<(), Fail> {
-    for (line, kind, name) in CLASHES {
-        if !line_clashes(rt.alloc(), line, kind, name)? {
-            return Err(Fail::from(line));
+    for (line, kind, name) in &CLASHES {
+        if !line_clashes(rt.alloc(), line, *kind, name)? {
+            return Err(Fail::from(*line));
         }
     }
     Ok(())
@@ -74,7 +74,7 @@ fn answers<A: Allocator>(
 // A line; its first clash, whether a command of it runs behind, and whether it uses its input.
 type Row = (&'static str, Option<(ClashKind, &'static str)>, bool, bool);
 
-const ROWS: [Row; 6] = [
+static ROWS: [Row; 6] = [
     ("echo a > x > y", None, false, false),
     ("cat f | tee f", Some((PipeSides, "f")), false, false),
     ("(echo a; cat f) > f", Some((Enclosing, "f")), false, false),
@@ -110,7 +110,7 @@ fn an_arenas_tree_answers_as_its_copy(rt: HostRuntime) -> Result<(), Fail> {
     Ok(())
 }
 
-const CLEAR: [&str; 9] = [
+static CLEAR: [&str; 9] = [
     "",
     "echo a > x > y",
     "cat x > y; cat y > x",
@@ -129,9 +129,9 @@ fn is_clear(alloc: Global, line: &str) -> Result<bool, ParseFault> {
 
 #[test]
 fn finds_no_clash_in_a_clear_tree(rt: HostRuntime) -> Result<(), Fail> {
-    for line in CLEAR {
+    for line in &CLEAR {
         if !is_clear(rt.alloc(), line)? {
-            return Err(Fail::from(line));
+            return Err(Fail::from(*line));
         }
     }
     Ok(())

@@ -23,7 +23,7 @@ fn all_have_faults(alloc: Global, rows: &[(&str, ParseFault)]) -> Result<(), Fai
     Ok(())
 }
 
-const MISSING_FILES: [(&str, ParseFault); 22] = [
+static MISSING_FILES: [(&str, ParseFault); 22] = [
     ("cat >", MissingFile(5)),
     ("cat > ", MissingFile(6)),
     ("<", MissingFile(1)),
@@ -53,7 +53,7 @@ fn tells_missing_files(rt: HostRuntime) -> Result<(), Fail> {
     all_have_faults(rt.alloc(), &MISSING_FILES)
 }
 
-const TOO_MANY_WORDS: [(&str, ParseFault); 12] = [
+static TOO_MANY_WORDS: [(&str, ParseFault); 12] = [
     ("echo 1 2 3 4 5 6 7 8 9", TooManyWords(21)),
     ("a b c d e f g h i j", TooManyWords(18)),
     ("a b c d e f g h i j k", TooManyWords(18)),
@@ -73,7 +73,7 @@ fn tells_too_many_words(rt: HostRuntime) -> Result<(), Fail> {
     all_have_faults(rt.alloc(), &TOO_MANY_WORDS)
 }
 
-const UNEXPECTED: [(&str, ParseFault); 11] = [
+static UNEXPECTED: [(&str, ParseFault); 11] = [
     ("echo (a)", Unexpected(5)),
     ("echo(a)", Unexpected(4)),
     ("a (", Unexpected(2)),
@@ -92,7 +92,7 @@ fn tells_unexpected_parentheses(rt: HostRuntime) -> Result<(), Fail> {
     all_have_faults(rt.alloc(), &UNEXPECTED)
 }
 
-const MISSING_PARENS: [(&str, ParseFault); 20] = [
+static MISSING_PARENS: [(&str, ParseFault); 20] = [
     ("(", MissingParen(1)),
     ("(((", MissingParen(3)),
     ("(a", MissingParen(2)),
@@ -120,7 +120,7 @@ fn tells_missing_parentheses(rt: HostRuntime) -> Result<(), Fail> {
     all_have_faults(rt.alloc(), &MISSING_PARENS)
 }
 
-const LEFTOVERS: [(&str, ParseFault); 23] = [
+static LEFTOVERS: [(&str, ParseFault); 23] = [
     ("a & b", Leftover(4)),
     ("(a) b", Leftover(4)),
     ("(a) (b)", Leftover(4)),

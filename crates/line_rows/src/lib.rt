@@ -1,4 +1,5 @@
-//! Tests alone: what lines of a script are: their tokens, their trees, where commands clash, and scripts of them.
+//! Tests alone: what lines of a script are: their tokens, their trees, where commands clash, scripts of them, and what is told
+//! of scripts, line by line.
 #![tactic(auto)]
 
 #[cfg(test)]
@@ -11,6 +12,8 @@ mod depths;
 mod faults;
 #[cfg(test)]
 mod names;
+#[cfg(test)]
+mod notes;
 #[cfg(test)]
 mod scripts;
 #[cfg(test)]

@@ -5,7 +5,7 @@ use sh_tree::{ParseFault, parse};
 use std::alloc::Global;
 use std::test::Fail;
 
-const BEHIND: [(&str, bool); 5] = [
+static BEHIND: [(&str, bool); 5] = [
     ("(a &) | b", true),
     ("a | (b &) > f", true),
     ("a ; b & ; c", true),
@@ -20,15 +20,15 @@ fn runs_behind(alloc: Global, line: &str) -> Result<bool, ParseFault> {
 
 #[test]
 fn finds_commands_behind_an_ampersand(rt: HostRuntime) -> Result<(), Fail> {
-    for (line, want) in BEHIND {
-        if runs_behind(rt.alloc(), line)? != want {
-            return Err(Fail::from(line));
+    for (line, want) in &BEHIND {
+        if runs_behind(rt.alloc(), line)? != *want {
+            return Err(Fail::from(*line));
         }
     }
     Ok(())
 }
 
-const INPUTS: [(&str, bool); 18] = [
+static INPUTS: [(&str, bool); 18] = [
     ("cat | wc", true),
     ("cat f | wc", false),
     ("(wc) < f", false),
@@ -56,16 +56,16 @@ fn uses(alloc: Global, line: &str) -> Result<bool, ParseFault> {
 
 #[test]
 fn finds_uses_of_the_input(rt: HostRuntime) -> Result<(), Fail> {
-    for (line, want) in INPUTS {
-        if uses(rt.alloc(), line)? != want {
-            return Err(Fail::from(line));
+    for (line, want) in &INPUTS {
+        if uses(rt.alloc(), line)? != *want {
+            return Err(Fail::from(*line));
         }
     }
     Ok(())
 }
 
 // A line, a name, and whether that is read and whether it is written.
-const NAMES: [(&str, &str, bool, bool); 17] = [
+static NAMES: [(&str, &str, bool, bool); 17] = [
     ("grep x f > g", "g", false, true),
     ("grep x f > g", "f", true, false),
     ("grep x f > g", "x", false, false),
@@ -103,15 +103,15 @@ fn names(
 
 #[test]
 fn finds_names(rt: HostRuntime) -> Result<(), Fail> {
-    for (line, name, is_read, is_written) in NAMES {
+    for (line, name, is_read, is_written) in &NAMES {
         if !names(
             rt.alloc(),
             line.as_bytes(),
             name.as_bytes(),
-            is_read,
-            is_written,
+            *is_read,
+            *is_written,
         )? {
-            return Err(Fail::from(line));
+            return Err(Fail::from(*line));
         }
     }
     Ok(())

@@ -32,7 +32,7 @@ fn has_tokens(alloc: Global, line: &[u8], rows: &[Row]) -> Result<bool, AllocErr
     Ok(true)
 }
 
-const WORDS_AND_SIGNS: [Row; 5] = [
+static WORDS_AND_SIGNS: [Row; 5] = [
     (Kind::Word, 0, 1),
     (Kind::MoreMore, 1, 3),
     (Kind::Word, 3, 4),
@@ -40,7 +40,7 @@ const WORDS_AND_SIGNS: [Row; 5] = [
     (Kind::Word, 5, 6),
 ];
 
-const THREE_SIGNS: [Row; 2] = [(Kind::MoreMore, 0, 2), (Kind::More, 2, 3)];
+static THREE_SIGNS: [Row; 2] = [(Kind::MoreMore, 0, 2), (Kind::More, 2, 3)];
 
 #[test]
 fn cuts_words_and_signs(rt: HostRuntime) -> Result<(), Fail> {
@@ -50,7 +50,7 @@ fn cuts_words_and_signs(rt: HostRuntime) -> Result<(), Fail> {
     Ok(())
 }
 
-const NO_WORD_BYTES: [Row; 6] = [
+static NO_WORD_BYTES: [Row; 6] = [
     (Kind::Word, 5, 8),
     (Kind::Semi, 8, 9),
     (Kind::LeftParen, 9, 10),

@@ -82,7 +82,7 @@ fn has_tree_anywhere(alloc: Global, line: &[u8], want: &[u8]) -> Result<bool, Fa
     Ok(in_blocks && in_arena)
 }
 
-const TREES: [(&str, &str); 27] = [
+static TREES: [(&str, &str); 27] = [
     ("", "[]"),
     (" \t ", "[]"),
     ("echo a", "[echo a]"),
@@ -114,9 +114,9 @@ const TREES: [(&str, &str); 27] = [
 
 #[test]
 fn makes_trees(rt: HostRuntime) -> Result<(), Fail> {
-    for (line, want) in TREES {
+    for (line, want) in &TREES {
         if !has_tree_anywhere(rt.alloc(), line.as_bytes(), want.as_bytes())? {
-            return Err(Fail::from(line));
+            return Err(Fail::from(*line));
         }
     }
     Ok(())

@@ -209,7 +209,7 @@ fn last_calls(
 
 use Said::{Done, Fd, Refused, Start, Text};
 
-const TOLD: [(&[&str], &[Said], &str); 16] = [
+static TOLD: [(&[&str], &[Said], &str); 16] = [
     (
         &["cat", "none"],
         &[Done, Refused],
@@ -262,7 +262,7 @@ const TOLD: [(&[&str], &[Said], &str); 16] = [
 
 #[test]
 fn tells_of_refusals_and_wrong_use(rt: HostRuntime) -> Result<(), Fail> {
-    for (texts, answers, message) in TOLD {
+    for (texts, answers, message) in &TOLD {
         let (call, next) = last_calls(&rt, texts, answers)?;
         let told = writes(&call, 2, message) && matches!(next, Call::Exit);
         assert!(rt; told, "at {message}");
@@ -271,7 +271,7 @@ fn tells_of_refusals_and_wrong_use(rt: HostRuntime) -> Result<(), Fail> {
 }
 
 // Each last reply is one that the call can't get.
-const STRAYS: [(&[&str], &[Said]); 12] = [
+static STRAYS: [(&[&str], &[Said]); 12] = [
     (&["cat"], &[Start]),
     (&["cat"], &[Done, Done]),
     (&["wc"], &[Done, Done]),
@@ -288,7 +288,7 @@ const STRAYS: [(&[&str], &[Said]); 12] = [
 
 #[test]
 fn exits_on_a_reply_that_its_call_cannot_get(rt: HostRuntime) -> Result<(), Fail> {
-    for (texts, answers) in STRAYS {
+    for (texts, answers) in &STRAYS {
         let (call, _) = last_calls(&rt, texts, answers)?;
         assert!(rt; matches!(call, Call::Exit), "at {texts:?}");
     }

@@ -1,4 +1,5 @@
-//! Tests alone: the six programs: their parts, what they make of whole byte strings, and the calls that they make.
+//! Tests alone: the six programs: their parts, what they make of whole byte strings, and the calls that they make; and the calls
+//! that init and the shell make, by the replies that they get.
 #![tactic(auto)]
 
 #[cfg(test)]
@@ -9,3 +10,5 @@ mod matches;
 mod parts;
 #[cfg(test)]
 mod plain;
+#[cfg(test)]
+mod shell;

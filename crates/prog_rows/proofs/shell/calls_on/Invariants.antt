@@ -1,5 +1,5 @@
 use Rattle.script_load.specs.Line.{lines_of}
-use Rattle.shell_rows.proofs.calls.calls_on.Given as goal
+use Rattle.prog_rows.proofs.shell.calls_on.Given as goal
 
 -- the script that was given
 abbrev pub ghosts-follow : goal.ghosts-follow

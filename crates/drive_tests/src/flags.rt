@@ -1,6 +1,6 @@
 //! What `--strict`, `check --turns` and `--version` add, what `explain` tells, and what is told of a word that is no command.
 use crate::runs::{Row, Told, nested, told_of};
-use drive_tests::hosts::{Memory, expect};
+use crate::hosts::{Memory, expect};
 use std::process::Abort;
 use std::sync::Wait;
 use std::test::Fail;
@@ -21,7 +21,7 @@ fn expect_all<'a>(
     Ok(())
 }
 
-const STRICT: [Row; 6] = [
+static STRICT: [Row; 6] = [
     ("plain --strict one", (0, "a\n", "settled\n")),
     ("plain --strict back", (3, "a\n", "not settled\n")),
     ("plain --strict clash", (3, "a\n", "not settled\n")),
@@ -45,7 +45,7 @@ fn a_strict_run_tells_by_its_status(rt: HostRuntime) -> Result<(), Fail> {
 
 // A script whose meaning fills a file past its end is refused before it runs; where something is full only in the run, that is
 // told.
-const STRICT_RUNS: [Row; 9] = [
+static STRICT_RUNS: [Row; 9] = [
     ("run --strict one", (0, "a\n", "")),
     ("run --strict --harts 1 one", (0, "a\n", "")),
     (
@@ -92,7 +92,7 @@ fn a_strict_run_by_processes_tells_by_its_status(rt: HostRuntime) -> Result<(), 
 }
 
 // 194 turns and 3,900 a step: an empty script has 1, `echo a | cat` 37, and on 5 bytes `cat` has 28 and `cat < f` 31.
-const TURNS: [Row; 7] = [
+static TURNS: [Row; 7] = [
     ("check --turns none", (0, "turns 4094\n", "")),
     ("check --turns one", (0, "turns 144494\n", "")),
     ("check --turns read dir/f", (0, "turns 121094\n", "")),
@@ -130,7 +130,7 @@ fn turns_are_told_after_the_lines(rt: HostRuntime) -> Result<(), Fail> {
     expect_turns(&rt, grows.as_str())
 }
 
-const EXPLAINED: [Row; 6] = [
+static EXPLAINED: [Row; 6] = [
     ("explain none", (0, "nothing to tell\n", "")),
     ("explain fine", (0, "nothing to tell\n", "")),
     (

@@ -1,11 +1,11 @@
 //! The calls on a table, one by one.
 
-use crate::steps::Step::{
+use crate::procs::steps::Step::{
     Alone, AwaitsChildOf, Counts, Dispatch, Exit, Fork, Idle, Is, IsDone, LowestFree, Parent, Pick,
     Put, Ready, Reap, RunAll, Sleep, SleepForChildOf, WaitAlone, WaitInVain, Wakeup,
     WakeupForChildOf,
 };
-use crate::steps::all_hold;
+use crate::procs::steps::all_hold;
 use proc_table::{Channel, State};
 use std::test::Fail;
 

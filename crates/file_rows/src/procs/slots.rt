@@ -1,10 +1,10 @@
 //! All slots of a table, the descriptors of its processes, and its memory.
 
-use crate::steps::Step::{
+use crate::procs::steps::Step::{
     Exit, Fork, Idle, Is, IsChild, LowestFree, Parent, Put, Ready, RunAll, Sleep, Starts, Wakeup,
 };
-use crate::steps::{after, go};
-use crate::waiters::{
+use crate::procs::steps::{after, go};
+use crate::procs::waiters::{
     Waiter, fork, fork_with, has, install, machine, parent, put, state, swap_fds,
 };
 use fd_table::{Fds, Object, OpenFiles};

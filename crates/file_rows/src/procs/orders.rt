@@ -1,7 +1,7 @@
 //! Who is dispatched when: no clause says it, since any Runnable process may be.
 
-use crate::steps::Step::{Dispatch, Exit, Fork, Is, Parent, Pick, Put, Ready, Reap, Sleep, Wakeup};
-use crate::steps::all_hold;
+use crate::procs::steps::Step::{Dispatch, Exit, Fork, Is, Parent, Pick, Put, Ready, Reap, Sleep, Wakeup};
+use crate::procs::steps::all_hold;
 use proc_table::{Channel, State};
 use std::test::Fail;
 

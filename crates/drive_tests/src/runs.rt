@@ -1,5 +1,5 @@
 //! `run` and `replay`.
-use drive_tests::hosts::{Broken, Failing, Full, Memory, expect, words_of};
+use crate::hosts::{Broken, Failing, Full, Memory, expect, words_of};
 use std::alloc::{AllocError, Global};
 use std::process::Abort;
 use std::sync::Wait;
@@ -49,7 +49,7 @@ const STAGES: &str =
     "echo a | cat | cat | cat | cat | cat | cat | cat | cat | cat | cat | cat | cat | cat | cat | cat | cat | cat | cat | cat | cat | cat | cat | cat | cat | cat | cat | cat | cat | cat | cat";
 
 // Scripts, and what each leaves as its output.
-const SCRIPTS: [(&str, &str); 14] = [
+static SCRIPTS: [(&str, &str); 14] = [
     ("", ""),
     ("echo hello > f; echo J >> f; cat f", "J\nllo\n"),
     ("echo | wc", "0 0 0 \n"),
@@ -89,7 +89,7 @@ fn scripts_run_by_their_processes(rt: HostRuntime) -> Result<(), Fail> {
 }
 
 // Scripts, and what each leaves as its output and its diagnostics.
-const MISTAKES: [(&str, &str, &str); 6] = [
+static MISTAKES: [(&str, &str, &str); 6] = [
     ("cat < none > o", "", "open none failed\n"),
     ("a & b\necho ok", "ok\n", "leftovers: b\n"),
     ("foo\ncd x", "", "exec foo failed\ncannot cd x\n"),
@@ -175,7 +175,7 @@ fn expect_one_of_two(
     Ok(())
 }
 
-const LISTED: [Row; 3] = [
+static LISTED: [Row; 3] = [
     ("run --files two f", (0, "-- f 4\na\nb\n\n", "")),
     ("run --append --files two f", (0, "-- f 6\nz\na\nb\n\n", "")),
     (
@@ -227,7 +227,7 @@ fn what_was_full_is_told_last(rt: HostRuntime) -> Result<(), Fail> {
     expect_run(&rt, "--turns 1", "echo a", (4, "", "xvsh: spent\n"))
 }
 
-const REFUSED: [Row; 6] = [
+static REFUSED: [Row; 6] = [
     ("run none", (1, "", "xvsh: cannot read none\n")),
     ("run s none", (1, "", "xvsh: cannot read none\n")),
     ("run zero", (1, "", "xvsh: line 1 holds a zero byte\n")),
@@ -276,7 +276,7 @@ fn expect_replay(
     Ok(())
 }
 
-const SCHEDULES: [Row; 18] = [
+static SCHEDULES: [Row; 18] = [
     ("D 0 1\nT 0 1\nD 0 0\nT 0 0\n", (0, "", "")),
     ("D 7 0\nT 7 0\nD 3 1\nT 3 1\nD 5 0\nT 5 0", (0, "", "")),
     ("", (1, "", "xvsh: unfinished after 0 events\n")),
@@ -439,13 +439,13 @@ fn expect_again<'a>(
 const ONE_HART: (&str, &str) = ("--harts 1 --files", "--harts 1 --files --schedule");
 
 // Options that tell a number of harts, without the schedule and with it.
-const HARTS: [(&str, &str); 3] = [
+static HARTS: [(&str, &str); 3] = [
     ONE_HART,
     ("--harts 2 --files", "--harts 2 --files --schedule"),
     ("--harts 8 --files", "--harts 8 --files --schedule"),
 ];
 
-const REPLAYED: [Input<'static>; 3] = [
+static REPLAYED: [Input<'static>; 3] = [
     ("", ""),
     ("cat big | (head -2; wc) > o; cat o | wc", ""),
     ("(echo a; echo b > f; echo c) > f", ""),

@@ -1,6 +1,6 @@
 //! Tests as lists of steps: calls on a table and looks at it, each with what it gives.
 
-use crate::waiters::{
+use crate::procs::waiters::{
     Waiter, dispatch, exit, fork, has, machine, parent, put, ready, run_all, sleep, state, wait,
 };
 use proc_table::{Channel, Pid, Procs, State, Waited};
