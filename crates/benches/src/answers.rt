@@ -8,7 +8,7 @@ mod script;
 
 use crate::answers::draw::draw;
 use crate::answers::drawn::drawn;
-use answer_runs::agreeing::agree;
+use script_rows::agreeing::agree;
 use kernel_core::{Report, run_one};
 use mem_files::Files;
 use plain_run::{Plain, plain};
