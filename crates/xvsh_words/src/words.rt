@@ -59,29 +59,41 @@ script that isn't settled; 4 full, spent, too large, or no memory.";
 
 const VERSION: &str = "0.1.0 (rattle logic dac8208d650f15bf)";
 
-// `--files`, which lists all files after the output.
-fn files_flag<'a>(alloc: Global, help: &'static str) -> Arg<'a> {
-    Arg::new(alloc, "files")
-        .long("files")
+// A flag: `--` and its name.
+fn flag<'a>(alloc: Global, name: &'static str, help: &'static str) -> Arg<'a> {
+    Arg::new(alloc, name)
+        .long(name)
         .help(help)
         .action(ArgAction::SetTrue)
 }
 
-// `--append`, which names the profile.
-fn append_flag<'a>(alloc: Global) -> Arg<'a> {
-    Arg::new(alloc, "append")
-        .long("append")
-        .help("`>>` writes at a file's end; without it, from its beginning, as xv6 does")
-        .action(ArgAction::SetTrue)
+// An option that takes a number from 1 to the most.
+fn number_option<'a>(alloc: Global, name: &'static str, help: &'static str, most: u64) -> Arg<'a> {
+    Arg::new(alloc, name)
+        .long(name)
+        .value_name("N")
+        .help(help)
+        .value_parser(ValueParser::unsigned(1, most))
+        .action(ArgAction::Set)
+}
+
+// A word that has to be there.
+fn needed_word<'a>(
+    alloc: Global,
+    name: &'static str,
+    shown: &'static str,
+    help: &'static str,
+) -> Arg<'a> {
+    Arg::new(alloc, name)
+        .value_name(shown)
+        .help(help)
+        .required(true)
+        .action(ArgAction::Set)
 }
 
 // SCRIPT.
 fn script_word<'a>(alloc: Global, help: &'static str) -> Arg<'a> {
-    Arg::new(alloc, "script")
-        .value_name("SCRIPT")
-        .help(help)
-        .required(true)
-        .action(ArgAction::Set)
+    needed_word(alloc, "script", "SCRIPT", help)
 }
 
 // The files of the script.
@@ -98,41 +110,17 @@ const SCRIPT_HELP: &str =
 
 const RUN_ABOUT: &str = "Runs a script by its processes, as xv6 does, and tells their diagnostics";
 
-// `--strict`, under which the status tells whether a script is settled.
-fn strict_flag<'a>(alloc: Global) -> Arg<'a> {
-    Arg::new(alloc, "strict")
-        .long("strict")
-        .help("End with status 3 if the script isn't settled")
-        .action(ArgAction::SetTrue)
-}
+const STRICT_HELP: &str = "End with status 3 if the script isn't settled";
 
-// `--harts` of `run`.
-fn harts_option<'a>(alloc: Global, most: u64) -> Arg<'a> {
-    Arg::new(alloc, "harts")
-        .long("harts")
-        .value_name("N")
-        .help("On so many harts (hardware threads, each a thread here), 1 to 8; 4 without it")
-        .value_parser(ValueParser::unsigned(1, most))
-        .action(ArgAction::Set)
-}
+const APPEND_HELP: &str =
+    "`>>` writes at a file's end; without it, from its beginning, as xv6 does";
 
-// `--turns` of `run`.
-fn turns_option<'a>(alloc: Global, most: u64) -> Arg<'a> {
-    Arg::new(alloc, "turns")
-        .long("turns")
-        .value_name("N")
-        .help("In at most so many events, 1 to 1000000000; 10000000 without it")
-        .value_parser(ValueParser::unsigned(1, most))
-        .action(ArgAction::Set)
-}
+const HARTS_HELP: &str =
+    "On so many harts (hardware threads, each a thread here), 1 to 8; 4 without it";
 
-// `--schedule`, which lists the events last.
-fn schedule_flag<'a>(alloc: Global) -> Arg<'a> {
-    Arg::new(alloc, "schedule")
-        .long("schedule")
-        .help("Write a line an event last: `D HART PROCESS` or `T HART PROCESS`")
-        .action(ArgAction::SetTrue)
-}
+const TURNS_HELP: &str = "In at most so many events, 1 to 1000000000; 10000000 without it";
+
+const LISTED_HELP: &str = "Write a line an event last: `D HART PROCESS` or `T HART PROCESS`";
 
 fn run_command<'a>(
     alloc: Global,
@@ -140,12 +128,12 @@ fn run_command<'a>(
     most_turns: u64,
 ) -> Result<Command<'a>, AllocError> {
     let args = vec![in alloc;
-        harts_option(alloc, most_harts),
-        turns_option(alloc, most_turns),
-        schedule_flag(alloc),
-        strict_flag(alloc),
-        append_flag(alloc),
-        files_flag(alloc, RUN_FILES_HELP),
+        number_option(alloc, "harts", HARTS_HELP, most_harts),
+        number_option(alloc, "turns", TURNS_HELP, most_turns),
+        flag(alloc, "schedule", LISTED_HELP),
+        flag(alloc, "strict", STRICT_HELP),
+        flag(alloc, "append", APPEND_HELP),
+        flag(alloc, "files", RUN_FILES_HELP),
         script_word(alloc, SCRIPT_HELP),
         file_words(alloc),
     ]?;
@@ -157,22 +145,14 @@ const RUN_FILES_HELP: &str =
 
 const REPLAY_ABOUT: &str = "Runs a script by the events that `run --schedule` wrote";
 
-// SCHEDULE.
-fn schedule_word<'a>(alloc: Global) -> Arg<'a> {
-    Arg::new(alloc, "events")
-        .value_name("SCHEDULE")
-        .help(
-            "The schedule's path; `-` is standard input, and the script's own input is then empty",
-        )
-        .required(true)
-        .action(ArgAction::Set)
-}
+const SCHEDULE_HELP: &str =
+    "The schedule's path; `-` is standard input, and the script's own input is then empty";
 
 fn replay_command<'a>(alloc: Global) -> Result<Command<'a>, AllocError> {
     let args = vec![in alloc;
-        append_flag(alloc),
-        files_flag(alloc, RUN_FILES_HELP),
-        schedule_word(alloc),
+        flag(alloc, "append", APPEND_HELP),
+        flag(alloc, "files", RUN_FILES_HELP),
+        needed_word(alloc, "events", "SCHEDULE", SCHEDULE_HELP),
         script_word(alloc, SCRIPT_HELP),
         file_words(alloc),
     ]?;
@@ -186,9 +166,9 @@ const PLAIN_FILES_HELP: &str =
 
 fn plain_command<'a>(alloc: Global) -> Result<Command<'a>, AllocError> {
     let args = vec![in alloc;
-        strict_flag(alloc),
-        append_flag(alloc),
-        files_flag(alloc, PLAIN_FILES_HELP),
+        flag(alloc, "strict", STRICT_HELP),
+        flag(alloc, "append", APPEND_HELP),
+        flag(alloc, "files", PLAIN_FILES_HELP),
         script_word(alloc, SCRIPT_HELP),
         file_words(alloc),
     ]?;
@@ -197,18 +177,13 @@ fn plain_command<'a>(alloc: Global) -> Result<Command<'a>, AllocError> {
 
 const CHECK_ABOUT: &str = "Tells where commands of a script may clash, and runs nothing";
 
-// `--turns` of `check`.
-fn counts_turns_flag<'a>(alloc: Global) -> Arg<'a> {
-    Arg::new(alloc, "turns")
-        .long("turns")
-        .help("Write last in how many turns the script runs to its end on the FILEs and its input")
-        .action(ArgAction::SetTrue)
-}
+const COUNTED_HELP: &str =
+    "Write last in how many turns the script runs to its end on the FILEs and its input";
 
 fn check_command<'a>(alloc: Global) -> Result<Command<'a>, AllocError> {
     let files = file_words(alloc).requires_arg("turns")?;
     let args = vec![in alloc;
-        counts_turns_flag(alloc),
+        flag(alloc, "turns", COUNTED_HELP),
         script_word(alloc, "The script's path; `-` is standard input"),
         files,
     ]?;
