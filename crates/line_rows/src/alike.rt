@@ -24,27 +24,26 @@ fn different_trees_are_not_same(rt: HostRuntime) -> Result<(), Fail> {
     Ok(())
 }
 
-static UNLIKE: [&str; 9] = [
-    "a",
-    "a b",
-    "a > f",
-    "a >> f",
-    "a < f",
-    "a | b",
-    "a ; b",
-    "a &",
-    "(a ; b) < f | (c &) >> g ; d",
-];
+const UNLIKE: &str = "a
+a b
+a > f
+a >> f
+a < f
+a | b
+a ; b
+a &
+(a ; b) < f | (c &) >> g ; d
+";
 
 // Whether the tree is the one of this line alone, which is parsed again, of all that are unlike.
 fn is_of_this_line<A: Allocator + Copy, B: Allocator>(
     memory: A,
     tree: &Cmd<B>,
-    place: usize,
-) -> Result<bool, Fail> {
-    for (i, line) in UNLIKE.iter().enumerate() {
-        let other = parse(memory, line.as_bytes())?;
-        if same(tree, &other) != (i == place) {
+    line: &str,
+) -> Result<bool, ParseFault> {
+    for other in UNLIKE.lines() {
+        let other_tree = parse(memory, other.as_bytes())?;
+        if same(tree, &other_tree) != (other == line) {
             return Ok(false);
         }
     }
@@ -58,14 +57,9 @@ fn has_copy<A: Allocator, B: Allocator + Copy>(tree: &Cmd<A>, memory: B) -> Resu
 }
 
 // Whether the line's tree is no other line's, and has a copy.
-fn is_unlike<A: Allocator + Copy>(
-    alloc: Global,
-    memory: A,
-    place: usize,
-    line: &[u8],
-) -> Result<bool, Fail> {
-    let tree = parse(alloc, line)?;
-    let is_known = is_of_this_line(memory, &tree, place)?;
+fn is_unlike<A: Allocator + Copy>(alloc: Global, memory: A, line: &str) -> Result<bool, Fail> {
+    let tree = parse(alloc, line.as_bytes())?;
+    let is_known = is_of_this_line(memory, &tree, line)?;
     let is_copied = has_copy(&tree, memory)?;
     Ok(is_known && is_copied)
 }
@@ -73,9 +67,9 @@ fn is_unlike<A: Allocator + Copy>(
 #[test]
 fn compares_and_copies_across_allocators(rt: HostRuntime) -> Result<(), Fail> {
     let arena = Bump::new(rt.alloc());
-    for (place, line) in UNLIKE.iter().enumerate() {
-        if !is_unlike(rt.alloc(), &arena, place, line.as_bytes())? {
-            return Err(Fail::from(*line));
+    for line in UNLIKE.lines() {
+        if !is_unlike(rt.alloc(), &arena, line)? {
+            return Err(Fail::new(line));
         }
     }
     Ok(())

@@ -11,8 +11,6 @@ mod depths;
 #[cfg(test)]
 mod faults;
 #[cfg(test)]
-mod names;
-#[cfg(test)]
 mod notes;
 #[cfg(test)]
 mod scripts;

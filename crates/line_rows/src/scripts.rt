@@ -1,5 +1,6 @@
 //! Scripts: their lines, the first fault that they have, and limits.
 
+use crate::faults::is_fault;
 use bumpalo::Bump;
 use linked_list_allocator::LocalHeap;
 use script_load::{Line, LineTooLarge, Lines, LoadFault, Profile, Script, load, load_with};
@@ -7,58 +8,49 @@ use sh_lexer::Bytes;
 use sh_tree::{Cmd, ParseFault, Words, parse, same};
 use std::alloc::{AllocError, Allocator, Global};
 use std::test::Fail;
+use test_rows::{named, value};
 
-// Whether the line is the command of this text.
-fn is_tree<A: Allocator>(alloc: Global, line: &Line<A>, text: &[u8]) -> Result<bool, Fail> {
-    let Line::Tree(tree) = line else {
-        return Ok(false);
-    };
-    let want = parse(alloc, text)?;
+// Whether the tree is the one of this text.
+fn is_tree<A: Allocator>(alloc: Global, tree: &Cmd<A>, text: &str) -> Result<bool, ParseFault> {
+    let want = parse(alloc, text.as_bytes())?;
     Ok(same(tree, &want))
 }
 
-// Whether the line is no command, by this fault, and has this text.
-fn is_bad<A: Allocator>(line: &Line<A>, want: ParseFault, text: &[u8]) -> bool {
+// Whether the line is as it says here: `tree` and its text, `cd` and its name, or `bad`, its fault and its text.
+fn is_line<A: Allocator>(alloc: Global, line: &Line<A>, want: &str) -> Result<bool, Fail> {
+    let (kind, text) = (named(want), value(want));
     match line {
-        Line::Bad(fault, bytes) => *fault == want && bytes.as_slice() == text,
-        _ => false,
+        Line::Tree(tree) => Ok(kind == "tree" && is_tree(alloc, tree, text)?),
+        Line::Cd(name) => Ok(kind == "cd" && name.as_slice() == text.as_bytes()),
+        Line::Bad(fault, bytes) => {
+            let is_known = is_fault(alloc, *fault, named(text))?;
+            Ok(kind == "bad" && is_known && bytes.as_slice() == value(text).as_bytes())
+        }
     }
 }
 
-// Whether the line would change to the directory of this name.
-fn is_cd<A: Allocator>(line: &Line<A>, name: &[u8]) -> bool {
-    match line {
-        Line::Cd(bytes) => bytes.as_slice() == name,
-        _ => false,
+// Whether these are the lines, one a line of the text.
+fn are_lines<A: Allocator>(alloc: Global, lines: &[Line<A>], want: &str) -> Result<bool, Fail> {
+    for (line, text) in lines.iter().zip(want.lines()) {
+        if !is_line(alloc, line, text)? {
+            return Ok(false);
+        }
     }
+    Ok(lines.len() == want.lines().count())
 }
 
-// Whether the second line is no command, the third a change of directory, and the others are commands.
-fn are_kept(alloc: Global, lines: &[Line<Global>]) -> Result<bool, Fail> {
-    let [first, second, third, fourth, fifth] = lines else {
-        return Ok(false);
-    };
-    let is_first = is_tree(alloc, first, b"echo 1 2 3 4 5 6 7 8")?;
-    let is_fourth = is_tree(alloc, fourth, b"")?;
-    let is_fifth = is_tree(alloc, fifth, b"last")?;
-    Ok(
-        is_first
-            && is_bad(
-                second,
-                ParseFault::TooManyWords(21),
-                b"echo 1 2 3 4 5 6 7 8 9",
-            )
-            && is_cd(third, b"x")
-            && is_fourth
-            && is_fifth,
-    )
-}
+const KEPT: &str = "tree echo 1 2 3 4 5 6 7 8
+bad TooManyWords(21) echo 1 2 3 4 5 6 7 8 9
+cd x
+tree
+tree last
+";
 
 #[test]
 fn keeps_bad_lines(rt: HostRuntime) -> Result<(), Fail> {
     let bytes = b"echo 1 2 3 4 5 6 7 8\necho 1 2 3 4 5 6 7 8 9\ncd x\n\nlast";
     let script = load(rt.alloc(), bytes)?;
-    let are_kept = are_kept(rt.alloc(), script.lines.as_slice())?;
+    let are_kept = are_lines(rt.alloc(), script.lines.as_slice(), KEPT)?;
     assert!(rt; are_kept && script.profile == Profile::Xv6);
     Ok(())
 }
@@ -97,19 +89,15 @@ fn faults_come_before_memory(rt: HostRuntime) -> Result<(), Fail> {
     Ok(())
 }
 
-// Whether these are a command, a change of directory and a line that is no command.
-fn are_of_each_kind<A: Allocator>(alloc: Global, lines: &[Line<A>]) -> Result<bool, Fail> {
-    let [first, second, third] = lines else {
-        return Ok(false);
-    };
-    let is_first = is_tree(alloc, first, b"echo a > x > y")?;
-    Ok(is_first && is_cd(second, b"/tmp") && is_bad(third, ParseFault::MissingParen(7), b"(echo a"))
-}
+const OF_EACH_KIND: &str = "tree echo a > x > y
+cd /tmp
+bad MissingParen(7) (echo a
+";
 
 // Whether a script that stands in such memory has these lines.
 fn stands_in<A: Allocator + Copy>(alloc: Global, memory: A) -> Result<bool, Fail> {
     let script = load(memory, b"echo a > x > y\ncd /tmp\n(echo a\n")?;
-    are_of_each_kind(alloc, script.lines.as_slice())
+    are_lines(alloc, script.lines.as_slice(), OF_EACH_KIND)
 }
 
 // The lines of a script that stands in an arena of the caller are those of one whose words have blocks of their own.
@@ -135,14 +123,18 @@ fn is_loaded<A: Allocator + Copy>(memory: A, bytes: &[u8]) -> Result<bool, Fail>
     }
 }
 
+// Whether a heap of so many blocks of 16 bytes is enough for a script.
+fn are_enough(alloc: Global, blocks: usize) -> Result<bool, Fail> {
+    let heap = LocalHeap::new(alloc, blocks.saturating_mul(16))?;
+    is_loaded(&heap, b"echo a; echo b\ncd x\necho 1 2 3 4 5 6 7 8 9\n")
+}
+
 // With a heap that grows step by step, each allocation is refused in turn, until none is.
 #[test]
 fn refused_memory_is_told(rt: HostRuntime) -> Result<(), Fail> {
-    let bytes = b"echo a; echo b\ncd x\necho 1 2 3 4 5 6 7 8 9\n";
     let mut refused = 0;
     for blocks in 1..400usize {
-        let heap = LocalHeap::new(rt.alloc(), blocks * 16)?;
-        if !is_loaded(&heap, bytes)? {
+        if !are_enough(rt.alloc(), blocks)? {
             refused = blocks;
         }
     }
@@ -173,14 +165,18 @@ fn is_taken(lines: Vec<Line<Global>>) -> Result<bool, Fail> {
     }
 }
 
+// Whether a script is taken whose second line is a command of so many words of so many bytes each.
+fn second_is_taken(alloc: Global, words: usize, bytes: usize) -> Result<bool, Fail> {
+    let mut lines = Vec::new(alloc);
+    lines.push(command(alloc, 1, 1)?)?;
+    lines.push(command(alloc, words, bytes)?)?;
+    is_taken(lines)
+}
+
 #[test]
 fn large_lines_are_refused(rt: HostRuntime) -> Result<(), Fail> {
-    // the words of the second line's command, the bytes of each, and whether it is taken
-    for (words, bytes, want) in [(9, 511, true), (10, 1, false), (1, 512, false)] {
-        let mut lines = Vec::new(rt.alloc());
-        lines.push(command(rt.alloc(), 1, 1)?)?;
-        lines.push(command(rt.alloc(), words, bytes)?)?;
-        assert!(rt; is_taken(lines)? == want);
-    }
+    assert!(rt; second_is_taken(rt.alloc(), 9, 511)?);
+    assert!(rt; !second_is_taken(rt.alloc(), 10, 1)?);
+    assert!(rt; !second_is_taken(rt.alloc(), 1, 512)?);
     Ok(())
 }

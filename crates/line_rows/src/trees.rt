@@ -61,6 +61,12 @@ fn write_tree<A: Allocator>(tree: &Cmd<A>, out: &mut Vec<u8>) -> Result<(), Allo
     Ok(())
 }
 
+fn text_of<A: Allocator>(alloc: Global, tree: &Cmd<A>) -> Result<Vec<u8>, AllocError> {
+    let mut text = Vec::new(alloc);
+    write_tree(tree, &mut text)?;
+    Ok(text)
+}
+
 // Whether the line has a tree of this text, where the tree stands in such memory.
 fn has_tree<A: Allocator + Copy>(
     alloc: Global,
@@ -69,8 +75,7 @@ fn has_tree<A: Allocator + Copy>(
     want: &[u8],
 ) -> Result<bool, Fail> {
     let tree = parse(memory, line)?;
-    let mut text = Vec::new(alloc);
-    write_tree(&tree, &mut text)?;
+    let text = text_of(alloc, &tree)?;
     Ok(text.as_slice() == want)
 }
 
@@ -82,41 +87,48 @@ fn has_tree_anywhere(alloc: Global, line: &[u8], want: &[u8]) -> Result<bool, Fa
     Ok(in_blocks && in_arena)
 }
 
-static TREES: [(&str, &str); 27] = [
-    ("", "[]"),
-    (" \t ", "[]"),
-    ("echo a", "[echo a]"),
-    ("echo a > x > y", "Fresh(y,Fresh(x,[echo a]))"),
-    ("a & ; b", "List(Back([a]),[b])"),
-    ("| echo a", "Pipe([],[echo a])"),
-    ("()", "[]"),
-    (";;", "List([],List([],[]))"),
-    ("> f", "Fresh(f,[])"),
-    ("&", "Back([])"),
-    ("a & &", "Back(Back([a]))"),
-    ("a | b &", "Back(Pipe([a],[b]))"),
-    ("a ; b | c & ; d", "List([a],List(Back(Pipe([b],[c])),[d]))"),
-    ("a | b | c", "Pipe([a],Pipe([b],[c]))"),
-    ("(a | b) | c", "Pipe(Pipe([a],[b]),[c])"),
-    ("(a ; b) > f", "Fresh(f,List([a],[b]))"),
-    ("(a) < x > y", "Fresh(y,Input(x,[a]))"),
-    ("< i a >> o b", "Over(o,Input(i,[a b]))"),
-    ("((a))", "[a]"),
-    ("((a > f) > g) > h", "Fresh(h,Fresh(g,Fresh(f,[a])))"),
-    ("a ;", "List([a],[])"),
-    ("a |", "Pipe([a],[])"),
-    ("(a &) | (b ; c) &", "Back(Pipe(Back([a]),List([b],[c])))"),
-    ("1 2 3 4 5 6 7 8 9", "[1 2 3 4 5 6 7 8 9]"),
-    ("1 2 3 > f 4 5 6 7 8 9", "Fresh(f,[1 2 3 4 5 6 7 8 9])"),
-    ("1 2 3 4 5 6 7 8 9 > f", "Fresh(f,[1 2 3 4 5 6 7 8 9])"),
-    ("a>b<c|d;(e)", "List(Pipe(Input(c,Fresh(b,[a])),[d]),[e])"),
-];
+// A line, ` : ` and the text of its tree.
+const TREES: &str = " : []
+ \t  : []
+echo a : [echo a]
+echo a > x > y : Fresh(y,Fresh(x,[echo a]))
+a & ; b : List(Back([a]),[b])
+| echo a : Pipe([],[echo a])
+() : []
+;; : List([],List([],[]))
+> f : Fresh(f,[])
+& : Back([])
+a & & : Back(Back([a]))
+a | b & : Back(Pipe([a],[b]))
+a ; b | c & ; d : List([a],List(Back(Pipe([b],[c])),[d]))
+a | b | c : Pipe([a],Pipe([b],[c]))
+(a | b) | c : Pipe(Pipe([a],[b]),[c])
+(a ; b) > f : Fresh(f,List([a],[b]))
+(a) < x > y : Fresh(y,Input(x,[a]))
+< i a >> o b : Over(o,Input(i,[a b]))
+((a)) : [a]
+((a > f) > g) > h : Fresh(h,Fresh(g,Fresh(f,[a])))
+a ; : List([a],[])
+a | : Pipe([a],[])
+(a &) | (b ; c) & : Back(Pipe(Back([a]),List([b],[c])))
+1 2 3 4 5 6 7 8 9 : [1 2 3 4 5 6 7 8 9]
+1 2 3 > f 4 5 6 7 8 9 : Fresh(f,[1 2 3 4 5 6 7 8 9])
+1 2 3 4 5 6 7 8 9 > f : Fresh(f,[1 2 3 4 5 6 7 8 9])
+a>b<c|d;(e) : List(Pipe(Input(c,Fresh(b,[a])),[d]),[e])
+";
+
+fn row_holds(alloc: Global, row: &str) -> Result<bool, Fail> {
+    match row.split_once(" : ") {
+        Some((line, want)) => has_tree_anywhere(alloc, line.as_bytes(), want.as_bytes()),
+        None => Ok(false),
+    }
+}
 
 #[test]
 fn makes_trees(rt: HostRuntime) -> Result<(), Fail> {
-    for (line, want) in &TREES {
-        if !has_tree_anywhere(rt.alloc(), line.as_bytes(), want.as_bytes())? {
-            return Err(Fail::from(*line));
+    for row in TREES.lines() {
+        if !row_holds(rt.alloc(), row)? {
+            return Err(Fail::new(row));
         }
     }
     Ok(())

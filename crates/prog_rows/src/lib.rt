@@ -12,3 +12,5 @@ mod parts;
 mod plain;
 #[cfg(test)]
 mod shell;
+#[cfg(test)]
+mod texts;

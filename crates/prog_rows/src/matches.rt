@@ -3,33 +3,42 @@
 use grep_match::is_match;
 use std::test::Fail;
 
-#[test]
-fn matches_pieces(rt: HostRuntime) -> Result<(), Fail> {
-    assert!(rt; is_match(b"".as_slice(), b"abc".as_slice()));
-    assert!(rt; is_match(b"^$".as_slice(), b"".as_slice()));
-    assert!(rt; !is_match(b"^$".as_slice(), b"a".as_slice()));
-    assert!(rt; !is_match(b".".as_slice(), b"".as_slice()));
-    assert!(rt; is_match(b"x*".as_slice(), b"".as_slice()));
-    Ok(())
+// Whether the row's pattern matches its text, as the row says.
+fn row_holds(row: &str) -> bool {
+    let (pattern, rest) = row.split_once(" : ").unwrap_or((row, ""));
+    let (text, want) = rest.split_once(" : ").unwrap_or((rest, ""));
+    let told = if is_match(pattern.as_bytes(), text.as_bytes()) {
+        "yes"
+    } else {
+        "no"
+    };
+    told == want
 }
 
-// A `*` that follows a `*`, a leading one, and a `$` that isn't the last byte stand for themselves.
-#[test]
-fn matches_ordinary_bytes(rt: HostRuntime) -> Result<(), Fail> {
-    assert!(rt; is_match(b"a**".as_slice(), b"aa*".as_slice()));
-    assert!(rt; !is_match(b"a**".as_slice(), b"aa".as_slice()));
-    assert!(rt; is_match(b"$a".as_slice(), b"$a".as_slice()));
-    assert!(rt; is_match(b"^*".as_slice(), b"*x".as_slice()));
-    Ok(())
-}
+// A pattern, a text, and whether it matches. A `*` that follows a `*`, a leading one, and a `$` that isn't the last byte stand for
+// themselves.
+const TEXTS: &str = " : abc : yes
+^$ :  : yes
+^$ : a : no
+. :  : no
+x* :  : yes
+a** : aa* : yes
+a** : aa : no
+$a : $a : yes
+^* : *x : yes
+^a*b$ : b : yes
+^a*b$ : aab : yes
+^a*b$ : aabc : no
+^a*b$ : cb : no
+";
 
 #[test]
-fn matches_whole_lines(rt: HostRuntime) -> Result<(), Fail> {
-    let pattern = b"^a*b$".as_slice();
-    assert!(rt; is_match(pattern, b"b".as_slice()));
-    assert!(rt; is_match(pattern, b"aab".as_slice()));
-    assert!(rt; !is_match(pattern, b"aabc".as_slice()));
-    assert!(rt; !is_match(pattern, b"cb".as_slice()));
+fn matches_texts(rt: HostRuntime) -> Result<(), Fail> {
+    for row in TEXTS.lines() {
+        if !row_holds(row) {
+            return Err(Fail::new(row));
+        }
+    }
     Ok(())
 }
 

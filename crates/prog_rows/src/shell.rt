@@ -1,8 +1,12 @@
-//! The calls of a shell on a script, as a text in which each call ends in a semicolon.
+//! The calls of a shell on a script.
+//!
+//! A row is a script under its profile, `xv6` or `append`, and below it lines of replies, ` : ` and the calls that a shell makes on
+//! them, with a semicolon between each two. A reply is a letter.
 
 ghost use Rattle.std.specs.Prelude.{◌≡◌};
 ghost use Rattle.script_load.specs.Line.{lines_of};
 
+use crate::texts::put;
 use script_load::{Line, Lines, Profile, Script, load_with};
 use sh_lexer::Bytes;
 use sh_machine::{Naming, User};
@@ -11,7 +15,8 @@ use std::alloc::{AllocError, Global};
 use std::marker::Brand;
 use std::process::Abort;
 use std::test::Fail;
-use user_calls::{Block, Call, Machine, Mode, Reply};
+use test_rows::{bytes_of, named, rows, value};
+use user_calls::{Block, Call, Machine, Reply};
 
 // A reply by its letter; a descriptor is 5, and a pipe's ends are 3 and 4.
 fn reply_of(letter: u8) -> Reply {
@@ -26,51 +31,12 @@ fn reply_of(letter: u8) -> Reply {
     }
 }
 
-fn mode_name(mode: Mode) -> &'static [u8] {
-    match mode {
-        Mode::Input => b"input",
-        Mode::Fresh => b"fresh",
-        Mode::Over => b"over",
-        Mode::Append => b"append",
+// Writes a call behind those before it.
+fn put_next(out: &mut String, call: &Call) -> Result<(), AllocError> {
+    if !out.as_str().is_empty() {
+        out.push(';')?;
     }
-}
-
-fn put_numbered(
-    out: &mut Vec<u8, Global>,
-    name: &[u8],
-    fd: usize,
-    rest: &[u8],
-) -> Result<(), AllocError> {
-    out.extend_from_slice(name)?;
-    out.push(if fd < 10 { b'0' + fd as u8 } else { b'?' })?;
-    out.extend_from_slice(rest)
-}
-
-// Writes a call with a semicolon behind it.
-fn put(out: &mut Vec<u8, Global>, call: &Call) -> Result<(), AllocError> {
-    match call {
-        Call::Fork => out.extend_from_slice(b"fork")?,
-        Call::Exec(true) => out.extend_from_slice(b"exec found")?,
-        Call::Exec(false) => out.extend_from_slice(b"exec none")?,
-        Call::Exit => out.extend_from_slice(b"exit")?,
-        Call::Wait => out.extend_from_slice(b"wait")?,
-        Call::MakePipe => out.extend_from_slice(b"pipe")?,
-        Call::Read(fd, _) => put_numbered(out, b"read ", *fd, b"")?,
-        Call::Write(fd, block) => {
-            put_numbered(out, b"write ", *fd, b" ")?;
-            out.extend_from_slice(block.as_slice())?;
-        }
-        Call::OpenFile(name, mode) => {
-            out.extend_from_slice(b"open ")?;
-            out.extend_from_slice(name.as_slice())?;
-            out.push(b' ')?;
-            out.extend_from_slice(mode_name(*mode))?;
-        }
-        Call::Close(fd) => put_numbered(out, b"close ", *fd, b"")?,
-        Call::Dup(fd) => put_numbered(out, b"dup ", *fd, b"")?,
-    }
-    out.push(b';')?;
-    Ok(())
+    put(out, call)
 }
 
 // The calls of a shell, each made by a twin.
@@ -78,253 +44,219 @@ fn follow<N: Naming>(
     script: &Script<Global>,
     replies: &[u8],
     alloc: Global,
-) -> Result<Vec<u8, Global>, AllocError>
+) -> Result<String, AllocError>
     requires { lines_of script.now.lines ≡ N.script }
 {
-    let mut out = Vec::new(alloc);
+    let mut out = String::new(alloc);
     let mut user = User::<Global, N>::shell(script);
     for letter in replies {
         let mut twin = user.twin();
-        put(&mut out, &twin.run(&reply_of(*letter)))?;
+        put_next(&mut out, &twin.run(&reply_of(*letter)))?;
         user = twin;
     }
     Ok(out)
 }
 
-fn calls_on(
-    script: &Script<Global>,
-    replies: &[u8],
-    alloc: Global,
-) -> Result<Vec<u8, Global>, AllocError> {
+fn calls_on(script: &Script<Global>, replies: &[u8], alloc: Global) -> Result<String, AllocError> {
     follow::<Brand>(script, replies, alloc)
 }
 
-fn calls(
-    text: &[u8],
-    profile: Profile,
-    replies: &[u8],
-    alloc: Global,
-) -> Result<Vec<u8, Global>, Fail> {
-    let script = load_with(alloc, text, profile)?;
-    Ok(calls_on(&script, replies, alloc)?)
+// Whether a shell on the script makes the calls of a line on its replies.
+fn line_holds(alloc: Global, script: &Script<Global>, line: &str) -> Result<bool, AllocError> {
+    let (replies, want) = line.split_once(" : ").unwrap_or((line, ""));
+    let told = calls_on(script, replies.as_bytes(), alloc)?;
+    Ok(told.as_str() == want)
 }
 
-fn check_rows<R: AllocGlobal + Abort>(rt: &R, rows: &[(&[u8], &[u8], &[u8])]) -> Result<(), Fail> {
-    for (text, replies, want) in rows {
-        let got = calls(text, Profile::Xv6, replies, rt.alloc())?;
-        assert_eq!(rt; got.as_slice(), *want, "at {replies:?} on {text:?}");
+// Fails at the first line whose calls a shell doesn't make.
+fn lines_hold(alloc: Global, script: &Script<Global>, row: &str) -> Result<(), Fail> {
+    for line in row.lines().skip(1) {
+        if !line_holds(alloc, script, line)? {
+            return Err(Fail::new(format_args!("{line}\nof\n{row}")));
+        }
     }
     Ok(())
 }
 
-#[test]
-fn lines_are_taken_in_order(rt: HostRuntime) -> Result<(), Fail> {
-    let all = b"echo a\na & b\ncd x y\n\n".as_slice();
-    check_rows(
-        &rt,
-        &[
-            (
-                all,
-                b"sddddrdddd",
-                b"fork;wait;fork;wait;write 2 cannot cd x y\n;fork;wait;exit;exit;exit;",
-            ),
-            (all, b"sdr", b"fork;wait;exit;"),
-            (all, b"sddrrd", b"fork;wait;fork;write 2 fork\n;exit;exit;"),
-            (all, b"sb", b"fork;exit;"),
-            (b"", b"sd", b"exit;exit;"),
-            (b"\n", b"sc", b"fork;exit;"),
-        ],
-    )
+// The script of a row's first line.
+fn script_of(alloc: Global, line: &str) -> Result<Script<Global>, Fail> {
+    let text = bytes_of(alloc, value(line))?;
+    let profile = if named(line) == "append" {
+        Profile::Append
+    } else {
+        Profile::Xv6
+    };
+    Ok(load_with(alloc, text.as_slice(), profile)?)
 }
 
-#[test]
-fn commands_are_looked_up(rt: HostRuntime) -> Result<(), Fail> {
-    check_rows(
-        &rt,
-        &[
-            (
-                b"echo a\n",
-                b"scddd",
-                b"fork;exec found;write 1 a;write 1 \n;exit;",
-            ),
-            (
-                b"ls x\n",
-                b"scrrd",
-                b"fork;exec none;write 2 exec ls failed\n;exit;exit;",
-            ),
-            (b"ls x\n", b"scd", b"fork;exec none;exit;"),
-            (b"(((echo a)))\n", b"scd", b"fork;exec found;write 1 a;"),
-            (
-                b"echo 1 2 3 4 5 6 7 8\n",
-                b"scdddd",
-                b"fork;exec found;write 1 1;write 1  ;write 1 2;write 1  ;",
-            ),
-        ],
-    )
+fn row_holds(alloc: Global, row: &str) -> Result<(), Fail> {
+    let (first, _) = row.split_once('\n').unwrap_or((row, ""));
+    let script = script_of(alloc, first)?;
+    lines_hold(alloc, &script, row)
 }
 
-#[test]
-fn redirections_close_and_open(rt: HostRuntime) -> Result<(), Fail> {
-    check_rows(
-        &rt,
-        &[
-            (
-                b"cat < f\n",
-                b"scdfd",
-                b"fork;close 0;open f input;exec found;read 0;",
-            ),
-            (
-                b"cat > f\n",
-                b"scdf",
-                b"fork;close 1;open f fresh;exec found;",
-            ),
-            (
-                b"cat >> f\n",
-                b"scdf",
-                b"fork;close 1;open f over;exec found;",
-            ),
-            (
-                b"cat < f > g\n",
-                b"scdfdf",
-                b"fork;close 1;open g fresh;close 0;open f input;exec found;",
-            ),
-            (
-                b"cat < f\n",
-                b"scdrr",
-                b"fork;close 0;open f input;write 2 open f failed\n;exit;",
-            ),
-            (b"cat < f\n", b"scdd", b"fork;close 0;open f input;exit;"),
-            (b"cat < f\n", b"scr", b"fork;close 0;exit;"),
-        ],
-    )?;
-    let appended = calls(b"cat >> f\n", Profile::Append, b"scdf", rt.alloc())?;
-    assert_eq!(rt;
-        appended.as_slice(),
-        b"fork;close 1;open f append;exec found;".as_slice()
-    );
-    let fresh = calls(b"cat > f\n", Profile::Append, b"scdf", rt.alloc())?;
-    assert_eq!(rt;
-        fresh.as_slice(),
-        b"fork;close 1;open f fresh;exec found;".as_slice()
-    );
+fn rows_hold(alloc: Global, table: &str) -> Result<(), Fail> {
+    for row in rows(table) {
+        row_holds(alloc, row)?;
+    }
     Ok(())
 }
 
+const LINES: &str = r#"
+xv6 echo a\na & b\ncd x y\n\n
+sddddrdddd : fork;wait;fork;wait;write 2 "cannot cd x y\n";fork;wait;exit;exit;exit
+sdr : fork;wait;exit
+sddrrd : fork;wait;fork;write 2 "fork\n";exit;exit
+sb : fork;exit
+
+xv6
+sd : exit;exit
+
+xv6 \n
+sc : fork;exit
+"#;
+
+#[test]
+fn lines_are_taken_in_order(rt: HostRuntime) -> Result<(), Fail> {
+    rows_hold(rt.alloc(), LINES)
+}
+
+const COMMANDS: &str = r#"
+xv6 echo a\n
+scddd : fork;exec found;write 1 "a";write 1 "\n";exit
+
+xv6 ls x\n
+scrrd : fork;exec none;write 2 "exec ls failed\n";exit;exit
+scd : fork;exec none;exit
+
+xv6 (((echo a)))\n
+scd : fork;exec found;write 1 "a"
+
+xv6 echo 1 2 3 4 5 6 7 8\n
+scdddd : fork;exec found;write 1 "1";write 1 " ";write 1 "2";write 1 " "
+"#;
+
+#[test]
+fn commands_are_looked_up(rt: HostRuntime) -> Result<(), Fail> {
+    rows_hold(rt.alloc(), COMMANDS)
+}
+
+const REDIRECTIONS: &str = r#"
+xv6 cat < f\n
+scdfd : fork;close 0;open f input;exec found;read 0 512
+
+xv6 cat > f\n
+scdf : fork;close 1;open f fresh;exec found
+
+xv6 cat >> f\n
+scdf : fork;close 1;open f over;exec found
+
+xv6 cat < f > g\n
+scdfdf : fork;close 1;open g fresh;close 0;open f input;exec found
+
+xv6 cat < f\n
+scdrr : fork;close 0;open f input;write 2 "open f failed\n";exit
+scdd : fork;close 0;open f input;exit
+scr : fork;close 0;exit
+
+append cat >> f\n
+scdf : fork;close 1;open f append;exec found
+
+append cat > f\n
+scdf : fork;close 1;open f fresh;exec found
+"#;
+
+#[test]
+fn redirections_close_and_open(rt: HostRuntime) -> Result<(), Fail> {
+    rows_hold(rt.alloc(), REDIRECTIONS)
+}
+
+const LISTS: &str = r#"
+xv6 echo a; cat\n
+scddd : fork;fork;wait;exec found;read 0 512
+sccd : fork;fork;exec found;write 1 "a"
+scrr : fork;fork;write 2 "fork\n";exit
+scdr : fork;fork;wait;exit
+
+xv6 cat &\n
+scd : fork;fork;exit
+sccd : fork;fork;exec found;read 0 512
+scrr : fork;fork;write 2 "fork\n";exit
+
+xv6 a & ; b\n
+sccd : fork;fork;fork;exit
+scddr : fork;fork;wait;exec none;write 2 "exec b failed\n"
+
+xv6 ;;\n
+scddddd : fork;fork;wait;fork;wait;exit;exit
+scc : fork;fork;exit
+"#;
+
 #[test]
 fn lists_wait_and_backs_do_not(rt: HostRuntime) -> Result<(), Fail> {
-    check_rows(
-        &rt,
-        &[
-            (
-                b"echo a; cat\n",
-                b"scddd",
-                b"fork;fork;wait;exec found;read 0;",
-            ),
-            (
-                b"echo a; cat\n",
-                b"sccd",
-                b"fork;fork;exec found;write 1 a;",
-            ),
-            (b"echo a; cat\n", b"scrr", b"fork;fork;write 2 fork\n;exit;"),
-            (b"echo a; cat\n", b"scdr", b"fork;fork;wait;exit;"),
-            (b"cat &\n", b"scd", b"fork;fork;exit;"),
-            (b"cat &\n", b"sccd", b"fork;fork;exec found;read 0;"),
-            (b"cat &\n", b"scrr", b"fork;fork;write 2 fork\n;exit;"),
-            (b"a & ; b\n", b"sccd", b"fork;fork;fork;exit;"),
-            (
-                b"a & ; b\n",
-                b"scddr",
-                b"fork;fork;wait;exec none;write 2 exec b failed\n;",
-            ),
-            (b";;\n", b"scddddd", b"fork;fork;wait;fork;wait;exit;exit;"),
-            (b";;\n", b"scc", b"fork;fork;exit;"),
-        ],
-    )
+    rows_hold(rt.alloc(), LISTS)
 }
+
+const PIPES: &str = r#"
+xv6 echo a | cat\n
+sceddddddd : fork;pipe;fork;fork;close 3;close 4;wait;wait;exit;exit
+scecdfddd : fork;pipe;fork;close 1;dup 4;close 3;close 4;exec found;write 1 "a"
+scedcdfddd : fork;pipe;fork;fork;close 0;dup 3;close 3;close 4;exec found;read 0 512
+scrr : fork;pipe;write 2 "pipe\n";exit
+scerr : fork;pipe;fork;write 2 "fork\n";exit
+scedrr : fork;pipe;fork;fork;write 2 "fork\n";exit
+sceddr : fork;pipe;fork;fork;close 3;exit
+scecdr : fork;pipe;fork;close 1;dup 4;exit
+scecr : fork;pipe;fork;close 1;exit
+scd : fork;pipe;exit
+"#;
 
 #[test]
 fn pipes_have_a_parent_and_two_children(rt: HostRuntime) -> Result<(), Fail> {
-    let line = b"echo a | cat\n".as_slice();
-    check_rows(
-        &rt,
-        &[
-            (
-                line,
-                b"sceddddddd",
-                b"fork;pipe;fork;fork;close 3;close 4;wait;wait;exit;exit;",
-            ),
-            (
-                line,
-                b"scecdfddd",
-                b"fork;pipe;fork;close 1;dup 4;close 3;close 4;exec found;write 1 a;",
-            ),
-            (
-                line,
-                b"scedcdfddd",
-                b"fork;pipe;fork;fork;close 0;dup 3;close 3;close 4;exec found;read 0;",
-            ),
-            (line, b"scrr", b"fork;pipe;write 2 pipe\n;exit;"),
-            (line, b"scerr", b"fork;pipe;fork;write 2 fork\n;exit;"),
-            (line, b"scedrr", b"fork;pipe;fork;fork;write 2 fork\n;exit;"),
-            (line, b"sceddr", b"fork;pipe;fork;fork;close 3;exit;"),
-            (line, b"scecdr", b"fork;pipe;fork;close 1;dup 4;exit;"),
-            (line, b"scecr", b"fork;pipe;fork;close 1;exit;"),
-            (line, b"scd", b"fork;pipe;exit;"),
-        ],
-    )
+    rows_hold(rt.alloc(), PIPES)
 }
+
+const FAULTS: &str = r#"
+xv6 echo >\n
+scr : fork;write 2 "missing file for redirection\n";exit
+
+xv6 (echo a\n
+scd : fork;write 2 "syntax - missing )\n";exit
+
+xv6 echo 1 2 3 4 5 6 7 8 9\n
+scd : fork;write 2 "too many args\n";exit
+
+xv6 echo (a)\n
+scd : fork;write 2 "syntax\n";exit
+
+xv6 a & b c\n
+scd : fork;write 2 "leftovers: b c\n";exit
+"#;
 
 #[test]
 fn faults_are_told(rt: HostRuntime) -> Result<(), Fail> {
-    check_rows(
-        &rt,
-        &[
-            (
-                b"echo >\n",
-                b"scr",
-                b"fork;write 2 missing file for redirection\n;exit;",
-            ),
-            (
-                b"(echo a\n",
-                b"scd",
-                b"fork;write 2 syntax - missing )\n;exit;",
-            ),
-            (
-                b"echo 1 2 3 4 5 6 7 8 9\n",
-                b"scd",
-                b"fork;write 2 too many args\n;exit;",
-            ),
-            (b"echo (a)\n", b"scd", b"fork;write 2 syntax\n;exit;"),
-            (b"a & b c\n", b"scd", b"fork;write 2 leftovers: b c\n;exit;"),
-        ],
-    )
+    rows_hold(rt.alloc(), FAULTS)
 }
 
-// Lines that no script of a text has.
-#[test]
-fn lines_made_by_hand_are_run(rt: HostRuntime) -> Result<(), Fail> {
-    let alloc = rt.alloc();
+// A script of lines that no script of a text has.
+fn made_by_hand(alloc: Global) -> Result<Script<Global>, Fail> {
     let mut lines = Vec::new(alloc);
     lines.push(Line::Bad(ParseFault::Leftover(9), Bytes::copy_of(alloc, b"ab")?))?;
     lines.push(Line::Bad(ParseFault::Memory, Bytes::copy_of(alloc, b"ab")?))?;
     lines.push(Line::Tree(Cmd::Exec(Words::from_vec(Vec::new(alloc)))))?;
-    let script = Script::from_lines(Lines::from_vec(lines), Profile::Xv6)?;
-    let first = calls_on(&script, b"scd", alloc)?;
-    assert_eq!(rt;
-        first.as_slice(),
-        b"fork;write 2 leftovers: \n;exit;".as_slice()
-    );
-    let second = calls_on(&script, b"sddcd", alloc)?;
-    assert_eq!(rt;
-        second.as_slice(),
-        b"fork;wait;fork;write 2 no memory\n;exit;".as_slice()
-    );
-    let third = calls_on(&script, b"sddddc", alloc)?;
-    assert_eq!(rt;
-        third.as_slice(),
-        b"fork;wait;fork;wait;fork;exit;".as_slice()
-    );
-    Ok(())
+    Ok(Script::from_lines(Lines::from_vec(lines), Profile::Xv6)?)
+}
+
+const BY_HAND: &str = r#"
+scd : fork;write 2 "leftovers: \n";exit
+sddcd : fork;wait;fork;write 2 "no memory\n";exit
+sddddc : fork;wait;fork;wait;fork;exit
+"#;
+
+#[test]
+fn lines_made_by_hand_are_run(rt: HostRuntime) -> Result<(), Fail> {
+    let script = made_by_hand(rt.alloc())?;
+    lines_hold(rt.alloc(), &script, BY_HAND)
 }
 
 // Whether a shell is as its twin was, after each of the replies, and whether each twin is as it is.
@@ -356,14 +288,22 @@ fn compare_on(
     compare::<Brand>(script, replies, alloc)
 }
 
+// Whether a shell is told apart from its twin after these replies as it says here.
+fn is_told_apart(
+    alloc: Global,
+    script: &Script<Global>,
+    replies: &[u8],
+    want: &[u8],
+) -> Result<bool, AllocError> {
+    let told = compare_on(script, replies, alloc)?;
+    Ok(told.as_slice() == want)
+}
+
 #[test]
 fn states_are_told_apart(rt: HostRuntime) -> Result<(), Fail> {
-    let text = b"cat | wc\ncat | wc\n".as_slice();
-    let script = load_with(rt.alloc(), text, Profile::Xv6)?;
-    let top = compare_on(&script, b"sdddddd", rt.alloc())?;
-    assert_eq!(rt; top.as_slice(), b"nnnnnyy".as_slice());
-    let left = compare_on(&script, b"scecdfdddb", rt.alloc())?;
-    assert_eq!(rt; left.as_slice(), b"nnnnnnnnnn".as_slice());
+    let script = load_with(rt.alloc(), b"cat | wc\ncat | wc\n", Profile::Xv6)?;
+    assert!(rt; is_told_apart(rt.alloc(), &script, b"sdddddd", b"nnnnnyy")?);
+    assert!(rt; is_told_apart(rt.alloc(), &script, b"scecdfdddb", b"nnnnnnnnnn")?);
     Ok(())
 }
 
