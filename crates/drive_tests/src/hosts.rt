@@ -1,100 +1,111 @@
-//! Hosts and writers in memory.
-ghost use Rattle.std.specs.Prelude.{◌≡◌, ◌≢◌, None, ◌<◌, ◌≤◌, Some, [], Err, IfOk, length, vec_len};
+//! A host whose files are lines of text, and a writer that fails.
+ghost use Rattle.std.specs.Prelude.{◌≤◌, None, IfOk, vec_len};
 
 use std::alloc::{AllocError, Global};
 use std::io::{self, Write};
-use std::sync::Wait;
-use std::thread::Threads;
-use std::time::Clock;
-use thiserror::Error;
-use xvsh::drive;
+use test_rows::{bytes_of, field, named, value};
 use xvsh_read::{Host, HostFault};
 
-/// A host in memory: standard input, and files at paths.
-#[derive(Drop)]
-pub struct Memory<'a> {
-    pub input: &'a [u8],
-    pub files: &'a [(&'a str, &'a [u8])],
+/// A row of a table, and the table's first row, which has what this one leaves out.
+#[derive(Clone, Copy)]
+pub struct Row<'a> {
+    pub head: &'a str,
+    pub own: &'a str,
 }
 
-impl Host for Memory<'_> {
-    ghost input = { λ m. Some m.input.now };
+impl<'a> Row<'a> {
+    /// The row itself, where it has a field of this name, or else the first.
+    pub fn with(self, name: &str) -> &'a str {
+        if field(self.own, name).is_some() {
+            self.own
+        } else {
+            self.head
+        }
+    }
+
+    /// The field of this name, where one of them has it.
+    pub fn said(self, name: &str) -> Option<&'a str> {
+        field(self.with(name), name)
+    }
+
+    /// The same, and nothing where none has it.
+    pub fn text(self, name: &str) -> &'a str {
+        self.said(name).unwrap_or("")
+    }
+}
+
+/// A row as a host: a field is the file of its name.
+impl Host for Row<'_> {
+    ghost input = { λ _. None };
 
     ghost file = { λ _ _. None };
 
     fn read_input(&mut self, alloc: Global, limit: usize) -> Result<Vec<u8>, HostFault> {
-        bounded(alloc, self.input, limit)
+        let name = self.said("stdin").unwrap_or("-");
+        bounded(bytes_at(alloc, *self, name), limit)
     }
 
     fn read_path(&mut self, alloc: Global, path: &str, limit: usize) -> Result<Vec<u8>, HostFault> {
-        for (name, bytes) in self.files {
-            if *name == path {
-                return bounded(alloc, bytes, limit);
-            }
-        }
-        Err(HostFault::Unreadable)
+        bounded(bytes_at(alloc, *self, path), limit)
     }
 }
 
-fn bounded(alloc: Global, bytes: &[u8], limit: usize) -> Result<Vec<u8>, HostFault>
-    ensures whole { IfOk result (λ all. all.items ≡ bytes.now) }
-    ensures within { IfOk result (λ all. vec_len all ≤ limit) }
-    ensures too_long { result ≡ Err HostFault.TooLong → limit < length bytes.now }
-    ensures readable { result ≢ Err HostFault.Unreadable }
+// What is read, if it is within the limit.
+fn bounded(read: Result<Vec<u8>, HostFault>, limit: usize) -> Result<Vec<u8>, HostFault>
+    ensures { IfOk result (λ bytes. vec_len bytes ≤ limit) }
 {
+    let bytes = read?;
     if bytes.len() > limit {
         return Err(HostFault::TooLong);
     }
-    match Vec::from_slice(alloc, bytes) {
-        Ok(all) => Ok(all),
+    Ok(bytes)
+}
+
+fn bytes_at(alloc: Global, row: Row<'_>, path: &str) -> Result<Vec<u8>, HostFault> {
+    let Some(text) = row.said(path) else {
+        return absent(alloc, row.text("absent"));
+    };
+    match long_bytes(alloc, text) {
+        Ok(bytes) => Ok(bytes),
         Err(_) => Err(HostFault::Memory),
     }
 }
 
-/// A host that can't be read.
-#[derive(Drop)]
-pub struct Broken;
-
-impl Host for Broken {
-    ghost input = { λ _. None };
-
-    ghost file = { λ _ _. Some [] };
-
-    fn read_input(&mut self, _alloc: Global, _limit: usize) -> Result<Vec<u8>, HostFault> {
-        Err(HostFault::Unreadable)
-    }
-
-    fn read_path(
-        &mut self,
-        alloc: Global,
-        _path: &str,
-        _limit: usize,
-    ) -> Result<Vec<u8>, HostFault> {
-        Ok(Vec::new(alloc))
+// What is read where there is no file.
+fn absent(alloc: Global, kind: &str) -> Result<Vec<u8>, HostFault> {
+    match kind {
+        "empty" => Ok(Vec::new(alloc)),
+        "memory" => Err(HostFault::Memory),
+        _ => Err(HostFault::Unreadable),
     }
 }
 
-/// A host in which every path has an empty file.
-#[derive(Drop)]
-pub struct Anything;
-
-impl Host for Anything {
-    ghost input = { λ _. Some [] };
-
-    ghost file = { λ _ _. Some [] };
-
-    fn read_input(&mut self, alloc: Global, _limit: usize) -> Result<Vec<u8>, HostFault> {
-        Ok(Vec::new(alloc))
+/// The bytes that a field stands for, in which `{3 ab}` is `ababab`.
+pub fn long_bytes(alloc: Global, text: &str) -> Result<Vec<u8>, AllocError> {
+    let mut bytes = Vec::new(alloc);
+    for piece in text.split('{') {
+        add_piece(alloc, &mut bytes, piece)?;
     }
+    Ok(bytes)
+}
 
-    fn read_path(
-        &mut self,
-        alloc: Global,
-        _path: &str,
-        _limit: usize,
-    ) -> Result<Vec<u8>, HostFault> {
-        Ok(Vec::new(alloc))
-    }
+// Adds what stands behind a `{`, or before the first.
+fn add_piece(alloc: Global, bytes: &mut Vec<u8>, piece: &str) -> Result<(), AllocError> {
+    let (repeated, rest) = piece.split_once('}').unwrap_or(("", piece));
+    let times = named(repeated).parse::<usize>().unwrap_or(0);
+    add_times(alloc, bytes, times, value(repeated))?;
+    add_times(alloc, bytes, 1, rest)
+}
+
+fn add_times(
+    alloc: Global,
+    bytes: &mut Vec<u8>,
+    times: usize,
+    text: &str,
+) -> Result<(), AllocError> {
+    let once = bytes_of(alloc, text)?;
+    let all = once.as_slice().repeat(alloc, times)?;
+    bytes.extend_from_slice(all.as_slice())
 }
 
 /// A writer that takes one byte a call, for so many calls, and then fails.
@@ -114,87 +125,5 @@ impl Write for Failing {
 
     fn flush(&mut self) -> io::Result<()> {
         Ok(())
-    }
-}
-
-/// The words of a line.
-pub fn words_of(alloc: Global, line: &str) -> Result<Vec<String>, AllocError> {
-    let mut words = Vec::new(alloc);
-    for word in line.split_whitespace() {
-        words.push(String::from_str(alloc, word)?)?;
-    }
-    Ok(words)
-}
-
-/// What the program did otherwise than it was to.
-#[derive(Debug, Drop, Error)]
-pub enum Otherwise {
-    #[error("it wrote {0}")]
-    Wrote(String),
-    #[error("it told {0}")]
-    Told(String),
-    #[error("it ended with status {0}")]
-    Ended(u8),
-    #[error("no memory")]
-    Memory,
-}
-
-impl From<AllocError> for Otherwise {
-    fn from(_error: AllocError) -> Otherwise {
-        Otherwise::Memory
-    }
-}
-
-/// Runs the program and compares its status, its output and its faults.
-pub fn expect<H: Host>(
-    rt: &(impl AllocGlobal + Threads + Wait + Clock + Sync),
-    words: &str,
-    host: &mut H,
-    want: (u8, &str, &str),
-) -> Result<(), Otherwise> {
-    let words = words_of(rt.alloc(), words)?;
-    let mut out = Vec::new(rt.alloc());
-    let mut err = Vec::new(rt.alloc());
-    let status = drive(rt, rt.alloc(), words, host, &mut out, &mut err);
-    compared(rt.alloc(), (status, out.as_slice(), err.as_slice()), want)
-}
-
-fn compared(
-    alloc: Global,
-    got: (u8, &[u8], &[u8]),
-    want: (u8, &str, &str),
-) -> Result<(), Otherwise> {
-    if got.1 != want.1.as_bytes() {
-        return Err(Otherwise::Wrote(String::from_utf8_lossy(alloc, got.1)?));
-    }
-    if got.2 != want.2.as_bytes() {
-        return Err(Otherwise::Told(String::from_utf8_lossy(alloc, got.2)?));
-    }
-    if got.0 != want.0 {
-        return Err(Otherwise::Ended(got.0));
-    }
-    Ok(())
-}
-
-/// A host that has no memory for what it reads.
-#[derive(Drop)]
-pub struct Full;
-
-impl Host for Full {
-    ghost input = { λ _. None };
-
-    ghost file = { λ _ _. None };
-
-    fn read_input(&mut self, _alloc: Global, _limit: usize) -> Result<Vec<u8>, HostFault> {
-        Err(HostFault::Memory)
-    }
-
-    fn read_path(
-        &mut self,
-        _alloc: Global,
-        _path: &str,
-        _limit: usize,
-    ) -> Result<Vec<u8>, HostFault> {
-        Err(HostFault::Memory)
     }
 }

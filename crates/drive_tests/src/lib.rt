@@ -12,3 +12,5 @@ mod plain;
 mod reading;
 #[cfg(test)]
 mod runs;
+#[cfg(test)]
+mod tables;

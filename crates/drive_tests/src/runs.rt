@@ -1,378 +1,352 @@
 //! `run` and `replay`.
-use crate::hosts::{Broken, Failing, Full, Memory, expect, words_of};
+use crate::hosts::Row;
+use crate::tables::{Fails, Told, expect_one_of, expect_table, told_of};
 use std::alloc::{AllocError, Global};
-use std::process::Abort;
 use std::sync::Wait;
 use std::test::Fail;
 use std::thread::Threads;
 use std::time::Clock;
-use xvsh::drive;
+use test_rows::rows;
 
-/// Words or a schedule, and the status, the output and the faults of the program on it.
-pub type Row = (&'static str, (u8, &'static str, &'static str));
+// The last is a pipe of 31 commands.
+const SCRIPTS: &str = r"
+words run s in/p in/big
+words run --harts 1 s in/p in/big
+words run --harts 2 s in/p in/big
+words run --harts 8 s in/p in/big
+- a\nb\nc\n
+in/p b\naab\naabc\ncb\n
+in/big {100 0123456789ab\n}
+status 0
 
-// Runs a script on `p` and `big` with a standard input of three lines, and compares its status, its output and its
-// diagnostics.
-fn expect_on_files<'a>(
-    rt: &(impl Abort + AllocGlobal + Threads + Wait + Clock + Sync),
-    options: &str,
-    script: &'a str,
-    big: &'a str,
-    want: (u8, &str, &str),
-) -> Result<(), Fail> {
-    let files = [
-        ("s", script.as_bytes()),
-        ("in/p", b"b\naab\naabc\ncb\n".as_slice()),
-        ("in/big", big.as_bytes()),
-    ];
-    let mut host = Memory {
-        input: b"a\nb\nc\n".as_slice(),
-        files: &files,
-    };
-    let words = format!(in rt.alloc(); "run {options} s in/p in/big")?;
-    Ok(expect(rt, words.as_str(), &mut host, want)?)
-}
+s
 
-// The same, where `big` is 100 lines.
-fn expect_run(
-    rt: &(impl Abort + AllocGlobal + Threads + Wait + Clock + Sync),
-    options: &str,
-    script: &str,
-    want: (u8, &str, &str),
-) -> Result<(), Fail> {
-    let big = "0123456789ab\n".repeat(rt.alloc(), 100)?;
-    expect_on_files(rt, options, script, big.as_str(), want)
-}
+s echo hello > f; echo J >> f; cat f
+out J\nllo\n
 
-// A pipe of 31 commands.
-const STAGES: &str =
-    "echo a | cat | cat | cat | cat | cat | cat | cat | cat | cat | cat | cat | cat | cat | cat | cat | cat | cat | cat | cat | cat | cat | cat | cat | cat | cat | cat | cat | cat | cat | cat";
+s echo | wc
+out 0 0 0 \n
 
-// Scripts, and what each leaves as its output.
-static SCRIPTS: [(&str, &str); 14] = [
-    ("", ""),
-    ("echo hello > f; echo J >> f; cat f", "J\nllo\n"),
-    ("echo | wc", "0 0 0 \n"),
-    ("cat big | wc", "100 100 1300 \n"),
-    ("grep ^a*b$ p", "b\naab\n"),
-    (
-        "cat big | (head -2; wc)",
-        "0123456789ab\n0123456789ab\n98 98 1274 \n",
-    ),
-    ("head -1\nwc", "a\n2 2 4 \n"),
-    ("| echo a", "a\n"),
-    ("()\n;;", ""),
-    ("wc p big", "4 4 14 p\n100 100 1300 big\n"),
-    ("cat p | grep b | wc", "4 4 14 \n"),
-    ("echo a | tee x y", "a\n"),
-    ("head -1 p big", "b\n0123456789ab\n"),
-    ("head -0 p", ""),
-];
+s cat big | wc
+out 100 100 1300 \n
 
-fn expect_outputs(
-    rt: &(impl Abort + AllocGlobal + Threads + Wait + Clock + Sync),
-    options: &str,
-    rows: &[(&str, &str)],
-) -> Result<(), Fail> {
-    for (script, out) in rows {
-        expect_run(rt, options, script, (0, out, ""))?;
-    }
-    Ok(())
-}
+s grep ^a*b$ p
+out b\naab\n
+
+s cat big | (head -2; wc)
+out 0123456789ab\n0123456789ab\n98 98 1274 \n
+
+s head -1\nwc
+out a\n2 2 4 \n
+
+s | echo a
+out a\n
+
+s ()\n;;
+
+s wc p big
+out 4 4 14 p\n100 100 1300 big\n
+
+s cat p | grep b | wc
+out 4 4 14 \n
+
+s echo a | tee x y
+out a\n
+
+s head -1 p big
+out b\n0123456789ab\n
+
+s head -0 p
+
+words run --harts 1 --turns 1000000 s in/p in/big
+s echo a{30  | cat}
+out a\n
+";
 
 #[test]
 fn scripts_run_by_their_processes(rt: HostRuntime) -> Result<(), Fail> {
-    for options in ["", "--harts 1", "--harts 2", "--harts 8"] {
-        expect_outputs(&rt, options, &SCRIPTS)?;
-    }
-    expect_run(&rt, "--harts 1 --turns 1000000", STAGES, (0, "a\n", ""))
+    expect_table(&rt, SCRIPTS)
 }
 
-// Scripts, and what each leaves as its output and its diagnostics.
-static MISTAKES: [(&str, &str, &str); 6] = [
-    ("cat < none > o", "", "open none failed\n"),
-    ("a & b\necho ok", "ok\n", "leftovers: b\n"),
-    ("foo\ncd x", "", "exec foo failed\ncannot cd x\n"),
-    ("head -x p", "", "usage: head [-N] [file ...]\n"),
-    ("cat none", "", "cat: cannot open none\n"),
-    (
-        "cat >\n(echo a\necho 1 2 3 4 5 6 7 8 9\necho (a)",
-        "",
-        "missing file for redirection\nsyntax - missing )\ntoo many args\nsyntax\n",
-    ),
-];
+const MISTAKES: &str = r"
+words run s in/p in/big
+- a\nb\nc\n
+in/p b\naab\naabc\ncb\n
+in/big {100 0123456789ab\n}
+status 0
 
-fn expect_mistakes(
-    rt: &(impl Abort + AllocGlobal + Threads + Wait + Clock + Sync),
-    rows: &[(&str, &str, &str)],
-) -> Result<(), Fail> {
-    for (script, out, diag) in rows {
-        expect_run(rt, "", script, (0, out, diag))?;
-    }
-    Ok(())
-}
+s cat < none > o
+err open none failed\n
+
+s a & b\necho ok
+out ok\n
+err leftovers: b\n
+
+s foo\ncd x
+err exec foo failed\ncannot cd x\n
+
+s head -x p
+err usage: head [-N] [file ...]\n
+
+s cat none
+err cat: cannot open none\n
+
+s cat >\n(echo a\necho 1 2 3 4 5 6 7 8 9\necho (a)
+err missing file for redirection\nsyntax - missing )\ntoo many args\nsyntax\n
+";
 
 #[test]
 fn mistakes_are_told_as_xv6_does(rt: HostRuntime) -> Result<(), Fail> {
-    expect_mistakes(&rt, &MISTAKES)
+    expect_table(&rt, MISTAKES)
 }
 
-/// With which status the program ended, and what it wrote.
-#[derive(Drop)]
-pub struct Told {
-    pub status: u8,
-    pub out: Vec<u8>,
-    pub err: Vec<u8>,
-}
+const LISTED: &str = r"
+- echo a > x > y
+two (echo a; echo b) >> f
+f z\n
+status 0
 
-/// Runs the program on these words.
-pub fn told_of(
-    rt: &(impl AllocGlobal + Threads + Wait + Clock + Sync),
-    words: &str,
-    host: &mut Memory<'_>,
-) -> Result<Told, Fail> {
-    let words = words_of(rt.alloc(), words)?;
-    let mut out = Vec::new(rt.alloc());
-    let mut err = Vec::new(rt.alloc());
-    let status = drive(rt, rt.alloc(), words, host, &mut out, &mut err);
-    Ok(Told { status, out, err })
-}
+words run --files two f
+out -- f 4\na\nb\n\n
 
-// Whether the file f was listed, and then one of the two schedules of a script without commands.
-fn lists_one_of_two(told: &Told) -> bool {
-    let alone = [
-        "D 0 0\nT 0 0\nD 0 1\nT 0 1\nD 0 0\nT 0 0\n",
-        "D 0 1\nT 0 1\nD 0 0\nT 0 0\n",
-    ];
-    let listed = b"-- f 2\nz\n\n".as_slice();
-    if told.status != 0 || !told.err.is_empty() {
-        return false;
-    }
-    if !told.out.starts_with(listed) {
-        return false;
-    }
-    let events = &told.out.as_slice()[listed.len()..];
-    alone.iter().any(|text| text.as_bytes() == events)
-}
+words run --append --files two f
+out -- f 6\nz\na\nb\n\n
 
-fn expect_rows(
-    rt: &(impl Abort + AllocGlobal + Threads + Wait + Clock + Sync),
-    host: &mut Memory<'_>,
-    rows: &[Row],
-) -> Result<(), Fail> {
-    for (words, want) in rows {
-        expect(rt, words, host, *want)?;
-    }
-    Ok(())
-}
+words run --files - f
+out -- f 2\nz\n\n-- x 2\na\n\n-- y 0\n\n
+";
 
-fn expect_one_of_two(
-    rt: &(impl Abort + AllocGlobal + Threads + Wait + Clock + Sync),
-    host: &mut Memory<'_>,
-) -> Result<(), Fail> {
-    let told = told_of(rt, "run --harts 1 --schedule --files empty f", host)?;
-    assert!(rt; lists_one_of_two(&told));
-    Ok(())
-}
+// The file f, and then one of the two schedules of a script without commands.
+const SCHEDULED: &str = r"
+words run --harts 1 --schedule --files empty f
+- echo a > x > y
+empty
+f z\n
+status 0
 
-static LISTED: [Row; 3] = [
-    ("run --files two f", (0, "-- f 4\na\nb\n\n", "")),
-    ("run --append --files two f", (0, "-- f 6\nz\na\nb\n\n", "")),
-    (
-        "run --files - f",
-        (0, "-- f 2\nz\n\n-- x 2\na\n\n-- y 0\n\n", ""),
-    ),
-];
+out -- f 2\nz\n\nD 0 0\nT 0 0\nD 0 1\nT 0 1\nD 0 0\nT 0 0\n
+
+out -- f 2\nz\n\nD 0 1\nT 0 1\nD 0 0\nT 0 0\n
+";
 
 #[test]
 fn files_and_events_are_listed(rt: HostRuntime) -> Result<(), Fail> {
-    let files = [
-        ("two", b"(echo a; echo b) >> f".as_slice()),
-        ("empty", b"".as_slice()),
-        ("f", b"z\n".as_slice()),
-    ];
-    let mut host = Memory {
-        input: b"echo a > x > y".as_slice(),
-        files: &files,
-    };
-    expect_rows(&rt, &mut host, &LISTED)?;
-    expect_one_of_two(&rt, &mut host)
-}
-
-/// So many parentheses round `echo a;`, after `echo x`.
-pub fn nested(alloc: Global, count: usize) -> Result<String, AllocError> {
-    let left = "(".repeat(alloc, count)?;
-    let right = ";)".repeat(alloc, count)?;
-    format!(in alloc; "echo x\n{}echo a{}", left.as_str(), right.as_str())
-}
-
-fn expect_nested(
-    rt: &(impl Abort + AllocGlobal + Threads + Wait + Clock + Sync),
-    count: usize,
-    want: (u8, &str, &str),
-) -> Result<(), Fail> {
-    let script = nested(rt.alloc(), count)?;
-    expect_run(rt, "", script.as_str(), want)
+    expect_table(&rt, LISTED)?;
+    expect_one_of(&rt, SCHEDULED)
 }
 
 // What was full is told after the output and the diagnostics; turns that are over, instead of them.
+const FULL: &str = r"
+words run s in/p in/big
+- a\nb\nc\n
+in/p b\naab\naabc\ncb\n
+in/big {100 0123456789ab\n}
+status 4
+
+s echo x\n{61 (}echo a{61 ;)}
+status 0
+out x\na\n
+
+s echo x\n{62 (}echo a{62 ;)}
+out x\n
+err fork\nxvsh: full procs\n
+
+s cat big > f; cat f big > f; cat f f f f f f f f > g; cat g g g g g g g g > h; cat h h h h > i
+err cat: write error\nxvsh: full size\n
+
+words run --turns 1 s in/p in/big
+s echo a
+err xvsh: spent\n
+";
+
 #[test]
 fn what_was_full_is_told_last(rt: HostRuntime) -> Result<(), Fail> {
-    expect_nested(&rt, 61, (0, "x\na\n", ""))?;
-    expect_nested(&rt, 62, (4, "x\n", "fork\nxvsh: full procs\n"))?;
-    let told = "cat: write error\nxvsh: full size\n";
-    let grows =
-        "cat big > f; cat f big > f; cat f f f f f f f f > g; cat g g g g g g g g > h; cat h h h h > i";
-    expect_run(&rt, "", grows, (4, "", told))?;
-    expect_run(&rt, "--turns 1", "echo a", (4, "", "xvsh: spent\n"))
+    expect_table(&rt, FULL)
 }
 
-static REFUSED: [Row; 6] = [
-    ("run none", (1, "", "xvsh: cannot read none\n")),
-    ("run s none", (1, "", "xvsh: cannot read none\n")),
-    ("run zero", (1, "", "xvsh: line 1 holds a zero byte\n")),
-    ("replay none none", (1, "", "xvsh: cannot read none\n")),
-    ("replay s none", (1, "", "xvsh: cannot read none\n")),
-    ("replay s zero", (1, "", "xvsh: line 1 holds a zero byte\n")),
-];
+const NOT_TAKEN: &str = r"
+-
+s echo a
+zero \0
+status 1
 
-fn expect_no_memory(
-    rt: &(impl Abort + AllocGlobal + Threads + Wait + Clock + Sync),
-    rows: &[&str],
-) -> Result<(), Fail> {
-    for words in rows {
-        expect(rt, words, &mut Full, (4, "", "xvsh: no memory\n"))?;
-    }
-    Ok(())
-}
+words run none
+words run s none
+words replay none none
+words replay s none
+err xvsh: cannot read none\n
+
+words run zero
+words replay s zero
+err xvsh: line 1 holds a zero byte\n
+
+words run s
+stdin none
+s
+err xvsh: cannot read -\n
+";
+
+const WITHOUT_MEMORY: &str = r"
+absent memory
+
+words run s
+words run -
+words replay s t
+words replay - t
+status 4
+err xvsh: no memory\n
+";
 
 #[test]
 fn runs_tell_what_they_cannot_take(rt: HostRuntime) -> Result<(), Fail> {
-    let files = [("s", b"echo a".as_slice()), ("zero", b"\0".as_slice())];
-    let mut host = Memory {
-        input: b"".as_slice(),
-        files: &files,
-    };
-    expect_rows(&rt, &mut host, &REFUSED)?;
-    expect(&rt, "run s", &mut Broken, (1, "", "xvsh: cannot read -\n"))?;
-    expect_no_memory(&rt, &["run s", "run -", "replay s t", "replay - t"])
+    expect_table(&rt, NOT_TAKEN)?;
+    expect_table(&rt, WITHOUT_MEMORY)
 }
 
-// Replays this schedule of a script without commands.
-fn expect_replay(
-    rt: &(impl Abort + AllocGlobal + Threads + Wait + Clock + Sync),
-    events: &str,
-    want: (u8, &str, &str),
-) -> Result<(), Fail> {
-    let files = [("e", events.as_bytes()), ("s", b"".as_slice())];
-    let mut host = Memory {
-        input: events.as_bytes(),
-        files: &files,
-    };
-    expect(rt, "replay e s", &mut host, want)?;
-    if !want.2.contains("line") {
-        expect(rt, "replay - s", &mut host, want)?;
-    }
-    Ok(())
-}
+// Schedules of a script without commands, of a file and of standard input; a line that is no event is told with the file's name.
+const SCHEDULES: &str = r"
+words replay e s
+words replay - s
+stdin e
+s
+status 1
 
-static SCHEDULES: [Row; 18] = [
-    ("D 0 1\nT 0 1\nD 0 0\nT 0 0\n", (0, "", "")),
-    ("D 7 0\nT 7 0\nD 3 1\nT 3 1\nD 5 0\nT 5 0", (0, "", "")),
-    ("", (1, "", "xvsh: unfinished after 0 events\n")),
-    ("D 0 1\n", (1, "", "xvsh: unfinished after 1 events\n")),
-    (
-        "D 0 1\nT 0 1\nD 0 40\n",
-        (1, "", "xvsh: event 3: process 40 is not runnable\n"),
-    ),
-    (
-        "D 8 1\n",
-        (1, "", "xvsh: event 1: process 1 is not runnable\n"),
-    ),
-    (
-        "D 0 64\n",
-        (1, "", "xvsh: event 1: process 64 is not runnable\n"),
-    ),
-    (
-        "D 0 1\nT 1 1\n",
-        (1, "", "xvsh: event 2: process 1 is not running on hart 1\n"),
-    ),
-    (
-        "T 255 18446744073709551615\n",
-        (
-            1,
-            "",
-            "xvsh: event 1: process 18446744073709551615 is not running on hart 255\n",
-        ),
-    ),
-    ("D 0 1\nD 0\n", (1, "", "xvsh: e line 2 is no event\n")),
-    ("\n", (1, "", "xvsh: e line 1 is no event\n")),
-    ("D 256 1\n", (1, "", "xvsh: e line 1 is no event\n")),
-    ("D 01 1\n", (1, "", "xvsh: e line 1 is no event\n")),
-    ("D 0 +1\n", (1, "", "xvsh: e line 1 is no event\n")),
-    ("D  0 1\n", (1, "", "xvsh: e line 1 is no event\n")),
-    ("D 0 1 \n", (1, "", "xvsh: e line 1 is no event\n")),
-    ("d 0 1\n", (1, "", "xvsh: e line 1 is no event\n")),
-    ("D 0 1\r\n", (1, "", "xvsh: e line 1 is no event\n")),
-];
+e D 0 1\nT 0 1\nD 0 0\nT 0 0\n
+status 0
 
-fn expect_replays(
-    rt: &(impl Abort + AllocGlobal + Threads + Wait + Clock + Sync),
-    rows: &[Row],
-) -> Result<(), Fail> {
-    for (events, want) in rows {
-        expect_replay(rt, events, *want)?;
-    }
-    Ok(())
-}
+e D 7 0\nT 7 0\nD 3 1\nT 3 1\nD 5 0\nT 5 0
+status 0
+
+e
+err xvsh: unfinished after 0 events\n
+
+e D 0 1\n
+err xvsh: unfinished after 1 events\n
+
+e D 0 1\nT 0 1\nD 0 40\n
+err xvsh: event 3: process 40 is not runnable\n
+
+e D 8 1\n
+err xvsh: event 1: process 1 is not runnable\n
+
+e D 0 64\n
+err xvsh: event 1: process 64 is not runnable\n
+
+e D 0 1\nT 1 1\n
+err xvsh: event 2: process 1 is not running on hart 1\n
+
+e T 255 18446744073709551615\n
+err xvsh: event 1: process 18446744073709551615 is not running on hart 255\n
+";
+
+const NO_EVENTS: &str = r"
+words replay e s
+stdin e
+s
+status 1
+err xvsh: e line 1 is no event\n
+
+e D 0 1\nD 0\n
+err xvsh: e line 2 is no event\n
+
+e \n
+
+e D 256 1\n
+
+e D 01 1\n
+
+e D 0 +1\n
+
+e D  0 1\n
+
+e D 0 1 \n
+
+e d 0 1\n
+
+e D 0 1\r\n
+";
 
 #[test]
 fn schedules_are_replayed_or_refused(rt: HostRuntime) -> Result<(), Fail> {
-    expect_replays(&rt, &SCHEDULES)
+    expect_table(&rt, SCHEDULES)?;
+    expect_table(&rt, NO_EVENTS)
 }
 
 // Standard input can't be both.
+const TWICE: &str = r"
+words replay - -
+
+status 2
+err xvsh: the schedule and the script are both standard input\n
+";
+
 #[test]
 fn schedule_and_script_are_two(rt: HostRuntime) -> Result<(), Fail> {
-    let told = "xvsh: the schedule and the script are both standard input\n";
-    Ok(expect(&rt, "replay - -", &mut Broken, (2, "", told))?)
+    expect_table(&rt, TWICE)
 }
 
-// What a run of the script writes, with these options.
-fn written<'a>(
-    rt: &(impl AllocGlobal + Threads + Wait + Clock + Sync),
-    options: &str,
-    script: &'a str,
-    input: &'a str,
-    big: &'a str,
-) -> Result<Told, Fail> {
-    let files = [("s", script.as_bytes()), ("big", big.as_bytes())];
-    let mut host = Memory {
-        input: input.as_bytes(),
-        files: &files,
-    };
-    let words = format!(in rt.alloc(); "run {options} s big")?;
-    told_of(rt, words.as_str(), &mut host)
+// Scripts, each with the numbers of harts that it runs on.
+const REPLAYED: &str = r"
+-
+harts 1 2 8
+big {100 0123456789ab\n}
+
+s
+
+s cat big | (head -2; wc) > o; cat o | wc
+
+s (echo a; echo b > f; echo c) > f
+
+harts 1
+s foo; cat none\n(echo a &); head -1; wc
+- a\nb\nc\n
+";
+
+#[test]
+fn schedules_that_were_written_are_replayed(rt: HostRuntime) -> Result<(), Fail> {
+    let mut all = rows(REPLAYED);
+    let head = all.next().unwrap_or("");
+    for own in all {
+        expect_again(&rt, Row { head, own })?;
+    }
+    Ok(())
 }
 
-// What a replay of these events writes of a script.
-fn replayed<'a>(
+fn expect_again(
     rt: &(impl AllocGlobal + Threads + Wait + Clock + Sync),
-    script: &'a str,
-    input: &'a str,
-    big: &'a str,
-    events: &'a [u8],
-) -> Result<Told, Fail> {
-    let files = [
-        ("s", script.as_bytes()),
-        ("big", big.as_bytes()),
-        ("e", events),
-    ];
-    let mut host = Memory {
-        input: input.as_bytes(),
-        files: &files,
-    };
-    told_of(rt, "replay --files e s big", &mut host)
+    row: Row<'_>,
+) -> Result<(), Fail> {
+    for harts in row.text("harts").split(' ') {
+        if !is_replayed(rt, harts, row)? {
+            return Err(Fail::new(format_args!("{}\non {harts} harts", row.own)));
+        }
+    }
+    Ok(())
+}
+
+// Whether what `run` writes of a script with its schedule, pasted into `replay`, gives the same output, files and diagnostics.
+fn is_replayed(
+    rt: &(impl AllocGlobal + Threads + Wait + Clock + Sync),
+    harts: &str,
+    row: Row<'_>,
+) -> Result<bool, AllocError> {
+    let once = told_on(rt, harts, "", row)?;
+    let all = told_on(rt, harts, "--schedule", row)?;
+    match events_after(&once, &all) {
+        Some(events) => replays(rt, events, row, &once),
+        None => Ok(false),
+    }
+}
+
+// What a run on so many harts writes, with this option.
+fn told_on(
+    rt: &(impl AllocGlobal + Threads + Wait + Clock + Sync),
+    harts: &str,
+    option: &str,
+    row: Row<'_>,
+) -> Result<Told, AllocError> {
+    let words = format!(in rt.alloc(); "run --harts {harts} --files {option} s big")?;
+    told_of(rt, words.as_str(), row, Fails::Neither)
 }
 
 // The events that the second wrote behind what the first did, where both ended with status 0 and the same diagnostics.
@@ -380,155 +354,50 @@ fn events_after<'a>(once: &Told, all: &'a Told) -> Option<&'a [u8]> {
     if once.status != 0 || all.status != 0 || all.err.as_slice() != once.err.as_slice() {
         return None;
     }
-    if !all.out.starts_with(once.out.as_slice()) {
-        return None;
-    }
-    Some(&all.out.as_slice()[once.out.len()..])
+    all.out.as_slice().strip_prefix(once.out.as_slice())
 }
 
-// Whether the replay ended with status 0, and wrote the same.
-fn is_the_same(again: &Told, once: &Told) -> bool {
-    again.status == 0
-        && again.out.as_slice() == once.out.as_slice()
-        && again.err.as_slice() == once.err.as_slice()
-}
-
-// A script, and its standard input.
-type Input<'a> = (&'a str, &'a str);
-
-fn replays<'a>(
+// Whether a replay of these events ends with status 0, and writes and tells the same.
+fn replays(
     rt: &(impl AllocGlobal + Threads + Wait + Clock + Sync),
-    (script, input): Input<'a>,
-    big: &'a str,
+    events: &[u8],
+    row: Row<'_>,
     once: &Told,
-    all: &'a Told,
-) -> Result<bool, Fail> {
-    match events_after(once, all) {
-        Some(events) => {
-            let again = replayed(rt, script, input, big, events)?;
-            Ok(is_the_same(&again, once))
-        }
-        None => Ok(false),
-    }
+) -> Result<bool, AllocError> {
+    let own = with_events(rt.alloc(), row.own, events)?;
+    let row = Row {
+        head: row.head,
+        own: own.as_str(),
+    };
+    let again = told_of(rt, "replay --files e s big", row, Fails::Neither)?;
+    Ok(
+        again.status == 0
+            && again.out.as_slice() == once.out.as_slice()
+            && again.err.as_slice() == once.err.as_slice(),
+    )
 }
 
-// Whether what `run` writes of a script with these options, pasted into `replay`, gives the same output, files and
-// diagnostics.
-fn is_replayed<'a>(
-    rt: &(impl AllocGlobal + Threads + Wait + Clock + Sync),
-    (short, long): (&str, &str),
-    (script, input): Input<'a>,
-    big: &'a str,
-) -> Result<bool, Fail> {
-    let once = written(rt, short, script, input, big)?;
-    let all = written(rt, long, script, input, big)?;
-    replays(rt, (script, input), big, &once, &all)
-}
-
-fn expect_again<'a>(
-    rt: &(impl Abort + AllocGlobal + Threads + Wait + Clock + Sync),
-    options: (&str, &str),
-    (script, input): Input<'a>,
-    big: &'a str,
-) -> Result<(), Fail> {
-    let same = is_replayed(rt, options, (script, input), big)?;
-    assert!(rt; same, "{script}");
-    Ok(())
-}
-
-const ONE_HART: (&str, &str) = ("--harts 1 --files", "--harts 1 --files --schedule");
-
-// Options that tell a number of harts, without the schedule and with it.
-static HARTS: [(&str, &str); 3] = [
-    ONE_HART,
-    ("--harts 2 --files", "--harts 2 --files --schedule"),
-    ("--harts 8 --files", "--harts 8 --files --schedule"),
-];
-
-static REPLAYED: [Input<'static>; 3] = [
-    ("", ""),
-    ("cat big | (head -2; wc) > o; cat o | wc", ""),
-    ("(echo a; echo b > f; echo c) > f", ""),
-];
-
-fn expect_all_again<'a>(
-    rt: &(impl Abort + AllocGlobal + Threads + Wait + Clock + Sync),
-    big: &'a str,
-    options: &[(&str, &str)],
-    rows: &[Input<'a>],
-) -> Result<(), Fail> {
-    for harts in options {
-        for row in rows {
-            expect_again(rt, *harts, *row, big)?;
-        }
-    }
-    Ok(())
-}
-
-fn expect_schedules(
-    rt: &(impl Abort + AllocGlobal + Threads + Wait + Clock + Sync),
-    big: &str,
-) -> Result<(), Fail> {
-    expect_all_again(rt, big, &HARTS, &REPLAYED)?;
-    let races = "foo; cat none\n(echo a &); head -1; wc";
-    expect_again(rt, ONE_HART, (races, "a\nb\nc\n"), big)
-}
-
-#[test]
-fn schedules_that_were_written_are_replayed(rt: HostRuntime) -> Result<(), Fail> {
-    let big = "0123456789ab\n".repeat(rt.alloc(), 100)?;
-    expect_schedules(&rt, big.as_str())
+// A row, and these events as its file `e`.
+fn with_events(alloc: Global, row: &str, events: &[u8]) -> Result<String, AllocError> {
+    let events = String::from_utf8_lossy(alloc, events)?;
+    let events = events.as_str().replace(alloc, "\n", r"\n")?;
+    format!(in alloc; "{row}\ne {events}")
 }
 
 // Where an output fails at any byte, the status is 1, and no more is written.
-fn expect_no_output(
-    rt: &(impl Abort + AllocGlobal + Threads + Wait + Clock + Sync),
-    host: &mut Memory<'_>,
-    calls: usize,
-) -> Result<(), Fail> {
-    let words = words_of(rt.alloc(), "run s")?;
-    let mut out = Failing { calls };
-    let mut err = Vec::new(rt.alloc());
-    let status = drive(rt, rt.alloc(), words, host, &mut out, &mut err);
-    assert!(rt; status == 1 && err.is_empty(), "{status} {calls}");
-    Ok(())
-}
+const OUTPUTS_FAIL: &str = r"
+words run s
+-
+s echo ab; foo
+status 1
 
-fn expect_no_diagnostics(
-    rt: &(impl Abort + AllocGlobal + Threads + Wait + Clock + Sync),
-    host: &mut Memory<'_>,
-    calls: usize,
-) -> Result<(), Fail> {
-    let words = words_of(rt.alloc(), "run s")?;
-    let mut out = Vec::new(rt.alloc());
-    let mut err = Failing { calls };
-    let status = drive(rt, rt.alloc(), words, host, &mut out, &mut err);
-    assert!(rt;
-        status == 1 && out.as_slice() == b"ab\n".as_slice(),
-        "{status} {calls}"
-    );
-    Ok(())
-}
+fails out 3
 
-fn expect_to_end(
-    rt: &(impl Abort + AllocGlobal + Threads + Wait + Clock + Sync),
-    host: &mut Memory<'_>,
-) -> Result<(), Fail> {
-    for calls in 0..3 {
-        expect_no_output(rt, host, calls)?;
-    }
-    for calls in 0..16 {
-        expect_no_diagnostics(rt, host, calls)?;
-    }
-    Ok(())
-}
+fails err 16
+out ab\n
+";
 
 #[test]
 fn runs_end_where_an_output_fails(rt: HostRuntime) -> Result<(), Fail> {
-    let files = [("s", b"echo ab; foo".as_slice())];
-    let mut host = Memory {
-        input: b"".as_slice(),
-        files: &files,
-    };
-    expect_to_end(&rt, &mut host)
+    expect_table(&rt, OUTPUTS_FAIL)
 }
