@@ -1,109 +1,127 @@
 //! The calls on files.
 
-use crate::steps::{LINES, Step, go, with_p};
-use FilesFault::{Gap, Missing};
+use crate::steps::{fault_of, go, with_p};
 use mem_files::{Files, FilesFault};
-use std::alloc::Global;
+use std::alloc::{AllocError, Global};
 use std::test::Fail;
 
 #[test]
 fn one_file(rt: HostRuntime) -> Result<(), Fail> {
-    let steps = [
-        Step::Count(0),
-        Step::Put(b"p", LINES, Ok(())),
-        Step::Count(1),
-        Step::Holds(b"p", LINES),
-        Step::HasNo(b"q"),
-        Step::Put(b"p", b"other", Ok(())),
-        Step::Count(1),
-        Step::Holds(b"p", b"other"),
-    ];
+    let steps = "
+        count: 0
+        put p LINES: ok
+        count: 1
+        holds p LINES
+        lacks q
+        put p other: ok
+        count: 1
+        holds p other
+    ";
     let mut set = Files::new(rt.alloc());
-    go(&mut set, &steps)
+    go(rt.alloc(), &mut set, steps)
 }
 
 #[test]
 fn names_in_byte_order(rt: HostRuntime) -> Result<(), Fail> {
-    let steps = [
-        Step::Create(b"b", Ok(())),
-        Step::Create(b"ab", Ok(())),
-        Step::Create(b"\xff", Ok(())),
-        Step::Create(b"a", Ok(())),
-        Step::Create(b"B", Ok(())),
-        Step::NameAt(0, Some(b"B")),
-        Step::NameAt(1, Some(b"a")),
-        Step::NameAt(2, Some(b"ab")),
-        Step::NameAt(3, Some(b"b")),
-        Step::NameAt(4, Some(b"\xff")),
-    ];
+    let steps = r"
+        create b: ok
+        create ab: ok
+        create \h: ok
+        create a: ok
+        create B: ok
+        name 0: B
+        name 1: a
+        name 2: ab
+        name 3: b
+        name 4: \h
+    ";
     let mut set = Files::new(rt.alloc());
-    go(&mut set, &steps)
+    go(rt.alloc(), &mut set, steps)
 }
 
 #[test]
 fn reads_and_writes(rt: HostRuntime) -> Result<(), Fail> {
-    let steps = [
-        Step::WriteAt(b"p", 15, b"z", Err(Gap)),
-        Step::Holds(b"p", LINES),
-        Step::WriteAt(b"p", 14, b"z", Ok(())),
-        Step::Holds(b"p", b"b\naab\naabc\ncb\nz"),
-        Step::ReadAt(b"p", 15, Ok(0), b"...."),
-        Step::ReadAt(b"p", 99, Ok(0), b"...."),
-        Step::ReadAt(b"q", 0, Err(Missing), b"...."),
-        Step::ReadAt(b"p", 12, Ok(3), b"b\nz."),
-        Step::ReadAt(b"p", 2, Ok(4), b"aab\n"),
-        Step::WriteAt(b"p", 13, b"123", Ok(())),
-        Step::WriteAt(b"p", 0, b"X", Ok(())),
-        Step::Holds(b"p", b"X\naab\naabc\ncb123"),
-    ];
+    let steps = r"
+        write p 15 z: Gap
+        holds p LINES
+        write p 14 z: ok
+        holds p b\naab\naabc\ncb\nz
+        read p 15: 0 ....
+        read p 99: 0 ....
+        read q 0: Missing ....
+        read p 12: 3 b\nz.
+        read p 2: 4 aab\n
+        write p 13 123: ok
+        write p 0 X: ok
+        holds p X\naab\naabc\ncb123
+    ";
     let mut set = with_p(rt.alloc())?;
-    go(&mut set, &steps)
+    go(rt.alloc(), &mut set, steps)
 }
 
 #[test]
 fn empties_and_creates(rt: HostRuntime) -> Result<(), Fail> {
-    let steps = [
-        Step::Create(b"q", Ok(())),
-        Step::Count(2),
-        Step::Holds(b"q", b""),
-        Step::Create(b"p", Ok(())),
-        Step::Count(2),
-        Step::Holds(b"p", LINES),
-        Step::Truncate(b"p", Ok(())),
-    ];
+    let steps = "
+        create q: ok
+        count: 2
+        holds q ''
+        create p: ok
+        count: 2
+        holds p LINES
+        truncate p: ok
+    ";
     let mut set = with_p(rt.alloc())?;
-    go(&mut set, &steps)?;
+    go(rt.alloc(), &mut set, steps)?;
     is_copied(rt.alloc(), &set)
 }
 
 // A copy is the same, and holds the same.
 fn is_copied(alloc: Global, set: &Files<Global>) -> Result<(), Fail> {
+    let steps = "
+        count: 2
+        holds p ''
+    ";
     let mut copy = set.copy(alloc)?;
     if !set.same(&copy) {
         return Err(Fail::from("another set"));
     }
-    go(&mut copy, &[Step::Count(2), Step::Holds(b"p", b"")])
+    go(alloc, &mut copy, steps)
 }
 
-static FAULTS: [(FilesFault, &str); 6] = [
-    (FilesFault::BadName, "bad file name"),
-    (FilesFault::Missing, "no such file"),
-    (FilesFault::FullFiles, "too many files"),
-    (FilesFault::FullSize, "file too large"),
-    (FilesFault::Memory, "no memory"),
-    (FilesFault::Gap, "write past the end of the file"),
-];
+// The faults from number 1 on, each with its text.
+const FAULTS: &str = "BadName: bad file name
+Missing: no such file
+FullFiles: too many files
+FullSize: file too large
+Memory: no memory
+Gap: write past the end of the file";
 
 // Whether the fault has this number and this text.
-fn is_told(alloc: Global, fault: FilesFault, number: usize, text: &str) -> Result<bool, Fail> {
+fn is_told(
+    alloc: Global,
+    fault: FilesFault,
+    number: usize,
+    text: &str,
+) -> Result<bool, AllocError> {
     let told = fault.to_string(alloc)?;
     Ok(fault as usize == number && told.as_str() == text)
 }
 
+// Whether the line tells the fault of this number.
+fn is_fault(alloc: Global, number: usize, line: &str) -> Result<bool, AllocError> {
+    let Some((name, text)) = line.split_once(": ") else {
+        return Ok(false);
+    };
+    match fault_of(name) {
+        Some(fault) => is_told(alloc, fault, number, text),
+        None => Ok(false),
+    }
+}
+
 #[test]
 fn faults_have_numbers_and_texts(rt: HostRuntime) -> Result<(), Fail> {
-    for (i, (fault, text)) in FAULTS.iter().enumerate() {
-        assert!(rt; is_told(rt.alloc(), *fault, i + 1, text)?, "{text}");
+    for (i, line) in FAULTS.lines().enumerate() {
+        assert!(rt; is_fault(rt.alloc(), i + 1, line)?, "{line}");
     }
     Ok(())
 }

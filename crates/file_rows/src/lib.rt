@@ -24,3 +24,5 @@ mod pipes;
 mod procs;
 #[cfg(test)]
 mod steps;
+#[cfg(test)]
+mod words;

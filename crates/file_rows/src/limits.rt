@@ -1,33 +1,34 @@
 //! Names that no file has, and how many files there may be, and how large ones.
 
-use crate::steps::{LINES, Step, go, go_in_vain, with_p};
-use FilesFault::{BadName, FullFiles, FullSize, Gap, Missing};
+use crate::steps::{go, go_in_vain, with_p};
 use mem_files::{Files, FilesFault};
 use std::alloc::Global;
 use std::test::Fail;
 
 // No call takes this name, and none changes anything.
-fn is_no_name(alloc: Global, set: &mut Files<Global>, name: &[u8]) -> Result<(), Fail> {
-    let steps = [
-        Step::Put(name, LINES, Err(BadName)),
-        Step::Create(name, Err(BadName)),
-        Step::HasNo(name),
-        Step::Truncate(name, Err(Missing)),
-        Step::WriteAt(name, 0, LINES, Err(Missing)),
-        Step::Append(name, LINES, Err(Missing)),
-    ];
-    go_in_vain(alloc, set, &steps)
+fn is_no_name(alloc: Global, set: &mut Files<Global>, name: &str) -> Result<(), Fail> {
+    let steps = "
+        put NAME LINES: BadName
+        create NAME: BadName
+        lacks NAME
+        truncate NAME: Missing
+        write NAME 0 LINES: Missing
+        append NAME LINES: Missing
+    ";
+    let steps = steps.replace(alloc, "NAME", name)?;
+    go_in_vain(alloc, set, steps.as_str())
 }
-
-static NO_NAMES: [&[u8]; 4] = [b"123456789abcdef", b"", b"a/b", b"a\0b"];
 
 // None of these is a name, but one of fourteen bytes is.
 fn names_are_told(alloc: Global, set: &mut Files<Global>) -> Result<(), Fail> {
-    for name in &NO_NAMES {
+    for name in r"123456789abcdef '' a/b a\0b".split(' ') {
         is_no_name(alloc, set, name)?;
     }
-    let longest = [Step::Put(b"123456789abcde", LINES, Ok(())), Step::Count(2)];
-    go(set, &longest)
+    let longest = "
+        put 123456789abcde LINES: ok
+        count: 2
+    ";
+    go(alloc, set, longest)
 }
 
 #[test]
@@ -57,20 +58,20 @@ fn are_in_order(set: &Files<Global>) -> bool {
 
 // No more files are taken, but those that there are.
 fn takes_no_more(alloc: Global, set: &mut Files<Global>) -> Result<(), Fail> {
-    let refused = [
-        Step::Count(200),
-        Step::Put(b"m", LINES, Err(FullFiles)),
-        Step::Create(b"m", Err(FullFiles)),
-        Step::Create(b"n/", Err(BadName)),
-    ];
-    let taken = [
-        Step::Put(b"n\xff", LINES, Ok(())),
-        Step::Create(b"n\x38", Ok(())),
-        Step::Count(200),
-        Step::NameAt(200, None),
-    ];
-    go_in_vain(alloc, set, &refused)?;
-    go(set, &taken)?;
+    let refused = "
+        count: 200
+        put m LINES: FullFiles
+        create m: FullFiles
+        create n/: BadName
+    ";
+    let taken = r"
+        put n\h LINES: ok
+        create n8: ok
+        count: 200
+        name 200: none
+    ";
+    go_in_vain(alloc, set, refused)?;
+    go(alloc, set, taken)?;
     if !are_in_order(set) {
         return Err(Fail::from("another order"));
     }
@@ -83,64 +84,46 @@ fn at_most_200_files(rt: HostRuntime) -> Result<(), Fail> {
     takes_no_more(rt.alloc(), &mut set)
 }
 
-// Of these bytes, which are one more than a file may have, all but one are taken.
-fn takes_most(alloc: Global, set: &mut Files<Global>, more: &[u8]) -> Result<(), Fail> {
-    let Some((_, most)) = more.split_first() else {
-        return Err(Fail::from("no bytes"));
-    };
-    let refused = [
-        Step::Put(b"p", more, Err(FullSize)),
-        Step::Put(b"q", more, Err(FullSize)),
-        Step::WriteAt(b"p", 0, more, Err(FullSize)),
-        Step::WriteAt(b"p", 1, most, Err(FullSize)),
-    ];
-    let taken = [
-        Step::Put(b"q", most, Ok(())),
-        Step::WriteAt(b"p", 0, most, Ok(())),
-        Step::Holds(b"p", most),
-        Step::WriteAt(b"p", 274_432, b"z", Err(FullSize)),
-        Step::WriteAt(b"p", 274_433, b"z", Err(Gap)),
-        Step::WriteAt(b"p", 274_432, &[], Ok(())),
-        Step::Holds(b"p", most),
-    ];
-    go_in_vain(alloc, set, &refused)?;
-    go(set, &taken)
-}
-
 #[test]
 fn at_most_274432_bytes(rt: HostRuntime) -> Result<(), Fail> {
-    let more = vec![in rt.alloc(); 7u8; 274_433]?;
+    let refused = r"
+        put p \7*274433: FullSize
+        put q \7*274433: FullSize
+        write p 0 \7*274433: FullSize
+        write p 1 \7*274432: FullSize
+    ";
+    let taken = r"
+        put q \7*274432: ok
+        write p 0 \7*274432: ok
+        holds p \7*274432
+        write p 274432 z: FullSize
+        write p 274433 z: Gap
+        write p 274432 '': ok
+        holds p \7*274432
+    ";
     let mut set = with_p(rt.alloc())?;
-    takes_most(rt.alloc(), &mut set, more.as_slice())
-}
-
-// Behind fifteen bytes all of these are taken but one.
-fn appends_most(alloc: Global, set: &mut Files<Global>, more: &[u8]) -> Result<(), Fail> {
-    let Some((_, most)) = more.split_first() else {
-        return Err(Fail::from("no bytes"));
-    };
-    let begun = [
-        Step::Append(b"p", b"z", Ok(15)),
-        Step::Holds(b"p", b"b\naab\naabc\ncb\nz"),
-        Step::Append(b"p", &[], Ok(15)),
-    ];
-    let refused = [
-        Step::Append(b"q", LINES, Err(Missing)),
-        Step::Append(b"p", more, Err(FullSize)),
-    ];
-    let filled = [
-        Step::Append(b"p", most, Ok(274_432)),
-        Step::Append(b"p", &[], Ok(274_432)),
-        Step::Append(b"p", b"z", Err(FullSize)),
-    ];
-    go(set, &begun)?;
-    go_in_vain(alloc, set, &refused)?;
-    go(set, &filled)
+    go_in_vain(rt.alloc(), &mut set, refused)?;
+    go(rt.alloc(), &mut set, taken)
 }
 
 #[test]
 fn appends(rt: HostRuntime) -> Result<(), Fail> {
-    let more = vec![in rt.alloc(); 7u8; 274_418]?;
+    let begun = r"
+        append p z: 15
+        holds p b\naab\naabc\ncb\nz
+        append p '': 15
+    ";
+    let refused = r"
+        append q LINES: Missing
+        append p \7*274418: FullSize
+    ";
+    let filled = r"
+        append p \7*274417: 274432
+        append p '': 274432
+        append p z: FullSize
+    ";
     let mut set = with_p(rt.alloc())?;
-    appends_most(rt.alloc(), &mut set, more.as_slice())
+    go(rt.alloc(), &mut set, begun)?;
+    go_in_vain(rt.alloc(), &mut set, refused)?;
+    go(rt.alloc(), &mut set, filled)
 }

@@ -1,5 +1,6 @@
 //! A small machine, blocks and replies.
 
+use crate::words::Words;
 use user_calls::{Block, Call, Machine, Ran, Reply};
 
 /// Counts down on descriptor 1, one byte a call, and exits at 0 or once a call was refused.
@@ -79,14 +80,47 @@ fn blocks_hold_1024_bytes(rt: HostRuntime) {
     assert!(rt; block.as_slice().len() == 1024 && block.as_slice()[4] == 7);
 }
 
-// Whether of these replies the one at the place alone is the same as its twin.
-fn is_same_alone(replies: &[Reply], place: usize) -> bool {
-    let Some(reply) = replies.get(place) else {
+// Replies, of which no two are the same.
+const REPLIES: &str = "start
+child
+done
+bytes ''
+bytes a
+fd 3
+fd 4
+ends 3 4
+ends 4 3
+refused";
+
+// The reply of a line.
+fn reply_of(line: &str) -> Option<Reply> {
+    let mut words = Words::of(line.as_bytes());
+    let reply = match words.text() {
+        "start" => Reply::Start,
+        "child" => Reply::Child,
+        "done" => Reply::Done,
+        "bytes" => Reply::Bytes(Block::from_slice(words.bytes())),
+        "fd" => Reply::Fd(words.number()),
+        "ends" => Reply::Ends(words.number(), words.number()),
+        "refused" => Reply::Refused,
+        _ => return None,
+    };
+    if words.are_read() { Some(reply) } else { None }
+}
+
+// Whether the reply is the same as the one of the line.
+fn is_same(reply: &Reply, line: &str) -> Option<bool> {
+    Some(reply.same(&reply_of(line)?))
+}
+
+// Whether of the replies the one at this place, whose line is given, alone is the same as its twin.
+fn is_same_alone(place: usize, line: &str) -> bool {
+    let Some(reply) = reply_of(line) else {
         return false;
     };
     let twin = reply.twin();
-    for (other, reply) in replies.iter().enumerate() {
-        if twin.same(reply) != (other == place) {
+    for (other, line) in REPLIES.lines().enumerate() {
+        if is_same(&twin, line) != Some(other == place) {
             return false;
         }
     }
@@ -95,19 +129,7 @@ fn is_same_alone(replies: &[Reply], place: usize) -> bool {
 
 #[test]
 fn replies_are_same_as_their_twins_alone(rt: HostRuntime) {
-    let replies = [
-        Reply::Start,
-        Reply::Child,
-        Reply::Done,
-        Reply::Bytes(Block::new()),
-        Reply::Bytes(Block::from_slice(b"a")),
-        Reply::Fd(3),
-        Reply::Fd(4),
-        Reply::Ends(3, 4),
-        Reply::Ends(4, 3),
-        Reply::Refused,
-    ];
-    for place in 0..replies.len() {
-        assert!(rt; is_same_alone(&replies, place), "at {place}");
+    for (place, line) in REPLIES.lines().enumerate() {
+        assert!(rt; is_same_alone(place, line), "{line}");
     }
 }

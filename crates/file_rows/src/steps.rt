@@ -1,7 +1,22 @@
-//! Tests as lists of steps: calls on a set of files and looks at it, each with what it gives.
+//! Sets of files, and texts of steps on them (`words.rt`):
+//!
+//!     put NAME BYTES: DONE
+//!     create NAME: DONE
+//!     truncate NAME: DONE
+//!     write NAME PLACE BYTES: DONE
+//!     append NAME BYTES: SIZE
+//!     read NAME PLACE: COUNT BYTES    into four bytes that were dots: and these four then
+//!     holds NAME BYTES
+//!     lacks NAME
+//!     count: NUMBER                   of the files
+//!     name PLACE: NAME                or `none`
+//!
+//! DONE is `ok` or the name of a fault; such a name may stand in place of a size or a count too. `LINES` are the bytes of the
+//! constant.
 
+use crate::words::{Words, is_step, spelled, unlike};
 use mem_files::{Files, FilesFault};
-use std::alloc::{Allocator, Global};
+use std::alloc::{AllocError, Allocator, Global};
 use std::test::Fail;
 
 /// Fourteen bytes in four lines.
@@ -19,68 +34,105 @@ pub(crate) fn holds<A: Allocator>(set: &Files<A>, name: &[u8], bytes: &[u8]) -> 
     set.get(name) == Some(bytes)
 }
 
-/// A call on a set of files or a look at it: a file's name first, and last what it gives.
-#[derive(Clone, Copy)]
-pub(crate) enum Step<'a> {
-    Put(&'a [u8], &'a [u8], Result<(), FilesFault>),
-    Create(&'a [u8], Result<(), FilesFault>),
-    Truncate(&'a [u8], Result<(), FilesFault>),
-    WriteAt(&'a [u8], usize, &'a [u8], Result<(), FilesFault>),
-    Append(&'a [u8], &'a [u8], Result<usize, FilesFault>),
-    /// From a place on, into four bytes that were dots: and these bytes then.
-    ReadAt(&'a [u8], usize, Result<usize, FilesFault>, &'a [u8]),
-    Holds(&'a [u8], &'a [u8]),
-    HasNo(&'a [u8]),
-    Count(usize),
-    NameAt(usize, Option<&'a [u8]>),
-}
-
-// Whether a read from there gives this, and leaves these four bytes.
-fn reads(
-    set: &Files<Global>,
-    name: &[u8],
-    at: usize,
-    want: Result<usize, FilesFault>,
-    left: &[u8],
-) -> bool {
-    let mut buffer = [b'.'; 4];
-    set.read_at(name, at, &mut buffer) == want && buffer.as_slice() == left
-}
-
-// Whether the step gives what it says.
-fn gives(set: &mut Files<Global>, step: Step<'_>) -> bool {
-    match step {
-        Step::Put(name, bytes, want) => set.put(name, bytes) == want,
-        Step::Create(name, want) => set.create(name) == want,
-        Step::Truncate(name, want) => set.truncate(name) == want,
-        Step::WriteAt(name, at, bytes, want) => set.write_at(name, at, bytes) == want,
-        Step::Append(name, bytes, want) => set.append(name, bytes) == want,
-        Step::ReadAt(name, at, want, left) => reads(set, name, at, want, left),
-        Step::Holds(name, bytes) => holds(set, name, bytes),
-        Step::HasNo(name) => set.get(name).is_none(),
-        Step::Count(want) => set.count() == want,
-        Step::NameAt(place, want) => set.name_at(place) == want,
+/// The fault of this name.
+pub(crate) fn fault_of(name: &str) -> Option<FilesFault> {
+    match name {
+        "BadName" => Some(FilesFault::BadName),
+        "Missing" => Some(FilesFault::Missing),
+        "FullFiles" => Some(FilesFault::FullFiles),
+        "FullSize" => Some(FilesFault::FullSize),
+        "Memory" => Some(FilesFault::Memory),
+        "Gap" => Some(FilesFault::Gap),
+        _ => None,
     }
 }
 
+fn fault(words: &mut Words<'_>, name: &str) -> FilesFault {
+    words.found(fault_of(name), FilesFault::Memory)
+}
+
+fn done(words: &mut Words<'_>) -> Result<(), FilesFault> {
+    let word = words.text();
+    if word == "ok" {
+        return Ok(());
+    }
+    Err(fault(words, word))
+}
+
+fn size(words: &mut Words<'_>) -> Result<usize, FilesFault> {
+    let word = words.text();
+    match word.parse::<usize>() {
+        Ok(size) => Ok(size),
+        Err(_) => Err(fault(words, word)),
+    }
+}
+
+fn content<'a>(words: &mut Words<'a>) -> &'a [u8] {
+    match words.bytes() {
+        b"LINES" => LINES,
+        bytes => bytes,
+    }
+}
+
+fn name_or_none<'a>(words: &mut Words<'a>) -> Option<&'a [u8]> {
+    match words.bytes() {
+        b"none" => None,
+        name => Some(name),
+    }
+}
+
+// Whether a read gives what the words say.
+fn reads(set: &Files<Global>, words: &mut Words<'_>) -> bool {
+    let mut buffer = [b'.'; 4];
+    let count = set.read_at(words.bytes(), words.number(), &mut buffer);
+    count == size(words) && buffer.as_slice() == words.bytes()
+}
+
+// Whether a look shows what the words say.
+fn shows(set: &Files<Global>, look: &str, words: &mut Words<'_>) -> bool {
+    match look {
+        "read" => reads(set, words),
+        "holds" => holds(set, words.bytes(), content(words)),
+        "lacks" => set.get(words.bytes()).is_none(),
+        "count" => set.count() == words.number(),
+        "name" => set.name_at(words.number()) == name_or_none(words),
+        _ => false,
+    }
+}
+
+// Whether the words are a step, and it gives what they say.
+fn gives(set: &mut Files<Global>, words: &mut Words<'_>) -> bool {
+    let is_given = match words.text() {
+        "put" => set.put(words.bytes(), content(words)) == done(words),
+        "create" => set.create(words.bytes()) == done(words),
+        "truncate" => set.truncate(words.bytes()) == done(words),
+        "write" => { set.write_at(words.bytes(), words.number(), content(words)) == done(words) }
+        "append" => set.append(words.bytes(), content(words)) == size(words),
+        look => shows(set, look, words),
+    };
+    is_given && words.are_read()
+}
+
+fn goes(alloc: Global, set: &mut Files<Global>, line: &str) -> Result<bool, AllocError> {
+    let bytes = spelled(alloc, line)?;
+    Ok(gives(set, &mut Words::of(bytes.as_slice())))
+}
+
 /// Goes the steps; fails at the first that gives something else.
-pub(crate) fn go(set: &mut Files<Global>, steps: &[Step<'_>]) -> Result<(), Fail> {
-    for (number, step) in steps.iter().enumerate() {
-        if !gives(set, *step) {
-            return Err(Fail::from(("not as it says: step", number)));
+pub(crate) fn go(alloc: Global, set: &mut Files<Global>, steps: &str) -> Result<(), Fail> {
+    for (number, line) in steps.lines().enumerate() {
+        let line = line.trim();
+        if is_step(line) && !goes(alloc, set, line)? {
+            return Err(unlike(number, line));
         }
     }
     Ok(())
 }
 
 /// Goes the steps, each of which is refused; fails where one changes the set.
-pub(crate) fn go_in_vain(
-    alloc: Global,
-    set: &mut Files<Global>,
-    steps: &[Step<'_>],
-) -> Result<(), Fail> {
+pub(crate) fn go_in_vain(alloc: Global, set: &mut Files<Global>, steps: &str) -> Result<(), Fail> {
     let before = set.copy(alloc)?;
-    go(set, steps)?;
+    go(alloc, set, steps)?;
     if !set.same(&before) {
         return Err(Fail::from("a refused call changes the files"));
     }

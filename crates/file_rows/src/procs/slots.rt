@@ -1,15 +1,12 @@
 //! All slots of a table, the descriptors of its processes, and its memory.
 
-use crate::procs::steps::Step::{
-    Exit, Fork, Idle, Is, IsChild, LowestFree, Parent, Put, Ready, RunAll, Sleep, Starts, Wakeup,
-};
 use crate::procs::steps::{after, go};
 use crate::procs::waiters::{
     Waiter, fork, fork_with, has, install, machine, parent, put, state, swap_fds,
 };
 use fd_table::{Fds, Object, OpenFiles};
 use linked_list_allocator::LocalHeap;
-use proc_table::{Channel, FullProcs, HARTS, PROCS, Pid, Procs, State};
+use proc_table::{FullProcs, HARTS, PROCS, Pid, Procs, State};
 use std::alloc::Allocator;
 use std::test::Fail;
 use user_calls::Reply;
@@ -49,27 +46,27 @@ fn is_full<A: Allocator>(procs: &mut Procs<Waiter, A>) -> bool {
 
 #[test]
 fn sixty_two_forks_fill_the_table(rt: HostRuntime) -> Result<(), Fail> {
-    let new = [
-        Is(0, State::Runnable),
-        Is(1, State::Runnable),
-        Parent(0, 0),
-        Put(0, 0),
-        Parent(1, 0),
-        Put(1, 0),
-        Starts(0, 100, false),
-        Starts(1, 101, false),
-    ];
-    let full = [
-        LowestFree(None),
-        Starts(0, 100, false),
-        Starts(1, 101, false),
-    ];
-    let mut procs = after(rt.alloc(), &new)?;
+    let new = "
+        is 0 runnable
+        is 1 runnable
+        parent 0: 0
+        put 0: 0
+        parent 1: 0
+        put 1: 0
+        starts 0 100 closed
+        starts 1 101 closed
+    ";
+    let full = "
+        lowest-free: none
+        starts 0 100 closed
+        starts 1 101 closed
+    ";
+    let mut procs = after(rt.alloc(), new)?;
     assert!(rt; forks_into_each_slot(&mut procs, 1));
     assert!(rt; is_full(&mut procs));
     assert!(rt; are_new_children(&procs));
     assert!(rt; Pid::new(PROCS).is_none());
-    go(&mut procs, &full)
+    go(&mut procs, full)
 }
 
 // Whether the hart is shown to run this process.
@@ -93,9 +90,9 @@ fn shown<A: Allocator>(procs: &Procs<Waiter, A>) -> Option<[bool; PROCS]> {
 
 #[test]
 fn every_runnable_process_is_dispatched(rt: HostRuntime) -> Result<(), Fail> {
-    let mut procs = after(rt.alloc(), &[Idle(3, true)])?;
+    let mut procs = after(rt.alloc(), "idle 3: yes")?;
     assert!(rt; procs.running_on(3).is_none());
-    go(&mut procs, &[RunAll(2)])?;
+    go(&mut procs, "run-all: 2")?;
     let seen = shown(&procs).ok_or("a hart shows another process")?;
     assert!(rt; seen[0] && seen[1]);
     Ok(())
@@ -139,17 +136,17 @@ fn idle_harts_are_told<A: Allocator>(procs: &Procs<Waiter, A>) -> bool {
 
 #[test]
 fn what_a_call_asks_is_told(rt: HostRuntime) -> Result<(), Fail> {
-    let steps = [
-        Fork(1, 2),
-        Fork(1, 3),
-        Fork(1, 4),
-        Fork(1, 5),
-        RunAll(6),
-        Sleep(3, Channel::PipeBytes(1), 0),
-        Exit(4),
-        Ready(5, 0),
-    ];
-    let procs = after(rt.alloc(), &steps)?;
+    let steps = "
+        fork 1: 2
+        fork 1: 3
+        fork 1: 4
+        fork 1: 5
+        run-all: 6
+        sleep 3 bytes-of 1 0
+        exit 4
+        ready 5 0
+    ";
+    let procs = after(rt.alloc(), steps)?;
     // 0, 1 and 2 run, 3 sleeps, 4 is a zombie, 5 is Runnable, and all others are free.
     assert!(rt; are_told(&procs, 6, 3));
     assert!(rt; idle_harts_are_told(&procs));
@@ -159,31 +156,29 @@ fn what_a_call_asks_is_told(rt: HostRuntime) -> Result<(), Fail> {
 
 #[test]
 fn a_child_gets_its_descriptors(rt: HostRuntime) -> Result<(), Fail> {
-    let mut procs = after(rt.alloc(), &[])?;
+    let mut procs = after(rt.alloc(), "")?;
     let mut files = OpenFiles::new();
     let mut fds = Fds::new();
     fds.install(files.add(Object::Out)?)?;
     let child = fork_with(&mut procs, 1, 3, fds).ok_or("no child")?;
-    go(
-        &mut procs,
-        &[IsChild(child, 3, true), Starts(1, 101, false)],
-    )
+    assert!(rt; has(&procs, child, 3, &Reply::Child, true));
+    go(&mut procs, "starts 1 101 closed")
 }
 
 #[test]
 fn descriptors_change_in_their_slot(rt: HostRuntime) -> Result<(), Fail> {
-    let mut procs = after(rt.alloc(), &[Fork(1, 2)])?;
-    let opened = [
-        Starts(0, 100, false),
-        Starts(1, 101, true),
-        IsChild(2, 7, false),
-        Is(1, State::Runnable),
-        Is(2, State::Runnable),
-        Parent(1, 0),
-        Put(1, 0),
-        Parent(2, 1),
-        Put(2, 0),
-    ];
+    let mut procs = after(rt.alloc(), "fork 1: 2")?;
+    let opened = "
+        starts 0 100 closed
+        starts 1 101 open
+        child 2 7 closed
+        is 1 runnable
+        is 2 runnable
+        parent 1: 0
+        put 1: 0
+        parent 2: 1
+        put 2: 0
+    ";
     let mut files = OpenFiles::new();
     let entry = files.add(Object::Out)?;
     let shell = Pid::shell();
@@ -191,13 +186,13 @@ fn descriptors_change_in_their_slot(rt: HostRuntime) -> Result<(), Fail> {
         return Err(Fail::from("no shell"));
     }
     assert_eq!(rt; install(&mut procs, shell, entry), Ok(0));
-    go(&mut procs, &opened)?;
+    go(&mut procs, opened)?;
     if !procs.is_used(shell) {
         return Err(Fail::from("no shell"));
     }
     let before = swap_fds(&mut procs, shell, Fds::new());
     assert!(rt; before.get(0).is_ok());
-    go(&mut procs, &[Starts(1, 101, false)])
+    go(&mut procs, "starts 1 101 closed")
 }
 
 #[test]
@@ -206,10 +201,14 @@ fn wants_memory_only_when_made(rt: HostRuntime) -> Result<(), Fail> {
     assert!(rt; Procs::new(&small, machine(0), machine(0)).is_err() && small.used() == 0);
 
     let heap = LocalHeap::new(rt.alloc(), 262_144)?;
-    let mut procs = after(&heap, &[])?;
+    let mut procs = after(&heap, "")?;
     let used = heap.used();
     assert!(rt; forks_into_each_slot(&mut procs, 0));
-    go(&mut procs, &[RunAll(8), Wakeup(Channel::PipeRoom(1), 0)])?;
+    go(
+        &mut procs,
+        "run-all: 8
+        wakeup room-of 1: 0",
+    )?;
     assert!(rt; heap.used() == used);
     drop(procs);
     assert!(rt; heap.used() == 0);
