@@ -8,11 +8,11 @@ mod script;
 
 use crate::answers::draw::draw;
 use crate::answers::drawn::drawn;
-use script_rows::agreeing::agree;
 use kernel_core::{Report, run_one};
 use mem_files::Files;
 use plain_run::{Plain, plain};
 use script_load::{Profile, Script, load_with};
+use script_rows::agreeing::agree;
 use std::alloc::{AllocError, Global};
 use std::io;
 use std::process::ExitCode;
@@ -54,14 +54,43 @@ fn is_right(report: &Option<Report<Global>>, means: &Plain<Global>) -> bool {
     }
 }
 
-fn events_of(report: &Option<Report<Global>>) -> u64 {
+// How many events a run had, if it left what the script means.
+fn rightly(report: &Option<Report<Global>>, means: &Plain<Global>) -> Option<u64> {
+    if !is_right(report, means) {
+        return None;
+    }
     match report {
-        Some(report) => report.schedule.as_slice().len() as u64,
-        None => 0,
+        Some(report) => Some(report.schedule.as_slice().len() as u64),
+        None => None,
     }
 }
 
-// Runs a settled script in both ways.
+// The events of a run on one hart, if that is right.
+fn run_on_one(
+    alloc: Global,
+    script: &Script<Global>,
+    stdin: &[u8],
+    files: &Files<Global>,
+    means: &Plain<Global>,
+) -> Option<u64> {
+    let report = run_one(alloc, script, stdin, files, TURNS).ok();
+    rightly(&report, means)
+}
+
+// The events of a run in a drawn order, if that is right.
+fn run_drawn(
+    alloc: Global,
+    script: &Script<Global>,
+    stdin: &[u8],
+    files: &Files<Global>,
+    means: &Plain<Global>,
+    seed: u64,
+) -> Result<Option<u64>, AllocError> {
+    let report = drawn(alloc, script, stdin, files, seed)?;
+    Ok(rightly(&report, means))
+}
+
+// Runs a script in both ways, if it is settled.
 fn compare(
     alloc: Global,
     script: &Script<Global>,
@@ -70,16 +99,30 @@ fn compare(
     means: &Plain<Global>,
     seed: &mut u64,
 ) -> Result<Trial, AllocError> {
-    let one = run_one(alloc, script, stdin, files, TURNS).ok();
-    if !is_right(&one, means) {
+    if !means.settled {
+        return Ok(Trial::Unclaimed);
+    }
+    let Some(one) = run_on_one(alloc, script, stdin, files, means) else {
         return Ok(Trial::DiffersOnOne);
-    }
+    };
     *seed = seed.wrapping_add(1);
-    let other = drawn(alloc, script, stdin, files, *seed)?;
-    if !is_right(&other, means) {
-        return Ok(Trial::DiffersWhenDrawn);
+    match run_drawn(alloc, script, stdin, files, means, *seed)? {
+        Some(other) => Ok(Trial::Agrees(one.wrapping_add(other))),
+        None => Ok(Trial::DiffersWhenDrawn),
     }
-    Ok(Trial::Agrees(events_of(&one).wrapping_add(events_of(&other))))
+}
+
+fn try_loaded(
+    alloc: Global,
+    script: &Script<Global>,
+    stdin: &[u8],
+    files: &Files<Global>,
+    seed: &mut u64,
+) -> Result<Trial, AllocError> {
+    match plain(alloc, script, stdin, files) {
+        Ok(means) => compare(alloc, script, stdin, files, &means, seed),
+        Err(_) => Ok(Trial::Unclaimed),
+    }
 }
 
 // Runs a script of this text under a drawn profile, if it is settled.
@@ -95,35 +138,67 @@ fn try_script(
     } else {
         Profile::Append
     };
-    let Ok(script) = load_with(alloc, text.as_bytes(), profile) else {
-        return Ok(Trial::Unclaimed);
-    };
-    let Ok(means) = plain(alloc, &script, stdin.as_bytes(), files) else {
-        return Ok(Trial::Unclaimed);
-    };
-    if !means.settled {
-        return Ok(Trial::Unclaimed);
+    match load_with(alloc, text.as_bytes(), profile) {
+        Ok(script) => try_loaded(alloc, &script, stdin.as_bytes(), files, seed),
+        Err(_) => Ok(Trial::Unclaimed),
     }
-    compare(alloc, &script, stdin.as_bytes(), files, &means, seed)
 }
 
 // Tells of the first difference.
-fn tell<R: Eprint>(rt: &R, how: &str, text: &str, stdin: &str) -> io::Result<ExitCode> {
+fn tell<R: Eprint>(rt: &R, how: &str, text: &str, stdin: &str) -> io::Result<()> {
     let lines = stdin.len() / 10;
     eprintln!(rt; "a run {how} differs from what this script means on {lines} lines of input:")?;
-    eprintln!(rt; "{text}")?;
-    Ok(ExitCode::FAILURE)
+    eprintln!(rt; "{text}")
 }
 
-/// Draws scripts until enough of them were settled, and compares the runs of each with what it means.
-pub(crate) fn compare_drawn<R: Eprint>(
+// Tries a script, and tells of a difference.
+fn try_and_tell<R: Eprint>(
     rt: &R,
     alloc: Global,
+    text: &str,
+    stdin: &str,
+    files: &Files<Global>,
+    seed: &mut u64,
+) -> io::Result<Trial> {
+    let trial = try_script(alloc, text, stdin, files, seed)?;
+    match trial {
+        Trial::DiffersOnOne => tell(rt, "on one hart", text, stdin)?,
+        Trial::DiffersWhenDrawn => tell(rt, "in a drawn order", text, stdin)?,
+        _ => {}
+    }
+    Ok(trial)
+}
+
+// The same on an input that is drawn.
+fn try_text<R: Eprint>(
+    rt: &R,
+    alloc: Global,
+    text: &str,
+    files: &Files<Global>,
+    seed: &mut u64,
+) -> io::Result<Trial> {
+    let stdin = script::input(alloc, seed)?;
+    try_and_tell(rt, alloc, text, stdin.as_str(), files, seed)
+}
+
+// The same of a script that is drawn too.
+fn try_drawn<R: Eprint>(
+    rt: &R,
+    alloc: Global,
+    files: &Files<Global>,
+    seed: &mut u64,
+) -> io::Result<Trial> {
+    let text = script::script(alloc, seed)?;
+    try_text(rt, alloc, text.as_str(), files, seed)
+}
+
+// Draws scripts until enough of them were settled, and tells how many there were; none where one differs.
+fn count_drawn<R: Eprint>(
+    rt: &R,
+    alloc: Global,
+    files: &Files<Global>,
     mut seed: u64,
-) -> io::Result<ExitCode> {
-    let Ok(files) = script::files(alloc) else {
-        return Ok(ExitCode::FAILURE);
-    };
+) -> io::Result<Option<Count>> {
     let mut count = Count {
         drawn: 0,
         settled: 0,
@@ -133,24 +208,28 @@ pub(crate) fn compare_drawn<R: Eprint>(
         if count.settled == WANTED {
             break;
         }
-        let text = script::script(alloc, &mut seed)?;
-        let stdin = script::input(alloc, &mut seed)?;
         count.drawn = count.drawn.wrapping_add(1);
-        match try_script(alloc, text.as_str(), stdin.as_str(), &files, &mut seed)? {
+        match try_drawn(rt, alloc, files, &mut seed)? {
             Trial::Unclaimed => {}
             Trial::Agrees(events) => {
                 count.settled = count.settled.wrapping_add(1);
                 count.events = count.events.wrapping_add(events);
             }
-            Trial::DiffersOnOne => return tell(rt, "on one hart", text.as_str(), stdin.as_str()),
-            Trial::DiffersWhenDrawn => return tell(
-                rt,
-                "in a drawn order",
-                text.as_str(),
-                stdin.as_str(),
-            ),
+            Trial::DiffersOnOne | Trial::DiffersWhenDrawn => return Ok(None),
         }
     }
+    Ok(Some(count))
+}
+
+fn compare_on<R: Eprint>(
+    rt: &R,
+    alloc: Global,
+    files: &Files<Global>,
+    seed: u64,
+) -> io::Result<ExitCode> {
+    let Some(count) = count_drawn(rt, alloc, files, seed)? else {
+        return Ok(ExitCode::FAILURE);
+    };
     let Count {
         drawn,
         settled,
@@ -160,4 +239,12 @@ pub(crate) fn compare_drawn<R: Eprint>(
         "{settled} settled scripts of {drawn} that were drawn: both runs of each left what it means, in {events} events"
     )?;
     Ok(ExitCode::SUCCESS)
+}
+
+/// Draws scripts until enough of them were settled, and compares the runs of each with what it means.
+pub(crate) fn compare_drawn<R: Eprint>(rt: &R, alloc: Global, seed: u64) -> io::Result<ExitCode> {
+    match script::files(alloc) {
+        Ok(files) => compare_on(rt, alloc, &files, seed),
+        Err(_) => Ok(ExitCode::FAILURE),
+    }
 }

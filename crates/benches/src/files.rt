@@ -4,7 +4,7 @@
 
 use linked_list_allocator::LocalHeap;
 use mem_files::{Files, FilesFault};
-use std::alloc::{AllocError, Allocator};
+use std::alloc::{AllocError, Allocator, Global};
 use std::io;
 use std::rt::Clock;
 use std::time::Instant;
@@ -37,7 +37,7 @@ fn add<A: Allocator>(
     }
 }
 
-// A file of `size` bytes, filled at its end block by block.
+// Makes a file of `size` bytes, filled at its end block by block.
 fn fill<A: Allocator + Copy>(
     set: &mut Files<A>,
     size: usize,
@@ -60,6 +60,21 @@ fn no_memory(_fault: FilesFault) -> io::Error {
     io::Error::from(AllocError)
 }
 
+// Fills a file of a new set, so many times.
+fn fill_again(
+    alloc: Global,
+    size: usize,
+    block: &[u8],
+    by: By,
+    rounds: u32,
+) -> Result<(), FilesFault> {
+    for _ in 0..rounds {
+        let mut set = Files::new(alloc);
+        fill(&mut set, size, block, by)?;
+    }
+    Ok(())
+}
+
 fn time_fills<R: Clock + Eprint + AllocGlobal>(
     rt: &R,
     size: usize,
@@ -68,44 +83,64 @@ fn time_fills<R: Clock + Eprint + AllocGlobal>(
     rounds: u32,
 ) -> io::Result<()> {
     let start = Instant::now(rt)?;
-    for _ in 0..rounds {
-        let mut set = Files::new(rt.alloc());
-        fill(&mut set, size, block, by).map_err(no_memory)?;
-    }
+    fill_again(rt.alloc(), size, block, by, rounds).map_err(no_memory)?;
     let nanos = start.elapsed(rt)?.as_nanos() / u128::from(rounds.max(1));
     let each = nanos / (size as u128).max(1);
     let (len, name) = (block.len(), by.name());
     eprintln!(rt; "{size:>7} bytes by {name} of {len:>3}: {nanos:>9} ns a file, {each} ns a byte")
 }
 
+// How much of the heap such a file takes, with its set.
+fn used_by_file(heap: &LocalHeap, size: usize, block: &[u8]) -> Result<usize, FilesFault> {
+    let mut set = Files::new(heap);
+    fill(&mut set, size, block, By::Appends)?;
+    Ok(heap.used())
+}
+
+fn used_on_heap(alloc: Global, size: usize, block: &[u8]) -> Result<usize, FilesFault> {
+    let heap = LocalHeap::new(alloc, 1 << 21)?;
+    used_by_file(&heap, size, block)
+}
+
 fn show_memory<R: Eprint + AllocGlobal>(rt: &R, size: usize, block: &[u8]) -> io::Result<()> {
-    let heap = LocalHeap::new(rt.alloc(), 1 << 21).map_err(io::Error::from)?;
-    let mut set = Files::new(&heap);
-    fill(&mut set, size, block, By::Appends).map_err(no_memory)?;
-    let used = heap.used();
+    let used = used_on_heap(rt.alloc(), size, block).map_err(no_memory)?;
     let hundredths = used.saturating_mul(100) / size.max(1);
     eprintln!(rt;
         "{size:>7} bytes take {used:>7} of the heap, the list of files among it: {hundredths} hundredths"
     )
 }
 
-fn time_gets<R: Clock + Eprint + AllocGlobal>(rt: &R, names: u8, rounds: u32) -> io::Result<()> {
-    let mut set = Files::new(rt.alloc());
+fn put_names(set: &mut Files<Global>, names: u8) -> Result<(), FilesFault> {
     for n in 0..names {
-        set.put(&[b'n', b'a', b'm', b'e', b'-', n | 128], &[n])
-            .map_err(no_memory)?;
+        set.put(&[b'n', b'a', b'm', b'e', b'-', n | 128], &[n])?;
     }
+    Ok(())
+}
+
+// Looks for 128 names in turn, so many times; how often one was found.
+fn gets(set: &Files<Global>, rounds: u32) -> u64 {
     let mut found = 0u64;
-    let start = Instant::now(rt)?;
     for round in 0..rounds {
         let n = (round % 128) as u8;
         if set.get(&[b'n', b'a', b'm', b'e', b'-', n | 128]).is_some() {
             found = found.saturating_add(1);
         }
     }
+    found
+}
+
+fn time_gets_of<R: Clock + Eprint>(rt: &R, set: &Files<Global>, rounds: u32) -> io::Result<()> {
+    let start = Instant::now(rt)?;
+    let found = gets(set, rounds);
     let nanos = start.elapsed(rt)?.as_nanos() / u128::from(rounds.max(1));
     let count = set.count();
     eprintln!(rt; "{count:>3} files: {nanos} ns a look-up, {found} found")
+}
+
+fn time_gets<R: Clock + Eprint + AllocGlobal>(rt: &R, names: u8, rounds: u32) -> io::Result<()> {
+    let mut set = Files::new(rt.alloc());
+    put_names(&mut set, names).map_err(no_memory)?;
+    time_gets_of(rt, &set, rounds)
 }
 
 /// Times the calls on files, and tells what room these take.

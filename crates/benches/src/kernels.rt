@@ -31,38 +31,29 @@ enum Way {
 // What is timed: the state of the shell's machine, how many turns go before, and how many are timed at most.
 #[derive(Clone, Copy)]
 struct Case {
-    name: &'static str,
     shell: u32,
     before: u32,
     timed: u32,
+    name: &'static str,
 }
 
-const CASES: [Case; 4] = [
-    Case {
-        name: "one byte to the output",
-        shell: 1,
-        before: 64,
-        timed: 1 << 20,
-    },
-    Case {
-        name: "a MiB through a pipe",
-        shell: 4,
-        before: 0,
-        timed: 1 << 20,
-    },
-    Case {
-        name: "fork, exit and wait",
-        shell: 2,
-        before: 64,
-        timed: 1 << 19,
-    },
-    Case {
-        name: "one of 62 processes",
-        shell: 8,
-        before: 256,
-        timed: 1 << 20,
-    },
-];
+// A line a case, with its fields in their order.
+const CASES: &str = "1 64 1048576 one byte to the output
+4 0 1048576 a MiB through a pipe
+2 64 524288 fork, exit and wait
+8 256 1048576 one of 62 processes";
+
+fn case_of(line: &'static str) -> Option<Case> {
+    let (shell, rest) = line.split_once(' ')?;
+    let (before, rest) = rest.split_once(' ')?;
+    let (timed, name) = rest.split_once(' ')?;
+    Some(Case {
+        shell: shell.parse::<u32>().ok()?,
+        before: before.parse::<u32>().ok()?,
+        timed: timed.parse::<u32>().ok()?,
+        name,
+    })
+}
 
 // Init waits for ever; the shell is in this state.
 fn boot<A: Allocator + Copy>(alloc: A, shell: u32) -> Result<Kernel<Worker, A>, AllocError> {
@@ -115,16 +106,37 @@ fn turns<A: Allocator + Copy>(
     Ok(made)
 }
 
+// How long the turns of a kernel take that are timed, and how many they are.
+fn round<A: Allocator + Copy>(
+    clock: &impl Clock,
+    kernel: &mut Kernel<Worker, A>,
+    case: Case,
+    way: Way,
+) -> io::Result<(Duration, u32)> {
+    turns(kernel, way, case.before)?;
+    let start = Instant::now(clock)?;
+    let made = turns(kernel, way, case.timed)?;
+    Ok((start.elapsed(clock)?, made))
+}
+
+fn round_of(
+    clock: &impl Clock,
+    alloc: Global,
+    case: Case,
+    way: Way,
+) -> io::Result<(Duration, u32)> {
+    let mut kernel = boot(alloc, case.shell)?;
+    round(clock, &mut kernel, case, way)
+}
+
 // The time of the fastest round of a case, and how many turns it had.
 fn time_of(clock: &impl Clock, alloc: Global, case: Case, way: Way) -> io::Result<(Duration, u32)> {
     let mut fastest = Duration::MAX;
     let mut made = 0;
     for _ in 0..ROUNDS {
-        let mut kernel = boot(alloc, case.shell)?;
-        turns(&mut kernel, way, case.before)?;
-        let start = Instant::now(clock)?;
-        made = turns(&mut kernel, way, case.timed)?;
-        fastest = fastest.min(start.elapsed(clock)?);
+        let (time, turns) = round_of(clock, alloc, case, way)?;
+        fastest = fastest.min(time);
+        made = turns;
     }
     Ok((fastest, made))
 }
@@ -146,20 +158,23 @@ fn measure_case<R: Clock + Eprint>(rt: &R, alloc: Global, case: Case, way: Way) 
 }
 
 // How many bytes of memory a slot of the table takes with the machine that is timed.
+fn slot_size_on(heap: &LocalHeap) -> Result<usize, AllocError> {
+    let before = heap.used();
+    let _kernel = boot(heap, 1)?;
+    Ok(heap.used().wrapping_sub(before) / PROCS)
+}
+
 fn slot_size(alloc: Global) -> Result<usize, AllocError> {
     let heap = LocalHeap::new(alloc, 1 << 20)?;
-    let before = heap.used();
-    let kernel = boot(&heap, 1)?;
-    let size = heap.used().wrapping_sub(before) / PROCS;
-    let _ = kernel;
-    Ok(size)
+    slot_size_on(&heap)
 }
 
 /// Times the events of a kernel.
 pub(crate) fn measure<R: Clock + Eprint>(rt: &R, alloc: Global) -> io::Result<()> {
     let size = slot_size(alloc)?;
     eprintln!(rt; "a slot takes {size} bytes; blocks have {PASSED}")?;
-    for case in CASES {
+    for line in CASES.lines() {
+        let case = case_of(line).ok_or(io::ErrorKind::InvalidData)?;
         measure_case(rt, alloc, case, Way::Step)?;
         measure_case(rt, alloc, case, Way::DispatchAndTrap)?;
     }

@@ -38,14 +38,19 @@ fn report(rt: &impl Eprint, what: &str, count: u32, run: (Duration, u64)) -> io:
     eprintln!(rt; "{what}: {each} ns per call, {bytes} bytes came out")
 }
 
+// Times the calls on this pipe, which is new.
+fn measure_on<R: Clock + Eprint>(rt: &R, pipe: &mut Pipe<Global>) -> io::Result<()> {
+    let blocks = through(rt, pipe, 512, MIB / 512)?;
+    report(rt, "blocks of 512", MIB / 512, blocks)?;
+    let bytes = through(rt, pipe, 1, MIB)?;
+    report(rt, "single bytes, empty pipe", MIB, bytes)?;
+    let _ = pipe.put(&[b'y'; 511]);
+    let full = through(rt, pipe, 1, MIB)?;
+    report(rt, "single bytes, full pipe", MIB, full)
+}
+
 /// Times the calls on a pipe.
 pub(crate) fn measure<R: Clock + Eprint>(rt: &R, alloc: Global) -> io::Result<()> {
     let mut pipe = Pipe::new(alloc)?;
-    let blocks = through(rt, &mut pipe, 512, MIB / 512)?;
-    report(rt, "blocks of 512", MIB / 512, blocks)?;
-    let bytes = through(rt, &mut pipe, 1, MIB)?;
-    report(rt, "single bytes, empty pipe", MIB, bytes)?;
-    let _ = pipe.put(&[b'y'; 511]);
-    let full = through(rt, &mut pipe, 1, MIB)?;
-    report(rt, "single bytes, full pipe", MIB, full)
+    measure_on(rt, &mut pipe)
 }

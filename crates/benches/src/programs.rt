@@ -40,6 +40,24 @@ enum Plain {
     Searches,
 }
 
+impl Plain {
+    fn named(word: &str) -> Option<Plain> {
+        match word {
+            "copies" => Some(Plain::Copies),
+            "counts" => Some(Plain::Counts),
+            "searches" => Some(Plain::Searches),
+            _ => None,
+        }
+    }
+}
+
+// Commands, each behind what the plain loop beside it does.
+const CASES: &str = "copies cat
+counts wc
+searches grep fox
+copies head -999999999
+copies tee";
+
 // A MiB of lines of words, of which one in eight names a fox.
 fn prose(alloc: Global) -> Result<Vec<u8>, AllocError> {
     let mut text = Vec::new(alloc);
@@ -55,26 +73,26 @@ fn prose(alloc: Global) -> Result<Vec<u8>, AllocError> {
     Ok(text)
 }
 
+fn add_word(alloc: Global, words: &mut Vec<Bytes<Global>>, word: &[u8]) -> Result<(), AllocError> {
+    words.push(Bytes::copy_of(alloc, word)?)?;
+    Ok(())
+}
+
 // A program's name and its arguments.
-fn words_of(
-    alloc: Global,
-    name: &str,
-    arguments: &[&str],
-) -> Result<Vec<Bytes<Global>>, AllocError> {
+fn words_of(alloc: Global, command: &str) -> Result<Vec<Bytes<Global>>, AllocError> {
     let mut words = Vec::new(alloc);
-    words.push(Bytes::copy_of(alloc, name.as_bytes())?)?;
-    for argument in arguments {
-        words.push(Bytes::copy_of(alloc, argument.as_bytes())?)?;
+    for word in command.split(' ') {
+        add_word(alloc, &mut words, word.as_bytes())?;
     }
     Ok(words)
 }
 
 // `echo` over a MiB of words, each of which makes a block with the space behind it.
 fn long_echo(alloc: Global) -> Result<Vec<Bytes<Global>>, AllocError> {
-    let mut words = words_of(alloc, "echo", &[])?;
+    let mut words = words_of(alloc, "echo")?;
     let word = [b'x'; BLOCK - 1];
     for _ in 0..MIB / BLOCK {
-        words.push(Bytes::copy_of(alloc, &word)?)?;
+        add_word(alloc, &mut words, &word)?;
     }
     Ok(words)
 }
@@ -213,26 +231,40 @@ fn make_twins(ring: &mut Vec<Prog<'_, Global>>) {
     }
 }
 
-// How long it takes to make the twins, in the fastest round.
-fn twin_time(
-    clock: &impl Clock,
+// A ring of such programs.
+fn ring_of<'t>(
     alloc: Global,
-    words: &[Bytes<Global>],
+    words: &'t [Bytes<Global>],
     input: &[u8],
-) -> io::Result<Duration> {
+) -> Result<Vec<Prog<'t, Global>>, AllocError> {
     let mut ring = Vec::new(alloc);
     for _ in 0..RING {
         if let Some(machine) = midway(words, input) {
             ring.push(machine)?;
         }
     }
+    Ok(ring)
+}
+
+// How long it takes to make the twins, in the fastest round.
+fn ring_time(clock: &impl Clock, ring: &mut Vec<Prog<'_, Global>>) -> io::Result<Duration> {
     let mut fastest = Duration::MAX;
     for _ in 0..ROUNDS {
         let start = Instant::now(clock)?;
-        make_twins(&mut ring);
+        make_twins(ring);
         fastest = fastest.min(start.elapsed(clock)?);
     }
     Ok(fastest)
+}
+
+fn twin_time(
+    clock: &impl Clock,
+    alloc: Global,
+    words: &[Bytes<Global>],
+    input: &[u8],
+) -> io::Result<Duration> {
+    let mut ring = ring_of(alloc, words, input)?;
+    ring_time(clock, &mut ring)
 }
 
 // Measures the program that these words run, beside a plain loop.
@@ -262,30 +294,48 @@ fn measure_program<R: Clock + AllocGlobal + Eprint>(
     )
 }
 
+// Measures the command of a case.
+fn measure_case<R: Clock + AllocGlobal + Eprint>(
+    rt: &R,
+    line: &str,
+    input: &[u8],
+    buffer: &mut Vec<u8>,
+) -> io::Result<()> {
+    let (loop_name, command) = line.split_once(' ').ok_or(io::ErrorKind::InvalidData)?;
+    let plain = Plain::named(loop_name).ok_or(io::ErrorKind::InvalidData)?;
+    let name = command.split(' ').next().unwrap_or(command);
+    let words = words_of(rt.alloc(), command)?;
+    measure_program(rt, words.as_slice(), input, (name, plain), buffer)
+}
+
+fn measure_echo<R: Clock + AllocGlobal + Eprint>(
+    rt: &R,
+    input: &[u8],
+    buffer: &mut Vec<u8>,
+) -> io::Result<()> {
+    let words = long_echo(rt.alloc())?;
+    measure_program(rt, words.as_slice(), input, ("echo", Plain::Copies), buffer)
+}
+
+fn measure_all<R: Clock + AllocGlobal + Eprint>(
+    rt: &R,
+    input: &[u8],
+    buffer: &mut Vec<u8>,
+) -> io::Result<()> {
+    for line in CASES.lines() {
+        measure_case(rt, line, input, buffer)?;
+    }
+    measure_echo(rt, input, buffer)
+}
+
+fn measure_programs<R: Clock + AllocGlobal + Eprint>(rt: &R) -> io::Result<()> {
+    let input = prose(rt.alloc())?;
+    let mut buffer = Vec::new(rt.alloc());
+    measure_all(rt, input.as_slice(), &mut buffer)
+}
+
 /// Times the programs as machines, and then the states of init, of shells and of programs.
 pub(crate) fn measure<R: Clock + AllocGlobal + Eprint>(rt: &R) -> io::Result<()> {
-    let alloc = rt.alloc();
-    let input = prose(alloc)?;
-    let input = input.as_slice();
-    let mut buffer = Vec::new(alloc);
-    let cases: [(&str, &[&str], Plain); 5] = [
-        ("cat", &[], Plain::Copies),
-        ("wc", &[], Plain::Counts),
-        ("grep", &[PATTERN], Plain::Searches),
-        ("head", &["-999999999"], Plain::Copies),
-        ("tee", &[], Plain::Copies),
-    ];
-    for (name, arguments, plain) in cases {
-        let words = words_of(alloc, name, arguments)?;
-        measure_program(rt, words.as_slice(), input, (name, plain), &mut buffer)?;
-    }
-    let words = long_echo(alloc)?;
-    measure_program(
-        rt,
-        words.as_slice(),
-        input,
-        ("echo", Plain::Copies),
-        &mut buffer,
-    )?;
+    measure_programs(rt)?;
     states::measure_states(rt)
 }

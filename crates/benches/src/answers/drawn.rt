@@ -59,29 +59,62 @@ fn drawn_kernel<M: Machine + Drop>(
     mut kernel: Kernel<M, Global>,
     mut seed: u64,
 ) -> Result<Option<Report<Global>>, AllocError> {
-    let way = match draw(&mut seed, 3) {
+    if finishes(alloc, &mut kernel, &mut seed)? {
+        Ok(Some(kernel.into_report()))
+    } else {
+        Ok(None)
+    }
+}
+
+// Goes on until the run is finished; tells whether it is.
+fn finishes<M: Machine + Drop>(
+    alloc: Global,
+    kernel: &mut Kernel<M, Global>,
+    seed: &mut u64,
+) -> Result<bool, AllocError> {
+    let way = match draw(seed, 3) {
         0 => Way::Any,
         1 => Way::Lowest,
         _ => Way::Highest,
     };
+    let mut running = idle_harts::<M>(alloc, 1 + draw(seed, HARTS))?;
+    finishes_on(kernel, seed, running.as_mut_slice(), way)
+}
+
+// So many harts that run nothing.
+fn idle_harts<M: Machine + Drop>(
+    alloc: Global,
+    harts: usize,
+) -> Result<Vec<Option<Task<M>>>, AllocError> {
     let mut running = Vec::new(alloc);
-    let harts = 1 + draw(&mut seed, HARTS);
     for _hart in 0..harts {
         running.push(None)?;
     }
+    Ok(running)
+}
+
+fn finishes_on<M: Machine + Drop>(
+    kernel: &mut Kernel<M, Global>,
+    seed: &mut u64,
+    running: &mut [Option<Task<M>>],
+    way: Way,
+) -> Result<bool, AllocError> {
+    let harts = running.len().max(1);
     for _event in 0..MOST_EVENTS {
         if kernel.is_finished() {
-            return Ok(Some(kernel.into_report()));
+            return Ok(true);
         }
-        let hart = draw(&mut seed, harts);
-        let Some(task) = running.get_mut(hart) else {
-            return Ok(None);
-        };
-        if !event(&mut kernel, &mut seed, hart as u8, task, way)? {
-            return Ok(None);
+        let hart = draw(seed, harts);
+        match running.get_mut(hart) {
+            Some(task) if hart < HARTS => {
+                if !event(kernel, seed, hart as u8, task, way)? {
+                    return Ok(false);
+                }
+            }
+            _ => return Ok(false),
         }
     }
-    Ok(None)
+    Ok(false)
 }
 
 // Makes one event happen on the hart, if one can: a trap where something runs there, else a dispatch. It tells whether the

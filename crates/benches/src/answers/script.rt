@@ -1,5 +1,7 @@
 //! Scripts that a generator draws, and the files and the input that they run on.
 
+ghost use Rattle.std.specs.Prelude.{◌<◌};
+
 use crate::answers::draw::draw;
 use mem_files::{Files, FilesFault};
 use std::alloc::{AllocError, Global};
@@ -9,15 +11,35 @@ const NAMES: [&str; 12] = [
     "p", "big", "long", "e", "none", "a", "b", "c", "d", "f", "g", "h",
 ];
 
+// Puts a file that has the line so many times.
+fn put_lines(
+    alloc: Global,
+    files: &mut Files<Global>,
+    name: &[u8],
+    line: &str,
+    count: usize,
+) -> Result<(), FilesFault> {
+    let text = line.repeat(alloc, count)?;
+    files.put(name, text.as_bytes())
+}
+
+fn put_all(alloc: Global, files: &mut Files<Global>) -> Result<(), FilesFault> {
+    files.put(b"p", b"b\naab\naabc\ncb\n")?;
+    put_lines(alloc, files, b"big", "0123456789ab\n", 100)?;
+    put_lines(
+        alloc,
+        files,
+        b"long",
+        "a line that is longer than the others\n",
+        90,
+    )?;
+    files.put(b"e", b"")
+}
+
 /// The files at the start.
 pub fn files(alloc: Global) -> Result<Files<Global>, FilesFault> {
-    let big = "0123456789ab\n".repeat(alloc, 100)?;
-    let long = "a line that is longer than the others\n".repeat(alloc, 90)?;
     let mut files = Files::new(alloc);
-    files.put(b"p", b"b\naab\naabc\ncb\n")?;
-    files.put(b"big", big.as_bytes())?;
-    files.put(b"long", long.as_bytes())?;
-    files.put(b"e", b"")?;
+    put_all(alloc, &mut files)?;
     Ok(files)
 }
 
@@ -30,55 +52,103 @@ fn name(seed: &mut u64) -> &'static str {
     NAMES[draw(seed, NAMES.len())]
 }
 
+// Commands without a pipe, on files and a number of lines: each line is drawn as often as any other.
+const SIMPLE: &str = "echo FIRST SECOND
+echo
+cat
+cat
+cat FIRST
+cat FIRST
+cat FIRST SECOND
+grep a
+grep ^.*b$ FIRST
+head -LINES
+head -LINES FIRST
+tee FIRST
+tee FIRST
+tee FIRST SECOND
+wc
+wc
+wc FIRST SECOND
+foo";
+
+// Pipes of two commands, lists of them, and one under a redirection.
+const JOINED: &str = "LEFT | RIGHT
+LEFT | RIGHT
+LEFT | RIGHT
+(LEFT | RIGHT)
+(LEFT; RIGHT)
+(LEFT; RIGHT)
+(LEFT) > FILE
+(LEFT) >> FILE
+(LEFT) < FILE";
+
+// A line of the table that is drawn among so many.
+fn drawn_line(seed: &mut u64, table: &'static str, most: usize) -> &'static str
+    requires { 0 < most }
+{
+    let place = draw(seed, most);
+    table.lines().nth(place).unwrap_or("")
+}
+
+// The line with words in the places of two names.
+fn with_both(
+    alloc: Global,
+    line: &str,
+    first: (&str, &str),
+    second: (&str, &str),
+) -> Result<String, AllocError> {
+    let line = line.replace(alloc, first.0, first.1)?;
+    line.replace(alloc, second.0, second.1)
+}
+
 // A command without a pipe.
 fn simple(alloc: Global, seed: &mut u64) -> Result<String, AllocError> {
     let first = name(seed);
     let second = name(seed);
     let lines = draw(seed, 5);
-    match draw(seed, 18) {
-        0 => format!(in alloc; "echo {first} {second}"),
-        1 => format!(in alloc; "echo"),
-        2 | 3 => format!(in alloc; "cat"),
-        4 | 5 => format!(in alloc; "cat {first}"),
-        6 => format!(in alloc; "cat {first} {second}"),
-        7 => format!(in alloc; "grep a"),
-        8 => format!(in alloc; "grep ^.*b$ {first}"),
-        9 => format!(in alloc; "head -{lines}"),
-        10 => format!(in alloc; "head -{lines} {first}"),
-        11 | 12 => format!(in alloc; "tee {first}"),
-        13 => format!(in alloc; "tee {first} {second}"),
-        14 | 15 => format!(in alloc; "wc"),
-        16 => format!(in alloc; "wc {first} {second}"),
-        _ => format!(in alloc; "foo"),
-    }
+    let lines = lines.to_string(alloc)?;
+    let line = drawn_line(seed, SIMPLE, 18);
+    let line = line.replace(alloc, "LINES", lines.as_str())?;
+    with_both(alloc, line.as_str(), ("FIRST", first), ("SECOND", second))
 }
 
 // A pipe of two commands, a list of them, or one under a redirection.
 fn joined(alloc: Global, seed: &mut u64, left: &str, right: &str) -> Result<String, AllocError> {
     let file = name(seed);
-    match draw(seed, 9) {
-        0 | 1 | 2 => format!(in alloc; "{left} | {right}"),
-        3 => format!(in alloc; "({left} | {right})"),
-        4 | 5 => format!(in alloc; "({left}; {right})"),
-        6 => format!(in alloc; "({left}) > {file}"),
-        7 => format!(in alloc; "({left}) >> {file}"),
-        _ => format!(in alloc; "({left}) < {file}"),
-    }
+    let line = drawn_line(seed, JOINED, 9);
+    let line = line.replace(alloc, "FILE", file)?;
+    with_both(alloc, line.as_str(), ("LEFT", left), ("RIGHT", right))
 }
 
 /// The text of a script: some simple commands, of which some were joined, two and two, to one that takes the place of the
 /// first; and of these up to three are its lines.
 pub fn script(alloc: Global, seed: &mut u64) -> Result<String, AllocError> {
     let count = 3 + draw(seed, 5);
+    let mut parts = simple_parts(alloc, seed, count)?;
+    join_some(alloc, seed, &mut parts)?;
+    text_of(alloc, parts.as_slice(), 1 + draw(seed, 3))
+}
+
+fn simple_parts(alloc: Global, seed: &mut u64, count: usize) -> Result<Vec<String>, AllocError> {
     let mut parts = Vec::new(alloc);
     for _part in 0..count {
         parts.push(simple(alloc, seed)?)?;
     }
-    let mut text = String::new(alloc);
+    Ok(parts)
+}
+
+fn join_some(alloc: Global, seed: &mut u64, parts: &mut Vec<String>) -> Result<(), AllocError> {
     for _join in 0..draw(seed, 9) {
-        join(alloc, seed, &mut parts)?;
+        join(alloc, seed, parts)?;
     }
-    for part in parts.iter().take(1 + draw(seed, 3)) {
+    Ok(())
+}
+
+// The first parts, so many, as lines.
+fn text_of(alloc: Global, parts: &[String], lines: usize) -> Result<String, AllocError> {
+    let mut text = String::new(alloc);
+    for part in parts.iter().take(lines) {
         text.push_str(part.as_str())?;
         text.push('\n')?;
     }

@@ -101,7 +101,32 @@ fn measure<M: Machine + Drop>(clock: &impl Clock, ring: &mut Vec<M>) -> io::Resu
     Ok(times)
 }
 
-// Of a shell on this script after these replies.
+// A shell on this script after these replies.
+fn shell_after<'t, N: Naming>(script: &'t Script<Global>, replies: &[u8]) -> User<'t, Global, N>
+    requires { lines_of script.now.lines ≡ N.script }
+{
+    let mut user = User::<Global, N>::shell(script);
+    for letter in replies {
+        let _call = user.run(&reply_of(*letter));
+    }
+    user
+}
+
+// A ring of them.
+fn shells_after<'t, N: Naming>(
+    alloc: Global,
+    script: &'t Script<Global>,
+    replies: &[u8],
+) -> Result<Vec<User<'t, Global, N>>, AllocError>
+    requires { lines_of script.now.lines ≡ N.script }
+{
+    let mut ring = Vec::new(alloc);
+    for _ in 0..RING {
+        ring.push(shell_after::<N>(script, replies))?;
+    }
+    Ok(ring)
+}
+
 fn shell_times<N: Naming>(
     clock: &impl Clock,
     alloc: Global,
@@ -110,14 +135,7 @@ fn shell_times<N: Naming>(
 ) -> io::Result<Times>
     requires { lines_of script.now.lines ≡ N.script }
 {
-    let mut ring = Vec::new(alloc);
-    for _ in 0..RING {
-        let mut user = User::<Global, N>::shell(script);
-        for letter in replies {
-            let _call = user.run(&reply_of(*letter));
-        }
-        ring.push(user)?;
-    }
+    let mut ring = shells_after::<N>(alloc, script, replies)?;
     measure(clock, &mut ring)
 }
 
@@ -144,11 +162,16 @@ fn tell<R: Eprint>(rt: &R, name: &str, lines: usize, times: Times) -> io::Result
     )
 }
 
-fn init_times(clock: &impl Clock, alloc: Global) -> io::Result<Times> {
+fn inits(alloc: Global) -> Result<Vec<User<'static, Global, Brand>>, AllocError> {
     let mut ring = Vec::new(alloc);
     for _ in 0..RING {
         ring.push(User::<Global, Brand>::init())?;
     }
+    Ok(ring)
+}
+
+fn init_times(clock: &impl Clock, alloc: Global) -> io::Result<Times> {
+    let mut ring = inits(alloc)?;
     measure(clock, &mut ring)
 }
 
@@ -172,51 +195,109 @@ fn long_name(alloc: Global) -> Result<Vec<u8>, AllocError> {
     Ok(line)
 }
 
+// Tells of the states after these replies on this script of so many lines.
+fn tell_on<R: Clock + AllocGlobal + Eprint>(
+    rt: &R,
+    name: &str,
+    lines: usize,
+    script: &Script<Global>,
+    replies: &[u8],
+) -> io::Result<()> {
+    let times = times_on(rt, rt.alloc(), script, replies)?;
+    tell(rt, name, lines, times)
+}
+
+fn measure_script<R: Clock + AllocGlobal + Eprint>(
+    rt: &R,
+    name: &str,
+    lines: usize,
+    text: &[u8],
+    replies: &[u8],
+) -> io::Result<()> {
+    match load_with(rt.alloc(), text, Profile::Xv6) {
+        Ok(script) => tell_on(rt, name, lines, &script, replies),
+        Err(_) => Ok(()),
+    }
+}
+
+fn measure_lines<R: Clock + AllocGlobal + Eprint>(
+    rt: &R,
+    name: &str,
+    line: &[u8],
+    lines: usize,
+    replies: &[u8],
+) -> io::Result<()> {
+    let text = script_text(rt.alloc(), line, lines)?;
+    measure_script(rt, name, lines, text.as_slice(), replies)
+}
+
 fn measure_line<R: Clock + AllocGlobal + Eprint>(
     rt: &R,
     name: &str,
     line: &[u8],
     replies: &[u8],
 ) -> io::Result<()> {
-    for lines in [10usize, 10_000] {
-        let text = script_text(rt.alloc(), line, lines)?;
-        if let Ok(script) = load_with(rt.alloc(), text.as_slice(), Profile::Xv6) {
-            tell(rt, name, lines, times_on(rt, rt.alloc(), &script, replies)?)?;
-        }
+    measure_lines(rt, name, line, 10, replies)?;
+    measure_lines(rt, name, line, 10_000, replies)
+}
+
+fn measure_long_list<R: Clock + AllocGlobal + Eprint>(
+    rt: &R,
+    name: &str,
+    replies: &[u8],
+) -> io::Result<()> {
+    let line = long_list(rt.alloc())?;
+    measure_line(rt, name, line.as_slice(), replies)
+}
+
+fn measure_long_name<R: Clock + AllocGlobal + Eprint>(
+    rt: &R,
+    name: &str,
+    replies: &[u8],
+) -> io::Result<()> {
+    let line = long_name(rt.alloc())?;
+    measure_line(rt, name, line.as_slice(), replies)
+}
+
+// States of shells: the replies that lead to one, of which `-` is none; its name; and the first line of the script, where
+// `LIST` and `NAME` are the long ones.
+const STATES: &str = "- top shell that starts: echo a | cat
+s top shell that forks: echo a | cat
+sd top shell that waits: echo a | cat
+s top shell that told of a cd line: cd x
+sc unknown program: ls x
+sc redirection that closes: cat < f
+scd redirection that opens: cat < f
+sc redirection to a name of 500 bytes: NAME
+sc list that forks: echo a; cat
+scd list that waits: echo a; cat
+sc list of 256 commands that forks: LIST
+scd list of 256 commands that waits: LIST
+sc pipe that is made: echo a | cat
+sce pipe that forks its left child: echo a | cat
+sceddddd pipe that waits: echo a | cat
+scec left child that closes: echo a | cat
+scedcd right child that doubles: echo a | cat
+sc background that forks: cat &
+sc shell that exited:
+scdf program in its work: grep x f g";
+
+fn measure_state<R: Clock + AllocGlobal + Eprint>(rt: &R, row: &str) -> io::Result<()> {
+    let (replies, rest) = row.split_once(' ').ok_or(io::ErrorKind::InvalidData)?;
+    let (name, line) = rest.split_once(':').ok_or(io::ErrorKind::InvalidData)?;
+    let replies = if replies == "-" { "" } else { replies };
+    match line.trim() {
+        "LIST" => measure_long_list(rt, name, replies.as_bytes()),
+        "NAME" => measure_long_name(rt, name, replies.as_bytes()),
+        line => measure_line(rt, name, line.as_bytes(), replies.as_bytes()),
     }
-    Ok(())
 }
 
 /// Measures a state of each kind.
 pub fn measure_states<R: Clock + AllocGlobal + Eprint>(rt: &R) -> io::Result<()> {
     tell(rt, "init", 0, init_times(rt, rt.alloc())?)?;
-    let list = long_list(rt.alloc())?;
-    let name = long_name(rt.alloc())?;
-    let pipe = b"echo a | cat".as_slice();
-    let cases: [(&str, &[u8], &[u8]); 20] = [
-        ("top shell that starts", pipe, b""),
-        ("top shell that forks", pipe, b"s"),
-        ("top shell that waits", pipe, b"sd"),
-        ("top shell that told of a cd line", b"cd x", b"s"),
-        ("unknown program", b"ls x", b"sc"),
-        ("redirection that closes", b"cat < f", b"sc"),
-        ("redirection that opens", b"cat < f", b"scd"),
-        ("redirection to a name of 500 bytes", name.as_slice(), b"sc"),
-        ("list that forks", b"echo a; cat", b"sc"),
-        ("list that waits", b"echo a; cat", b"scd"),
-        ("list of 256 commands that forks", list.as_slice(), b"sc"),
-        ("list of 256 commands that waits", list.as_slice(), b"scd"),
-        ("pipe that is made", pipe, b"sc"),
-        ("pipe that forks its left child", pipe, b"sce"),
-        ("pipe that waits", pipe, b"sceddddd"),
-        ("left child that closes", pipe, b"scec"),
-        ("right child that doubles", pipe, b"scedcd"),
-        ("background that forks", b"cat &", b"sc"),
-        ("shell that exited", b"", b"sc"),
-        ("program in its work", b"grep x f g", b"scdf"),
-    ];
-    for (name, line, replies) in cases {
-        measure_line(rt, name, line, replies)?;
+    for row in STATES.lines() {
+        measure_state(rt, row)?;
     }
     Ok(())
 }
