@@ -7,6 +7,7 @@ import os
 import re
 
 FUNCTION = re.compile(r"( *)(pub )?(?:const )?(?:unsafe )?fn (\w+)")
+OUTSIDE = " (outside the gate)"
 OWNER = re.compile(r"( *)(?:pub )?(impl|trait)\b(.*)")
 
 
@@ -16,7 +17,7 @@ class Function:
     def __init__(self, crate, file, name, is_public, first, last, head):
         self.crate, self.file, self.name, self.is_public = crate, file, name, is_public
         self.first, self.last, self.head = first, last, head
-        self.gate, self.outside = [], []
+        self.bodies = []
 
     def is_law(self):
         """Returns whether it returns nothing and is lent nothing to change, so that it can only be a statement."""
@@ -138,7 +139,7 @@ def place_of(edit, texts):
                 old = line[len("old: ") :]
             elif line.startswith("new:"):
                 if texts.get(path, "").count(old) != 1:
-                    raise ValueError(f"{edit}: an old: text stands in {path} {texts.get(path, '').count(old)} times")
+                    raise SystemExit(f"{edit}: an old: text stands in {path} {texts.get(path, '').count(old)} times")
                 place = path, texts[path][: texts[path].index(old)].count("\n")
                 new = line[len("new:") :].removeprefix(" ")
                 texts[path] = texts[path].replace(old, new)
@@ -151,10 +152,13 @@ def edits_in(folder):
 
 
 def read_crate(root, crate):
-    """Returns the public functions of a crate with their wrong bodies, none of a program and of a crate of tests alone."""
-    texts = texts_of(root, crate)
+    """Returns the public functions of a crate with their wrong bodies, and the wrong bodies of what stands below them.
+
+    A program and a crate of tests alone have none.
+    """
+    texts, below = texts_of(root, crate), []
     if "src/lib.rt" not in texts or any("#[cfg(test)]" in text for text in texts.values()):
-        return []
+        return [], below
     names = exported_by(texts["src/lib.rt"])
     found = [it for file, text in texts.items() for it in functions_in(crate, file, text)]
     found = [it for it in found if it.is_exported(names) and not it.is_law()]
@@ -162,11 +166,10 @@ def read_crate(root, crate):
     outside = edits_in(os.path.join(root, "bench", "wrong_bodies", crate))
     for edit in [*gate, *outside]:
         file, line = place_of(edit, texts)
-        for function in found:
-            if function.file == file and function.first <= line <= function.last:
-                kept = function.gate if edit in gate else function.outside
-                kept.append(os.path.basename(edit).removesuffix(".edit"))
-    return found
+        name = os.path.basename(edit).removesuffix(".edit") + ("" if edit in gate else OUTSIDE)
+        function = next((it for it in found if it.file == file and it.first <= line <= it.last), None)
+        (function.bodies if function else below).append(name)
+    return found, below
 
 
 def crates_of(root):
@@ -187,10 +190,11 @@ def listed(root, chosen):
     for crate in crates_of(root):
         if chosen and crate not in chosen:
             continue
-        for function in read_crate(root, crate):
+        found, below = read_crate(root, crate)
+        for function in found:
             whole += 1
             path = function.path()
-            told = [*function.gate, *(f"{it} (outside the gate)" for it in function.outside)]
+            told = function.bodies
             if not told and path in reasons:
                 used.add(path)
                 told = [f"none: {reasons[path]}"]
@@ -198,6 +202,8 @@ def listed(root, chosen):
                 lacking.append(path)
                 told = ["NONE"]
             print(f"{path}: {', '.join(told)}")
+        if below:
+            print(f"{crate}, below its public functions: {', '.join(below)}")
     needless = [] if chosen else sorted(set(reasons) - used)
     for path in needless:
         print(f"{path}: is in bench/wrong_bodies/none, but it has a wrong body or is no public function")
