@@ -1,7 +1,6 @@
 //! Who is dispatched next, and on which hart; and what is looked at after each event.
 
-ghost use Rattle.std.specs.Prelude.{◌<◌};
-
+use crate::draw::draw;
 use anyhow::{Result, anyhow, bail};
 use kernel_core::{Kernel, Task};
 use kernel_runs::sleepers::whoever_sleeps_has_to;
@@ -170,17 +169,6 @@ pub(crate) fn on_eight_harts<M: Machine, A: Allocator + Copy>(
         all_call(kernel, begun)?;
     }
     Err(anyhow!("it has no end"))
-}
-
-// The next number of a fixed sequence (a linear congruential generator, of which the high bits are drawn).
-fn draw(seed: &mut u64, most: usize) -> usize
-    requires { 0 < most }
-    ensures { result < most }
-{
-    *seed = seed
-        .wrapping_mul(6364136223846793005)
-        .wrapping_add(1442695040888963407);
-    (*seed >> 33) as usize % most
 }
 
 // Dispatches a process that can run on the hart, if there is one: which one is drawn.

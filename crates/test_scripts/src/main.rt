@@ -9,6 +9,8 @@ mod agreeing;
 mod bytes;
 mod commands;
 mod compared;
+mod draw;
+mod drawn;
 mod drivers;
 mod driving;
 mod host;
@@ -157,14 +159,38 @@ fn run_file(
     tally.end(rt)
 }
 
-// Runs what the words name, and tells whether all is right.
+// Draws as many scripts as the word says, and tells whether all is right.
+fn run_drawn(rt: &(impl AllocGlobal + Print), word: &str) -> io::Result<bool> {
+    match word.parse::<u32>() {
+        Ok(count) => drawn::compare_drawn(rt, rt.alloc(), count),
+        Err(_) => {
+            println!(rt; "--drawn {word:?}: this is no number")?;
+            Ok(false)
+        }
+    }
+}
+
+// Runs what the words name, in their order, and tells whether all is right.
 fn run_words(
     rt: &(impl AllocGlobal + Print + Files + Threads + Wait + Clock + Sync),
     words: &[String],
 ) -> io::Result<bool> {
-    let mut is_right = !words.is_empty();
+    let mut is_right = true;
+    let mut is_count = false;
     for word in words {
-        is_right = run_file(rt, word.as_str())? && is_right;
+        let word = word.as_str();
+        if is_count {
+            is_right = run_drawn(rt, word)? && is_right;
+            is_count = false;
+        } else if word == "--drawn" {
+            is_count = true;
+        } else {
+            is_right = run_file(rt, word)? && is_right;
+        }
+    }
+    if is_count || words.is_empty() {
+        println!(rt; "test_scripts [--drawn COUNT] FILE..")?;
+        return Ok(false);
     }
     Ok(is_right)
 }
