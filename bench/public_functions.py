@@ -6,7 +6,7 @@ far in as its first line.
 import os
 import re
 
-FUNCTION = re.compile(r"( *)(pub )?(?:const )?(?:unsafe )?fn (\w+)")
+FUNCTION = re.compile(r"( *)(pub |pub\(\w+\) )?(?:const )?(?:unsafe )?fn (\w+)")
 OUTSIDE = " (outside the gate)"
 OWNER = re.compile(r"( *)(?:pub )?(impl|trait)\b(.*)")
 
@@ -77,7 +77,7 @@ def functions_in(crate, file, text):
             head = head_of(lines[number : last + 1], said[1])
             has_body = not head.endswith(";")
             name = f"{owner[1]}::{said[3]}" if len(said[1]) > owner[0] >= 0 else said[3]
-            is_public = bool(said[2]) or len(said[1]) > owner[0] >= 0 and owner[2]
+            is_public = said[2] == "pub " or len(said[1]) > owner[0] >= 0 and owner[2]
             if has_body:
                 found.append(Function(crate, file, name, is_public, number, last, head))
     return found
