@@ -6,7 +6,7 @@ far in as its first line.
 import os
 import re
 
-FUNCTION = re.compile(r"( *)(pub )?(?:const )?(?:unsafe )?fn (\w+)")
+FUNCTION = re.compile(r"( *)(pub |pub\(\w+\) )?(?:const )?(?:unsafe )?fn (\w+)")
 OUTSIDE = " (outside the gate)"
 OWNER = re.compile(r"( *)(?:pub )?(impl|trait)\b(.*)")
 
@@ -61,11 +61,9 @@ def owner_of(kind, rest):
 
 
 def functions_in(crate, file, text):
-    """Returns the functions of a file, without those of its tests."""
+    """Returns the functions of a file that have a body."""
     lines, found, owner = text.split("\n"), [], (-1, "", False)
     for number, line in enumerate(lines):
-        if line.strip() == "#[cfg(test)]" and lines[number + 1].lstrip().startswith("mod tests"):
-            break
         said = OWNER.match(line)
         if said:
             owner = (len(said[1]), *owner_of(said[2], said[3]))
@@ -74,11 +72,11 @@ def functions_in(crate, file, text):
         said = FUNCTION.match(line)
         if said:
             last = end_of(lines, number, said[1])
-            head = head_of(lines[number : last + 1], said[1])
-            has_body = not head.endswith(";")
-            name = f"{owner[1]}::{said[3]}" if len(said[1]) > owner[0] >= 0 else said[3]
-            is_public = bool(said[2]) or len(said[1]) > owner[0] >= 0 and owner[2]
-            if has_body:
+            head = head_of(lines[number : last + 1])
+            is_method = len(said[1]) > owner[0] >= 0
+            name = f"{owner[1]}::{said[3]}" if is_method else said[3]
+            is_public = said[2] == "pub " or is_method and owner[2]
+            if not head.endswith(";"):
                 found.append(Function(crate, file, name, is_public, number, last, head))
     return found
 
@@ -95,7 +93,7 @@ def end_of(lines, first, indent):
     return len(lines) - 1
 
 
-def head_of(lines, indent):
+def head_of(lines):
     """Returns a function's signature, up to its clauses or its body, in one line."""
     kept = []
     for line in lines:
@@ -129,7 +127,7 @@ def texts_of(root, crate):
 
 
 def place_of(edit, texts):
-    """Returns the file and the line of the last text that an edit changes: earlier ones only prepare the last. Each must stand once."""
+    """Returns the file and the line of the last text that an edit changes; earlier ones only prepare it. Each must stand once."""
     texts, place, path, old = dict(texts), ("", 0), "", ""
     with open(edit, encoding="utf-8") as file:
         for line in file.read().split("\n"):
