@@ -35,5 +35,5 @@ pub(crate) fn expect_bytes(what: &str, bytes: &[u8], wanted: &[u8]) -> Result<()
     let place = common(bytes, wanted);
     let bytes = Shown(bytes.get(place..).unwrap_or(&[]));
     let wanted = Shown(wanted.get(place..).unwrap_or(&[]));
-    bail!("{what} from byte {place} on is {bytes}, not {wanted}")
+    bail!("{what} from byte {place} on: {bytes}, not {wanted}")
 }

@@ -74,7 +74,7 @@ impl<'a> Tally<'a> {
 
     // Tells how many rows and runs there were, and whether all is right.
     fn end(&mut self, rt: &impl Print) -> io::Result<bool> {
-        if self.rows == 0 {
+        if self.rows == 0 && self.failures == 0 {
             self.fail(rt, 1, "there are no rows")?;
         }
         let Tally {
