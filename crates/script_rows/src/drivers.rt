@@ -3,7 +3,7 @@
 ghost use Rattle.std.specs.Prelude.{◌<◌};
 
 use kernel_core::{Kernel, Task};
-use kernel_runs::sleepers::whoever_sleeps_has_to;
+use test_kernel::sleepers::whoever_sleeps_has_to;
 use proc_table::PROCS;
 use std::alloc::Allocator;
 use std::test::Fail;
