@@ -3,7 +3,7 @@
 use crate::draw::draw;
 use anyhow::{Result, anyhow, bail};
 use kernel_core::{Kernel, Task};
-use kernel_runs::sleepers::whoever_sleeps_has_to;
+use test_kernel::sleepers::whoever_sleeps_has_to;
 use proc_table::PROCS;
 use std::alloc::Allocator;
 use user_calls::{Machine, Ran};

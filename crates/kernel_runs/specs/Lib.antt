@@ -1,2 +1,0 @@
-pub mod Doer
-pub mod Walker

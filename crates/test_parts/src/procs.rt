@@ -1,0 +1,499 @@
+//! The table of processes, whose processes are numbers of slots:
+//!
+//!     dispatch HART                   which process the hart, if it is idle, dispatches
+//!     pick HART SLOT                  whether this process is dispatched on the hart
+//!     run-all                         every idle hart dispatches: how many processes run then
+//!     ready SLOT NUMBER               it has made a call that doesn't sleep, and its machine has this number
+//!     fork SLOT                       its child, whose machine has number 7
+//!     forks SLOT                      how many children it can have, one after the other, and then the answer to one more
+//!     exit SLOT
+//!     wait SLOT
+//!     sleep SLOT CHANNEL PUT          it falls asleep with so many bytes put: its state then
+//!     wakeup CHANNEL                  how many wake up
+//!     install SLOT                    the lowest descriptor of it that isn't open is opened: which one that is
+//!     close-all SLOT                  it gets no open descriptors for those that it has: whether descriptor 0 was one
+//!     is SLOT                         the state of the slot
+//!     parent SLOT
+//!     put SLOT                        how many bytes it has put
+//!     with SLOT                       its machine's number, its reply, and whether its descriptor 0 is open
+//!     on HART                         the process that runs there, and whether the hart is idle
+//!     runs HART SLOT                  whether the process runs there
+//!     counts                          how many processes are Runnable, and how many run
+//!     alone                           whether init is the only process
+//!     lowest-free
+//!
+//! A call that asks for a process that runs, or for one that there is, gives `?` where there is none. A CHANNEL is `bytes-of PIPE`, `room-of PIPE` or `child-of SLOT`, which is that a child of it exits.
+
+ghost use Rattle.std.specs.Prelude.{◌≡◌, IfSome, IsSome};
+ghost use Rattle.fd_table.specs.Descriptors.{installed};
+ghost use Rattle.proc_table.specs.Slots.{at};
+ghost use Rattle.proc_table.specs.Calls.{fds_set};
+
+use crate::told::{Stepped, Words, go, tell};
+use crate::waiter::{Waiter, machine};
+use fd_table::{Entry, FdFault, Fds, Object, OpenFiles};
+use linked_list_allocator::LocalHeap;
+use proc_table::{Channel, FullProcs, HARTS, Pid, Procs};
+use std::alloc::{AllocError, Allocator, Global};
+use std::mem;
+use std::test::Fail;
+use test_rows::rows;
+use user_calls::{Machine, Reply};
+
+fn pid_of(words: &mut Words<'_>) -> Pid {
+    let pid = Pid::new(words.number());
+    words.found(pid, Pid::init())
+}
+
+fn channel_of(words: &mut Words<'_>) -> Channel {
+    match words.text() {
+        "bytes-of" => Channel::PipeBytes(words.number() as u64),
+        "room-of" => Channel::PipeRoom(words.number() as u64),
+        "child-of" => Channel::Children(pid_of(words)),
+        _ => words.found(None, Channel::PipeBytes(0)),
+    }
+}
+
+// The slot that the hart, if it is idle, dispatches.
+fn dispatch<A: Allocator>(procs: &mut Procs<Waiter, A>, hart: u8) -> Option<usize> {
+    if HARTS <= hart || !procs.is_idle(hart) {
+        return None;
+    }
+    Some(procs.dispatch(hart)?.index())
+}
+
+// Dispatches on every idle hart, and tells how many processes run then.
+fn run_all<A: Allocator>(procs: &mut Procs<Waiter, A>) -> usize {
+    for hart in 0..HARTS {
+        let _ = dispatch(procs, hart);
+    }
+    procs.running()
+}
+
+// Opens the lowest descriptor of a process that isn't open.
+fn install<M: Machine, A: Allocator>(
+    procs: &mut Procs<M, A>,
+    pid: Pid,
+    entry: Entry,
+) -> Result<usize, FdFault>
+    requires { IsSome (at procs.old pid) }
+    ensures { IfSome (at procs.old pid) (λ process. procs.new ≡ fds_set procs.old pid (installed process.fds entry)) }
+{
+    procs.fds_mut(pid).install(entry)
+}
+
+// Gives a process these descriptors, and gives back those that it had: what is written through `fds_mut` is what the
+// process has, by its contract.
+fn swap_fds<M: Machine, A: Allocator>(procs: &mut Procs<M, A>, pid: Pid, fds: Fds) -> Fds
+    requires { IsSome (at procs.old pid) }
+    ensures before { IfSome (at procs.old pid) (λ process. result ≡ process.fds) }
+    ensures after { procs.new ≡ fds_set procs.old pid fds }
+{
+    mem::replace(procs.fds_mut(pid), fds)
+}
+
+// The children that a process has forked until there was no slot, and the answer then.
+fn forks<A: Allocator>(procs: &mut Procs<Waiter, A>, parent: Pid) -> (usize, Option<FullProcs>) {
+    for count in 0..100 {
+        if !procs.is_used(parent) {
+            break;
+        }
+        if let Err(fault) = procs.fork(parent, machine(7), Fds::new()) {
+            return (count, Some(fault));
+        }
+    }
+    (0, None)
+}
+
+// A step of a process that runs.
+fn run_step<A: Allocator>(
+    procs: &mut Procs<Waiter, A>,
+    call: &str,
+    words: &mut Words<'_>,
+    told: &mut String,
+) -> Result<(), AllocError> {
+    let pid = pid_of(words);
+    if !procs.is_running(pid) {
+        return told.push('?');
+    }
+    match call {
+        "ready" => tell(told, procs.ready(pid, machine(words.small()), Reply::Done)),
+        "exit" if pid.index() != 0 => tell(told, procs.exit(pid)),
+        "wait" => tell(told, procs.wait(pid)),
+        "sleep" => {
+            procs.sleep(pid, channel_of(words), words.number());
+            tell(told, procs.state(pid))
+        }
+        _ => told.push('?'),
+    }
+}
+
+// A step of a process that there is.
+fn used_step<A: Allocator>(
+    procs: &mut Procs<Waiter, A>,
+    call: &str,
+    words: &mut Words<'_>,
+    told: &mut String,
+) -> Result<(), AllocError> {
+    let pid = pid_of(words);
+    if !procs.is_used(pid) {
+        return told.push('?');
+    }
+    match call {
+        "fork" => tell(told, procs.fork(pid, machine(7), Fds::new())),
+        "forks" => tell(told, forks(procs, pid)),
+        "install" => match OpenFiles::new().add(Object::Out) {
+            Ok(entry) => tell(told, install(procs, pid, entry)),
+            Err(_) => told.push('?'),
+        },
+        "close-all" => tell(told, swap_fds(procs, pid, Fds::new()).get(0).is_ok()),
+        "parent" => tell(told, procs.parent(pid)),
+        "put" => tell(told, procs.put(pid)),
+        "with" => {
+            let opened = procs.fds(pid).get(0).is_ok();
+            write!(
+                told,
+                "{} {:?} {}",
+                procs.machine(pid).number,
+                procs.reply(pid),
+                opened
+            )
+        }
+        _ => told.push('?'),
+    }
+}
+
+impl<A: Allocator> Stepped for Procs<Waiter, A> {
+    fn step(&mut self, words: &mut Words<'_>, told: &mut String) -> Result<(), AllocError> {
+        match words.text() {
+            "dispatch" => tell(told, dispatch(self, words.small())),
+            "pick" => tell(told, self.dispatch_pid(words.small(), words.number())),
+            "run-all" => tell(told, run_all(self)),
+            "wakeup" => tell(told, self.wakeup(channel_of(words))),
+            "is" => tell(told, self.state(pid_of(words))),
+            "on" => {
+                let hart = words.small();
+                tell(told, (self.running_on(hart), self.is_idle(hart)))
+            }
+            "runs" => tell(told, self.runs_on(words.small(), pid_of(words))),
+            "counts" => tell(told, (self.runnable(), self.running())),
+            "alone" => tell(told, self.is_alone()),
+            "lowest-free" => tell(told, self.lowest_free()),
+            call => match call {
+                "ready" | "exit" | "wait" | "sleep" => run_step(self, call, words, told),
+                _ => used_step(self, call, words, told),
+            },
+        }
+    }
+}
+
+// Each row is of a new table, in which init's machine has number 100 and the shell's 101.
+const CALLS: &str = "
+# a new table, and one whose slots are all used
+with 0: 100 Start false
+with 1: 101 Start false
+is 0: Runnable
+is 1: Runnable
+parent 0: Pid { index: 0 }
+parent 1: Pid { index: 0 }
+put 0: 0
+put 1: 0
+lowest-free: Some(Pid { index: 2 })
+forks 1: (62, Some(FullProcs))
+lowest-free: None
+with 0: 100 Start false
+with 1: 101 Start false
+with 2: 7 Child false
+with 63: 7 Child false
+is 2: Runnable
+is 63: Runnable
+parent 2: Pid { index: 1 }
+parent 63: Pid { index: 1 }
+put 63: 0
+counts: (64, 0)
+pick 7 63: true
+
+# harts show whom they run
+on 3: (None, true)
+run-all: 2
+on 0: (Some(Pid { index: 0 }), false)
+on 1: (Some(Pid { index: 1 }), false)
+on 2: (None, true)
+runs 0 0: true
+runs 0 1: false
+runs 1 1: true
+runs 2 1: false
+
+# of 2 to 6 the first runs, 3 sleeps, 4 is a zombie, 5 is Runnable, and 6 is free
+fork 1: Ok(Pid { index: 2 })
+fork 1: Ok(Pid { index: 3 })
+fork 1: Ok(Pid { index: 4 })
+fork 1: Ok(Pid { index: 5 })
+run-all: 6
+sleep 3 bytes-of 1 0: Asleep(PipeBytes(1))
+exit 4: ()
+ready 5 0: ()
+counts: (1, 3)
+wait 2: NoChildren
+wait 3: ?
+wait 4: ?
+wait 5: ?
+wait 6: ?
+put 3: 0
+put 4: 0
+put 5: 0
+put 6: ?
+
+# descriptors change in their slot
+fork 1: Ok(Pid { index: 2 })
+install 1: Ok(0)
+install 1: Ok(1)
+with 0: 100 Start false
+with 1: 101 Start true
+with 2: 7 Child false
+is 1: Runnable
+parent 1: Pid { index: 0 }
+put 1: 0
+close-all 1: true
+with 1: 101 Start false
+close-all 2: false
+
+# dispatch tells that none is runnable
+run-all: 2
+sleep 0 child-of 0 0: Asleep(Children(Pid { index: 0 }))
+on 7: (None, true)
+dispatch 7: None
+counts: (0, 1)
+wakeup child-of 0: 1
+on 7: (None, true)
+dispatch 7: Some(0)
+
+# dispatch pid takes runnable processes alone
+fork 1: Ok(Pid { index: 2 })
+counts: (3, 0)
+# there are harts 0 to 7 and slots 0 to 63, and slot 3 is free
+pick 8 1: false
+pick 0 64: false
+pick 0 18446744073709551615: false
+pick 0 3: false
+counts: (3, 0)
+pick 7 2: true
+is 2: Running(7)
+# hart 7 runs process 2
+pick 7 1: false
+pick 0 2: false
+pick 0 1: true
+counts: (1, 2)
+sleep 2 child-of 2 0: Asleep(Children(Pid { index: 2 }))
+# process 2 sleeps
+pick 7 2: false
+exit 1: ()
+# process 1 has exited
+pick 7 1: false
+pick 7 0: true
+counts: (0, 1)
+
+# init is alone when all others are gone
+fork 1: Ok(Pid { index: 2 })
+run-all: 3
+alone: false
+exit 1: ()
+wait 0: Reaped(Pid { index: 1 })
+# process 2 runs
+alone: false
+exit 2: ()
+# process 2 is a zombie
+alone: false
+wait 0: Reaped(Pid { index: 2 })
+alone: true
+
+# exit gives the children to init
+fork 1: Ok(Pid { index: 2 })
+fork 1: Ok(Pid { index: 3 })
+fork 2: Ok(Pid { index: 4 })
+fork 2: Ok(Pid { index: 5 })
+fork 4: Ok(Pid { index: 6 })
+run-all: 7
+sleep 0 child-of 0 0: Asleep(Children(Pid { index: 0 }))
+sleep 1 child-of 1 0: Asleep(Children(Pid { index: 1 }))
+sleep 3 bytes-of 1 0: Asleep(PipeBytes(1))
+# No child of it is a zombie, and its parent is no sleeper.
+exit 4: ()
+is 4: Zombie
+parent 4: Pid { index: 2 }
+parent 6: Pid { index: 0 }
+is 0: Asleep(Children(Pid { index: 0 }))
+is 1: Asleep(Children(Pid { index: 1 }))
+# One child of it is a zombie, and its parent sleeps.
+counts: (0, 3)
+exit 2: ()
+counts: (2, 2)
+is 2: Zombie
+parent 2: Pid { index: 1 }
+parent 3: Pid { index: 1 }
+parent 4: Pid { index: 0 }
+parent 5: Pid { index: 0 }
+is 0: Runnable
+is 1: Runnable
+is 3: Asleep(PipeBytes(1))
+is 4: Zombie
+
+# wait reaps the lowest zombie
+fork 1: Ok(Pid { index: 2 })
+fork 1: Ok(Pid { index: 3 })
+fork 1: Ok(Pid { index: 4 })
+run-all: 5
+wait 2: NoChildren
+wait 0: MustSleep
+wait 1: MustSleep
+exit 4: ()
+exit 3: ()
+wait 0: MustSleep
+wait 1: Reaped(Pid { index: 3 })
+is 3: Free
+is 4: Zombie
+fork 2: Ok(Pid { index: 3 })
+wait 1: Reaped(Pid { index: 4 })
+wait 1: MustSleep
+lowest-free: Some(Pid { index: 4 })
+
+# wakeup wakes all of one channel
+fork 1: Ok(Pid { index: 2 })
+fork 1: Ok(Pid { index: 3 })
+fork 1: Ok(Pid { index: 4 })
+fork 1: Ok(Pid { index: 5 })
+fork 1: Ok(Pid { index: 6 })
+run-all: 7
+sleep 2 room-of 9 100: Asleep(PipeRoom(9))
+sleep 3 bytes-of 9 0: Asleep(PipeBytes(9))
+sleep 4 room-of 9 0: Asleep(PipeRoom(9))
+sleep 5 room-of 8 5: Asleep(PipeRoom(8))
+sleep 6 room-of 9 512: Asleep(PipeRoom(9))
+sleep 1 child-of 1 0: Asleep(Children(Pid { index: 1 }))
+wakeup room-of 9: 3
+is 1: Asleep(Children(Pid { index: 1 }))
+is 2: Runnable
+is 3: Asleep(PipeBytes(9))
+is 4: Runnable
+is 5: Asleep(PipeRoom(8))
+is 6: Runnable
+put 6: 512
+wakeup room-of 9: 0
+# It runs again, and is done with its write.
+run-all: 4
+ready 6 8: ()
+is 6: Runnable
+put 6: 0
+parent 6: Pid { index: 1 }
+with 6: 8 Done false
+";
+
+// Who is dispatched when: no clause says it, since any Runnable process may be.
+const ORDERS: &str = "
+# init stands first and the shell behind it
+dispatch 5: Some(0)
+dispatch 6: Some(1)
+dispatch 7: None
+
+# a child stands behind all of its parents hart
+dispatch 3: Some(0)
+dispatch 4: Some(1)
+fork 1: Ok(Pid { index: 2 })
+fork 0: Ok(Pid { index: 3 })
+fork 1: Ok(Pid { index: 4 })
+# hart 3's queue holds 3, hart 4's holds 2 and 4, and hart 5 finds hart 3's after 6, 7, 0, 1 and 2
+dispatch 5: Some(3)
+dispatch 6: Some(2)
+dispatch 7: Some(4)
+dispatch 0: None
+
+# who stays runnable goes to the end
+dispatch 0: Some(0)
+ready 0 0: ()
+dispatch 0: Some(1)
+ready 1 0: ()
+dispatch 0: Some(0)
+
+# a hart takes its own before the next ones
+dispatch 2: Some(0)
+dispatch 6: Some(1)
+ready 0 0: ()
+ready 1 0: ()
+# 0 waits for hart 2, and 1 for hart 6; from hart 3 on, hart 6 comes first
+dispatch 3: Some(1)
+ready 1 0: ()
+dispatch 2: Some(0)
+dispatch 2: None
+dispatch 4: Some(1)
+
+# sleepers wake in the order in which they fell asleep
+fork 1: Ok(Pid { index: 2 })
+fork 1: Ok(Pid { index: 3 })
+dispatch 0: Some(0)
+dispatch 1: Some(1)
+dispatch 2: Some(2)
+dispatch 3: Some(3)
+# the channels of pipes 3 and 67 share a list of sleepers
+sleep 2 bytes-of 3 0: Asleep(PipeBytes(3))
+sleep 0 bytes-of 67 0: Asleep(PipeBytes(67))
+sleep 3 bytes-of 3 0: Asleep(PipeBytes(3))
+sleep 1 bytes-of 3 0: Asleep(PipeBytes(3))
+wakeup bytes-of 3: 3
+is 0: Asleep(PipeBytes(67))
+# each stands in the queue of the hart on which it ran last
+dispatch 7: Some(1)
+dispatch 3: Some(3)
+dispatch 0: Some(2)
+wakeup bytes-of 67: 1
+dispatch 4: Some(0)
+
+# a process is taken from any place
+fork 1: Ok(Pid { index: 2 })
+fork 1: Ok(Pid { index: 3 })
+pick 1 2: true
+dispatch 0: Some(0)
+dispatch 2: Some(1)
+exit 1: ()
+wait 0: Reaped(Pid { index: 1 })
+# 3 is init's child now, and stands where it stood
+dispatch 3: Some(3)
+parent 3: Pid { index: 0 }
+put 3: 0
+";
+
+fn rows_hold(alloc: Global, table: &str) -> Result<(), Fail> {
+    for row in rows(table) {
+        let mut procs = Procs::new(alloc, machine(100), machine(101))?;
+        go(alloc, &mut procs, row)?;
+    }
+    Ok(())
+}
+
+#[test]
+fn calls_change_the_table(rt: HostRuntime) -> Result<(), Fail> {
+    rows_hold(rt.alloc(), CALLS)
+}
+
+#[test]
+fn processes_are_dispatched_in_their_order(rt: HostRuntime) -> Result<(), Fail> {
+    rows_hold(rt.alloc(), ORDERS)
+}
+
+const WITHOUT_MEMORY: &str = "
+forks 0: (62, Some(FullProcs))
+run-all: 8
+sleep 7 room-of 1 5: Asleep(PipeRoom(1))
+wakeup room-of 1: 1
+";
+
+#[test]
+fn a_table_wants_memory_only_when_made(rt: HostRuntime) -> Result<(), Fail> {
+    let heap = LocalHeap::new(rt.alloc(), 262_144)?;
+    let mut procs = Procs::new(&heap, machine(0), machine(0))?;
+    let used = heap.used();
+    go(rt.alloc(), &mut procs, WITHOUT_MEMORY)?;
+    assert!(rt; heap.used() == used);
+    drop(procs);
+    assert!(rt; heap.used() == 0);
+    Ok(())
+}
