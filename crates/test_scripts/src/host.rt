@@ -1,0 +1,145 @@
+//! A host in memory, and a writer that fails.
+
+ghost use Rattle.std.specs.Prelude.{◌≤◌, None, IfOk, vec_len};
+
+use anyhow::{Context, Result, bail};
+use std::alloc::Global;
+use std::io::{self, Write};
+use xvsh_read::{Host, HostFault};
+
+// A file of the host.
+#[derive(Drop)]
+struct Held {
+    path: String,
+    bytes: Vec<u8>,
+}
+
+/// What a host gives: its files, its standard input, and what it gives for every other path.
+#[derive(Drop)]
+pub(crate) struct Store {
+    alloc: Global,
+    files: Vec<Held>,
+    input: Result<Vec<u8>, HostFault>,
+    absent: Result<(), HostFault>,
+}
+
+impl Store {
+    /// A host without files, on an empty standard input.
+    pub(crate) fn new(alloc: Global) -> Store {
+        Store {
+            alloc,
+            files: Vec::new(alloc),
+            input: Ok(Vec::new(alloc)),
+            absent: Err(HostFault::Unreadable),
+        }
+    }
+
+    /// Adds a file at a path at which there is none.
+    pub(crate) fn add(&mut self, path: &str, bytes: Vec<u8>) -> Result<()> {
+        if self.get(path).is_some() {
+            bail!("the file {path:?} stands twice");
+        }
+        let path = String::from_str(self.alloc, path)?;
+        self.files.push(Held { path, bytes })?;
+        Ok(())
+    }
+
+    /// Sets the file at a path, whatever it was.
+    pub(crate) fn set(&mut self, path: &str, bytes: &[u8]) -> Result<()> {
+        let bytes = Vec::from_slice(self.alloc, bytes)?;
+        match self
+            .files
+            .iter_mut()
+            .find(|held| held.path.as_str() == path)
+        {
+            Some(held) => {
+                held.bytes = bytes;
+                Ok(())
+            }
+            None => self.add(path, bytes),
+        }
+    }
+
+    /// The bytes of the file at a path.
+    pub(crate) fn get(&self, path: &str) -> Option<&[u8]> {
+        let held = self.files.iter().find(|held| held.path.as_str() == path)?;
+        Some(held.bytes.as_slice())
+    }
+
+    /// From now on this is standard input, or why it can't be read.
+    pub(crate) fn set_input(&mut self, input: Result<Vec<u8>, HostFault>) {
+        self.input = input;
+    }
+
+    /// From now on standard input holds what the file at this path does.
+    pub(crate) fn set_input_of(&mut self, path: &str) -> Result<()> {
+        let bytes = self.get(path).context("standard input is no file")?;
+        self.input = Ok(Vec::from_slice(self.alloc, bytes)?);
+        Ok(())
+    }
+
+    /// From now on every other file is empty, or this is why it can't be read.
+    pub(crate) fn set_absent(&mut self, absent: Result<(), HostFault>) {
+        self.absent = absent;
+    }
+}
+
+/// The host that gives what is stored.
+#[derive(Clone, Copy)]
+pub(crate) struct Lent<'a>(pub(crate) &'a Store);
+
+impl Host for Lent<'_> {
+    ghost input = { λ _. None };
+
+    ghost file = { λ _ _. None };
+
+    fn read_input(&mut self, alloc: Global, limit: usize) -> Result<Vec<u8>, HostFault> {
+        match &self.0.input {
+            Ok(bytes) => bounded(alloc, bytes.as_slice(), limit),
+            Err(fault) => Err(*fault),
+        }
+    }
+
+    fn read_path(&mut self, alloc: Global, path: &str, limit: usize) -> Result<Vec<u8>, HostFault> {
+        match self.0.get(path) {
+            Some(bytes) => bounded(alloc, bytes, limit),
+            None => {
+                self.0.absent?;
+                Ok(Vec::new(alloc))
+            }
+        }
+    }
+}
+
+// A copy of these bytes, if they are within the limit.
+fn bounded(alloc: Global, bytes: &[u8], limit: usize) -> Result<Vec<u8>, HostFault>
+    ensures { IfOk result (λ bytes. vec_len bytes ≤ limit) }
+{
+    if bytes.len() > limit {
+        return Err(HostFault::TooLong);
+    }
+    match Vec::from_slice(alloc, bytes) {
+        Ok(bytes) => Ok(bytes),
+        Err(_) => Err(HostFault::Memory),
+    }
+}
+
+/// A writer that takes one byte a call, for so many calls, and then fails.
+#[derive(Drop)]
+pub(crate) struct Failing {
+    pub(crate) calls: usize,
+}
+
+impl Write for Failing {
+    fn write(&mut self, buf: &[u8]) -> io::Result<usize> {
+        if self.calls == 0 {
+            return Err(io::Error::from(io::ErrorKind::Other));
+        }
+        self.calls -= 1;
+        Ok(buf.len().min(1))
+    }
+
+    fn flush(&mut self) -> io::Result<()> {
+        Ok(())
+    }
+}

@@ -1,0 +1,209 @@
+//! Runs worked scripts and command lines, which are rows of files, in every way that there is to run them.
+//!
+//! A word is a file of rows: of each file a line tells how many rows there are, and how many runs they had; and before it each row
+//! that isn't right is told, in a line with the file and the row's first line. `--drawn COUNT` draws as many settled scripts and
+//! compares their runs with what they mean. The status is 1 where anything was told to be wrong, and else 0.
+#![tactic(auto)]
+
+mod agreeing;
+mod bytes;
+mod commands;
+mod compared;
+mod draw;
+mod drawn;
+mod drivers;
+mod driving;
+mod host;
+mod means;
+mod programs;
+mod rows;
+mod runs;
+mod scripts;
+mod waits;
+mod ways;
+
+use crate::bytes::Texts;
+use crate::rows::{Row, Sheet, read};
+use anyhow::{Result, bail};
+use std::alloc::AllocError;
+use std::fmt::Display;
+use std::process::ExitCode;
+use std::rt::{Env, Files};
+use std::sync::Wait;
+use std::thread::Threads;
+use std::time::Clock;
+use std::{env, fs, io};
+
+// A file of rows, and how many rows, runs and failures it had so far.
+#[derive(Drop)]
+struct Tally<'a> {
+    path: &'a str,
+    rows: usize,
+    runs: usize,
+    failures: usize,
+}
+
+impl<'a> Tally<'a> {
+    fn new(path: &'a str) -> Tally<'a> {
+        Tally {
+            path,
+            rows: 0,
+            runs: 0,
+            failures: 0,
+        }
+    }
+
+    // Tells of what is wrong at a line.
+    fn fail(&mut self, rt: &impl Print, line: usize, why: impl Display + Drop) -> io::Result<()> {
+        self.failures = self.failures.saturating_add(1);
+        let path = self.path;
+        println!(rt; "{path}:{line}: {why}")
+    }
+
+    // Counts a row and its runs, or tells why it failed.
+    fn take(&mut self, rt: &impl Print, line: usize, ran: Result<usize>) -> io::Result<()> {
+        self.rows = self.rows.saturating_add(1);
+        match ran {
+            Ok(runs) => {
+                self.runs = self.runs.saturating_add(runs);
+                Ok(())
+            }
+            Err(error) => self.fail(rt, line, format_args!("{error:#}")),
+        }
+    }
+
+    // Tells how many rows and runs there were, and whether all is right.
+    fn end(&mut self, rt: &impl Print) -> io::Result<bool> {
+        if self.rows == 0 && self.failures == 0 {
+            self.fail(rt, 1, "there are no rows")?;
+        }
+        let Tally {
+            path,
+            rows,
+            runs,
+            failures,
+        } = self;
+        if *failures == 0 {
+            println!(rt; "{path}: {rows} rows, {runs} runs")?;
+            return Ok(true);
+        }
+        println!(rt; "{path}: {rows} rows, {failures} failures")?;
+        Ok(false)
+    }
+}
+
+// Runs a row, and tells how often.
+fn run_row(
+    rt: &(impl AllocGlobal + Threads + Wait + Clock + Sync),
+    texts: &Texts<'_>,
+    row: &Row<'_>,
+) -> Result<usize> {
+    match (row.has("words"), row.has("script")) {
+        (true, false) => commands::run_row(rt, texts, row),
+        (false, true) => scripts::run_row(rt, texts, row),
+        (true, true) => bail!("the row has words and a script"),
+        (false, false) => bail!("the row has no words and no script"),
+    }
+}
+
+fn run_rows(
+    rt: &(impl AllocGlobal + Print + Threads + Wait + Clock + Sync),
+    texts: &Texts<'_>,
+    rows: &[Row<'_>],
+    tally: &mut Tally<'_>,
+) -> io::Result<()> {
+    for row in rows {
+        let ran = run_row(rt, texts, row);
+        tally.take(rt, row.line, ran)?;
+    }
+    Ok(())
+}
+
+// The texts of a file; what is wrong with one is told.
+fn texts_of<'a>(
+    rt: &(impl AllocGlobal + Print),
+    sheet: &Sheet<'a>,
+    tally: &mut Tally<'_>,
+) -> io::Result<Texts<'a>> {
+    let mut texts = Texts::new(rt.alloc());
+    for (line, field) in &sheet.texts {
+        if let Err(error) = texts.add(field) {
+            tally.fail(rt, *line, format_args!("{error:#}"))?;
+        }
+    }
+    for wrong in &sheet.wrong {
+        tally.fail(rt, wrong.line, wrong.why)?;
+    }
+    Ok(texts)
+}
+
+fn run_sheet(
+    rt: &(impl AllocGlobal + Print + Threads + Wait + Clock + Sync),
+    sheet: &Sheet<'_>,
+    tally: &mut Tally<'_>,
+) -> io::Result<()> {
+    let texts = texts_of(rt, sheet, tally)?;
+    run_rows(rt, &texts, sheet.rows.as_slice(), tally)
+}
+
+// Runs the rows of a file, and tells whether all is right.
+fn run_file(
+    rt: &(impl AllocGlobal + Print + Files + Threads + Wait + Clock + Sync),
+    path: &str,
+) -> io::Result<bool> {
+    let mut tally = Tally::new(path);
+    match fs::read_to_string(rt, path) {
+        Ok(text) => run_sheet(rt, &read(rt.alloc(), text.as_str())?, &mut tally)?,
+        Err(_) => tally.fail(rt, 1, "the file can't be read")?,
+    }
+    tally.end(rt)
+}
+
+// Draws as many scripts as the word says, and tells whether all is right.
+fn run_drawn(rt: &(impl AllocGlobal + Print), word: &str) -> io::Result<bool> {
+    match word.parse::<u32>() {
+        Ok(count) => drawn::compare_drawn(rt, rt.alloc(), count),
+        Err(_) => {
+            println!(rt; "--drawn {word:?}: this is no number")?;
+            Ok(false)
+        }
+    }
+}
+
+// Runs what the words name, in their order, and tells whether all is right.
+fn run_words(
+    rt: &(impl AllocGlobal + Print + Files + Threads + Wait + Clock + Sync),
+    words: &[String],
+) -> io::Result<bool> {
+    let mut is_right = true;
+    let mut is_count = false;
+    for word in words {
+        let word = word.as_str();
+        if is_count {
+            is_right = run_drawn(rt, word)? && is_right;
+            is_count = false;
+        } else if word == "--drawn" {
+            is_count = true;
+        } else {
+            is_right = run_file(rt, word)? && is_right;
+        }
+    }
+    if is_count || words.is_empty() {
+        println!(rt; "test_scripts [--drawn COUNT] FILE..")?;
+        return Ok(false);
+    }
+    Ok(is_right)
+}
+
+fn words_of(rt: &(impl Env + AllocGlobal)) -> io::Result<Vec<String>> {
+    Ok(env::args(rt)?.skip(1).collect(rt.alloc())?)
+}
+
+fn main(rt: HostRuntime) -> io::Result<ExitCode> {
+    let words = words_of(&rt)?;
+    if run_words(&rt, words.as_slice())? {
+        Ok(ExitCode::SUCCESS)
+    } else {
+        Ok(ExitCode::FAILURE)
+    }
+}
