@@ -31,11 +31,11 @@ fn reply_of(letter: u8) -> Reply {
     }
 }
 
-// The calls of a shell, each made by a twin; or for `=` whether it is the same as before then.
+// The calls of a shell, each made by a twin; or, if it is compared, whether it is the same as before then.
 fn follow<N: Naming>(
     script: &Script<Global>,
     replies: &[u8],
-    what: &str,
+    is_compared: bool,
     alloc: Global,
 ) -> Result<String, AllocError>
     requires { lines_of script.now.lines ≡ N.script }
@@ -48,7 +48,7 @@ fn follow<N: Naming>(
             told.push('?')?;
         }
         let call = twin.run(&reply_of(*letter));
-        if what == "=" {
+        if is_compared {
             told.push(if twin.same(&user) { 'y' } else { 'n' })?;
         } else {
             tell_call(&mut told, &call)?;
@@ -62,16 +62,16 @@ fn follow<N: Naming>(
 fn follow_on(
     script: &Script<Global>,
     replies: &[u8],
-    what: &str,
+    is_compared: bool,
     alloc: Global,
 ) -> Result<String, AllocError> {
-    follow::<Brand>(script, replies, what, alloc)
+    follow::<Brand>(script, replies, is_compared, alloc)
 }
 
 // Whether a shell on the script does what a line says.
 fn line_holds(alloc: Global, script: &Script<Global>, line: &str) -> Result<bool, AllocError> {
     let rest = value(line);
-    let told = follow_on(script, named(line).as_bytes(), named(rest), alloc)?;
+    let told = follow_on(script, named(line).as_bytes(), named(rest) == "=", alloc)?;
     Ok(told.as_str().trim_end_matches(';') == value(rest))
 }
 
