@@ -3,9 +3,9 @@
 use crate::draw::draw;
 use anyhow::{Result, anyhow, bail};
 use kernel_core::{Kernel, Task};
-use test_kernel::sleepers::whoever_sleeps_has_to;
 use proc_table::PROCS;
 use std::alloc::Allocator;
+use test_kernel::sleepers::whoever_sleeps_has_to;
 use user_calls::{Machine, Ran};
 
 // Far more than any of the scripts needs.

@@ -1,0 +1,123 @@
+# Where the programs of this checkout come from; read by ./xvsh and ./test, which set `here`, the top of the checkout.
+#
+# dist/NAME.gz is the program of crates/NAME as the gate built it, and dist/record says of which sources. What is run is
+# out/bin/NAME: unpacked from there, or proved and built here. Beside it stand its origin (dist or build), the digest of its sources
+# and the folders that they stand in.
+# shellcheck shell=sh
+
+bin=${here:?}/out/bin
+
+# The folders of the sources of the program NAME, from the top of the checkout.
+folders_of() {
+    for part in $(awk -F: -v tops="$1" -f "$here/dist/parts.awk" "$here/crates.txt"); do
+        for kind in src specs proofs; do
+            [ -d "$here/crates/$part/$kind" ] && echo "crates/$part/$kind"
+        done
+    done
+}
+
+# Whether out/bin/NAME is there, and nothing that it was made of is newer. (Each call of a program asks this.)
+is_current() {
+    [ -x "$bin/$1" ] && read -r folders 2>/dev/null <"$bin/$1.folders" || return 1
+    # shellcheck disable=SC2086
+    [ -z "$(cd "$here" && find crates.txt $folders -newer "out/bin/$1" -print -quit 2>&1)" ]
+}
+
+# Whether out/bin/NAME may be run as it is: with XVSH_BUILD only what was built here may.
+may_run() {
+    is_current "$1" && { [ -z "${XVSH_BUILD:-}" ] || [ "$(cat "$bin/$1.origin")" = build ]; }
+}
+
+# The value of a line of dist/record.
+recorded() {
+    [ -r "$here/dist/record" ] && sed -n "s/^$1 //p" "$here/dist/record"
+}
+
+# Whether dist/ has the program NAME of the sources of this digest, for this system.
+is_packed() {
+    [ -r "$here/dist/$1.gz" ] && [ "$(uname -sm)" = "Linux x86_64" ] && [ "$(recorded "$1.sources")" = "$2" ]
+}
+
+# Unpacks the program NAME into a file, and ends where it isn't the one that the record names.
+unpack_to() {
+    if gzip -dc "$here/dist/$1.gz" >"$2" && [ "$(sha256sum <"$2" | cut -d' ' -f1)" = "$(recorded "$1.program")" ]; then
+        chmod 755 "$2"
+    else
+        echo "xvsh: dist/$1.gz is not the program that dist/record names" >&2
+        exit 125
+    fi
+}
+
+# Puts a new out/bin/NAME in its place: keep NAME DIGEST ORIGIN
+keep() {
+    folders_of "$1" | tr '\n' ' ' >"$bin/$1.folders"
+    echo >>"$bin/$1.folders"
+    echo "$2" >"$bin/$1.sources"
+    echo "$3" >"$bin/$1.origin"
+    touch "$bin/$1.new"
+    mv -f "$bin/$1.new" "$bin/$1"
+}
+
+# Proves and builds the program NAME of the sources of this digest, and says why: build NAME DIGEST REASON
+build() {
+    echo "xvsh: $3: proving and building $1" >&2
+    command -v rt >/dev/null || { echo "xvsh: that takes Rattle's command rt, which isn't installed here" >&2; exit 125; }
+    echo "xvsh: meanwhile rt try, in crates/$1, runs it unproved" >&2
+    "$here/dist/build" "$1" || exit 125
+    cp "$here/out/build/$1" "$bin/$1.new"
+    keep "$1" "$2" build
+}
+
+# Why out/bin/NAME, which was made of sources of this digest, may not be run; nothing where it may.
+outdated() {
+    if [ -n "${XVSH_BUILD:-}" ] && [ "$(cat "$bin/$1.origin")" != build ]; then
+        echo "XVSH_BUILD is set"
+        return
+    fi
+    read -r folders <"$bin/$1.folders"
+    # shellcheck disable=SC2086
+    file=$(cd "$here" && find $folders -type f \( -name '*.rt' -o -name '*.antt' \) -newer "out/bin/$1" -print -quit)
+    [ -z "$file" ] || echo "$file was written after the program (rm -r out/bin goes back to that of dist/)"
+}
+
+# Makes out/bin/NAME the program of this checkout. Of two calls at once the second waits for the first.
+prepare() {
+    if command -v flock >/dev/null; then
+        exec 9>"$bin/lock"
+        flock 9
+        may_run "$1" && { exec 9>&-; return; }
+    fi
+    digest=$("$here/dist/digest" "$1") || exit 125
+    if [ -x "$bin/$1" ] && [ "$(cat "$bin/$1.sources")" = "$digest" ]; then
+        reason=$(outdated "$1")
+        if [ -n "$reason" ]; then build "$1" "$digest" "$reason"; else touch "$bin/$1"; fi
+    elif [ -n "${XVSH_BUILD:-}" ]; then
+        build "$1" "$digest" "XVSH_BUILD is set"
+    elif is_packed "$1" "$digest"; then
+        unpack_to "$1" "$bin/$1.new"
+        keep "$1" "$digest" dist
+    else
+        build "$1" "$digest" "dist/ has no program of these sources for $(uname -sm)"
+    fi
+    exec 9>&-
+}
+
+# Runs the program NAME with these words: run NAME WORD..
+run() {
+    name=$1
+    shift
+    if may_run "$name"; then
+        exec "$bin/$name" "$@"
+    elif mkdir -p "$bin" 2>/dev/null && [ -w "$bin" ]; then
+        prepare "$name"
+        exec "$bin/$name" "$@"
+    fi
+    # in a checkout that can't be written, what dist/ has is unpacked for this call alone
+    is_packed "$name" "$("$here/dist/digest" "$name")" || { echo "xvsh: dist/ has no program of these sources, and $here can't be written to build one" >&2; exit 125; }
+    room=$(mktemp -d)
+    trap 'rm -rf "$room"' EXIT
+    trap 'exit 130' INT TERM
+    unpack_to "$name" "$room/$name"
+    "$room/$name" "$@"
+    exit $?
+}
