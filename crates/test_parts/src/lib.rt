@@ -23,6 +23,8 @@ mod procs;
 #[cfg(test)]
 mod shell;
 #[cfg(test)]
+mod spent;
+#[cfg(test)]
 mod texts;
 #[cfg(test)]
 mod told;

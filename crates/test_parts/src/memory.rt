@@ -44,8 +44,8 @@ fn is_loaded<A: Allocator + Copy>(memory: A) -> Result<bool, LoadFault> {
     Ok(script.lines.as_slice().len() == 3 && script.profile == Profile::Append)
 }
 
-// A set of files whose list has no room to spare: it had room for 4, and has 4.
-fn four_files<A: Allocator + Copy>(memory: A) -> Result<Files<A>, FilesFault> {
+/// A set of files whose list has no room to spare: it had room for 4, and has 4.
+pub(crate) fn four_files<A: Allocator + Copy>(memory: A) -> Result<Files<A>, FilesFault> {
     let mut files = Files::new(memory);
     for name in [b'a', b'b', b'c', b'p'] {
         files.put(&[name], b"b\naab\naabc\ncb\n")?;
