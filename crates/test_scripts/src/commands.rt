@@ -56,7 +56,10 @@ fn set_absent(store: &mut Store, row: &Row<'_>) -> Result<()> {
 }
 
 fn set_input(store: &mut Store, texts: &Texts<'_>, row: &Row<'_>) -> Result<()> {
-    let given = row.count("input") + row.count("input_of") + row.count("no_input");
+    let given = row
+        .count("input")
+        .saturating_add(row.count("input_of"))
+        .saturating_add(row.count("no_input"));
     if given > 1 {
         bail!("there are {given} standard inputs");
     }
