@@ -1,20 +1,31 @@
-//! Laws of reports: each function's contract is the law, and its body is empty.
+//! Laws of runs on harts: each function's contract is the law, and its body is empty.
 
-ghost use Rattle.std.specs.Prelude.{◌≡◌, None};
+ghost use Rattle.std.specs.Prelude.{◌≡◌, List};
+ghost use Rattle.std.specs.Coded.{Coded};
+ghost use base.Stored.{Gv};
+ghost use Rattle.mem_files.specs.Name.{Bytes, Name};
+ghost use Rattle.mem_files.specs.Listing.{AreFiles};
+ghost use Rattle.script_load.specs.Line.{lines_of};
 ghost use Rattle.sh_machine.specs.State.{User};
-ghost use Rattle.kernel_model.specs.KernelState.{KernelState};
-ghost use Rattle.kernel_core.specs.Same.{AreSame};
-ghost use Rattle.kernel_core.specs.ScriptRun.{IsRunFrom};
+ghost use Rattle.sh_machine.specs.Turn.{call_of, next_of};
+ghost use Rattle.kernel_core.specs.Answer.{IsAnswerIfSettled};
+ghost use Rattle.run_model.specs.ScriptRun.{script_kernel};
+ghost use Rattle.kernel_threads.specs.Boots.{number_of};
+ghost use Rattle.kernel_threads.specs.Reports.{IsFinishedFrom};
 
-use kernel_core::Report;
-use std::alloc::Allocator;
+use kernel_events::Report;
+use script_load::Script;
+use std::alloc::{Allocator, Global};
 
-/// Two reports of runs from one kernel by one schedule, in which nothing was full, are equal: so a replay of a report's
-/// schedule, on the same script, input and files, gives the report again.
-pub fn a_schedule_gives_one_report<A: Allocator, B: Allocator>(
-    _first: &Report<A>,
-    _second: &Report<B>,
+/// What `close` tells of a finished run (clause `finished`) of a kernel that was booted with a script's machines, whoever took
+/// the turns: if the script is settled and nothing was full, the report tells the output and the files of its recursive
+/// meaning, soft files left out.
+pub fn a_closed_run_of_a_settled_script_is_its_meaning<A: Allocator>(
+    _script: &Script<A>,
+    _report: &Report<Global>,
 )
-    ensures { (start : KernelState User) → IsRunFrom start _first.now → IsRunFrom start _second.now → _first.now.schedule ≡ _second.now.schedule
-        → _first.now.full ≡ None → _second.now.full ≡ None → AreSame _first.now _second.now }
+    ensures { (input : Bytes) (list : List (Name × Bytes)) (code : Coded User) (boot : Gv) → AreFiles list
+        → number_of code (script_kernel _script.now.profile (lines_of _script.now.lines) input list) ≡ boot
+        → IsFinishedFrom code call_of next_of boot _report.now
+        → IsAnswerIfSettled _script.now.profile (lines_of _script.now.lines) input list _report.now }
 {}

@@ -1,5 +1,5 @@
 -- A finished run of the kernel gives the meaning of a settled script, and a report tells what the run left.
-use Rattle.std.proofs.Common.{◌≡◌, ◌∙◌, List, Some, true, sym, ap}
+use Rattle.std.proofs.Common.{◌≡◌, ◌∙◌, List, true, sym, ap}
 use Rattle.std.specs.Prelude.{IfOk, Result}
 use Rattle.std.proofs.lemmas.Result.{IfOk-weaker}
 use Rattle.mem_files.specs.Name.{Name, Bytes}
@@ -8,18 +8,16 @@ use Rattle.mem_files.specs.Listing.{AreFiles}
 use Rattle.script_load.specs.declared.profile.Profile.{Profile}
 use Rattle.script_load.specs.Line.{ScriptLine}
 use Rattle.script_load.specs.Limits.{are_small}
-use Rattle.sh_machine.specs.Turn.{call_of, next_of}
-use Rattle.kernel_model.specs.Events.{run}
-use Rattle.kernel_core.specs.declared.report.Report.{Report}
+use Rattle.kernel_events.specs.declared.report.Report.{Report}
 use Rattle.kernel_core.specs.Answer.{IsAnswerIfSettled}
-use Rattle.kernel_core.specs.ScriptRun.{IsRunFrom, script_kernel}
-use Rattle.kernel_core.proofs.Scripts.{whole}
-use Rattle.kernel_trees.proofs.RunsEnd.{finished_means}
-use Rattle.tree_machine.proofs.Short.{small_short}
+use Rattle.kernel_events.specs.Reports.{IsRunFrom}
+use Rattle.run_model.specs.ScriptRun.{script_kernel}
+use Rattle.law_standing.proofs.RunsEnd.{finished_means}
+use Rattle.law_trees.proofs.Short.{small_short}
 
 pub answer : {A : _} (profile : Profile) (lines : List ScriptLine) (input : Bytes) (list : List (Name × Bytes)) (report : Report A) → are_small lines ≡ true → AreFiles list → IsRunFrom (script_kernel profile lines input list) report → IsAnswerIfSettled profile lines input list report
 answer profile lines input list report small are ran settled quiet =
-    let agrees = finished_means profile lines input list report.schedule ran.notes ran.last are settled (small_short lines small) (ap (λ k. run call_of next_of (Some k) report.schedule ran.notes) (whole profile lines input list) ∙ ran.runs) (sym ran.tells.full ∙ quiet) ran.finished in
+    let agrees = finished_means profile lines input list report.schedule ran.notes ran.last are settled (small_short lines small) ran.runs (sym ran.tells.full ∙ quiet) ran.finished in
     record {
       out = ran.tells.out ∙ agrees.out;
       files = λ name hard. ap (λ fs. files fs name) ran.tells.files ∙ agrees.files name hard;

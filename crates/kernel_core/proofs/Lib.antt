@@ -1,4 +1,3 @@
 pub mod Answers
-mod Keeping
-pub mod Scripts
-mod Turning
+mod Spending
+mod Told

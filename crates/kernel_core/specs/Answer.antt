@@ -4,10 +4,10 @@ use Rattle.mem_files.specs.Name.{Name, Bytes}
 use Rattle.mem_files.specs.Files.{files}
 use Rattle.script_load.specs.declared.profile.Profile.{Profile}
 use Rattle.script_load.specs.Line.{ScriptLine}
-use Rattle.sh_meaning.specs.Meaning.{script_meaning}
-use Rattle.sh_meaning.specs.Settled.{IsSettledScript}
-use Rattle.sh_meaning.specs.Value.{Value}
-use Rattle.kernel_core.specs.declared.report.Report.{Report}
+use Rattle.meaning_model.specs.Meaning.{script_meaning}
+use Rattle.meaning_model.specs.Settled.{IsSettledScript}
+use Rattle.meaning_model.specs.Value.{Value}
+use Rattle.kernel_events.specs.declared.report.Report.{Report}
 
 -- the report tells the output of the value, and its files but for soft ones: each name has in both the same bytes, or none
 pub record IsAnswer {A : _} (value : Value) (report : Report A) : Type 0 where

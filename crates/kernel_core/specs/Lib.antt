@@ -1,7 +1,2 @@
-pub mod Harts
-pub mod Possible
-pub mod Reports
-pub mod ScriptRun
 pub mod Answer
-pub mod Turns
-pub mod Same
+pub mod Filled

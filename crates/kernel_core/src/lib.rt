@@ -1,21 +1,18 @@
-//! The kernel: xv6's `kernel/proc.c`, `file.c`, `pipe.c` and `sysfile.c` as one value to which two kinds of events
-//! happen.
+//! The kernel, and runs of a script on one hart with their one answer.
 //!
 //! A dispatch hands a Runnable process to a hart; a trap carries out the system call that the process then made. Which
-//! process is dispatched is left open, and memory may be refused; all else is a function of the events, and the type
+//! process is dispatched is left open, and memory may be refused; all else is a function of the events. The type `Kernel`
 //! keeps that its state is the one that its schedule leads to.
 #![tactic(auto)]
 
-mod happening;
-mod kernel;
-mod log;
-mod report;
+pub mod awake;
+pub mod ending;
+pub mod facts;
 mod run;
-mod status;
+mod whole;
 
-pub use kernel::{Kernel, Stranger};
-pub use kernel_model::{Event, Full};
-pub use kernel_pipes::PipeStatus;
-pub use kernel_state::Task;
-pub use report::{Report, Schedule};
-pub use run::{MAX_TURNS, RunOneFault, run_one};
+pub use kernel_events::{Event, Full, Kernel, PipeStatus, Report, Schedule, Stranger, Task};
+pub use kernel_runs::RunOneFault;
+pub use run::run_one;
+pub use script_load::MAX_TURNS;
+pub use whole::run_whole;

@@ -1,60 +1,29 @@
 //! Runs of a script on one hart.
 
-ghost use Rattle.std.specs.Prelude.{◌≡◌, ◌≤◌, ◌<◌, ◌⊎◌, ◌↔◌, All, IfOk, OnOk, Err, [], count_by, length, true};
-ghost use Rattle.proc_table.specs.Slots.{is_running};
+ghost use Rattle.std.specs.Prelude.{◌≡◌, ◌≤◌, ◌<◌, ◌⊎◌, ◌↔◌, All, IfOk, Err, length, true};
 ghost use Rattle.script_load.specs.Line.{lines_of};
-ghost use Rattle.kernel_model.specs.Events.{IsFinished};
+ghost use Rattle.script_load.specs.declared.limits.TheConstants.{MAX_TURNS};
+ghost use Rattle.run_model.specs.ScriptRun.{IsSpentFrom, script_kernel};
+ghost use Rattle.kernel_events.specs.Harts.{is_of_hart};
+ghost use Rattle.kernel_events.specs.Reports.{IsRunFrom};
 ghost use Rattle.kernel_core.specs.Answer.{IsAnswerIfSettled};
-ghost use Rattle.kernel_core.specs.Harts.{is_of_hart};
-ghost use Rattle.kernel_core.specs.Reports.{IsReport};
-ghost use Rattle.kernel_core.specs.ScriptRun.{IsRunFrom, IsSpentFrom, script_kernel};
-ghost use Rattle.kernel_core.specs.Turns.{IsSpent, IsSpentBy};
 
-use crate::kernel::Kernel;
-use crate::report::Report;
+use kernel_events::Report;
+use kernel_runs::RunOneFault;
 use mem_files::Files;
 use mem_files::laws::are_files;
 use script_load::Script;
-use sh_machine::{Naming, User};
-use std::alloc::{AllocError, Allocator};
-use std::marker::Brand;
-use thiserror::Error;
-use user_calls::Machine;
+use std::alloc::Allocator;
 
-/// The most turns that a run may have (own).
-pub const MAX_TURNS: u64 = 1_000_000_000;
-
-/// Why a run gives no report.
-#[derive(Clone, Copy, Debug, PartialEq, Eq, Error)]
-pub enum RunOneFault {
-    /// Fault 1: no turns, or more than 1,000,000,000.
-    #[error("the number of turns is out of range")]
-    BadTurns,
-    /// Fault 2: the run isn't finished, and fewer than two turns are left or nothing is Runnable.
-    #[error("the turns are spent")]
-    Spent,
-    /// Fault 3: memory was refused where that can't be told to a process.
-    #[error("no memory")]
-    Memory,
-}
-
-impl From<AllocError> for RunOneFault {
-    ghost use Rattle.kernel_core.specs.declared.run.RunOneFault.TheVariants.{Memory};
-
-    ghost from_gives = { λ _ fault. fault ≡ Memory };
-
-    fn from(_error: AllocError) -> RunOneFault {
-        RunOneFault::Memory
-    }
-}
-
-/// Runs a script by its processes on hart 0, with this standard input and these files, in at most so many turns, of
-/// which each event takes one: init and the top shell begin, and the run is finished once only init is left.
+/// Runs a script by its processes on hart 0, with this standard input and these files, in at most `turns` turns. Each event
+/// takes one turn. Init and the top shell begin, and the run is finished once only init is left.
 ///
-/// Which Runnable process a turn goes to is the kernel's choice. A refused growth inside a call is answered to its
-/// process and marked in the report; elsewhere it is the fault `Memory`. That choice, and which memory is refused, doesn't
-/// matter to a settled script (`answer`): where nothing was full the report tells what the script means, each pipe's left
-/// side run to its end first.
+/// Which Runnable process gets a turn is the kernel's choice. A refused growth inside a call is answered to its process and
+/// marked in the report; elsewhere it is the fault `Memory`. Neither matters to a settled script (`answer`): where nothing
+/// was full, the report has the output and the files of the script's meaning, in which each pipe's left side runs to its end
+/// first.
+///
+/// The faults come in their order: `BadTurns`, `Spent`, `Memory`.
 #[tactic(auto, using(crate::proofs::Answers::answered))]
 pub fn run_one<A: Allocator + Copy, B: Allocator, C: Allocator>(
     alloc: A,
@@ -70,79 +39,6 @@ pub fn run_one<A: Allocator + Copy, B: Allocator, C: Allocator>(
     ensures bad_turns { (result ≡ Err RunOneFault.BadTurns) ↔ ((turns ≡ 0) ⊎ (MAX_TURNS < turns)) }
     ensures spent { result ≡ Err RunOneFault.Spent → IsSpentFrom (script_kernel script.now.profile (lines_of script.now.lines) stdin.now files.now) turns }
 {
-    if turns == 0 || MAX_TURNS < turns {
-        return Err(RunOneFault::BadTurns);
-    }
     are_files(files);
-    run_named::<Brand, A, B, C>(alloc, script, stdin, files, turns)
-}
-
-// The run of the script that `N` names.
-fn run_named<N: Naming, A: Allocator + Copy, B: Allocator, C: Allocator>(
-    alloc: A,
-    script: &Script<B>,
-    stdin: &[u8],
-    files: &Files<C>,
-    turns: u64,
-) -> Result<Report<A>, RunOneFault>
-    requires { lines_of script.now.lines ≡ N.script }
-    ensures run { IfOk result (IsRunFrom (script_kernel script.now.profile (lines_of script.now.lines) stdin.now files.now)) }
-    ensures hart { IfOk result (λ report. All (λ event. is_of_hart 0 event ≡ true) report.schedule) }
-    ensures turns { IfOk result (λ report. length report.schedule ≤ turns) }
-    ensures bad_turns { result ≡ Err RunOneFault.BadTurns → ⊥ }
-    ensures spent { result ≡ Err RunOneFault.Spent → IsSpentFrom (script_kernel script.now.profile (lines_of script.now.lines) stdin.now files.now) turns }
-{
-    let init = User::<B, N>::init();
-    let kernel = Kernel::boot(alloc, init, User::shell(script), stdin, files)?;
-    run_kernel(kernel, turns)
-}
-
-// Takes turns on hart 0 until only init is left, and gives the report.
-fn run_kernel<M: Machine, A: Allocator + Copy>(
-    mut kernel: Kernel<M, A>,
-    turns: u64,
-) -> Result<Report<A>, RunOneFault>
-    requires idle { count_by is_running kernel.now.table ≡ 0 }
-    requires fresh { kernel.schedule ≡ [] }
-    ensures run { IfOk result (IsReport M.call_of M.next_of kernel.boot) }
-    ensures hart { IfOk result (λ report. All (λ event. is_of_hart 0 event ≡ true) report.schedule) }
-    ensures turns { IfOk result (λ report. length report.schedule ≤ turns) }
-    ensures bad_turns { result ≡ Err RunOneFault.BadTurns → ⊥ }
-    ensures spent { result ≡ Err RunOneFault.Spent → IsSpentBy M.call_of M.next_of kernel.boot turns }
-{
-    let taken = take_turns(&mut kernel, turns);
-    kernel.replays();
-    match taken {
-        Ok(()) => Ok(kernel.into_report()),
-        Err(fault) => Err(fault),
-    }
-}
-
-// Takes turns on hart 0 until only init is left.
-fn take_turns<M: Machine, A: Allocator + Copy>(
-    kernel: &mut Kernel<M, A>,
-    turns: u64,
-) -> Result<(), RunOneFault>
-    requires idle { count_by is_running kernel.old.now.table ≡ 0 }
-    requires fresh { kernel.old.schedule ≡ [] }
-    ensures boot { kernel.new.boot ≡ kernel.old.boot }
-    ensures finished { OnOk result (IsFinished kernel.new.now) }
-    ensures hart { All (λ event. is_of_hart 0 event ≡ true) kernel.new.schedule }
-    ensures turns { length kernel.new.schedule ≤ turns }
-    ensures bad_turns { result ≡ Err RunOneFault.BadTurns → ⊥ }
-    ensures spent { result ≡ Err RunOneFault.Spent → IsSpent turns kernel.new.now kernel.new.schedule }
-{
-    for _turn in 0..turns / 2 {
-        if kernel.is_finished() {
-            return Ok(());
-        }
-        if !kernel.step(0)? {
-            return Err(RunOneFault::Spent);
-        }
-    }
-    if kernel.is_finished() {
-        Ok(())
-    } else {
-        Err(RunOneFault::Spent)
-    }
+    kernel_runs::run_one(alloc, script, stdin, files, turns)
 }

@@ -1,5 +1,5 @@
 -- What an event does, and runs: lists of events from a first state on.
-use Rattle.std.specs.Prelude.{ℕ, ◌+◌, Bool, ◌&&◌, not, nat_lt, if◌then◌else◌, List, [], ◌∷◌, Option, Some, None, is_some, position}
+use Rattle.std.specs.Prelude.{ℕ, ◌+◌, Bool, true, false, ◌&&◌, not, nat_lt, if◌then◌else◌, List, [], ◌∷◌, Option, Some, None, is_some, position}
 use Rattle.user_calls.specs.declared.calls.Call.{Call}
 use Rattle.user_calls.specs.declared.calls.Call.TheVariants.{Fork, Exec, Exit, Wait, MakePipe, Read, Write, OpenFile, Close, Dup}
 use Rattle.user_calls.specs.declared.calls.Reply.{Reply}
@@ -27,6 +27,11 @@ acted k pid after (Write fd b) refused = write k pid after fd b refused
 acted k pid after (OpenFile name mode) refused = open_file k pid after name mode refused
 acted k pid after (Close fd) refused = close k pid after fd
 acted k pid after (Dup fd) refused = dup k pid after fd
+
+-- the event is a dispatch
+abbrev pub is_dispatch : Event → Bool
+is_dispatch (Dispatch h pid) = true
+is_dispatch (Trap h pid) = false
 
 -- one more event happens
 abbrev pub counted : {S : Type 0} → KernelState S → KernelState S

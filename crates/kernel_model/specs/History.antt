@@ -1,5 +1,5 @@
 -- What contracts see of a kernel that knows what happened in it.
-use Rattle.std.specs.Prelude.{◌≡◌, ℕ, ◌≤◌, Bool, true, List, [], ◌∷◌, ◌++◌, length, Some, None, count_by}
+use Rattle.std.specs.Prelude.{◌≡◌, ℕ, ◌+◌, ◌*◌, ◌≤◌, Bool, true, List, [], ◌∷◌, ◌++◌, length, Some, None, count_by}
 use Rattle.user_calls.specs.declared.calls.Call.{Call}
 use Rattle.user_calls.specs.declared.calls.Reply.{Reply}
 use Rattle.user_calls.specs.RanOnce.{RanOnce}
@@ -7,7 +7,7 @@ use Rattle.proc_table.specs.Slots.{Slot, is_running_on_status, is_running}
 use Rattle.kernel_model.specs.declared.events.Event.{Event}
 use Rattle.kernel_model.specs.declared.events.Event.TheVariants.{Dispatch, Trap}
 use Rattle.kernel_model.specs.KernelState.{KernelState}
-use Rattle.kernel_model.specs.Events.{run, happens}
+use Rattle.kernel_model.specs.Events.{run, happens, is_dispatch}
 use Rattle.kernel_model.specs.Sound.{IsSound}
 use Rattle.kernel_model.specs.Booted.{IsBooted}
 
@@ -28,12 +28,14 @@ pub record Written : Type 0 where
   pub notes : List Bool
   pub room : ℕ
 
--- the state is the one that the events lead to from a kernel at its start, and each running process has room for its trap
+-- the state is the one that the events lead to from a kernel at its start, each running process has room for its trap, and each
+-- dispatch was followed by a trap, or its process runs
 pub record IsKept {S : Type 0} (call : S → Reply → Call) (next : S → Reply → S) (boot now : KernelState S) (log : Written) : Type 0 where
   pub begun : IsBooted boot
   pub runs : run call next (Some boot) log.events log.notes ≡ Some now
   pub owed : count_by is_running now.table ≤ log.room
   pub counted : now.events ≡ length log.events
+  pub paired : length log.events + count_by is_running now.table ≡ 2 * count_by is_dispatch log.events
   pub sound : IsSound now.table now.entries
 
 -- a kernel goes on by one event

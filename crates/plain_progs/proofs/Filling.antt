@@ -7,8 +7,8 @@ use Rattle.std.specs.Str.{bytes_eq}
 use Rattle.mem_files.specs.Name.{Name, Bytes, is_openable}
 use Rattle.mem_files.specs.Files.{FileMap, with_file}
 use Rattle.mem_files.specs.Listing.{max_size}
-use Rattle.sh_meaning.specs.Limits.{OnOpened, FillOutgrows, HasNoRoom}
-use Rattle.sh_meaning.specs.Tee.{filled}
+use Rattle.meaning_model.specs.Limits.{OnOpened, FillOutgrows, HasNoRoom}
+use Rattle.meaning_model.specs.Tee.{filled}
 use Rattle.plain_progs.specs.Gives.{SameBeside}
 
 filled_one : (name : Name) (names : List Name) (bytes : Bytes) (F : FileMap) → is_openable name ≡ true → filled (name ∷ names) bytes F ≡ filled names bytes (with_file F name bytes)

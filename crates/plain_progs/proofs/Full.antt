@@ -11,7 +11,7 @@ use Rattle.mem_files.specs.Name.{Name, Bytes, name_cmp}
 use Rattle.mem_files.specs.Files.{FileMap, files}
 use Rattle.mem_files.specs.Listing.{AreFiles, IsFullFor, max_files}
 use Rattle.mem_files.proofs.Listed.{ascends, listed_found}
-use Rattle.sh_meaning.specs.Limits.{AreAllFiles, HasNoRoom}
+use Rattle.meaning_model.specs.Limits.{AreAllFiles, HasNoRoom}
 
 -- no name is below itself
 below_other : (low high : Name) → name_cmp low high ≡ Less → low ≢ high

@@ -1,7 +1,7 @@
 //! Programs that work on their inputs one by one.
 ghost use Rattle.std.specs.Prelude.{◌≡◌, ◌++◌, [], List, ℕ, OnOk, IfOk};
 ghost use Rattle.mem_files.specs.Files.{files};
-ghost use Rattle.sh_meaning.specs.Inputs.{filter_value, of_files};
+ghost use Rattle.meaning_model.specs.Inputs.{filter_value, of_files};
 ghost use Rattle.plain_progs.specs.Gives.{Gives, Extends};
 
 use crate::store::find;

@@ -1,7 +1,7 @@
 ghost use Rattle.std.specs.Prelude.{◌≡◌, ◌++◌, OnOk, IfOk, IfErr};
 ghost use Rattle.mem_files.specs.Files.{files};
-ghost use Rattle.sh_meaning.specs.Limits.{WordsOutgrow};
-ghost use Rattle.sh_meaning.specs.Programs.{echo_out, grep_value, head_value, words_value};
+ghost use Rattle.meaning_model.specs.Limits.{WordsOutgrow};
+ghost use Rattle.meaning_model.specs.Programs.{echo_out, grep_value, head_value, words_value};
 ghost use Rattle.plain_progs.specs.Gives.{Gives, IsDue, Extends, SameBeside};
 
 use crate::fault::PlainFault;

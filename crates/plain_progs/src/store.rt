@@ -3,8 +3,8 @@ ghost use Rattle.std.specs.Prelude.{◌≡◌, ◌<◌, true, false, Ok, option_
 ghost use Rattle.mem_files.specs.Name.{is_openable};
 ghost use Rattle.mem_files.specs.Files.{files, with_file};
 ghost use Rattle.mem_files.specs.Listing.{max_size};
-ghost use Rattle.sh_meaning.specs.Limits.{HasNoRoom};
-ghost use Rattle.sh_meaning.specs.Inputs.{found};
+ghost use Rattle.meaning_model.specs.Limits.{HasNoRoom};
+ghost use Rattle.meaning_model.specs.Inputs.{found};
 ghost use Rattle.plain_progs.specs.Gives.{IsDue};
 
 use crate::fault::PlainFault;

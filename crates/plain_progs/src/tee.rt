@@ -1,8 +1,8 @@
 //! The files of `tee` (own: xv6 has none).
 ghost use Rattle.std.specs.Prelude.{◌≡◌, ◌++◌, OnOk, IfOk, IfErr, [], drop};
 ghost use Rattle.mem_files.specs.Files.{files};
-ghost use Rattle.sh_meaning.specs.Limits.{FillOutgrows};
-ghost use Rattle.sh_meaning.specs.Tee.{filled, tee_bytes, tee_value, are_openable as openable};
+ghost use Rattle.meaning_model.specs.Limits.{FillOutgrows};
+ghost use Rattle.meaning_model.specs.Tee.{filled, tee_bytes, tee_value, are_openable as openable};
 ghost use Rattle.plain_progs.specs.Gives.{Gives, IsDue, Extends, SameBeside};
 
 use crate::fault::PlainFault;

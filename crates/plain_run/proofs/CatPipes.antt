@@ -7,9 +7,9 @@ use Rattle.mem_files.specs.Files.{FileMap}
 use Rattle.prog_parts.specs.NameSets.{no_names, both}
 use Rattle.conflict_check.specs.Names.{names}
 use Rattle.script_load.specs.declared.profile.Profile.{Profile}
-use Rattle.sh_meaning.specs.Meaning.{meaning}
-use Rattle.sh_meaning.specs.Settled.{IsSettled}
-use Rattle.sh_meaning.specs.Value.{fixed}
+use Rattle.meaning_model.specs.Meaning.{meaning}
+use Rattle.meaning_model.specs.Settled.{IsSettled}
+use Rattle.meaning_model.specs.Value.{fixed}
 use Rattle.plain_run.specs.CatAlone.{cat_alone}
 use Rattle.plain_run.proofs.Settling.{settled_among, settled_alone}
 

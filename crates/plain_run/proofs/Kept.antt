@@ -11,13 +11,13 @@ use Rattle.prog_parts.specs.declared.program.Program.{Program}
 use Rattle.prog_parts.specs.declared.program.Program.TheVariants.{Cat, Echo, Grep, Head, Tee, Wc}
 use Rattle.prog_parts.specs.Program.{program_of}
 use Rattle.prog_parts.specs.Head.{head_files, has_wrong_option}
-use Rattle.sh_meaning.specs.Meaning.{meaning, opened, input_value, output_value}
+use Rattle.meaning_model.specs.Meaning.{meaning, opened, input_value, output_value}
 use Rattle.prog_parts.specs.Grep.{grep_out, grep_left}
 use Rattle.prog_parts.specs.Head.{first_lines, after_lines, line_count}
-use Rattle.sh_meaning.specs.Inputs.{found, filter_value}
-use Rattle.sh_meaning.specs.Programs.{program_value, words_value}
-use Rattle.sh_meaning.specs.Tee.{are_openable, filled}
-use Rattle.sh_meaning.specs.Value.{Value, fixed, nothing}
+use Rattle.meaning_model.specs.Inputs.{found, filter_value}
+use Rattle.meaning_model.specs.Programs.{program_value, words_value}
+use Rattle.meaning_model.specs.Tee.{are_openable, filled}
+use Rattle.meaning_model.specs.Value.{Value, fixed, nothing}
 use Rattle.prog_parts.specs.Wc.{wc_line}
 use Rattle.script_load.specs.declared.profile.Profile.{Profile}
 

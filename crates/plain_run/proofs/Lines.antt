@@ -7,10 +7,10 @@ use Rattle.mem_files.specs.Name.{Name, Bytes}
 use Rattle.prog_parts.specs.NameSets.{among}
 use Rattle.mem_files.specs.Files.{FileMap}
 use Rattle.script_load.specs.declared.line.Line.{Line}
-use Rattle.sh_meaning.specs.Limits.{Outgrows}
+use Rattle.meaning_model.specs.Limits.{Outgrows}
 use Rattle.script_load.specs.Line.{ScriptLine, line_of}
 use Rattle.script_load.specs.declared.profile.Profile.{Profile}
-use Rattle.sh_meaning.specs.Meaning.{meaning, line_tree, script_tree}
+use Rattle.meaning_model.specs.Meaning.{meaning, line_tree, script_tree}
 use Rattle.plain_progs.specs.declared.fault.PlainFault.{PlainFault}
 use Rattle.plain_progs.specs.Gives.{Gives, IsDue}
 use Rattle.plain_run.specs.Tells.{Tells}

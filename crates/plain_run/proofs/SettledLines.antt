@@ -12,8 +12,8 @@ use Rattle.conflict_check.specs.Names.{names, uses_input}
 use Rattle.script_load.specs.declared.line.Line.{Line}
 use Rattle.script_load.specs.Line.{ScriptLine, line_of}
 use Rattle.script_load.specs.declared.profile.Profile.{Profile}
-use Rattle.sh_meaning.specs.Meaning.{meaning, line_tree, script_tree}
-use Rattle.sh_meaning.specs.Settled.{AreNoneOf, IsSettled}
+use Rattle.meaning_model.specs.Meaning.{meaning, line_tree, script_tree}
+use Rattle.meaning_model.specs.Settled.{AreNoneOf, IsSettled}
 use Rattle.plain_progs.specs.Gives.{Gives}
 use Rattle.plain_run.specs.Spans.{all_names}
 use Rattle.plain_run.specs.Tells.{Tells}

@@ -15,11 +15,11 @@ use Rattle.prog_parts.specs.NameSets.{Names, no_names, among, both}
 use Rattle.conflict_check.specs.Names.{names, writes, uses_input}
 use Rattle.conflict_check.proofs.Sharing.{none_pass}
 use Rattle.script_load.specs.declared.profile.Profile.{Profile}
-use Rattle.sh_meaning.specs.Inputs.{found}
-use Rattle.sh_meaning.specs.Meaning.{meaning, opened, input_value, output_value, written_value}
-use Rattle.sh_meaning.specs.Settled.{AreNoneOf, with_name, IsSettled}
-use Rattle.sh_meaning.specs.Value.{Value, is_cut}
-use Rattle.sh_meaning.proofs.Firm.{firm_words}
+use Rattle.meaning_model.specs.Inputs.{found}
+use Rattle.meaning_model.specs.Meaning.{meaning, opened, input_value, output_value, written_value}
+use Rattle.meaning_model.specs.Settled.{AreNoneOf, with_name, IsSettled}
+use Rattle.meaning_model.specs.Value.{Value, is_cut}
+use Rattle.meaning_model.proofs.Firm.{firm_words}
 use Rattle.plain_progs.specs.Gives.{Gives}
 use Rattle.plain_run.specs.Tells.{Tells, are_apart, with_lost}
 use Rattle.plain_run.proofs.Verdicts.{among_lost}

@@ -15,7 +15,7 @@ use Rattle.mem_files.specs.Name.{Name}
 use Rattle.conflict_check.specs.Names.{names}
 use Rattle.script_load.specs.declared.line.Line.{Line}
 use Rattle.script_load.specs.Line.{line_of, cd}
-use Rattle.sh_meaning.specs.Meaning.{line_tree}
+use Rattle.meaning_model.specs.Meaning.{line_tree}
 use Rattle.plain_run.specs.declared.name_lines.Span.{Span}
 use Rattle.plain_run.specs.Spans.{all_names, reach, reached, is_beside}
 use Rattle.plain_run.proofs.NameSets.{same}

@@ -9,9 +9,9 @@ use Rattle.mem_files.specs.Files.{FileMap, with_file, bytes_of}
 use Rattle.mem_files.specs.Listing.{max_size}
 use Rattle.script_load.specs.declared.profile.Profile.{Profile}
 use Rattle.script_load.specs.declared.profile.Profile.TheVariants.{Xv6, Append}
-use Rattle.sh_meaning.specs.Limits.{OnOpened, Outgrows, HasNoRoom}
-use Rattle.sh_meaning.specs.Meaning.{meaning, opened, over_end, at_end, output_value, written_value}
-use Rattle.sh_meaning.specs.Value.{Value}
+use Rattle.meaning_model.specs.Limits.{OnOpened, Outgrows, HasNoRoom}
+use Rattle.meaning_model.specs.Meaning.{meaning, opened, over_end, at_end, output_value, written_value}
+use Rattle.meaning_model.specs.Value.{Value}
 use Rattle.plain_progs.specs.declared.fault.PlainFault.{PlainFault}
 use Rattle.plain_progs.specs.declared.fault.PlainFault.TheVariants.{TooLarge, Memory}
 use Rattle.plain_progs.specs.Gives.{Gives, IsDue}

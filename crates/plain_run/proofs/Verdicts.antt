@@ -13,8 +13,8 @@ use Rattle.conflict_check.specs.Occurrences.{written}
 use Rattle.prog_parts.specs.Program.{is_empty}
 use Rattle.conflict_check.proofs.Listed.{writes_listed}
 use Rattle.script_load.specs.declared.profile.Profile.{Profile}
-use Rattle.sh_meaning.specs.Meaning.{meaning, opened, written_value}
-use Rattle.sh_meaning.specs.Value.{is_cut}
+use Rattle.meaning_model.specs.Meaning.{meaning, opened, written_value}
+use Rattle.meaning_model.specs.Value.{is_cut}
 use Rattle.plain_progs.specs.Gives.{Gives}
 use Rattle.plain_run.specs.Tells.{Tells, with_lost}
 use Rattle.plain_run.proofs.Steps.{output_is}

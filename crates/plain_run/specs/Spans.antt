@@ -8,7 +8,7 @@ use Rattle.conflict_check.specs.Names.{names}
 use Rattle.mem_files.specs.Name.{Name}
 use Rattle.script_load.specs.declared.line.Line.{Line}
 use Rattle.script_load.specs.Line.{line_of}
-use Rattle.sh_meaning.specs.Meaning.{script_tree}
+use Rattle.meaning_model.specs.Meaning.{script_tree}
 use Rattle.plain_run.specs.declared.name_lines.NameLines.{NameLines}
 use Rattle.plain_run.specs.declared.name_lines.Span.{Span}
 

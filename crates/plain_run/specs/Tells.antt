@@ -6,7 +6,7 @@ use Rattle.mem_files.specs.Name.{Name}
 use Rattle.prog_parts.specs.NameSets.{among}
 use Rattle.conflict_check.specs.Names.{names}
 use Rattle.conflict_check.specs.Occurrences.{written}
-use Rattle.sh_meaning.specs.Value.{Value}
+use Rattle.meaning_model.specs.Value.{Value}
 
 -- whether the value is loose, and its soft names
 pub record Tells (value : Value) (is_loose : Bool) (names : List Name) : Type 0 where

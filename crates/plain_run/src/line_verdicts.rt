@@ -4,7 +4,7 @@ ghost use Rattle.sh_tree.specs.Tree.{tree_of};
 ghost use Rattle.conflict_check.specs.Clear.{has_back, IsClear};
 ghost use Rattle.conflict_check.specs.Names.{uses_input};
 ghost use Rattle.script_load.specs.Line.{line_of};
-ghost use Rattle.sh_meaning.specs.Meaning.{line_tree, script_tree};
+ghost use Rattle.meaning_model.specs.Meaning.{line_tree, script_tree};
 
 use crate::verdict::{Verdict, joined};
 use conflict_check::{clash, has_back, uses_input};

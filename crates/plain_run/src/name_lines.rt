@@ -6,7 +6,7 @@ ghost use Rattle.sh_tree.specs.Tree.{tree_of};
 ghost use Rattle.prog_parts.specs.NameSets.{among, both};
 ghost use Rattle.conflict_check.specs.Names.{names};
 ghost use Rattle.script_load.specs.Line.{line_of};
-ghost use Rattle.sh_meaning.specs.Meaning.{line_tree};
+ghost use Rattle.meaning_model.specs.Meaning.{line_tree};
 ghost use Rattle.plain_run.specs.Spans.{all_names, span_of, reached, is_beside, AreSpans};
 
 use prog_parts::file_words;

@@ -4,8 +4,8 @@ ghost use Rattle.sh_tree.specs.declared.tree.Mode.TheVariants.{Input};
 ghost use Rattle.mem_files.specs.Name.{is_openable};
 ghost use Rattle.mem_files.specs.Files.{files, with_file};
 ghost use Rattle.mem_files.specs.Listing.{max_size};
-ghost use Rattle.sh_meaning.specs.Limits.{HasNoRoom};
-ghost use Rattle.sh_meaning.specs.Meaning.{opened, over_end};
+ghost use Rattle.meaning_model.specs.Limits.{HasNoRoom};
+ghost use Rattle.meaning_model.specs.Meaning.{opened, over_end};
 ghost use Rattle.plain_progs.specs.Gives.{IsDue};
 ghost use Rattle.plain_run.specs.Held.{held};
 

@@ -5,9 +5,9 @@ use Rattle.sh_tree.specs.declared.tree.Mode.{Mode}
 use Rattle.sh_tree.specs.Tree.{Tree, exec, redir, pipe, list}
 use Rattle.prog_parts.specs.declared.program.Program.{Program}
 use Rattle.prog_parts.specs.Program.{program_of}
-use Rattle.prog_laws.specs.FilesAhead.{Sizes}
-use Rattle.tree_ends.specs.Bound.{grown, input_under, tree_bytes, tree_steps}
-use Rattle.tree_ends.specs.ProgramBytes.{begin_bytes}
+use Rattle.program_model.specs.FilesAhead.{Sizes}
+use Rattle.tree_model.specs.Bound.{grown, input_under, tree_bytes, tree_steps}
+use Rattle.tree_model.specs.ProgramBytes.{begin_bytes}
 use Rattle.step_bounds.specs.declared.cost.Cost.{Cost}
 use Rattle.step_bounds.specs.Cost.{IsCost, IsCostOf, sizes_grown}
 use Rattle.step_bounds.proofs.Exec.{reads, bytes_are, steps_are}

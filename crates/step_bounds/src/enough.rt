@@ -2,19 +2,18 @@
 ghost use Rattle.std.specs.Prelude.{◌≡◌, ◌+◌, ◌<◌, ◌≤◌, IfNone, IfSome};
 ghost use Rattle.mem_files.specs.Files.{files};
 ghost use Rattle.script_load.specs.Line.{lines_of};
-ghost use Rattle.kernel_core.specs.declared.run.TheConstants.{MAX_TURNS};
+ghost use Rattle.script_load.specs.declared.limits.TheConstants.{MAX_TURNS};
 ghost use Rattle.step_bounds.specs.Most.{most_events};
 
 use crate::steps::most_steps;
-use kernel_core::MAX_TURNS;
 use mem_files::Files;
-use script_load::Script;
+use script_load::{MAX_TURNS, Script};
 use std::alloc::Allocator;
 
 /// As many turns as are enough for a run of the script with this standard input and these files, whatever its schedule: two
 /// more than its most events, `most_events`. `None` where they are more than a run may have (own).
 ///
-/// That they are enough is the law `so_many_turns_are_enough` of `run_bounds`, of clear scripts without `&`. They are far more
+/// That they are enough is the law `so_many_turns_are_enough` of `law_bounds`, of clear scripts without `&`. They are far more
 /// than a run takes. Takes no memory.
 pub fn turns_enough<A: Allocator, B: Allocator>(
     script: &Script<A>,

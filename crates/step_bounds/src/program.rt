@@ -1,11 +1,11 @@
 //! The cost of a simple command.
 ghost use Rattle.std.specs.Prelude.{◌≡◌, ◌<◌, ◌≤◌, ◌+◌, ◌*◌, ◌^◌, length};
 ghost use Rattle.sh_tree.specs.Tree.{exec};
-ghost use Rattle.sh_meaning.specs.Programs.{echo_out};
-ghost use Rattle.prog_laws.specs.FilesAhead.{all_sizes};
+ghost use Rattle.meaning_model.specs.Programs.{echo_out};
+ghost use Rattle.program_model.specs.FilesAhead.{all_sizes};
 ghost use Rattle.prog_parts.specs.Words.{words_files, words_use_input};
-ghost use Rattle.tree_ends.specs.Bound.{input_ahead};
-ghost use Rattle.tree_ends.specs.ProgramBytes.{begin_bytes};
+ghost use Rattle.tree_model.specs.Bound.{input_ahead};
+ghost use Rattle.tree_model.specs.ProgramBytes.{begin_bytes};
 ghost use Rattle.step_bounds.specs.declared.capped.TheConstants.{MAX_STEPS};
 ghost use Rattle.step_bounds.specs.Cost.{IsCapped, IsCost, IsCostOf, sizes_grown};
 

@@ -2,8 +2,8 @@
 ghost use Rattle.std.specs.Prelude.{◌≡◌, ◌<◌, ◌≤◌, IfNone, IfSome, map};
 ghost use Rattle.mem_files.specs.Files.{files};
 ghost use Rattle.script_load.specs.Line.{line_of, lines_of};
-ghost use Rattle.sh_meaning.specs.Meaning.{script_tree};
-ghost use Rattle.tree_ends.specs.Bound.{most_steps};
+ghost use Rattle.meaning_model.specs.Meaning.{script_tree};
+ghost use Rattle.tree_model.specs.Bound.{most_steps};
 ghost use Rattle.step_bounds.specs.Cost.{IsCostOf};
 ghost use Rattle.step_bounds.specs.declared.capped.TheConstants.{MAX_STEPS};
 

@@ -2,8 +2,8 @@
 ghost use Rattle.std.specs.Prelude.{◌≡◌, ◌≤◌};
 ghost use Rattle.sh_tree.specs.Tree.{tree_of};
 ghost use Rattle.script_load.specs.Line.{line_of};
-ghost use Rattle.sh_meaning.specs.Meaning.{line_tree};
-ghost use Rattle.tree_ends.specs.Bound.{input_under};
+ghost use Rattle.meaning_model.specs.Meaning.{line_tree};
+ghost use Rattle.tree_model.specs.Bound.{input_under};
 ghost use Rattle.step_bounds.specs.Cost.{IsCostOf};
 ghost use Rattle.step_bounds.specs.declared.capped.TheConstants.{MAX_STEPS};
 

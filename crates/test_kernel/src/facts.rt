@@ -2,12 +2,12 @@
 
 ghost use Rattle.std.specs.Prelude.{IfOk, OnOk, All, ◌≡◌, false};
 ghost use Rattle.proc_table.specs.Slots.{is_running_on};
-ghost use Rattle.kernel_laws.specs.Sleeping.{AllWait};
-ghost use Rattle.kernel_laws.specs.Limits.{IsWithin};
+ghost use Rattle.law_kernel.specs.Sleeping.{AllWait};
+ghost use Rattle.law_kernel.specs.Limits.{IsWithin};
 
 use crate::walker::Walker;
 use kernel_core::Kernel;
-use kernel_facts::facts;
+use kernel_core::facts;
 use mem_files::Files;
 use std::alloc::{AllocError, Allocator};
 use std::test::Fail;

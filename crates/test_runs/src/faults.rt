@@ -1,7 +1,7 @@
 //! Runs on harts that are refused, and a file that grows until it is full.
 
 use crate::given::{TURNS, files_of};
-use hart_threads::{Gate, OpenGate, RunFault, run_harts};
+use kernel_threads::{Gate, OpenGate, RunFault, run_harts};
 use kernel_core::{Full, Report};
 use mem_files::{Files, MAX_SIZE};
 use script_load::load;

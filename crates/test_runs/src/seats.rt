@@ -2,10 +2,10 @@
 
 ghost use Rattle.std.specs.Prelude.{◌≡◌, [], length};
 ghost use Rattle.script_load.specs.Line.{lines_of};
-ghost use Rattle.hart_threads.specs.Boots.{number_of};
+ghost use Rattle.kernel_threads.specs.Boots.{number_of};
 
 use crate::given::files_of;
-use hart_threads::{OpenGate, Run, RunFault, Seat, Shared, Turn};
+use kernel_threads::{OpenGate, Run, RunFault, Seat, Shared, Turn};
 use kernel_core::{Kernel, Report};
 use mem_files::Files;
 use script_load::{Script, load};

@@ -1,7 +1,7 @@
 //! The table of open files, as full as it can be, and fuller.
 
 use crate::given::{TURNS, files_of};
-use hart_threads::{OpenGate, run_harts};
+use kernel_threads::{OpenGate, run_harts};
 use kernel_core::{Full, Report};
 use mem_files::Files;
 use script_load::{Script, load};

@@ -3,7 +3,7 @@
 use mem_files::Files;
 use script_load::load;
 use std::test::Fail;
-use turn_bounds::run_whole;
+use kernel_core::run_whole;
 
 // A run takes as many turns as it has events, far fewer than are enough.
 #[test]

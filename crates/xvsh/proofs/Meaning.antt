@@ -5,7 +5,7 @@ use Rattle.std.specs.Io.KnownBytes.{Appends}
 use Rattle.mem_files.specs.Name.{Name, Bytes}
 use Rattle.mem_files.specs.Files.{files}
 use Rattle.script_load.specs.declared.profile.Profile.TheVariants.{Xv6}
-use Rattle.sh_meaning.specs.Meaning.{script_meaning}
+use Rattle.meaning_model.specs.Meaning.{script_meaning}
 use Rattle.script_load.specs.Script.{IsScript}
 use Rattle.xvsh_read.specs.Path.{Path}
 use Rattle.xvsh_read.specs.Reading.{ArePut, none_put, one_put}

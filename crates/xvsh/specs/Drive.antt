@@ -4,7 +4,7 @@ use Rattle.std.specs.Io.KnownBytes.{Appends}
 use Rattle.mem_files.specs.Files.{no_files}
 use Rattle.script_load.specs.declared.profile.Profile.TheVariants.{Xv6}
 use Rattle.script_load.specs.Line.{ScriptLine}
-use Rattle.sh_meaning.specs.Meaning.{script_meaning}
+use Rattle.meaning_model.specs.Meaning.{script_meaning}
 use Rattle.script_load.specs.Script.{IsScript}
 
 -- where the host tells its input and the writer what it holds, the output of the input's script under

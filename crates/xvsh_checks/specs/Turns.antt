@@ -6,7 +6,7 @@ use Rattle.std.specs.Io.KnownBytes.{Appends}
 use Rattle.mem_files.specs.Name.{Name, Bytes}
 use Rattle.mem_files.specs.Files.{FileMap, files}
 use Rattle.script_load.specs.Line.{ScriptLine}
-use Rattle.kernel_core.specs.declared.run.TheConstants.{MAX_TURNS}
+use Rattle.script_load.specs.declared.limits.TheConstants.{MAX_TURNS}
 use Rattle.step_bounds.specs.Most.{most_events}
 use Rattle.xvsh_read.specs.declared.fault.Fault.{Fault}
 use Rattle.xvsh_read.specs.Path.{Path}

@@ -9,7 +9,7 @@ use Rattle.plain_run.proofs.NameSets.{contained, contains}
 use Rattle.mem_files.specs.Name.{Name, Bytes}
 use Rattle.mem_files.specs.Files.{files}
 use Rattle.mem_files.specs.Listing.{AreFiles}
-use Rattle.sh_meaning.specs.Value.{Value}
+use Rattle.meaning_model.specs.Value.{Value}
 use Rattle.xvsh_read.specs.Listing.{file_text, list_text}
 use Rattle.xvsh_plain.specs.Running.{WritesRun}
 

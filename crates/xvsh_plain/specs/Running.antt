@@ -7,10 +7,10 @@ use Rattle.mem_files.specs.Files.{FileMap, files}
 use Rattle.mem_files.specs.Listing.{AreFiles}
 use Rattle.script_load.specs.declared.profile.Profile.{Profile}
 use Rattle.script_load.specs.Line.{ScriptLine}
-use Rattle.sh_meaning.specs.Limits.{Outgrows}
-use Rattle.sh_meaning.specs.Meaning.{script_tree, script_meaning}
-use Rattle.sh_meaning.specs.Settled.{IsSettledScript}
-use Rattle.sh_meaning.specs.Value.{Value}
+use Rattle.meaning_model.specs.Limits.{Outgrows}
+use Rattle.meaning_model.specs.Meaning.{script_tree, script_meaning}
+use Rattle.meaning_model.specs.Settled.{IsSettledScript}
+use Rattle.meaning_model.specs.Value.{Value}
 use Rattle.plain_progs.specs.declared.fault.PlainFault.{PlainFault}
 use Rattle.plain_progs.specs.declared.fault.PlainFault.TheVariants.{TooLarge as plain_large, Memory as plain_memory}
 use Rattle.xvsh_read.specs.Listing.{list_text}

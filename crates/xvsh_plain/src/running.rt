@@ -2,8 +2,8 @@
 ghost use Rattle.std.specs.Prelude.{◌≡◌, ◌≢◌, ◌↔◌, OnOk, IfOk, IfErr, IsTrue};
 ghost use Rattle.mem_files.specs.Files.{files};
 ghost use Rattle.script_load.specs.Line.{lines_of};
-ghost use Rattle.sh_meaning.specs.Meaning.{script_meaning};
-ghost use Rattle.sh_meaning.specs.Settled.{IsSettledScript};
+ghost use Rattle.meaning_model.specs.Meaning.{script_meaning};
+ghost use Rattle.meaning_model.specs.Settled.{IsSettledScript};
 ghost use Rattle.xvsh_plain.specs.Running.{of_plain, WritesRun, IsRunFault, RanPlain, IsPlainFault};
 
 use mem_files::Files;

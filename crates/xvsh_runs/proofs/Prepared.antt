@@ -6,7 +6,7 @@ use Rattle.mem_files.specs.Name.{Name, Bytes}
 use Rattle.script_load.specs.declared.profile.Profile.{Profile}
 use Rattle.script_load.specs.Line.{ScriptLine}
 use Rattle.kernel_model.specs.declared.events.Full.{Full}
-use Rattle.kernel_core.specs.ScriptRun.{script_kernel}
+use Rattle.run_model.specs.ScriptRun.{script_kernel}
 use Rattle.xvsh_read.specs.Path.{Path}
 use Rattle.xvsh_read.specs.Starting.{Starts}
 use Rattle.xvsh_runs.specs.declared.fault.RunFault.{RunFault}

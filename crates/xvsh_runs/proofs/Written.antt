@@ -5,8 +5,8 @@ use Rattle.mem_files.specs.Name.{Bytes}
 use Rattle.sh_machine.specs.State.{User}
 use Rattle.kernel_model.specs.declared.events.Full.{Full}
 use Rattle.kernel_model.specs.KernelState.{KernelState}
-use Rattle.kernel_core.specs.declared.report.Report.{Report}
-use Rattle.kernel_core.specs.ScriptRun.{IsRunFrom}
+use Rattle.kernel_events.specs.declared.report.Report.{Report}
+use Rattle.kernel_events.specs.Reports.{IsRunFrom}
 use Rattle.xvsh_runs.specs.Lists.{IsWritten, run_text}
 use Rattle.xvsh_runs.specs.declared.report.Lists.{Lists}
 

@@ -9,8 +9,8 @@ use Rattle.sh_machine.specs.State.{User}
 use Rattle.kernel_model.specs.declared.events.Event.{Event}
 use Rattle.kernel_model.specs.declared.events.Full.{Full}
 use Rattle.kernel_model.specs.KernelState.{KernelState}
-use Rattle.kernel_core.specs.ScriptRun.{script_kernel}
-use Rattle.hart_threads.specs.Events.{AreOfHarts}
+use Rattle.run_model.specs.ScriptRun.{script_kernel}
+use Rattle.kernel_threads.specs.Events.{AreOfHarts}
 use Rattle.schedule_lines.specs.EventLines.{AreLinesOf}
 use Rattle.xvsh_read.specs.Path.{Path}
 use Rattle.xvsh_read.specs.Reading.{Agree, told_at}

@@ -4,10 +4,10 @@ use Rattle.std.specs.Fmt.{decimal}
 use Rattle.mem_files.specs.Name.{Bytes}
 use Rattle.kernel_model.specs.declared.events.Full.{Full}
 use Rattle.kernel_model.specs.declared.events.Full.TheVariants.{Procs, Open, Fds, Files, Size, Memory}
-use Rattle.kernel_core.specs.declared.run.RunOneFault.{RunOneFault}
-use Rattle.kernel_core.specs.declared.run.RunOneFault.TheVariants.{BadTurns as one_turns, Spent as one_spent, Memory as one_memory}
-use Rattle.hart_threads.specs.declared.faults.RunFault.{RunFault as HartsFault}
-use Rattle.hart_threads.specs.declared.faults.RunFault.TheVariants.{BadHarts as bad_harts, BadTurns as bad_turns, Spent as harts_spent, Memory as harts_memory}
+use Rattle.kernel_runs.specs.declared.run.RunOneFault.{RunOneFault}
+use Rattle.kernel_runs.specs.declared.run.RunOneFault.TheVariants.{BadTurns as one_turns, Spent as one_spent, Memory as one_memory}
+use Rattle.kernel_threads.specs.declared.faults.RunFault.{RunFault as HartsFault}
+use Rattle.kernel_threads.specs.declared.faults.RunFault.TheVariants.{BadHarts as bad_harts, BadTurns as bad_turns, Spent as harts_spent, Memory as harts_memory}
 use Rattle.xvsh_read.specs.declared.fault.Fault.TheVariants.{Memory as no_memory}
 use Rattle.xvsh_read.specs.Status.{status_of, fault_words}
 use Rattle.xvsh_runs.specs.declared.fault.RunFault.{RunFault}

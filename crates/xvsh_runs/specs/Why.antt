@@ -9,10 +9,10 @@ use Rattle.sh_machine.specs.State.{User}
 use Rattle.kernel_model.specs.declared.events.Event.{Event}
 use Rattle.kernel_model.specs.declared.events.Event.TheVariants.{Dispatch, Trap}
 use Rattle.kernel_model.specs.KernelState.{KernelState}
-use Rattle.kernel_core.specs.ScriptRun.{IsSpentFrom, script_kernel}
-use Rattle.hart_threads.specs.Ranges.{AreBadHarts, AreBadTurns}
-use Rattle.hart_run.specs.Refused.{IsReplayFault}
-use Rattle.hart_run.specs.declared.replaying.ReplayFault.TheVariants.{NotRunnable as not_runnable, NotRunning as not_running, Unfinished as unfinished}
+use Rattle.run_model.specs.ScriptRun.{IsSpentFrom, script_kernel}
+use Rattle.kernel_threads.specs.Ranges.{AreBadHarts, AreBadTurns}
+use Rattle.kernel_runs.specs.Refused.{IsReplayFault}
+use Rattle.kernel_runs.specs.declared.replaying.ReplayFault.TheVariants.{NotRunnable as not_runnable, NotRunning as not_running, Unfinished as unfinished}
 use Rattle.schedule_lines.specs.EventLines.{AreLinesOf, IsNoEventAt}
 use Rattle.xvsh_read.specs.declared.fault.Fault.{Fault}
 use Rattle.xvsh_read.specs.Path.{Path}

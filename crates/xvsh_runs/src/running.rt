@@ -1,15 +1,16 @@
 //! `run`: a script by its processes on some harts.
 ghost use Rattle.std.specs.Prelude.{◌≡◌, ◌≢◌, ◌≤◌, IfOk, IfErr, length};
 ghost use Rattle.script_load.specs.Line.{lines_of};
-ghost use Rattle.kernel_core.specs.ScriptRun.{IsRunFrom, script_kernel};
-ghost use Rattle.hart_threads.specs.Events.{AreOfHarts};
+ghost use Rattle.kernel_events.specs.Reports.{IsRunFrom};
+ghost use Rattle.run_model.specs.ScriptRun.{script_kernel};
+ghost use Rattle.kernel_threads.specs.Events.{AreOfHarts};
 ghost use Rattle.xvsh_read.specs.declared.fault.Fault.TheVariants.{Unwritten};
 ghost use Rattle.xvsh_runs.specs.Runs.{RanOn, RanRun};
 ghost use Rattle.xvsh_runs.specs.Why.{IsRunFault, IsHartsFault};
 
 use crate::fault::RunFault;
 use crate::report::{Lists, write_report};
-use hart_threads::{OpenGate, run_harts};
+use kernel_threads::{OpenGate, run_harts};
 use kernel_core::{Report, run_one};
 use kernel_model::Full;
 use script_load::Profile;

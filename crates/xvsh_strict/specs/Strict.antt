@@ -6,7 +6,7 @@ use Rattle.mem_files.specs.Name.{Name, Bytes}
 use Rattle.mem_files.specs.Files.{files}
 use Rattle.script_load.specs.declared.profile.Profile.{Profile}
 use Rattle.script_load.specs.Line.{ScriptLine}
-use Rattle.sh_meaning.specs.Settled.{IsSettledScript}
+use Rattle.meaning_model.specs.Settled.{IsSettledScript}
 use Rattle.kernel_model.specs.declared.events.Full.{Full}
 use Rattle.xvsh_read.specs.declared.fault.Fault.{Fault}
 use Rattle.xvsh_read.specs.Path.{Path}

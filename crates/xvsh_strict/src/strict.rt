@@ -2,7 +2,7 @@
 ghost use Rattle.std.specs.Prelude.{◌≡◌, ◌≢◌, ◌↔◌, IfOk, IfErr, IsTrue};
 ghost use Rattle.mem_files.specs.Files.{files};
 ghost use Rattle.script_load.specs.Line.{lines_of};
-ghost use Rattle.sh_meaning.specs.Settled.{IsSettledScript};
+ghost use Rattle.meaning_model.specs.Settled.{IsSettledScript};
 ghost use Rattle.xvsh_read.specs.declared.fault.Fault.TheVariants.{Unwritten};
 ghost use Rattle.xvsh_plain.specs.Running.{IsRunFault};
 ghost use Rattle.xvsh_strict.specs.Strict.{RanStrict, IsStrictFault};

@@ -1,6 +1,6 @@
 use Rattle.std.proofs.Common.{◌≡◌, ◌++◌, drop}
 use Rattle.mem_files.specs.Files.{files}
-use Rattle.sh_meaning.specs.Inputs.{of_files}
+use Rattle.meaning_model.specs.Inputs.{of_files}
 use Rattle.plain_progs.specs.Gives.{Extends}
 use Rattle.plain_progs.proofs.filter.run_on_files.Given as goal
 

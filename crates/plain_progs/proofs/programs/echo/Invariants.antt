@@ -1,5 +1,5 @@
 use Rattle.std.proofs.Common.{◌≡◌, ◌++◌, drop}
-use Rattle.sh_meaning.specs.Programs.{echo_out}
+use Rattle.meaning_model.specs.Programs.{echo_out}
 use Rattle.plain_progs.specs.Gives.{Extends}
 use Rattle.plain_progs.proofs.programs.echo.Given as goal
 

@@ -1,7 +1,7 @@
 use Rattle.std.proofs.Common.{◌≡◌, drop}
 use Rattle.mem_files.specs.Files.{files}
-use Rattle.sh_meaning.specs.Limits.{FillOutgrows}
-use Rattle.sh_meaning.specs.Tee.{filled}
+use Rattle.meaning_model.specs.Limits.{FillOutgrows}
+use Rattle.meaning_model.specs.Tee.{filled}
 use Rattle.plain_progs.specs.Gives.{SameBeside}
 use Rattle.plain_progs.proofs.tee.fill.Given as goal
 

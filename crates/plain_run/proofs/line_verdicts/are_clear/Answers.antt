@@ -2,7 +2,7 @@ use Rattle.std.proofs.Common.{◌≡◌, ◌↔◌, ◌<◌, ◌+◌, false, len
 use Rattle.std.specs.Prelude.{map}
 use Rattle.conflict_check.specs.Clear.{has_back, IsClear}
 use Rattle.script_load.specs.Line.{line_of}
-use Rattle.sh_meaning.specs.Meaning.{line_tree}
+use Rattle.meaning_model.specs.Meaning.{line_tree}
 use Rattle.plain_run.proofs.Lines.{next_line}
 use Rattle.plain_run.proofs.SettledLines.{AreClearLines, clear_more}
 use Rattle.plain_run.proofs.line_verdicts.are_clear.Goals as goal

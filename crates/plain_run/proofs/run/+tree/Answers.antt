@@ -7,10 +7,10 @@ use Rattle.mem_files.specs.Name.{is_openable}
 use Rattle.mem_files.specs.Files.{files, with_file}
 use Rattle.mem_files.specs.Listing.{max_size}
 use Rattle.prog_parts.specs.NameSets.{no_names}
-use Rattle.sh_meaning.specs.Inputs.{found}
-use Rattle.sh_meaning.specs.Limits.{Outgrows}
-use Rattle.sh_meaning.specs.Meaning.{meaning, over_end}
-use Rattle.sh_meaning.specs.Settled.{IsSettled}
+use Rattle.meaning_model.specs.Inputs.{found}
+use Rattle.meaning_model.specs.Limits.{Outgrows}
+use Rattle.meaning_model.specs.Meaning.{meaning, over_end}
+use Rattle.meaning_model.specs.Settled.{IsSettled}
 use Rattle.plain_progs.specs.Gives.{Gives, IsDue}
 use Rattle.plain_run.specs.Tells.{Tells}
 use Rattle.plain_run.proofs.CatPipes.{into_cat_settled}

@@ -3,13 +3,13 @@ use Rattle.std.proofs.Common.{◌≡◌, ◌↔◌, IsTrue, false, subst, ap, sy
 use Rattle.mem_files.specs.Files.{files}
 use Rattle.prog_parts.specs.NameSets.{among}
 use Rattle.script_load.specs.Line.{lines_of}
-use Rattle.sh_meaning.specs.Meaning.{script_meaning}
+use Rattle.meaning_model.specs.Meaning.{script_meaning}
 use Rattle.plain_run.specs.Tells.{Tells}
 use Rattle.plain_run.proofs.NameSets.{contained, contains}
 use Rattle.conflict_check.specs.Clear.{has_back, IsClear}
 use Rattle.prog_parts.specs.NameSets.{no_names}
-use Rattle.sh_meaning.specs.Meaning.{script_tree}
-use Rattle.sh_meaning.specs.Settled.{IsSettled}
+use Rattle.meaning_model.specs.Meaning.{script_tree}
+use Rattle.meaning_model.specs.Settled.{IsSettled}
 use Rattle.plain_run.proofs.SettledLines.{clear_and_settled, not_clear}
 use Rattle.plain_run.proofs.run.plain.Goals.{then-are_clear, else-are_clear}
 use Rattle.plain_run.proofs.run.plain.Goals as goal

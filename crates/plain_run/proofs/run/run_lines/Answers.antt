@@ -5,10 +5,10 @@ use Rattle.std.proofs.lemmas.Result.{err_from_is_err_and}
 use Rattle.mem_files.specs.Files.{files}
 use Rattle.prog_parts.specs.NameSets.{no_names, both}
 use Rattle.conflict_check.specs.Names.{uses_input}
-use Rattle.sh_meaning.specs.Settled.{IsSettled}
-use Rattle.sh_meaning.specs.Limits.{Outgrows}
+use Rattle.meaning_model.specs.Settled.{IsSettled}
+use Rattle.meaning_model.specs.Limits.{Outgrows}
 use Rattle.script_load.specs.Line.{line_of}
-use Rattle.sh_meaning.specs.Meaning.{meaning, line_tree}
+use Rattle.meaning_model.specs.Meaning.{meaning, line_tree}
 use Rattle.plain_progs.specs.Gives.{Gives, IsDue}
 use Rattle.plain_run.specs.Spans.{all_names}
 use Rattle.plain_run.specs.Tells.{Tells}

@@ -1,9 +1,9 @@
 use Rattle.std.proofs.Common.{◌≡◌, ◌+◌, ◌∷◌, ◌∙◌, Some, sym, ap, subst}
 use Rattle.prog_parts.specs.Program.{program_of}
 use Rattle.prog_parts.specs.Words.{words_files, words_use_input}
-use Rattle.prog_laws.specs.FilesAhead.{all_sizes}
+use Rattle.program_model.specs.FilesAhead.{all_sizes}
 use Rattle.sh_tree.specs.Tree.{exec}
-use Rattle.tree_ends.specs.Bound.{input_ahead}
+use Rattle.tree_model.specs.Bound.{input_ahead}
 use Rattle.step_bounds.specs.Cost.{IsCostOf, sizes_grown}
 use Rattle.step_bounds.proofs.Costs.{exec_cost}
 use Rattle.step_bounds.proofs.program.exec_cost.Goals as goal

@@ -1,8 +1,8 @@
 use Rattle.std.proofs.Common.{◌≡◌, ◌+◌, ◌<◌, length, get_or, drop, ap, subst, arith}
 use Rattle.std.specs.Prelude.{map}
 use Rattle.script_load.specs.Line.{line_of}
-use Rattle.sh_meaning.specs.Meaning.{line_tree, script_tree}
-use Rattle.tree_ends.specs.Bound.{tree_bytes, tree_steps}
+use Rattle.meaning_model.specs.Meaning.{line_tree, script_tree}
+use Rattle.tree_model.specs.Bound.{tree_bytes, tree_steps}
 use Rattle.step_bounds.specs.Cost.{IsCost, sizes_grown}
 use Rattle.step_bounds.specs.declared.capped.TheConstants.{MAX_STEPS}
 use Rattle.step_bounds.proofs.Lines.{IsCostTo, next_line, one_more, too_many}

@@ -1,7 +1,7 @@
 use Rattle.std.proofs.Common.{drop, ◌≤◌}
 use Rattle.std.specs.Prelude.{map}
 use Rattle.script_load.specs.Line.{line_of}
-use Rattle.sh_meaning.specs.Meaning.{script_tree}
+use Rattle.meaning_model.specs.Meaning.{script_tree}
 use Rattle.step_bounds.specs.declared.capped.TheConstants.{MAX_STEPS}
 use Rattle.step_bounds.proofs.Lines.{IsCostTo}
 use Rattle.step_bounds.proofs.steps.script_cost.Given as goal

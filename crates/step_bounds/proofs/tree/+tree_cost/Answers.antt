@@ -11,7 +11,7 @@ returns-in-Redir g t c =
     let file = c.as_slice-in-Redir.result.now in
     let whole = ap tree_of c.in-Redir.is ∙ ap (λ n. redir mode n (tree_of c.in-Redir.body.value)) (sym c.as_slice-in-Redir.ensures) ∙ ap (λ b. redir mode file (tree_of b)) (sym c.deref.ensures) in
     subst (λ tree. IsCostOf tree a.input a.files.now a.grown c.redirected.result) (sym whole)
-    (redir_cost a.files.now a.input a.grown mode file (tree_of c.deref.result.now) c.input_under.result c.tree_cost.result c.redirected.result (c.input_under.ensures ∙ ap (λ n. Rattle.tree_ends.specs.Bound.input_under mode a.input n) c.size_of-size.ensures) c.tree_cost.ensures c.redirected.ensures)
+    (redir_cost a.files.now a.input a.grown mode file (tree_of c.deref.result.now) c.input_under.result c.tree_cost.result c.redirected.result (c.input_under.ensures ∙ ap (λ n. Rattle.tree_model.specs.Bound.input_under mode a.input n) c.size_of-size.ensures) c.tree_cost.ensures c.redirected.ensures)
 
 pub returns-in-Some : goal.returns-in-Some
 returns-in-Some g t c =

@@ -1,5 +1,5 @@
 -- The run that is named is the one of this kernel, on two harts.
-use Rattle.hart_threads.specs.Boots.{number_of}
+use Rattle.kernel_threads.specs.Boots.{number_of}
 use Rattle.test_runs.proofs.seats.take_of.Given as goal
 
 abbrev pub ghosts-take_in_turn-N-Ledger : goal.ghosts-take_in_turn-N-Ledger

@@ -3,8 +3,8 @@ use Rattle.std.specs.Prelude.{◌↔◌, IfErr, IfOk, OnOk}
 use Rattle.std.proofs.lemmas.Result.{err_from_is_err_and, IfErr-weaker}
 use Rattle.mem_files.specs.Files.{files}
 use Rattle.script_load.specs.Line.{lines_of}
-use Rattle.sh_meaning.specs.Meaning.{script_meaning}
-use Rattle.sh_meaning.specs.Settled.{IsSettledScript}
+use Rattle.meaning_model.specs.Meaning.{script_meaning}
+use Rattle.meaning_model.specs.Settled.{IsSettledScript}
 use Rattle.xvsh_plain.specs.Running.{no_start, no_run, IsRunFault, WritesRun}
 use Rattle.xvsh_plain.proofs.Ran.{ran_plain}
 use Rattle.xvsh_plain.proofs.running.run_plain.Goals as goal

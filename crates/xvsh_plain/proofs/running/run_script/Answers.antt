@@ -2,7 +2,7 @@ use Rattle.std.proofs.Common.{◌∙◌, ap}
 use Rattle.prog_parts.specs.NameSets.{among}
 use Rattle.mem_files.specs.Files.{files}
 use Rattle.script_load.specs.Line.{lines_of}
-use Rattle.sh_meaning.specs.Meaning.{script_meaning}
+use Rattle.meaning_model.specs.Meaning.{script_meaning}
 use Rattle.xvsh_read.specs.Listing.{list_text}
 use Rattle.xvsh_plain.proofs.Runs.{soft_list, writes_list, writes_output}
 use Rattle.xvsh_plain.proofs.running.run_script.Goals.{then-lists_files+in_ok-list, else-lists_files}

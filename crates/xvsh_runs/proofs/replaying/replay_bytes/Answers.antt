@@ -1,7 +1,7 @@
 use Rattle.std.proofs.Common.{inl, inr, subst}
 use Rattle.std.proofs.lemmas.Result.{err_from_is_err_and, IfErr-weaker}
 use Rattle.script_load.specs.Line.{lines_of}
-use Rattle.kernel_core.specs.ScriptRun.{script_kernel}
+use Rattle.run_model.specs.ScriptRun.{script_kernel}
 use Rattle.xvsh_runs.specs.Why.{IsBytesFault, IsEventsFault}
 use Rattle.xvsh_runs.proofs.replaying.replay_bytes.Goals as goal
 

@@ -1,6 +1,6 @@
 use Rattle.std.proofs.Common.{subst}
 use Rattle.script_load.specs.Line.{lines_of}
-use Rattle.kernel_core.specs.ScriptRun.{script_kernel}
+use Rattle.run_model.specs.ScriptRun.{script_kernel}
 use Rattle.xvsh_runs.specs.Why.{IsEventsFault}
 use Rattle.xvsh_runs.proofs.replaying.replay_started.Goals as goal
 

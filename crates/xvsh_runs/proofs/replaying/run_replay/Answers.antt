@@ -3,7 +3,8 @@ use Rattle.std.specs.Str.{bytes_eq}
 use Rattle.std.proofs.lemmas.Result.{err_from_is_err_and}
 use Rattle.std.proofs.lemmas.Slice.Eq.{bytes_eq-Decides}
 use Rattle.script_load.specs.Line.{lines_of}
-use Rattle.kernel_core.specs.ScriptRun.{IsRunFrom, script_kernel}
+use Rattle.kernel_events.specs.Reports.{IsRunFrom}
+use Rattle.run_model.specs.ScriptRun.{script_kernel}
 use Rattle.schedule_lines.specs.EventLines.{AreLinesOf}
 use Rattle.xvsh_runs.specs.Why.{shared, no_schedule, no_start_after, no_replay, IsBytesFault}
 use Rattle.xvsh_runs.proofs.Moved.{both, begins, begin_fault}

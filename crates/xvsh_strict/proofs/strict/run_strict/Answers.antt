@@ -3,8 +3,8 @@ use Rattle.std.specs.Prelude.{◌↔◌}
 use Rattle.std.proofs.lemmas.Result.{err_from_is_err_and}
 use Rattle.mem_files.specs.Files.{files}
 use Rattle.script_load.specs.Line.{lines_of}
-use Rattle.sh_meaning.specs.Settled.{IsSettledScript}
-use Rattle.kernel_core.specs.ScriptRun.{script_kernel}
+use Rattle.meaning_model.specs.Settled.{IsSettledScript}
+use Rattle.run_model.specs.ScriptRun.{script_kernel}
 use Rattle.xvsh_runs.specs.Runs.{RanOn}
 use Rattle.xvsh_runs.specs.Why.{IsHartsFault, no_start, no_run}
 use Rattle.xvsh_plain.specs.Running.{IsRunFault}

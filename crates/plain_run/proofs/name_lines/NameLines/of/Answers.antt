@@ -6,7 +6,7 @@ use Rattle.std.proofs.Math.Bool.{or_comm}
 use Rattle.std.proofs.lemmas.List.{get_or-map}
 use Rattle.conflict_check.specs.Names.{names}
 use Rattle.script_load.specs.Line.{line_of, cd}
-use Rattle.sh_meaning.specs.Meaning.{line_tree}
+use Rattle.meaning_model.specs.Meaning.{line_tree}
 use Rattle.plain_run.specs.Spans.{all_names, span_of}
 use Rattle.plain_run.proofs.Spans.{Reaches, has_at, reaches_more, beside_told}
 use Rattle.plain_run.proofs.name_lines.NameLines.of.Goals as goal

@@ -1,2 +1,0 @@
-mod OneReport
-mod Stopping

@@ -1,0 +1,4 @@
+pub mod Harts
+pub mod Possible
+pub mod Reports
+pub mod Same

@@ -1,6 +1,0 @@
-use Rattle.kernel_laws.proofs.EndsRuns.{every_run_in_step}
-use Rattle.kernel_laws.proofs.laws.an_end_is_open_while_an_entry_has_it.Goals as goal
-
-pub returns : goal.returns
-returns g c = λ init shell input list m events notes is.
-    every_run_in_step g.M.Machine.call_of g.M.Machine.next_of init shell input list events notes m is

@@ -1,0 +1,3 @@
+mod OneReport
+mod Stopping
+mod Turning

@@ -1,0 +1,179 @@
+//! A kernel that harts share.
+
+ghost use Rattle.std.specs.Prelude.{◌≡◌, ◌≤◌, ◌+◌, ◌↔◌, IsTrue, IfOk, OnErr, Err, [], length, vec_len};
+ghost use Rattle.kernel_threads.specs.Boots.{number_of};
+ghost use Rattle.kernel_threads.specs.Events.{AreOfHarts};
+ghost use Rattle.kernel_threads.specs.Reports.{IsFinishedFrom, IsSoFarFrom};
+ghost use Rattle.kernel_threads.specs.Seats.{all_events, events_of};
+ghost use Rattle.kernel_threads.specs.Turns.{IsSaid};
+
+use crate::faults::{RunFault, range_fault};
+use crate::gates::Gate;
+use crate::locked::Locked;
+use crate::naming::Run;
+use crate::passing::run_task;
+use crate::seats::Seat;
+use kernel_events::{Kernel, Report, Task};
+use std::alloc::{AllocError, Global};
+use std::sync::ledger::Blank;
+use std::sync::{Mutex, Wait};
+use user_calls::{Call, Machine};
+
+/// What a turn came to.
+#[derive(Clone, Copy, Debug, PartialEq, Eq)]
+pub enum Turn {
+    /// The run is finished.
+    Finished,
+    /// Fewer than two turns are left beside those of the traps that running processes owe.
+    Spent,
+    /// No process is Runnable, or the hart still runs one.
+    Idle,
+    /// A process ran on the hart from one call to the next, and the call was carried out.
+    Stepped,
+    /// A process ran, and its call was not one that the kernel waits for. No turn is known that ends so.
+    Lost,
+}
+
+/// A kernel that the harts of the run `N` share. The kernel is locked while an event takes place, and only then.
+#[derive(Drop)]
+pub struct Shared<N: Run, M: Machine> {
+    lock: Mutex<Locked<N, M>>,
+}
+
+impl<N: Run, M: Machine> Shared<N, M> {
+    ghost use Rattle.kernel_threads.specs.Ranges.{AreBadHarts, AreBadTurns};
+    ghost use Rattle.kernel_threads.specs.declared.faults.RunFault.TheVariants.{BadHarts, BadTurns, Spent};
+
+    /// Shares a kernel in which nothing has happened, and gives a seat for each of so many harts. `blank` is a new ledger
+    /// with a part for each seat.
+    ///
+    /// A refused call drops the kernel. The faults are `BadHarts`, `BadTurns` and `Memory`, and come in this order.
+    pub fn start(
+        alloc: Global,
+        blank: Blank,
+        kernel: Kernel<M, Global>,
+        harts: u8,
+        turns: u64,
+    ) -> Result<(Shared<N, M>, Vec<Seat<N>>), RunFault>
+        requires name { blank.name ≡ N.name }
+        requires parts { (blank.parts ≡ N.parts) × (N.parts ≡ harts) }
+        requires harts { harts ≡ N.harts }
+        requires turns { turns ≡ N.turns }
+        requires boot { number_of M.code kernel.boot ≡ N.boot }
+        requires fresh { kernel.schedule ≡ [] }
+        ensures seats { IfOk result (λ started. vec_len started.1 ≡ harts) }
+        ensures events { IfOk result (λ started. all_events started.1.items ≡ 0) }
+        ensures bad_harts { (result ≡ Err BadHarts) ↔ AreBadHarts harts }
+        ensures bad_turns { (result ≡ Err BadTurns) ↔ ((AreBadHarts harts → ⊥) × AreBadTurns turns) }
+        ensures not_spent { result ≡ Err Spent → ⊥ }
+    {
+        if let Some(fault) = range_fault(harts, turns) {
+            return Err(fault);
+        }
+        let (counts, mut all) = blank.open::<N>();
+        let Ok(seats) = Seat::take_all(alloc, &mut all, harts) else {
+            return Err(RunFault::Memory);
+        };
+        let shared = Shared::of(Locked::new(kernel, turns, counts, all));
+        Ok((shared, seats))
+    }
+
+    /// One turn of a seat: a process begins to run on its hart, runs its user code outside the lock, and its call is
+    /// carried out.
+    ///
+    /// `AllocError`, with nothing changed, where the schedule gets no room. May wait for the lock.
+    pub fn turn<R: Wait, G: Gate>(
+        &self,
+        rt: &R,
+        seat: &mut Seat<N>,
+        gate: &G,
+    ) -> Result<Turn, AllocError>
+        ensures hart { seat.new.hart ≡ seat.old.hart }
+        ensures events { IfOk result (λ turn. seat.new.events ≡ seat.old.events + events_of turn) }
+        ensures said { IfOk result (IsSaid M.code M.call_of M.next_of N.boot N.turns seat.old.hart) }
+        ensures err { OnErr result (seat.new ≡ seat.old) }
+    {
+        let mut guard = self.lock.lock(rt);
+        guard.is_run();
+        let pid = match guard.begin(seat)? {
+            Ok(pid) => pid,
+            Err(turn) => return Ok(turn),
+        };
+        let task = guard.task(seat, pid);
+        drop(guard);
+        let mut twin = task.machine.twin();
+        let call = run_task(rt, seat, &task, gate, &mut twin);
+        if self.lock.lock(rt).trap(seat, &task, &call, twin) {
+            Ok(Turn::Stepped)
+        } else {
+            Ok(Turn::Lost)
+        }
+    }
+
+    // The next process begins to run on the hart of the seat; or why none does.
+    pub(crate) fn begin<R: Wait>(
+        &self,
+        rt: &R,
+        seat: &mut Seat<N>,
+    ) -> Result<Result<Task<M>, Turn>, AllocError>
+        ensures { seat.new.hart ≡ seat.old.hart }
+    {
+        let mut guard = self.lock.lock(rt);
+        match guard.begin(seat)? {
+            Ok(pid) => Ok(Ok(guard.task(seat, pid))),
+            Err(turn) => Ok(Err(turn)),
+        }
+    }
+
+    // The call that the machine of the task made, and the machine after it, come back to the kernel, which carries out the
+    // call, and the next process begins to run on the hart of the seat: its task takes the place of the one before; or why
+    // none does. The kernel is locked once for both.
+    pub(crate) fn pass<R: Wait>(
+        &self,
+        rt: &R,
+        seat: &mut Seat<N>,
+        task: &mut Task<M>,
+        call: &Call,
+        after: M,
+    ) -> Result<Option<Turn>, AllocError>
+        requires call { call.now ≡ M.call_of (M.view task.old.machine) task.old.reply }
+        requires after { M.view after ≡ M.next_of (M.view task.old.machine) task.old.reply }
+        ensures { seat.new.hart ≡ seat.old.hart }
+    {
+        let mut guard = self.lock.lock(rt);
+        guard.trap(seat, task, call, after);
+        match guard.begin(seat)? {
+            Ok(pid) => {
+                *task = guard.task(seat, pid);
+                Ok(None)
+            }
+            Err(turn) => Ok(Some(turn)),
+        }
+    }
+
+    /// What the run leaves, when all seats come back. Takes no memory, and waits for nobody.
+    pub fn close(self, seats: Vec<Seat<N>>) -> Report<Global>
+        requires { vec_len seats ≡ N.parts }
+        ensures run { IsSoFarFrom M.code M.call_of M.next_of N.boot result }
+        ensures finished { IsTrue result.finished → IsFinishedFrom M.code M.call_of M.next_of N.boot result }
+        ensures events { length result.schedule ≡ all_events seats.items }
+        ensures harts { AreOfHarts N.harts result.schedule }
+        ensures turns { length result.schedule ≤ N.turns }
+    {
+        let mut locked = self.into_locked();
+        locked.audit(seats);
+        locked.into_report()
+    }
+
+    // The kernel without its lock.
+    pub(crate) fn into_locked(self) -> Locked<N, M> {
+        self.lock.into_inner()
+    }
+
+    // The kernel under a lock.
+    pub(crate) fn of(locked: Locked<N, M>) -> Self {
+        Shared {
+            lock: Mutex::new(locked),
+        }
+    }
+}

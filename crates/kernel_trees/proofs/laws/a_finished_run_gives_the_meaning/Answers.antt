@@ -1,5 +1,0 @@
-use Rattle.kernel_trees.proofs.RunsEnd.{finished_means}
-use Rattle.kernel_trees.proofs.laws.a_finished_run_gives_the_meaning.Goals as goal
-
-pub returns : goal.returns
-returns c = λ profile lines input list events notes m are settled short is full alone. finished_means profile lines input list events notes m are settled short is full alone

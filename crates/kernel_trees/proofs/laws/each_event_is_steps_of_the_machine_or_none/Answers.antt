@@ -1,5 +1,0 @@
-use Rattle.kernel_trees.proofs.OneFurther.{goes_further}
-use Rattle.kernel_trees.proofs.laws.each_event_is_steps_of_the_machine_or_none.Goals as goal
-
-pub returns : goal.returns
-returns c = λ profile lines input list events notes k e n l are plain is happened full. goes_further profile lines input list events notes k e n l are plain is happened full

@@ -1,5 +1,0 @@
-use Rattle.kernel_trees.proofs.RunsStand.{stands_then}
-use Rattle.kernel_trees.proofs.laws.every_run_stands_for_the_tree_machine.Goals as goal
-
-pub returns : goal.returns
-returns c = λ profile lines input list events notes m are plain is full. stands_then profile lines input list events notes m are plain is full

@@ -1,0 +1,8 @@
+mod Alike
+mod Names
+mod Puts
+mod Readings
+pub mod Meant
+pub mod Agreeing
+pub mod Statuses
+pub mod Strictly

@@ -1,0 +1,45 @@
+-- A strict run that ends with status 0 wrote the meaning of a settled script, and two of them wrote the same.
+use Rattle.std.proofs.Common.{ℕ, true, false, List, Option, None, refl}
+use Rattle.std.specs.Borrow.{Bor}
+use Rattle.std.specs.Io.KnownBytes.{Appends}
+use Rattle.mem_files.specs.Name.{Bytes}
+use Rattle.mem_files.specs.Files.{files}
+use Rattle.script_load.specs.declared.profile.Profile.{Profile}
+use Rattle.meaning_model.specs.Meaning.{script_meaning}
+use Rattle.meaning_model.specs.Settled.{IsSettledScript}
+use Rattle.xvsh_read.specs.Path.{Path}
+use Rattle.xvsh_runs.specs.declared.report.Lists.{Lists}
+use Rattle.xvsh_ends.specs.Ends.{Ends, asks_strict}
+use Rattle.xvsh_strict.specs.Strict.{RanStrict}
+use Rattle.law_answers.specs.Told.{IsTold}
+use Rattle.law_answers.specs.Written.{AddsTheSame, WritesMeaningAt, no_lists}
+use Rattle.law_answers.proofs.Meant.{means}
+use Rattle.law_answers.proofs.Readings.{as_begun}
+use Rattle.law_answers.proofs.Statuses.{ended_well}
+
+module _ (input : Option Bytes) (file : Path → Option Bytes) (profile : Profile) (script : Path) (paths : List (Bor Path)) where
+  run_means : (harts turns : ℕ) (lists : Lists) (out out' err err' : Option Bytes) → RanStrict input file profile script paths harts turns lists None true out out' err err' → WritesMeaningAt input file profile script paths lists out out'
+  run_means harts turns lists out out' err err' gave =
+      let run = gave.ran in
+      let settled : IsSettledScript profile run.lines run.stdin (files run.given) = gave.settled.0 refl in
+      record {
+        lines = run.lines;
+        given = run.given;
+        stdin = run.stdin;
+        starts = run.starts;
+        settled = settled;
+        events = run.on.events;
+        wrote = means profile run.lines run.stdin run.given settled run.on.events lists out out' err err' run.on.written input file false script paths run.starts;
+      }
+
+  pub strict_means : (harts turns : ℕ) (lists : Lists) (out out' err err' : Option Bytes) → Ends input file out out' err err' (asks_strict profile script paths harts turns lists) 0 → WritesMeaningAt input file profile script paths lists out out'
+  strict_means harts turns lists out out' err err' ends =
+      run_means harts turns lists out out' err err' (ended_well input file out out' err err' (asks_strict profile script paths harts turns lists) 0 ends refl)
+
+  -- where the host tells all that is read, both read the same
+  pub meant_alike : IsTold input file script paths → (out out' old new : Option Bytes) → WritesMeaningAt input file profile script paths no_lists out out' → WritesMeaningAt input file profile script paths no_lists old new → AddsTheSame out out' old new
+  meant_alike told out out' old new first second = (
+    (script_meaning profile first.lines first.stdin (files first.given)).out,
+    first.wrote.alone refl,
+    as_begun input file script paths told (λ l g s. Appends old new (script_meaning profile l s (files g)).out) second.lines first.lines second.given first.given second.stdin first.stdin second.starts first.starts (second.wrote.alone refl),
+  )

@@ -1,0 +1,43 @@
+-- What a run wrote to standard output, by the value of its script.
+use Rattle.std.specs.Prelude.{◌≡◌, false, List, Option}
+use Rattle.std.specs.Borrow.{Bor}
+use Rattle.std.specs.Io.KnownBytes.{Appends}
+use Rattle.mem_files.specs.Name.{Name, Bytes}
+use Rattle.mem_files.specs.Files.{files}
+use Rattle.mem_files.specs.Listing.{AreFiles}
+use Rattle.script_load.specs.declared.profile.Profile.{Profile}
+use Rattle.script_load.specs.Line.{ScriptLine}
+use Rattle.meaning_model.specs.Meaning.{script_meaning}
+use Rattle.meaning_model.specs.Settled.{IsSettledScript}
+use Rattle.meaning_model.specs.Value.{Value}
+use Rattle.kernel_model.specs.declared.events.Event.{Event}
+use Rattle.xvsh_read.specs.Path.{Path}
+use Rattle.xvsh_read.specs.Starting.{Starts}
+use Rattle.xvsh_runs.specs.Lists.{run_text}
+use Rattle.xvsh_runs.specs.declared.report.Lists.{Lists}
+
+abbrev pub no_lists : Lists
+no_lists = record { files = false; events = false }
+
+-- the output of a value was added to a writer, and then the lists that are asked for: of files that are the value's but for
+-- soft ones, and of these events; where none is asked for it was the output alone
+pub record WritesValue (value : Value) (lists : Lists) (events : List Event) (old new : Option Bytes) : Type 0 where
+  pub left : List (Name × Bytes)
+  pub are : AreFiles left
+  pub same : (name : Name) → value.soft name ≡ false → files left name ≡ value.files name
+  pub writes : Appends old new (run_text lists value.out left events)
+  pub alone : lists ≡ no_lists → Appends old new value.out
+
+-- what was read of the script at a path is settled under a profile, and its meaning was added to a writer in this way
+pub record WritesMeaningAt (input : Option Bytes) (file : Path → Option Bytes) (profile : Profile) (script : Path) (paths : List (Bor Path)) (lists : Lists) (old new : Option Bytes) : Type 0 where
+  pub lines : List ScriptLine
+  pub given : List (Name × Bytes)
+  pub stdin : Bytes
+  pub starts : Starts input file false script paths lines given stdin
+  pub settled : IsSettledScript profile lines stdin (files given)
+  pub events : List Event
+  pub wrote : WritesValue (script_meaning profile lines stdin (files given)) lists events old new
+
+-- the same bytes were added to two writers
+abbrev pub AddsTheSame : Option Bytes → Option Bytes → Option Bytes → Option Bytes → Type 0
+AddsTheSame old new other later = (text : Bytes) × Appends old new text × Appends other later text

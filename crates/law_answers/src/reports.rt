@@ -1,0 +1,46 @@
+//! Laws of reports: each function's contract is the law, and its body is empty.
+//!
+//! That a report is one of a finished run of the script, under the script's own profile, is what the contracts of `run_one`
+//! and `replay` say of theirs.
+
+ghost use Rattle.std.specs.Prelude.{◌≡◌, List, None};
+ghost use Rattle.mem_files.specs.Name.{Bytes, Name};
+ghost use Rattle.mem_files.specs.Files.{files};
+ghost use Rattle.mem_files.specs.Listing.{AreFiles};
+ghost use Rattle.script_load.specs.declared.profile.Profile.{Profile};
+ghost use Rattle.script_load.specs.Line.{lines_of};
+ghost use Rattle.meaning_model.specs.Meaning.{script_meaning};
+ghost use Rattle.meaning_model.specs.Settled.{IsSettledScript};
+ghost use Rattle.kernel_core.specs.Answer.{IsAnswer};
+ghost use Rattle.kernel_events.specs.Reports.{IsRunFrom};
+ghost use Rattle.run_model.specs.ScriptRun.{script_kernel};
+ghost use Rattle.law_answers.specs.Alike.{AreAlike};
+
+use kernel_core::Report;
+use script_load::Script;
+use std::alloc::Allocator;
+
+/// For every settled script under either profile, any standard input and files, and every schedule, on one hart or on eight:
+/// if the run finishes and nothing was full, the standard output and every file that isn't soft are exactly those of the
+/// recursive meaning, in which each pipe's left side runs to its end first.
+pub fn a_settled_script_has_one_answer<A: Allocator, B: Allocator>(
+    _script: &Script<A>,
+    _report: &Report<B>,
+)
+    ensures { (profile : Profile) (input : Bytes) (list : List (Name × Bytes)) → AreFiles list → IsSettledScript profile (lines_of _script.now.lines) input (files list)
+        → IsRunFrom (script_kernel profile (lines_of _script.now.lines) input list) _report.now → _report.now.full ≡ None
+        → IsAnswer (script_meaning profile (lines_of _script.now.lines) input (files list)) _report.now }
+{}
+
+/// So two such runs of one script, under one profile and on the same standard input and files, leave the same output, and the
+/// same files but for soft ones.
+pub fn two_runs_of_a_settled_script_agree<A: Allocator, B: Allocator, C: Allocator>(
+    _script: &Script<A>,
+    _first: &Report<B>,
+    _second: &Report<C>,
+)
+    ensures { (profile : Profile) (input : Bytes) (list : List (Name × Bytes)) → AreFiles list → IsSettledScript profile (lines_of _script.now.lines) input (files list)
+        → IsRunFrom (script_kernel profile (lines_of _script.now.lines) input list) _first.now → _first.now.full ≡ None
+        → IsRunFrom (script_kernel profile (lines_of _script.now.lines) input list) _second.now → _second.now.full ≡ None
+        → AreAlike (script_meaning profile (lines_of _script.now.lines) input (files list)).soft _first.now _second.now }
+{}

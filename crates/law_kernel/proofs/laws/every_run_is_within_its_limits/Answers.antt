@@ -1,0 +1,15 @@
+use Rattle.law_kernel.proofs.OnePipe.{small_found}
+use Rattle.law_kernel.proofs.Runs.{every_run_rests}
+use Rattle.law_kernel.proofs.SoundRuns.{every_run_is_sound}
+use Rattle.law_kernel.proofs.EntriesLong.{every_run_has_entries}
+use Rattle.law_kernel.proofs.laws.every_run_is_within_its_limits.Goals as goal
+
+pub returns : goal.returns
+returns g c = λ init shell input list m events notes are is.
+    let sound = every_run_is_sound g.M.Machine.call_of g.M.Machine.next_of init shell input list events notes m are is in
+    record {
+      processes = sound.slots;
+      entries = every_run_has_entries g.M.Machine.call_of g.M.Machine.next_of init shell input list events notes m is;
+      descriptors = sound.places;
+      bytes = λ id p found. small_found m.pipes id p (every_run_rests g.M.Machine.call_of g.M.Machine.next_of init shell input list events notes m is).small found;
+    }

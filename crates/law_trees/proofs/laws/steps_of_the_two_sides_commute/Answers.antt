@@ -1,0 +1,8 @@
+use Rattle.law_trees.proofs.Commuting.{commute, pipe_commutes}
+use Rattle.law_trees.proofs.laws.steps_of_the_two_sides_commute.Goals as goal
+
+pub returns-clause-sides : goal.returns-clause-sides
+returns-clause-sides c = commute
+
+pub returns-clause-pipe : goal.returns-clause-pipe
+returns-clause-pipe c = pipe_commutes

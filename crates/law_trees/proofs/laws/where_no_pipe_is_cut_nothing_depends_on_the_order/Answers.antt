@@ -1,0 +1,15 @@
+use Rattle.law_trees.proofs.PlainRuns.{settled_script, none_lost, wholly}
+use Rattle.law_trees.proofs.Uncut.{uncut_firm}
+use Rattle.law_trees.proofs.laws.where_no_pipe_is_cut_nothing_depends_on_the_order.Goals as goal
+
+pub returns-clause-firm : goal.returns-clause-firm
+returns-clause-firm c = uncut_firm
+
+pub returns-clause-settled : goal.returns-clause-settled
+returns-clause-settled c = settled_script
+
+pub returns-clause-unrefused : goal.returns-clause-unrefused
+returns-clause-unrefused c = none_lost
+
+pub returns-clause-wholly : goal.returns-clause-wholly
+returns-clause-wholly c = wholly

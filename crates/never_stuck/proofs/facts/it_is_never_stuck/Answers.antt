@@ -1,5 +1,0 @@
-use Rattle.never_stuck.proofs.Turns.{awake_then}
-use Rattle.never_stuck.proofs.facts.it_is_never_stuck.Goals as goal
-
-pub returns : goal.returns
-returns g c = λ run. awake_then c.args.kernel.now c.is_booted.ensures c.replays.ensures run

@@ -1,2 +1,0 @@
-pub mod Awake
-pub mod Plain

@@ -1,5 +1,0 @@
-use Rattle.prog_laws.proofs.Firm.{still_firm}
-use Rattle.prog_laws.proofs.laws.what_is_left_depends_on_no_order.Goals as goal
-
-pub returns : goal.returns
-returns c = still_firm

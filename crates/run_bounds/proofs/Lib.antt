@@ -1,8 +1,0 @@
-mod Parents
-mod Alone
-mod InitCalls
-mod Counted
-mod GoingOn
-mod Bounded
-pub mod Ending
-mod OfKernel

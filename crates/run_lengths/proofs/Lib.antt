@@ -1,3 +1,0 @@
-mod OneEvent
-mod Counted
-pub mod Bounded

@@ -1,5 +1,0 @@
-use Rattle.run_lengths.proofs.Counted.{run_pays}
-use Rattle.run_lengths.proofs.laws.the_steps_of_the_machine_pay_for_the_calls.Goals as goal
-
-pub returns : goal.returns
-returns c = λ profile lines input list events notes m are plain is full. run_pays profile lines input list are plain events notes m is full

@@ -1,4 +1,0 @@
-//! How far a run of a script is: laws, no code.
-#![tactic(auto)]
-
-pub mod laws;

@@ -1,7 +1,0 @@
-mod Names
-mod Puts
-mod Readings
-pub mod Meant
-pub mod Agreeing
-pub mod Statuses
-pub mod Strictly

@@ -1,0 +1,3 @@
+pub mod ScriptRun
+pub mod Turns
+pub mod Plain

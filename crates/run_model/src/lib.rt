@@ -1,0 +1,2 @@
+//! Runs of a script by its processes: definitions, no code.
+#![tactic(auto)]

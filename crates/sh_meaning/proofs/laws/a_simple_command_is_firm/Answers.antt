@@ -1,5 +1,0 @@
-use Rattle.sh_meaning.proofs.Firm.{firm_words}
-use Rattle.sh_meaning.proofs.laws.a_simple_command_is_firm.Goals as goal
-
-pub returns : goal.returns
-returns c words input F = firm_words words input F

@@ -1,3 +1,0 @@
-pub mod ProgramBytes
-pub mod Bound
-pub mod Ends

@@ -1,8 +1,0 @@
-use Rattle.tree_machine.proofs.Commuting.{commute, pipe_commutes}
-use Rattle.tree_machine.proofs.laws.steps_of_the_two_sides_commute.Goals as goal
-
-pub returns-clause-sides : goal.returns-clause-sides
-returns-clause-sides c = commute
-
-pub returns-clause-pipe : goal.returns-clause-pipe
-returns-clause-pipe c = pipe_commutes

@@ -1,0 +1,14 @@
+pub mod Residual
+pub mod Answers
+pub mod Begin
+pub mod Rules
+pub mod Step
+pub mod Final
+pub mod Tidy
+pub mod Kept
+pub mod Runs
+pub mod Moving
+pub mod Uncut
+pub mod ProgramBytes
+pub mod Bound
+pub mod Ends
