@@ -8,7 +8,7 @@ use crate::runs::{Driver, run_by};
 use crate::scripts::{Given, Held, Wanted};
 use anyhow::{Context, Result, bail};
 use hart_run::replay;
-use kernel_threads::{OpenGate, run_harts};
+use hart_run::{OpenGate, run_harts};
 use kernel_core::{Event, Full, Report, run_one};
 use plain_run::Plain;
 use std::alloc::Global;

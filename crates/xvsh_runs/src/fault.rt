@@ -3,7 +3,7 @@ ghost use Rattle.std.specs.Prelude.{◌≡◌, ◌↔◌, IsTrue};
 ghost use Rattle.xvsh_runs.specs.Status.{run_status};
 ghost use Rattle.xvsh_read.specs.declared.fault.Fault.TheVariants.{Unwritten};
 
-use kernel_threads::RunFault as HartsFault;
+use hart_run::RunFault as HartsFault;
 use kernel_core::RunOneFault;
 use std::fmt;
 use xvsh_read::Fault;

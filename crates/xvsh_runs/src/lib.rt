@@ -7,7 +7,7 @@ mod report;
 mod running;
 
 pub use fault::RunFault;
-pub use kernel_threads::MAX_HARTS;
+pub use hart_run::MAX_HARTS;
 pub use kernel_core::MAX_TURNS;
 pub use replaying::{MAX_SCHEDULE, run_replay};
 pub use report::{Lists, word_of};

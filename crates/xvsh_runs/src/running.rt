@@ -10,7 +10,7 @@ ghost use Rattle.xvsh_runs.specs.Why.{IsRunFault, IsHartsFault};
 
 use crate::fault::RunFault;
 use crate::report::{Lists, write_report};
-use kernel_threads::{OpenGate, run_harts};
+use hart_run::{OpenGate, run_harts};
 use kernel_core::{Report, run_one};
 use kernel_model::Full;
 use script_load::Profile;
