@@ -16,3 +16,4 @@ pub mod Lasting
 pub mod Quiet
 pub mod Booted
 pub mod KernelRun
+pub mod Notes

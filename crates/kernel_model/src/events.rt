@@ -26,3 +26,12 @@ pub enum Full {
     /// Memory.
     Memory,
 }
+
+/// Whether memory was refused to a call that wanted some.
+#[derive(Clone, Copy, Debug, PartialEq, Eq)]
+pub enum Memory {
+    /// There was enough, or the call wanted none.
+    Found,
+    /// Some was refused.
+    Refused,
+}

@@ -141,7 +141,9 @@ impl<N: Run, M: Machine> Shared<N, M> {
         ensures { seat.new.hart ≡ seat.old.hart }
     {
         let mut guard = self.lock.lock(rt);
-        guard.trap(seat, task, call, after);
+        if !guard.trap(seat, task, call, after) {
+            return Ok(Some(Turn::Lost));
+        }
         match guard.begin(seat)? {
             Ok(pid) => {
                 *task = guard.task(seat, pid);
@@ -151,7 +153,7 @@ impl<N: Run, M: Machine> Shared<N, M> {
         }
     }
 
-    /// What the run leaves, when all seats come back. Takes no memory, and waits for nobody.
+    /// What the run leaves, when all seats come back. Takes no memory, and never waits.
     pub fn close(self, seats: Vec<Seat<N>>) -> Report<Global>
         requires { vec_len seats ≡ N.parts }
         ensures run { IsSoFarFrom M.code M.call_of M.next_of N.boot result }

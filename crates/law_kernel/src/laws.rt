@@ -21,13 +21,14 @@ ghost use Rattle.law_kernel.specs.Limits.{IsWithin};
 
 use user_calls::Machine;
 
-/// No wake-up is lost: whoever sleeps has to. For bytes of a pipe: it is empty, and its write end is open. For room in
-/// a pipe: it holds 512 bytes, and its read end is open. For its children: it has one, and none that is a zombie.
+/// No wake-up is lost: a process sleeps only while what it waits for is not there. One that waits for bytes of a pipe: the pipe
+/// is empty, and its write end is open. For room in a pipe: it holds 512 bytes, and its read end is open. For children: it has
+/// one, and none that is a zombie.
 pub fn no_wake_up_is_lost<M: Machine>()
     ensures { (r : KernelRun M.call_of M.next_of) → AllWait r.last.table r.last.pipes }
 {}
 
-/// Every parent lives: it is there, and no zombie. Init lives, and is nobody's child; nobody is its own child.
+/// Every parent lives: it is there, and no zombie. Init lives, and has no parent; no process is its own child.
 pub fn every_parent_lives<M: Machine>()
     ensures parents { (r : KernelRun M.call_of M.next_of) (child parent : ℕ)
         → is_child_of parent (at r.last.table child) ≡ true → Lives (at r.last.table parent) }
@@ -50,8 +51,8 @@ pub fn an_end_is_open_while_an_entry_has_it<M: Machine>()
     ensures { (r : KernelRun M.call_of M.next_of) → EndsAgree r.last.entries r.last.pipes }
 {}
 
-/// Begun with files as they have to be, a kernel stays sound: each entry counts the descriptors that hold it, a zombie
-/// holds nothing, and there are 64 slots with 16 descriptors each. Its files stay as they have to be.
+/// Begun with a valid list of files, a kernel stays sound: each entry counts the descriptors that hold it, a zombie
+/// holds nothing, and there are 64 slots with 16 descriptors each. Its files stay a valid list.
 pub fn every_run_is_sound<M: Machine>()
     ensures sound { (r : KernelRun M.call_of M.next_of) → AreFiles r.files → IsSound r.last.table r.last.entries }
     ensures files { (r : KernelRun M.call_of M.next_of) → AreFiles r.files → AreFiles r.last.files }
@@ -81,7 +82,7 @@ pub fn every_run_is_within_its_limits<M: Machine>()
     ensures { (r : KernelRun M.call_of M.next_of) → AreFiles r.files → IsWithin r.last }
 {}
 
-/// Whoever sleeps makes a call that may sleep there, which it makes again once it runs. On a pipe's bytes it is a read
+/// A process that sleeps makes a call that may sleep there, which it makes again once it runs. On a pipe's bytes it is a read
 /// through a descriptor that holds the read end of that pipe; on a pipe's room a write through one that holds the write
 /// end, of which some bytes are left; on children a wait for its own.
 pub fn whoever_sleeps_asks_for_it<M: Machine>()

@@ -42,8 +42,8 @@ pub fn a_finished_run_gives_the_meaning()
     ensures { (r : ScriptRun) → IsSettledRun r → HasShortCommands (script_tree r.lines) → IsRoomy r → IsAlone r.last.table → HasMeaning r }
 {}
 
-/// Where nobody holds the write end of a pipe that has both its children, its left side can no longer write to it: so the end
-/// of file, which a read meets only there, comes only then. And where nobody holds its read end, its right side no longer
+/// Where no descriptor holds the write end of a pipe that has both its children, its left side can no longer write to it: so the end
+/// of file, which a read meets only there, comes only then. And where no descriptor holds its read end, its right side no longer
 /// reads from it.
 pub fn an_end_that_nobody_holds_was_given_up_by_its_side()
     ensures left { (profile : Profile) (V : View) (a b old : Entry) (parent p i : ℕ) (stage : PipeStage) (lost : Bool) (x y : Node) (bytes : Bytes)
