@@ -51,7 +51,7 @@ pub(crate) fn open_for_reading<M: Machine, A: Allocator>(
     }
 }
 
-// An entry and a descriptor are looked for first. It returns whether memory was refused.
+// Looks for an entry and a descriptor first. Returns whether memory was refused.
 pub(crate) fn open_file<M: Machine, A: Allocator + Copy>(
     state: &mut State<M, A>,
     pid: Pid,
@@ -85,7 +85,7 @@ pub(crate) fn open_file<M: Machine, A: Allocator + Copy>(
     }
 }
 
-// A missing file is made. It returns whether memory was refused.
+// A missing file is made. Returns whether memory was refused.
 pub(crate) fn open_for_writing<M: Machine, A: Allocator + Copy>(
     state: &mut State<M, A>,
     pid: Pid,
@@ -135,7 +135,7 @@ pub(crate) fn empty_if<M: Machine, A: Allocator + Copy>(
     }
 }
 
-// What an open is answered, by its descriptor.
+// The reply to an open, by its descriptor.
 fn open_reply(fd: Option<usize>) -> Reply
     ensures { result ≡ open_reply fd }
 {

@@ -13,7 +13,7 @@ use proc_table::Pid;
 use std::alloc::Allocator;
 use user_calls::{Machine, Reply};
 
-// A new pipe is named by this event. It returns whether memory was refused.
+// A new pipe is named by the number of this event. Returns whether memory was refused.
 pub(crate) fn make_pipe<M: Machine, A: Allocator + Copy>(
     state: &mut State<M, A>,
     pid: Pid,
@@ -43,7 +43,7 @@ pub(crate) fn make_pipe<M: Machine, A: Allocator + Copy>(
     Memory::Found
 }
 
-// What a pipe is answered, by its two descriptors.
+// The reply to a pipe call, by its two descriptors.
 fn ends_reply(reader: Option<usize>, writer: Option<usize>) -> Reply
     ensures { result ≡ ends_reply reader writer }
 {

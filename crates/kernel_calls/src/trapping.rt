@@ -17,8 +17,8 @@ use proc_table::Pid;
 use std::alloc::Allocator;
 use user_calls::{Call, Machine};
 
-/// The call of a running process, whose machine after it is this one, is carried out as one more event. It returns
-/// whether memory was refused.
+/// Carries out the call of the running process `pid`, whose machine after the call is `after`, as one more event
+/// (`usertrap` and `syscall`). Returns whether the allocator refused memory.
 pub fn trap<M: Machine, A: Allocator + Copy>(
     state: &mut State<M, A>,
     pid: Pid,
@@ -36,7 +36,7 @@ pub fn trap<M: Machine, A: Allocator + Copy>(
     act(state, pid, call, after)
 }
 
-// The call of a process, whose machine is this one after it. It returns whether memory was refused.
+// Carries out the call of a process, whose machine after the call is `after`. Returns whether memory was refused.
 fn act<M: Machine, A: Allocator + Copy>(
     state: &mut State<M, A>,
     pid: Pid,

@@ -21,7 +21,7 @@ use proc_table::{Channel, Pid};
 use std::alloc::Allocator;
 use user_calls::{Machine, Reply};
 
-// `sys_write`. It returns whether memory was refused.
+// `sys_write`. Returns whether memory was refused.
 pub(crate) fn write<M: Machine, A: Allocator>(
     state: &mut State<M, A>,
     pid: Pid,
@@ -43,7 +43,7 @@ pub(crate) fn write<M: Machine, A: Allocator>(
     }
 }
 
-// A write to what the entry has open. It returns whether memory was refused.
+// A write to what the entry has open. Returns whether memory was refused.
 pub(crate) fn write_held<M: Machine, A: Allocator>(
     state: &mut State<M, A>,
     pid: Pid,
@@ -101,8 +101,8 @@ pub(crate) fn write_held<M: Machine, A: Allocator>(
     }
 }
 
-// A write to the pipe of that name of the bytes that are left after so many were put. What sleeps has put less
-// than a block.
+// A write to the pipe of that name of the bytes that are left after `put` of them were put. A write that sleeps has put
+// less than a block.
 pub(crate) fn write_pipe<M: Machine, A: Allocator>(
     state: &mut State<M, A>,
     pid: Pid,
@@ -133,7 +133,7 @@ pub(crate) fn write_pipe<M: Machine, A: Allocator>(
     }
 }
 
-// A write to the file that the entry has open for writing. It returns whether memory was refused.
+// A write to the file that the entry has open for writing. Returns whether memory was refused.
 pub(crate) fn write_file<M: Machine, A: Allocator>(
     state: &mut State<M, A>,
     pid: Pid,
@@ -176,7 +176,7 @@ pub(crate) fn write_file<M: Machine, A: Allocator>(
     }
 }
 
-// A write to the end of the file that the entry has open. It returns whether memory was refused.
+// A write to the end of the file that the entry has open. Returns whether memory was refused.
 pub(crate) fn append_file<M: Machine, A: Allocator>(
     state: &mut State<M, A>,
     pid: Pid,
