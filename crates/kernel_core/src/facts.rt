@@ -2,7 +2,7 @@
 //!
 //! A kernel's type keeps that it was booted, and that its schedule leads to its state; so these functions require nothing.
 
-ghost use Rattle.std.specs.Prelude.{◌≡◌, ◌++◌, ◌↔◌, ◌<◌, ℕ, List, Some, true, false, All, count_by, length};
+ghost use Rattle.std.specs.Prelude.{◌≡◌, ◌++◌, ◌↔◌, ◌<◌, ℕ, Some, true, false, All, count_by, length};
 ghost use Rattle.mem_files.specs.Files.{files};
 ghost use Rattle.tree_model.specs.Tidy.{IsClearScript};
 ghost use Rattle.proc_table.specs.Slots.{is_runnable, is_running};
@@ -10,11 +10,8 @@ ghost use Rattle.kernel_model.specs.Events.{IsFinished};
 ghost use Rattle.run_model.specs.Plain.{IsPlainRun};
 ghost use Rattle.step_bounds.specs.Most.{most_events};
 ghost use Rattle.law_never_stuck.specs.Awake.{IsAwake};
-ghost use Rattle.mem_files.specs.Name.{Bytes};
-ghost use Rattle.mem_files.specs.Listing.{AreFiles};
 ghost use Rattle.byte_pipe.specs.PipeState.{PipeState};
 ghost use Rattle.kernel_model.specs.Pipes.{pipe_of};
-ghost use Rattle.kernel_model.specs.Sound.{IsSound};
 ghost use Rattle.law_kernel.specs.Ends.{read_end_open, reads_pipe, write_end_open, writes_pipe};
 ghost use Rattle.law_kernel.specs.Held.{IsHeld};
 ghost use Rattle.law_kernel.specs.Sleeping.{AllWait, IsFamily};

@@ -18,14 +18,17 @@ ghost use Rattle.run_model.specs.ScriptRun.{script_kernel};
 ghost use Rattle.kernel_core.specs.Alike.{AreAlike};
 
 use kernel_events::Report;
-use script_load::Script;
-use std::alloc::Allocator;
-
-pub use law_bounds::laws::{every_run_ends_with_the_meaning, every_run_is_finished_after_so_many_events};
+pub use law_bounds::laws::{
+    every_run_ends_with_the_meaning, every_run_is_finished_after_so_many_events,
+};
 pub use law_kernel::laws::no_wake_up_is_lost;
 pub use law_never_stuck::laws::no_run_is_stuck;
-pub use law_standing::laws::{a_finished_run_gives_the_meaning, every_run_stands_for_the_tree_machine};
+pub use law_standing::laws::{
+    a_finished_run_gives_the_meaning, every_run_stands_for_the_tree_machine,
+};
 pub use law_trees::laws::{each_step_keeps_the_final_value, steps_of_the_two_sides_commute};
+use script_load::Script;
+use std::alloc::Allocator;
 
 /// A report is that of a finished run of a script where the contract of `run_one`, `run_harts` or `replay` says so of theirs.
 ///

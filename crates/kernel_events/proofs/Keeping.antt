@@ -9,7 +9,7 @@ use Rattle.proc_table.specs.declared.states.Status.{Status}
 use Rattle.proc_table.specs.declared.states.Status.TheVariants.{Runnable, Running, Asleep, Zombie}
 use Rattle.proc_table.specs.declared.pid.TheConstants.{PROCS}
 use Rattle.proc_table.specs.declared.table.TheConstants.{HARTS}
-use Rattle.proc_table.specs.Slots.{Slot, Table, Process, at, is_runnable, is_running, is_running_on, is_running_status, is_runnable_status, tally}
+use Rattle.proc_table.specs.Slots.{Slot, Table, at, is_runnable, is_running, is_running_on, is_running_status, is_runnable_status, tally}
 use Rattle.proc_table.specs.Calls.{dispatched, with_status}
 use Rattle.kernel_model.specs.declared.events.Event.{Event}
 use Rattle.kernel_model.specs.declared.events.Event.TheVariants.{Dispatch, Trap}

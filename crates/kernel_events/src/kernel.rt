@@ -94,7 +94,8 @@ impl<M: Machine, A: Allocator> Kernel<M, A> {
         let Some(pid) = self.state.dispatch(hart) else {
             return Ok(None);
         };
-        self.log.write(Event::Dispatch(hart, pid.index()), Memory::Found);
+        self.log
+            .write(Event::Dispatch(hart, pid.index()), Memory::Found);
         Ok(Some(pid))
     }
 

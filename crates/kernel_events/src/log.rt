@@ -1,6 +1,6 @@
 //! The events so far.
 
-ghost use Rattle.std.specs.Prelude.{◌≡◌, ◌<◌, ◌≤◌, ◌+◌, ◌^◌, ◌++◌, [], ◌∷◌, OnErr, OnOk, length, vec_len, vec_capacity};
+ghost use Rattle.std.specs.Prelude.{◌≡◌, ◌<◌, ◌≤◌, ◌+◌, ◌^◌, ◌++◌, [], ◌∷◌, OnOk, length, vec_len, vec_capacity};
 ghost use Rattle.proc_table.specs.declared.pid.TheConstants.{PROCS};
 ghost use Rattle.kernel_model.specs.Notes.{is_refused};
 

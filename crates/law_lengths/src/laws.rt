@@ -1,6 +1,6 @@
 //! Laws on the lengths of runs: each function's contract is the law, and its body is empty.
 
-ghost use Rattle.std.specs.Prelude.{◌≡◌, ◌≤◌, ◌+◌, ◌*◌, ℕ, List, Bool, Some, length, count_by};
+ghost use Rattle.std.specs.Prelude.{◌≡◌, ◌≤◌, ◌+◌, ◌*◌, List, Bool, Some, length, count_by};
 ghost use Rattle.mem_files.specs.Name.{Bytes, Name};
 ghost use Rattle.mem_files.specs.Listing.{AreFiles};
 ghost use Rattle.proc_table.specs.Slots.{is_running};

@@ -17,7 +17,7 @@ use Rattle.user_calls.specs.declared.calls.Reply.{Reply}
 use Rattle.user_calls.specs.declared.calls.Reply.TheVariants.{Done, Bytes as Bytes', Refused}
 use Rattle.user_progs.specs.State.{State}
 use Rattle.user_progs.specs.Turn.{turn}
-use Rattle.program_model.specs.Alone.{OwnFile, held, is_to_read, left_of_file, is_writable, done_if, after_file_write, after_call}
+use Rattle.program_model.specs.Alone.{held, is_to_read, left_of_file, is_writable, done_if, after_file_write, after_call}
 use Rattle.program_model.specs.Tame.{opened_after}
 use Rattle.tree_model.specs.Residual.{Running, running, alone}
 use Rattle.tree_model.specs.Answers.{asks, kind_of, read_reply, replied, files_after, answer}

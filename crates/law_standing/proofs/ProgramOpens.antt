@@ -15,7 +15,7 @@ use Rattle.program_model.specs.Alone.{opened_files, can_open}
 use Rattle.tree_model.specs.Residual.{alone}
 use Rattle.tree_model.specs.Rules.{silent}
 use Rattle.tree_model.specs.Answers.{open_reply}
-use Rattle.process_model.specs.Seen.{Entry, file, Fds, fd_at, Place, View}
+use Rattle.process_model.specs.Seen.{Entry, file, fd_at, View}
 use Rattle.process_model.specs.Own.{Owned, own_files, owned_at, Appends, program_act}
 use Rattle.process_model.specs.Effect.{Answers, Opens, OpensBy, OpensNamed, files_read, first_byte, IsCall}
 use Rattle.law_standing.proofs.Frame.{held_stay}

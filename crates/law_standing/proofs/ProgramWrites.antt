@@ -14,7 +14,7 @@ use Rattle.user_calls.specs.declared.calls.Reply.TheVariants.{Done, Refused}
 use Rattle.user_progs.specs.State.{State}
 use Rattle.tree_model.specs.Residual.{running, Position, at_byte, at_file_end, byte_in}
 use Rattle.tree_model.specs.Rules.{puts, refused, is_gap, patched, writes_all, writes_some, write_refused}
-use Rattle.process_model.specs.Seen.{Entry, input, out, diag, reader, writer, file, Fds, fd_at, live, Place, View}
+use Rattle.process_model.specs.Seen.{Entry, input, out, diag, reader, writer, file, View}
 use Rattle.process_model.specs.Own.{Owned, own_files, PutFits, program_act}
 use Rattle.process_model.specs.Shape.{works, same, OpensOutput, position, position_of}
 use Rattle.process_model.specs.Effect.{Sets, Answers, IsCall, PlaceChanges, further, answered, WritesPipe, puts_all, puts_some, has_no_reader, finds_it_full, WritesHere, WritesOver, WritesBehind, WritesFile, WritesAt}

@@ -17,7 +17,7 @@ use Rattle.law_programs.proofs.Taming.{always_tame}
 use Rattle.tree_model.specs.Residual.{done, running}
 use Rattle.tree_model.specs.Rules.{silent, begins as begins_it, calls as program_calls}
 use Rattle.tree_model.specs.Begin.{unfolded, run_left, begun}
-use Rattle.sh_machine.specs.State.{User, pipes, makes, forks_left as forks_list, closes_old as closes_first, unknown, told}
+use Rattle.sh_machine.specs.State.{pipes, unknown}
 use Rattle.sh_machine.specs.Turn.{calls, exits, runs, execs_found}
 use Rattle.process_model.specs.Seen.{Entry, reader, writer, fd_at, Act, live, View}
 use Rattle.process_model.specs.Phases.{shell_act, plain_fds, pipe_fds}

@@ -12,7 +12,7 @@ use Rattle.sh_machine.specs.State.{told}
 use Rattle.process_model.specs.Seen.{Entry, writer, Fds, Act, View}
 use Rattle.process_model.specs.Phases.{closes_read, Step, closes_old, dups_kept, drops_read, drops_write, shell_act, plain_fds, pipe_fds}
 use Rattle.process_model.specs.Shape.{Node, starts, tells, leaves, reads_lines, in_line, pipe_made, pipe_half, pipe_both, left_child, right_child, Has, same, occurs, is_used}
-use Rattle.process_model.specs.Effect.{ParentIs, Sets, Rest, Quiet, Answers, Forks, Exits, Reaps, WaitsFor, reaps, has_none, sleeps, EffectBy, IsCall}
+use Rattle.process_model.specs.Effect.{ParentIs, Forks, EffectBy, IsCall}
 use Rattle.process_model.specs.Part.{stays as stay, goes, then_goes, Part, After}
 use Rattle.process_model.proofs.Counts.{same_self, same_yes}
 use Rattle.law_standing.proofs.Frame.{stays}

@@ -19,7 +19,7 @@ use Rattle.tree_model.specs.Rules.{silent, Steps, opens as opens_it}
 use Rattle.tree_model.specs.Begin.{opens_file, open_from, open_into}
 use Rattle.process_model.specs.Seen.{Entry, file, Fds, fd_at, Act, Seen, live, Place, View}
 use Rattle.process_model.specs.Phases.{does, has_open, opens, plain_fds}
-use Rattle.process_model.specs.Shape.{Node, starts, tells, opening, under_input, under_output, Has, same, occurs, names, is_there, is_up, is_used, position, stands_for}
+use Rattle.process_model.specs.Shape.{Node, starts, tells, opening, under_input, under_output, Has, same, occurs, names, is_there, position, stands_for}
 use Rattle.process_model.specs.Effect.{Sets, Answers, PlaceChanges, Opens, OpensBy, OpensNamed, files_opened, files_read, files_kept, first_byte, lowest, answered, IsCall}
 use Rattle.process_model.specs.Part.{goes, Part, After, calls_left}
 use Rattle.process_model.proofs.Counts.{called_once}

@@ -1,5 +1,5 @@
 -- What a program writes is never nothing, or it goes on alike whether the write is done or refused.
-use Rattle.std.proofs.Common.{◌≡◌, ℕ, ◌+◌, ◌<◌, ◌≤◌, nat_lt, Bool, true, false, List, [], ◌∷◌, ◌++◌, length, drop, refl, ap, arith}
+use Rattle.std.proofs.Common.{◌≡◌, ℕ, ◌+◌, ◌≤◌, nat_lt, Bool, true, false, List, [], ◌∷◌, ◌++◌, length, drop, refl, ap, arith}
 use Rattle.std.specs.Prelude.{slice_index_or, if◌then◌else◌, codes, nat_le}
 use Rattle.mem_files.specs.Name.{Name, Bytes}
 use Rattle.grep_match.specs.Match.{matches}

@@ -5,8 +5,7 @@ ghost use Rattle.proc_table.specs.Slots.{is_running_on};
 ghost use Rattle.law_kernel.specs.Sleeping.{AllWait};
 ghost use Rattle.law_kernel.specs.Limits.{IsWithin};
 
-use kernel_core::Kernel;
-use kernel_core::facts;
+use kernel_core::{Kernel, facts};
 use mem_files::Files;
 use std::alloc::{AllocError, Allocator};
 use std::test::Fail;

@@ -1,8 +1,8 @@
 //! Runs on harts that are refused, and a file that grows until it is full.
 
 use crate::given::{TURNS, files_of};
-use kernel_threads::{Gate, OpenGate, RunFault, run_harts};
 use kernel_events::{Full, Report};
+use kernel_threads::{Gate, OpenGate, RunFault, run_harts};
 use mem_files::{Files, MAX_SIZE};
 use script_load::load;
 use std::alloc::Global;

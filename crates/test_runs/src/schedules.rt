@@ -3,9 +3,8 @@
 use crate::given::{TURNS, file_of};
 use kernel_events::{Event, Report};
 use kernel_runs::{ReplayFault, RunOneFault, replay, run_one};
-use script_load::MAX_TURNS;
 use mem_files::Files;
-use script_load::{Script, load};
+use script_load::{MAX_TURNS, Script, load};
 use std::alloc::{AllocError, Global};
 use std::test::Fail;
 

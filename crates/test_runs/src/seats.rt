@@ -5,8 +5,8 @@ ghost use Rattle.script_load.specs.Line.{lines_of};
 ghost use Rattle.kernel_threads.specs.Boots.{number_of};
 
 use crate::given::files_of;
-use kernel_threads::{OpenGate, Run, RunFault, Seat, Shared, Turn};
 use kernel_events::{Kernel, Report};
+use kernel_threads::{OpenGate, Run, RunFault, Seat, Shared, Turn};
 use mem_files::Files;
 use script_load::{Script, load};
 use sh_machine::{Naming, User};

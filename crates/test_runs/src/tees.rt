@@ -1,8 +1,8 @@
 //! The table of open files, as full as it can be, and fuller.
 
 use crate::given::{TURNS, files_of};
-use kernel_threads::{OpenGate, run_harts};
 use kernel_events::{Full, Report};
+use kernel_threads::{OpenGate, run_harts};
 use mem_files::Files;
 use script_load::{Script, load};
 use std::alloc::Global;
