@@ -1,4 +1,4 @@
--- Whatever a shell is answered, it comes to hold no ends of a pipe but those that it held and those that it was answered.
+-- Whatever a shell is answered, the ends of a pipe that it holds then are ends that it held before or that the answer names.
 use Rattle.std.proofs.Common.{ℕ, zero, suc, List, [], ◌∷◌, ◌++◌, Option, Some, None, arith}
 use Rattle.std.specs.Prelude.{Contains, codes}
 use Rattle.std.proofs.lemmas.List.Elements.{Contains-append_left, Contains-append_right}
@@ -24,7 +24,7 @@ Within fds turn = (fd : ℕ) → Contains (held_next turn.next) fd → Contains 
 none : (fds : List ℕ) (fd : ℕ) → Contains [] fd → Contains fds fd
 none fds fd held = absurd (omega (arith, held.1))
 
--- the end that is doubled is the one for writing, or the one for reading
+-- the end that is duplicated is the one for writing, or the one for reading
 writer_twice : (reader writer fd : ℕ) → Contains (writer ∷ reader ∷ writer ∷ []) fd → Contains (reader ∷ writer ∷ []) fd
 writer_twice reader writer fd (zero, within, is) = (1, omega arith, is)
 writer_twice reader writer fd (suc n, within, is) = (n, omega arith, is)

@@ -21,7 +21,7 @@ held_by_parent closes_writer = []
 held_by_parent waits_first = []
 held_by_parent waits_second = []
 
--- or one of its children, which may double one of them, too
+-- or one of its children, which may duplicate one of them, too
 abbrev pub held_by_side : Side → List ℕ
 held_by_side (Closes kept reader writer) = kept ∷ reader ∷ writer ∷ []
 held_by_side (Dups reader writer) = reader ∷ writer ∷ []

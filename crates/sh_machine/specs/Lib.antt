@@ -1,4 +1,5 @@
 pub mod CallsOn
+pub mod Codes
 pub mod End
 pub mod Held
 pub mod Place

@@ -127,7 +127,7 @@ runs (pipe left right) = calls MakePipe (pipes (makes left right))
 runs (list left right) = calls Fork (forks_left left right)
 runs (back body) = calls Fork (forks_back body)
 
--- what is told of a line that is no command
+-- the message for a line that is no command
 abbrev pub fault_text : ParseFault → Bytes → Bytes
 fault_text (MissingFile at) text = codes "missing file for redirection\n"
 fault_text (MissingParen at) text = codes "syntax - missing )\n"
@@ -175,7 +175,7 @@ pipe_turn closes_writer reply = on_done reply (calls Wait (pipes waits_first))
 pipe_turn waits_first reply = on_done reply (calls Wait (pipes waits_second))
 pipe_turn waits_second reply = on_done reply exits
 
--- a child of a pipe; its end is doubled where its standard descriptor was, and then both ends are closed
+-- a child of a pipe: `dup` puts its end where its standard descriptor was, and then both ends are closed
 abbrev pub side_turn : Side → Tree → Reply → Turn
 side_turn (Closes kept reader writer) tree reply = on_done reply (calls (Dup kept) (side (Dups reader writer) tree))
 side_turn (Dups reader writer) tree reply = on_fd reply (calls (Close reader) (side (ClosesReader writer) tree)) exits

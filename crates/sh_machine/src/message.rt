@@ -17,7 +17,7 @@ pub fn within(before: &[u8], text: &[u8], after: &[u8]) -> Block
     message
 }
 
-// What is told of a line that is no command.
+// The message for a line that is no command.
 pub fn fault(fault: ParseFault, text: &[u8]) -> Block
     ensures { result ≡ block (fault_text fault text.now) }
 {

@@ -3,7 +3,7 @@
 use sh_tree::Cmd;
 use std::alloc::Allocator;
 
-// Where a command stands: it tells the commands of one script apart, and no more is read of them to compare two.
+// Where a command stands in its script. Two commands of one script are compared by their places alone.
 #[derive(Clone, Copy)]
 pub struct Place {
     // How many lines the script has from the command's own on.

@@ -29,7 +29,7 @@ pub enum Side {
     // Its standard descriptor is being closed, in whose place the first of these comes; the others are the read end and
     // the write end.
     Closes(usize, usize, usize),
-    // Its end is being doubled.
+    // Its end is being duplicated (`dup`).
     Dups(usize, usize),
     // The read end is being closed, and the write end, at this descriptor, comes later.
     ClosesReader(usize),
@@ -57,7 +57,7 @@ pub enum Parent<'t, A: Allocator, N: Naming> {
 #[derive(Drop)]
 pub enum At<'t, A: Allocator, N: Naming> {
     Top(Phase, Rest<'t, A, N>),
-    // `Exec` was called for a program of this name, and there is none.
+    // `Exec` was called for this name, which no program has.
     Unknown(&'t [u8]),
     // A redirection: its descriptor is being closed, and then its file opened.
     ClosesOld(Mode, &'t [u8], Node<'t, A, N>),

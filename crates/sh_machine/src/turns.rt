@@ -274,7 +274,7 @@ fn runs_after<'t, A: Allocator, N: Naming>(reply: &Reply, tree: &Node<'t, A, N>)
     Turn::exits()
 }
 
-// A child of a pipe doubled its end.
+// A child of a pipe duplicated its end.
 fn doubled<'t, A: Allocator, N: Naming>(
     reader: usize,
     writer: usize,
@@ -324,7 +324,7 @@ fn side<'t, A: Allocator, N: Naming>(
     runs_after(reply, tree)
 }
 
-// Tells that something of this name failed, and exits then.
+// Writes that something of this name failed, and exits then.
 fn failed<'t, A: Allocator, N: Naming>(what: &[u8], name: &[u8]) -> Turn<'t, A, N>
     ensures { turn_of result ≡ failed what.now name.now }
 {

@@ -16,14 +16,15 @@ use std::marker::Model;
 use user_calls::{Call, Machine, Reply};
 use user_progs::Prog;
 
-/// Stands for the states of users as plain data, whatever the lifetime and the allocator. No value of it is made.
+/// The type whose model is the states of users as plain data, whatever the lifetime and the allocator. No value of it is made.
 #[derive(Drop)]
 pub struct UserState {
     nothing: (),
 }
 
 impl Model for UserState {
-    ghost use Rattle.sh_machine.specs.State.{User, user_code, init};
+    ghost use Rattle.sh_machine.specs.Codes.{user_code};
+    ghost use Rattle.sh_machine.specs.State.{User, init};
 
     ghost Value = { User };
 
@@ -79,7 +80,7 @@ impl<'t, A: Allocator, N: Naming> User<'t, A, N> {
 }
 
 impl<'t, A: Allocator, N: Naming> Machine for User<'t, A, N> {
-    ghost use Rattle.sh_machine.specs.State.{user_code};
+    ghost use Rattle.sh_machine.specs.Codes.{user_code};
     ghost use Rattle.sh_machine.specs.Turn.{call_of, next_of};
     ghost use Rattle.sh_machine.specs.View.{user_of};
 

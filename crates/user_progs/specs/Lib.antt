@@ -1,3 +1,4 @@
+pub mod Codes
 pub mod State
 pub mod Turn
 pub mod View

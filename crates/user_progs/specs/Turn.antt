@@ -21,7 +21,7 @@ pub record Turn : Type 0 where
   pub call : Call
   pub next : State
 
--- what a call is answered: what it asks for, a refusal, or what such a call can't get
+-- the reply to a call: what the call is for, a refusal, or what such a call can't get
 pub data Answer (X : Type 0) : Type 0 where
   yields : X → Answer X
   denies : Answer X

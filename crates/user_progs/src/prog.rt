@@ -11,14 +11,15 @@ use std::alloc::Allocator;
 use std::marker::Model;
 use user_calls::{Call, Machine, Reply};
 
-/// Stands for the states of programs as plain data. No value of it is made.
+/// The type whose model is the states of programs as plain data. No value of it is made.
 #[derive(Drop)]
 pub struct ProgState {
     nothing: (),
 }
 
 impl Model for ProgState {
-    ghost use Rattle.user_progs.specs.State.{State, state_code, ended};
+    ghost use Rattle.user_progs.specs.Codes.{state_code};
+    ghost use Rattle.user_progs.specs.State.{State, ended};
 
     ghost Value = { State };
 
@@ -50,7 +51,7 @@ pub fn lookup<'t, A: Allocator>(words: &'t [Bytes<A>]) -> Option<Prog<'t, A>>
 }
 
 impl<'t, A: Allocator> Machine for Prog<'t, A> {
-    ghost use Rattle.user_progs.specs.State.{state_code};
+    ghost use Rattle.user_progs.specs.Codes.{state_code};
     ghost use Rattle.user_progs.specs.Turn.{call_of, next_of};
     ghost use Rattle.user_progs.specs.View.{state_of};
 
