@@ -24,36 +24,25 @@ abbrev pub output_value : Bool → Bytes → FileMap → Value → Value
 output_value false input F done = nothing input F
 output_value true input F done = done
 
--- the files once the file of that name was opened for writing: > empties it, >> keeps what it holds
-abbrev pub opened : Mode → Name → FileMap → FileMap
-opened Input name F = F
-opened Fresh name F = with_file F name []
-opened Over name F = with_file F name (bytes_of (F name))
-
 -- the file's bytes at the end, where >> was opened on these and this was written: xv6 writes from the file's beginning
 -- on, the other profile at its end (own)
 abbrev pub over_end : Profile → Bytes → Bytes → Bytes
 over_end Xv6 old out = overlay out old
 over_end Append old out = old ++ out
 
--- the file's bytes at the end, where a redirection was opened on these and this was written
-abbrev pub at_end : Profile → Mode → Bytes → Bytes → Bytes
-at_end profile Input old out = old
-at_end profile Fresh old out = out
-at_end profile Over old out = over_end profile old out
-
--- a command under a redirection of its output, from the value of its body
-abbrev pub written_value : Profile → Mode → Name → FileMap → Value → Value
-written_value profile mode name F body = into_value name (at_end profile mode (bytes_of (F name)) body.out) body
-
-abbrev pub redir_value : Profile → Mode → Name → Bytes → FileMap → (Bytes → FileMap → Value) → Value
-redir_value profile Input name input F body = input_value (found F name) input F (λ bytes. body bytes F)
-redir_value profile Fresh name input F body = output_value (is_openable name) input F (written_value profile Fresh name F (body input (opened Fresh name F)))
-redir_value profile Over name input F body = output_value (is_openable name) input F (written_value profile Over name F (body input (opened Over name F)))
-
+-- a simple command is its program's function. Under < the body reads the file's bytes in place of the input. Under > the file
+-- is emptied first, and at the end it holds what the body wrote; under >> it is there first, and at the end it holds what
+-- `over_end` says. The sides of a pipe and of a list follow each other, and & changes nothing
 abbrev pub meaning : Profile → Tree → Bytes → FileMap → Value
 meaning profile (exec words) input F = words_value words input F
-meaning profile (redir mode name body) input F = redir_value profile mode name input F (λ bytes G. meaning profile body bytes G)
+meaning profile (redir Input name body) input F =
+    input_value (found F name) input F (λ bytes. meaning profile body bytes F)
+meaning profile (redir Fresh name body) input F =
+    output_value (is_openable name) input F
+    (let done = meaning profile body input (with_file F name []) in into_value name done.out done)
+meaning profile (redir Over name body) input F =
+    output_value (is_openable name) input F
+    (let done = meaning profile body input (with_file F name (bytes_of (F name))) in into_value name (over_end profile (bytes_of (F name)) done.out) done)
 meaning profile (pipe left right) input F =
     pipe_value (writes left) (uses_input left) (meaning profile left input F)
     (meaning profile right (meaning profile left input F).out (meaning profile left input F).files)
@@ -75,3 +64,19 @@ script_tree (line ∷ lines) = list (line_tree line) (script_tree lines)
 
 abbrev pub script_meaning : Profile → List ScriptLine → Bytes → FileMap → Value
 script_meaning profile lines input F = meaning profile (script_tree lines) input F
+
+-- the parts of a redirection, by its mode. The files once its file was opened: > empties it, >> keeps what it holds
+abbrev pub opened : Mode → Name → FileMap → FileMap
+opened Input name F = F
+opened Fresh name F = with_file F name []
+opened Over name F = with_file F name (bytes_of (F name))
+
+-- the file's bytes at the end, where a redirection was opened on these and this was written
+abbrev pub at_end : Profile → Mode → Bytes → Bytes → Bytes
+at_end profile Input old out = old
+at_end profile Fresh old out = out
+at_end profile Over old out = over_end profile old out
+
+-- and the value of the command, from the value of its body
+abbrev pub written_value : Profile → Mode → Name → FileMap → Value → Value
+written_value profile mode name F body = into_value name (at_end profile mode (bytes_of (F name)) body.out) body

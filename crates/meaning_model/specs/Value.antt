@@ -54,7 +54,7 @@ pipe_value writes uses left right = record {
   met = both left.met right.met;
 }
 
--- a command under <: the input outside stays as it is, and nothing of it is loose
+-- a command under <: the input outside is left whole, and nothing of it is loose
 abbrev pub from_value : Bytes → Value → Value
 from_value input body = record body { rest = input; loose = false }
 
