@@ -4,6 +4,7 @@ use Rattle.std.specs.Prelude.{if◌then◌else◌, slice_index_or}
 use Rattle.std.specs.Str.{bytes_eq}
 use Rattle.std.specs.Option.{is_some}
 use Rattle.std.proofs.lemmas.List.{take_all, drop_more}
+use Rattle.std.proofs.lemmas.Bool.{or_left, or_right}
 use Rattle.mem_files.specs.Name.{Name, Bytes, is_openable}
 use Rattle.mem_files.specs.Files.{FileMap}
 use Rattle.prog_parts.specs.NameSets.{among}
@@ -19,7 +20,7 @@ use Rattle.program_model.specs.Waits.{IsWrite, IsOpenToRead, IsOpen, WorkWaits, 
 use Rattle.program_model.specs.Frame.{is_held, is_given, depends_on, may_change}
 use Rattle.program_model.specs.Calls.{IsOwn, ReadsOpen, WritesOpen, MayCall}
 use Rattle.law_programs.proofs.Keeps.{found_short}
-use Rattle.law_programs.proofs.Framing.{itself, or_left, or_right}
+use Rattle.law_programs.proofs.Framing.{itself}
 use Rattle.law_programs.proofs.Elsewhere.{given_here}
 
 -- a name that can be opened is no longer than a block

@@ -5,6 +5,7 @@ use Rattle.std.specs.Prelude.{◌||◌, if◌then◌else◌}
 use Rattle.std.specs.Str.{bytes_eq}
 use Rattle.std.specs.Option.{is_some}
 use Rattle.std.proofs.lemmas.Slice.Eq.{bytes_eq-Decides}
+use Rattle.std.proofs.lemmas.Bool.{or_left, or_right, or_from}
 use Rattle.mem_files.specs.Name.{Name, Bytes}
 use Rattle.mem_files.specs.Files.{FileMap, bytes_of}
 use Rattle.user_calls.specs.declared.calls.Call.{Call}
@@ -15,13 +16,14 @@ use Rattle.program_model.specs.Given.{place_or, place_in, IsAt, AreAt}
 use Rattle.program_model.specs.Waits.{IsOpen, TeeWaits, Waits}
 use Rattle.program_model.specs.Frame.{is_given, tee_holds, holds, holds_to_write, depends_on, may_change}
 use Rattle.program_model.specs.Fits.{IsWithin, AreWithin, outputs, Fits}
-use Rattle.law_programs.proofs.Framing.{itself, not_left, not_right, or_left, or_right}
-use Rattle.law_programs.proofs.Holding.{neither, cut_given}
+use Rattle.law_programs.proofs.Framing.{itself}
+use Rattle.law_programs.proofs.Holding.{cut_given}
+use Rattle.meaning_model.proofs.Bools.{not_left, not_right}
 
 abbrev pub elsewhere : World → Bytes → FileMap → World
 elsewhere world input G = record world { input = input; files = G }
 
--- which files it depends on, and which it may change, is told by its open files alone
+-- which files it depends on, and which it may change, follows from its open files alone
 holds_alike : (state : State) (world : World) (i : Bytes) (G : FileMap) (n : Name) → holds state (elsewhere world i G) n ≡ holds state world n
 holds_alike (begins program arguments) world i G n = refl
 holds_alike (echo_word later) world i G n = refl
@@ -82,7 +84,7 @@ holds_first ended world n e = refl
 
 pub depends_first : (state : State) (world : World) (n : Name) → depends_on state world n ≡ false → may_change state world n ≡ false
 depends_first state world n e =
-    neither (still_writes state n) (holds_to_write state world n) (opens_first state n (not_left (still_opens state n) (holds state world n) e)) (holds_first state world n (not_right (still_opens state n) (holds state world n) e))
+    or_from (still_writes state n) (holds_to_write state world n) (opens_first state n (not_left (still_opens state n) (holds state world n) e)) (holds_first state world n (not_right (still_opens state n) (holds state world n) e))
 
 -- names at descriptors
 pub given_here : (own : OwnFile) (other : Option ℕ) → is_some (place_or (Some own) own.name other) ≡ true

@@ -2,7 +2,7 @@
 use Rattle.std.proofs.Common.{◌≡◌, ◌∙◌, inl, inr, ℕ, zero, suc, ◌+◌, ◌-◌, ◌≤◌, ◌==◌, nat_lt, Bool, true, false, List, [], ◌∷◌, ◌++◌, length, drop, Option, Some, None, refl, sym, ap, subst, arith}
 use Rattle.std.specs.Prelude.{if◌then◌else◌, slice_index_or}
 use Rattle.std.specs.Str.{bytes_eq}
-use Rattle.std.proofs.lemmas.Bool.{eq-eqb}
+use Rattle.std.proofs.lemmas.Bool.{eq-eqb, or_left, or_right}
 use Rattle.std.proofs.lemmas.List.{take_all, length-drop, length-append}
 use Rattle.mem_files.specs.Name.{Name, Bytes}
 use Rattle.mem_files.specs.Files.{FileMap, bytes_of}
@@ -28,7 +28,7 @@ use Rattle.program_model.specs.FilesAhead.{Sizes, sizes, left_in_file, all_sizes
 use Rattle.law_programs.proofs.Keeps.{heard_read, found_short}
 use Rattle.law_programs.proofs.Teeing.{new_file}
 use Rattle.law_programs.proofs.Waiting.{IsOwnCall, own_call}
-use Rattle.law_programs.proofs.Framing.{itself, or_left, or_right}
+use Rattle.law_programs.proofs.Framing.{itself}
 use Rattle.law_programs.proofs.Reading.{opened_input}
 
 -- where it goes on, of which so many bytes were read

@@ -5,6 +5,7 @@ use Rattle.std.specs.Prelude.{◌||◌, if◌then◌else◌}
 use Rattle.std.specs.Str.{bytes_eq}
 use Rattle.std.specs.Option.{is_some}
 use Rattle.std.proofs.lemmas.Slice.Eq.{bytes_eq-Decides}
+use Rattle.std.proofs.lemmas.Bool.{or_left, or_right}
 use Rattle.mem_files.specs.Name.{Name, Bytes, is_openable}
 use Rattle.mem_files.specs.Files.{FileMap, with_file, bytes_of}
 use Rattle.prog_parts.specs.declared.program.Program.{Program}
@@ -26,17 +27,10 @@ use Rattle.program_model.specs.Given.{place_in, written_from, given, given_block
 use Rattle.program_model.specs.Still.{of_input, work_out, work_still, tee_still, still}
 use Rattle.program_model.specs.Waits.{BeginsShort, Waits}
 use Rattle.program_model.specs.Frame.{is_held, is_given, depends_on, may_change, only_changed}
+use Rattle.meaning_model.proofs.Bools.{not_left, not_right}
 
 abbrev Agree : Names → FileMap → FileMap → Type 0
 Agree names F G = (name : Name) → names name ≡ true → F name ≡ G name
-
-pub or_left : (a b : Bool) → a ≡ true → (a || b) ≡ true
-or_left true b e = refl
-or_left false b e = cc
-
-pub or_right : (a b : Bool) → b ≡ true → (a || b) ≡ true
-or_right true b e = refl
-or_right false b e = e
 
 pub itself : (name : Name) → bytes_eq name name ≡ true
 itself name = (bytes_eq-Decides name name).1 refl
@@ -75,14 +69,6 @@ only_where N change F G same other agree = λ i name. go name (N name) refl i
     go : (name : Name) (is : Bool) → N name ≡ is → change G name ≡ (if is then change F name else G name)
     go name true e = sym (same name (agree name e))
     go name false e = other name e
-
-pub not_left : (a b : Bool) → (a || b) ≡ false → a ≡ false
-not_left true b e = cc
-not_left false b e = refl
-
-pub not_right : (a b : Bool) → (a || b) ≡ false → b ≡ false
-not_right true b e = cc
-not_right false b e = e
 
 filled_same : (names : List Name) (bytes : Bytes) (F G : FileMap) (name : Name) → F name ≡ G name → filled names bytes F name ≡ filled names bytes G name
 filled_same [] bytes F G name e = e

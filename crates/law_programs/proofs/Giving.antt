@@ -89,7 +89,7 @@ place_append (fd ∷ fds) more own name = go (held own fd) (place_append fds mor
         by_name true = refl
         by_name false = ih
 
-same_name : (name other : Name) → bytes_eq name other ≡ true → name ≡ other
+pub same_name : (name other : Name) → bytes_eq name other ≡ true → name ≡ other
 same_name name other is = (bytes_eq-Decides name other).0 is
 
 -- a block is written to the file of one descriptor; by name, it may be the file of this name, or that of a descriptor
@@ -155,7 +155,7 @@ block_given done waiting fd own f F place block later is at wait had apart_wait 
             (written_from (first_place (place_if d.0 (place + length block)) (place_if here (place + length block))) later (if here then Some (written (bytes_of (F name)) place block) else F name) (if here then Some (written (bytes_of (F name)) place block) else F name))
         after = λ i. written_from (still i) (block ++ later) (file i) (written_from (has i) later (file i) (file i))
 
--- at the end of the input each file is as it is
+-- at the end of the input no file changes any more
 pub none_given : (place : ℕ) (fds : List ℕ) (own : List OwnFile) (F : FileMap) → AreAt place fds own F → given fds own [] F ≡ F
 none_given place fds own F at = λ i name. by_name fds at name i
   where

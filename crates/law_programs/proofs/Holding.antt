@@ -4,7 +4,7 @@ use Rattle.std.proofs.Common.{◌≡◌, ◌∙◌, inl, inr, ℕ, zero, suc, �
 use Rattle.std.specs.Prelude.{◌||◌, slice_index_or, if◌then◌else◌}
 use Rattle.std.specs.Str.{bytes_eq}
 use Rattle.std.specs.Option.{is_some}
-use Rattle.std.proofs.lemmas.Bool.{eq-eqb}
+use Rattle.std.proofs.lemmas.Bool.{eq-eqb, or_from}
 use Rattle.std.proofs.lemmas.List.{take_all, take-append-drop}
 use Rattle.mem_files.specs.Name.{Name, Bytes}
 use Rattle.prog_parts.specs.declared.program.Program.{Program}
@@ -28,14 +28,10 @@ use Rattle.program_model.specs.Frame.{is_held, is_given, source_holds, tee_holds
 use Rattle.law_programs.proofs.Giving.{opened_place, new_other}
 use Rattle.law_programs.proofs.Teeing.{with_new, new_file, by_open}
 use Rattle.law_programs.proofs.Keeps.{found_short}
-use Rattle.law_programs.proofs.Framing.{not_left, not_right}
 use Rattle.law_programs.proofs.Next.{turn_next}
 use Rattle.law_programs.proofs.Waiting.{IsOwnCall, own_call}
 use Rattle.law_programs.proofs.Shrinking.{opens_shrink, writes_shrink}
-
-pub neither : (a b : Bool) → a ≡ false → b ≡ false → (a || b) ≡ false
-neither true b e f = e
-neither false b e f = f
+use Rattle.meaning_model.proofs.Bools.{not_left, not_right}
 
 or_assoc : (a b c : Bool) → ((a || b) || c) ≡ (a || (b || c))
 or_assoc true b c = refl
@@ -195,8 +191,8 @@ tee_opened_given : (name : Name) (fds : List ℕ) (current : Name) (fd : ℕ) (w
 tee_opened_given name fds current fd world at new other none =
     let own = new_file fd current Fresh ∷ world.own in
     let before = ap (λ (o : Option ℕ). is_some o) (opened_place fds world.own (new_file fd current Fresh) name (new_other 0 fds world.own world.files fd new at)) ∙ none in
-    let here = given_cons (held own fd) name None ∙ ap (λ (h : Option OwnFile). is_held h name || false) (itself_held fd (new_file fd current Fresh) world.own refl) ∙ neither (bytes_eq name current) false other refl in
-    given_append fds (fd ∷ []) own name ∙ neither (is_given fds own name) (is_given (fd ∷ []) own name) before here
+    let here = given_cons (held own fd) name None ∙ ap (λ (h : Option OwnFile). is_held h name || false) (itself_held fd (new_file fd current Fresh) world.own refl) ∙ or_from (bytes_eq name current) false other refl in
+    given_append fds (fd ∷ []) own name ∙ or_from (is_given fds own name) (is_given (fd ∷ []) own name) before here
 
 tee_got_none : (name : Name) (fds : List ℕ) (got : Answer Bytes) (world : World) → is_given fds world.own name ≡ false → HoldsNone name (tee_got fds got) (after_read 0 got world)
 tee_got_none name fds denies world none = refl
@@ -210,7 +206,7 @@ gives_none name fds at bytes world none = go (nat_lt at (length fds))
     go : (more : Bool) → HoldsNone name (if more then record { call = Write (slice_index_or fds at 0) bytes; next = tees (tee_gives fds at bytes) } else tee_waits fds) world
     go true =
         let cut = sym (cut_given at fds world.own name) ∙ none in
-        neither (is_given (drop at fds) world.own name) (is_given (take at fds) world.own name) (not_right (is_given (take at fds) world.own name) _ cut) (not_left (is_given (take at fds) world.own name) _ cut)
+        or_from (is_given (drop at fds) world.own name) (is_given (take at fds) world.own name) (not_right (is_given (take at fds) world.own name) _ cut) (not_left (is_given (take at fds) world.own name) _ cut)
     go false = none
 
 wrote_none : (name : Name) (fds : List ℕ) (at : ℕ) (bytes : Bytes) (said : Answer (Unit {0})) (world : World) → is_given fds world.own name ≡ false → HoldsNone name (tee_wrote fds at bytes said) world
@@ -233,7 +229,7 @@ tee_none name (tee_gives fds at bytes) call reply world waits may ahead none =
     let fd = slice_index_or fds at 0 in
     let all =
     cut_given at fds world.own name
-    ∙ neither (is_given (take at fds) world.own name) (is_given (drop at fds) world.own name) (not_right (is_given (drop at fds) world.own name) _ none) (not_left (is_given (drop at fds) world.own name) _ none) in
+    ∙ or_from (is_given (take at fds) world.own name) (is_given (drop at fds) world.own name) (not_right (is_given (drop at fds) world.own name) _ none) (not_left (is_given (drop at fds) world.own name) _ none) in
     subst (λ (c : Call). HoldsNone name (tee_turn (tee_gives fds at bytes) reply) (after_call c reply world)) (sym waits.0)
     (wrote_none name fds (at + 1) bytes (done_in reply) (after_write fd bytes (done_in reply) world) (write_given fds fd bytes (done_in reply) world name ∙ all))
 
@@ -283,12 +279,12 @@ pub depends_shrink : (state : State) (call : Call) (reply : Reply) (world : Worl
     depends_on (turn state reply).next (after_call call reply world) name ≡ false
 depends_shrink state call reply world name waits may none =
     let ahead = not_left (still_opens state name) (holds state world name) none in
-    neither (still_opens (turn state reply).next name) (holds (turn state reply).next (after_call call reply world) name) (opens_shrink state reply name ahead)
+    or_from (still_opens (turn state reply).next name) (holds (turn state reply).next (after_call call reply world) name) (opens_shrink state reply name ahead)
     (holds_none name state call reply world waits may ahead (not_right (still_opens state name) (holds state world name) none))
 
 pub changes_shrink : (state : State) (call : Call) (reply : Reply) (world : World) (name : Name) → Waits state call world → May call reply world → may_change state world name ≡ false →
     may_change (turn state reply).next (after_call call reply world) name ≡ false
 changes_shrink state call reply world name waits may none =
     let ahead = not_left (still_writes state name) (holds_to_write state world name) none in
-    neither (still_writes (turn state reply).next name) (holds_to_write (turn state reply).next (after_call call reply world) name) (writes_shrink state reply name ahead)
+    or_from (still_writes (turn state reply).next name) (holds_to_write (turn state reply).next (after_call call reply world) name) (writes_shrink state reply name ahead)
     (writes_none name state call reply world waits may ahead (not_right (still_writes state name) (holds_to_write state world name) none))

@@ -291,7 +291,7 @@ replied state call known reply world said value is heard e =
     ∙ ap (λ (r : Reply). left_of (turn state r) 0 (after_call known r world)) (sym heard)
     ∙ ap (λ (c : Call). left_of (turn state reply) 0 (after_call c reply world)) (sym is)
 
--- the world is left as it is by a write to one of the first three descriptors
+-- a write to one of the first three descriptors doesn't change the world
 low_write : (fd : ℕ) (bytes : Bytes) (world : World) → fd < 3 → after_call (Write fd bytes) Done world ≡ world
 low_write zero bytes world low = refl
 low_write (suc zero) bytes world low = refl

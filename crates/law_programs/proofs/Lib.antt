@@ -1,4 +1,4 @@
-mod Giving
+pub mod Giving
 mod Teeing
 pub mod Next
 pub mod Fitting

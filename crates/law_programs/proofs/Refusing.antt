@@ -1,7 +1,8 @@
--- A refused call changes nothing; after it the program waits on, and depends on no more files than before. A refused write is
--- passed over or told.
+-- A refused call changes nothing; after it the program waits on, and depends on no more files than before. After a
+-- refused write it goes on as if it had been done, or writes a message.
 use Rattle.std.proofs.Common.{◌≡◌, inl, inr, ℕ, zero, suc, ◌<◌, false, List, [], ◌∷◌, ◌++◌, refl, arith}
 use Rattle.std.specs.Prelude.{codes}
+use Rattle.std.proofs.lemmas.Bool.{or_from}
 use Rattle.mem_files.specs.Name.{Name, Bytes}
 use Rattle.user_calls.specs.declared.calls.Call.{Call}
 use Rattle.user_calls.specs.declared.calls.Call.TheVariants.{Fork, Exec, Exit, Wait, MakePipe, Read, Write, OpenFile, Close, Dup}
@@ -16,9 +17,9 @@ use Rattle.program_model.specs.Fits.{Fits}
 use Rattle.program_model.specs.Refusals.{IsTold, PassesOrTells}
 use Rattle.law_programs.proofs.Next.{turn_next}
 use Rattle.law_programs.proofs.Waiting.{StepWaits, buffer_waits, tells_wait, turn_waits, echo_waits, echo_end_waits}
-use Rattle.law_programs.proofs.Framing.{not_left, not_right}
 use Rattle.law_programs.proofs.Shrinking.{opens_shrink, writes_shrink}
-use Rattle.law_programs.proofs.Holding.{neither, step_none, echo_none, echo_end_none, tee_next_none, written_held}
+use Rattle.law_programs.proofs.Holding.{step_none, echo_none, echo_end_none, tee_next_none, written_held}
+use Rattle.meaning_model.proofs.Bools.{not_left, not_right}
 
 -- nothing is changed
 read_nothing : (fd : ℕ) (world : World) → after_read fd denies world ≡ world
@@ -109,17 +110,17 @@ writes_refused name state world =
 
 pub depends_refused : (state : State) (world : World) (name : Name) → depends_on state world name ≡ false → depends_on (turn state Refused).next world name ≡ false
 depends_refused state world name none =
-    neither (still_opens (turn state Refused).next name) (holds (turn state Refused).next world name)
+    or_from (still_opens (turn state Refused).next name) (holds (turn state Refused).next world name)
     (opens_shrink state Refused name (not_left (still_opens state name) (holds state world name) none))
     (holds_refused name state world (not_right (still_opens state name) (holds state world name) none))
 
 pub changes_refused : (state : State) (world : World) (name : Name) → may_change state world name ≡ false → may_change (turn state Refused).next world name ≡ false
 changes_refused state world name none =
-    neither (still_writes (turn state Refused).next name) (holds_to_write (turn state Refused).next world name)
+    or_from (still_writes (turn state Refused).next name) (holds_to_write (turn state Refused).next world name)
     (writes_shrink state Refused name (not_left (still_writes state name) (holds_to_write state world name) none))
     (writes_refused name state world)
 
--- a refused write is passed over or told
+-- after a refused write a program goes on as if it had been done, or writes a message
 work_passes : (work : Work) (source : Source) (fd : ℕ) (bytes : Bytes) → WorkWaits work (fd_of source) (Write fd bytes) → PassesOrTells (works work source)
 work_passes cat_reads source fd bytes waits = cc
 work_passes cat_writes source fd bytes waits = inr (codes "cat: write error\n", refl)

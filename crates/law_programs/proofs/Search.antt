@@ -86,7 +86,7 @@ nothing_out pattern bytes nothing = ap (λ ls. with_ends (filter (matches patter
 nothing_tested : (bytes : Bytes) → tested bytes ≡ [] → grep_left bytes ≡ drop 1023 bytes
 nothing_tested bytes nothing = ap (λ ls. drop 1023 (drop (length (with_ends ls)) bytes)) nothing
 
--- what grep does with its buffer, told by what it does with the buffer and what follows it
+-- what grep does with its buffer, in terms of what it does with the buffer and what follows it
 abbrev BufferKept : Bytes → Name → Bytes → Bytes → Type 0
 BufferKept pattern name left buffer =
     length buffer ≤ 1023 → Kept (searching pattern) (grep_goes_on pattern buffer) name (grep_out pattern (buffer ++ left)) (grep_left (buffer ++ left)) left

@@ -13,8 +13,9 @@ use Rattle.prog_parts.specs.Head.{line_count}
 use Rattle.user_progs.specs.State.{Filter, copying, heading, counting, searching, Source, standard, file, Tee, tee_opens, tee_reads, tee_writes, tee_gives, State, begins, echo_word, echo_space, opens, works, closes, tees, told, ended}
 use Rattle.user_progs.specs.Turn.{Answer, yields, denies, strays, Step, reads, writes, finishes, fails, quits, begun_by, closed_by, bytes_in, fd_in, done_in, turn, turn_by, first_step, work_step, filter_of, name_of, opened_by, opens_next, begins_filter, begins_head, begins_program, echo_next, echo_end, tee_waits, tee_opens_next, tee_opened, tee_cannot_open, tee_got, tee_gives_next, tee_wrote, tee_turn}
 use Rattle.program_model.specs.Ahead.{source_opens, tee_opens_still, still_opens, still_writes, source_uses, still_uses}
+use Rattle.meaning_model.proofs.Bools.{not_left, not_right}
 
--- what of a state is not more than what is told
+-- a state opens, writes and uses no more than these say
 record Within (name : Name) (opening writing using : Bool) (state : State) : Type 0 where
   pub opens : opening ≡ false → still_opens state name ≡ false
   pub writes : writing ≡ false → still_writes state name ≡ false
@@ -35,20 +36,12 @@ next_within : (name : Name) (writing uses : Bool) (filter : Filter) (names : Lis
 next_within name writing uses filter [] = none_left name _ writing uses ended refl refl refl
 next_within name writing uses filter (current ∷ later) = record { opens = λ e. e; writes = λ e. refl; uses = λ e. refl }
 
-or_right : (a b : Bool) → (a || b) ≡ false → b ≡ false
-or_right true b e = cc
-or_right false b e = e
-
-or_left : (a b : Bool) → (a || b) ≡ false → a ≡ false
-or_left true b e = cc
-or_left false b e = refl
-
 opened_within : (name : Name) (writing uses : Bool) (filter : Filter) (current : Name) (later : List Name) (granted : Answer ℕ) → Within name (among (current ∷ later) name) writing uses (opened_by filter current later granted).next
 opened_within name writing uses filter current later denies = none_left name _ writing uses told refl refl refl
 opened_within name writing uses filter current later strays = none_left name _ writing uses ended refl refl refl
 opened_within name writing uses filter current later (yields fd) =
     let in_file = step_within name writing (first_step filter) filter (file fd current later) in
-    record { opens = λ e. in_file.opens (or_right _ (among later name) e); writes = in_file.writes; uses = λ e. in_file.uses refl }
+    record { opens = λ e. in_file.opens (not_right _ (among later name) e); writes = in_file.writes; uses = λ e. in_file.uses refl }
 
 filter_within : (name : Name) (writing uses : Bool) (filter : Filter) (names : List Name) → (names ≡ [] → uses ≡ true) → Within name (among names name) writing uses (begins_filter filter names).next
 filter_within name writing uses filter [] used =
@@ -73,7 +66,7 @@ tee_opened_within name fds current later (yields fd) = go (nat_lt (length fds) 1
     next = tee_next_within name (fds ++ fd ∷ []) later
 
     go : (room : Bool) → Within name (among (current ∷ later) name) (among (current ∷ later) name) true (if room then tee_opens_next (fds ++ fd ∷ []) later else tee_cannot_open current).next
-    go true = record { opens = λ e. next.opens (or_right _ (among later name) e); writes = λ e. next.writes (or_right _ (among later name) e); uses = next.uses }
+    go true = record { opens = λ e. next.opens (not_right _ (among later name) e); writes = λ e. next.writes (not_right _ (among later name) e); uses = next.uses }
     go false = none_left name _ _ _ told refl refl refl
 
 tee_got_within : (name : Name) (opening writing : Bool) (fds : List ℕ) (got : Answer Bytes) → Within name opening writing true (tee_got fds got).next
@@ -110,7 +103,7 @@ echo_end_within name opening writing uses (argument ∷ later) = none_left name 
 
 -- of a reader's names, those that it reads
 reader : (name : Name) (reading writing uses : Bool) (state : State) → Within name reading writing uses state → Within name (reading || writing) writing uses state
-reader name reading writing uses state within = record { opens = λ e. within.opens (or_left reading writing e); writes = within.writes; uses = within.uses }
+reader name reading writing uses state within = record { opens = λ e. within.opens (not_left reading writing e); writes = within.writes; uses = within.uses }
 
 head_within : (name : Name) (arguments : List Bytes) → Within name (among (head_files arguments) name) false (program_uses_input Head arguments) (begins_head (has_wrong_option arguments) arguments).next
 head_within name arguments = go (has_wrong_option arguments) refl

@@ -19,7 +19,7 @@ use Rattle.user_progs.specs.State.{Filter, copying, heading, counting, searching
 use Rattle.user_progs.specs.Turn.{Answer, yields, denies, strays, Turn, Step, reads, writes, finishes, fails, quits, bytes_in, fd_in, done_in, begun_by, closed_by, turn, turn_by, first_step, work_step, filter_of, name_of, block, opened_by, opens_next, begins_filter, begins_head, begins_program, echo_next, echo_end, cat_got, cat_wrote, head_got, head_goes_on, head_wrote, wc_got, grep_got, grep_lines, grep_keeps, tee_waits, tee_opens_next, tee_opened, tee_cannot_open, tee_got, tee_gives_next, tee_wrote, tee_turn}
 use Rattle.program_model.specs.Tame.{Among, mode_of, IsTame, and_opened, opened_after, AreTame}
 
--- a step asks for at least one byte, and for no more than a call moves
+-- a step reads or writes at least one byte, and no more than a call moves
 abbrev Asks : Step → Type 0
 Asks (reads most work) = (1 ≤ most) × (most ≤ BLOCK_SIZE)
 Asks (writes bytes work) = Unit {0}

@@ -120,8 +120,8 @@ pub fn no_write_of_a_program_alone_is_refused()
     ensures { (state : State) (fd : ℕ) (bytes : Bytes) (world : World) → Waits state (Write fd bytes) world → Fits state world → may_write fd world ≡ true }
 {}
 
-/// A call that is refused changes nothing, whatever the reason, as a full table or a pipe that nobody reads: the program waits
-/// on then, for the reply to the call that it makes of that, and depends on no more files than before and may change no more.
+/// A call that is refused changes nothing, whatever the reason, as a full table or a pipe that no process reads: the program
+/// waits for the reply to the call that it makes next, and depends on no more files than before and may change no more.
 pub fn a_refused_call_changes_nothing()
     ensures same { (call : Call) (world : World) → after_call call Refused world ≡ world }
     ensures waits { (state : State) (call : Call) (world : World) → Waits state call world → Waits (next_of state Refused) (call_of state Refused) world }
@@ -130,8 +130,8 @@ pub fn a_refused_call_changes_nothing()
     ensures changes { (state : State) (world : World) (name : Name) → may_change state world name ≡ false → may_change (next_of state Refused) world name ≡ false }
 {}
 
-/// A program whose write is refused goes on as if it had been done, or tells of it and exits; and always tells, where the
-/// write was to a file of its own. So what it still writes after a refused write is the same, or a message.
+/// A program whose write is refused goes on as if it had been done, or writes a message to descriptor 2 and exits; the latter
+/// always, where the write was to a file of its own. So what it still writes after a refused write is the same, or a message.
 pub fn a_refused_write_is_passed_over_or_told()
     ensures any { (state : State) (fd : ℕ) (bytes : Bytes) (world : World) → Waits state (Write fd bytes) world → PassesOrTells state }
     ensures own { (state : State) (fd : ℕ) (bytes : Bytes) (world : World) → Waits state (Write fd bytes) world → 2 < fd → IsTold (turn state Refused) }
@@ -143,7 +143,7 @@ pub fn what_a_program_waits_for()
 {}
 
 /// A program that waits goes on to wait over another input and among other files, as those that other commands leave: as long
-/// as the files that it holds open to write are there, as they are; so, where files agree on what it depends on.
+/// as the files that it holds open to write are there and hold the same; so, where files agree on what it depends on.
 pub fn a_program_waits_elsewhere_too()
     ensures there { (state : State) (call : Call) (world : World) (name : Name) → Waits state call world → holds_to_write state world name ≡ true
         → is_some (world.files name) ≡ true }
@@ -158,7 +158,7 @@ pub fn a_program_waits_elsewhere_too()
         → Fits state (record world { input = input; files = G }) }
 {}
 
-/// Which files a program depends on, and which it may change, is told by its state and its open files, and not by what the
+/// Which files a program depends on, and which it may change, follows from its state and its open files, and not from what the
 /// input and the files hold; and what it may change it depends on.
 pub fn open_files_tell_what_it_depends_on()
     ensures depends { (state : State) (world : World) (input : Bytes) (G : FileMap) (name : Name)
@@ -198,7 +198,7 @@ pub fn what_it_depends_on_shrinks()
         → may_change state world name ≡ false → may_change (next_of state reply) (after_call call reply world) name ≡ false }
 {}
 
-/// A program that no longer reads standard input leaves it as it is, and does the same whatever it holds.
+/// A program that no longer reads standard input leaves all of it, and does the same whatever it holds.
 pub fn an_unused_input_is_left()
     ensures { (state : State) (call : Call) (world : World) (input : Bytes) → Waits state call world → still_uses state ≡ false
         → still state (record world { input = input }) ≡ record (still state world) { rest = input } }

@@ -10,12 +10,12 @@ use Rattle.program_model.specs.FilesAhead.{sizes}
 use Rattle.tree_model.specs.Residual.{Residual, seq, piped, from, into, Position, byte_in, left_names, left_writes}
 use Rattle.tree_model.specs.Rules.{patch, patched}
 use Rattle.tree_model.specs.Tidy.{IsTidy}
-use Rattle.law_trees.proofs.Bools.{apart}
 use Rattle.law_trees.proofs.Progress.{After}
 use Rattle.tree_model.specs.Bound.{grown, bytes_left}
 use Rattle.law_tree_ends.proofs.More.{tree_more, left_more}
 use Rattle.law_tree_ends.proofs.Growing.{written_size}
 use Rattle.law_tree_ends.proofs.RunFalls.{Falls}
+use Rattle.meaning_model.proofs.Bools.{apart}
 
 -- steps of parts
 pub seq_falls : (X X' : Residual) (T : Tree) (F G : FileMap) (n took wrote : ℕ) → Falls X F n took wrote X' G → Falls (seq X T) F n took wrote (seq X' T) G

@@ -25,7 +25,7 @@ pub fn every_run_ends()
         → Reaches profile (first_stage (script_tree lines) input F) last → sizes last.files name ≤ sizes F name + most_bytes lines input F }
 {}
 
-/// And from wherever a run of a clear script without `&` comes to, some steps lead on until nothing is left to do.
+/// From each stage that a run of a clear script without `&` reaches, some steps lead on until nothing is left to do.
 pub fn every_run_can_finish()
     ensures { (profile : Profile) (lines : List ScriptLine) (input : Bytes) (F : FileMap) (last : Stage) → IsClearScript lines → Reaches profile (first_stage (script_tree lines) input F) last
         → (end : Stage) × Reaches profile last end × (end.left ≡ done) }

@@ -113,9 +113,6 @@ abbrev TidyAgain : Option Running → FileMap → Type 0
 TidyAgain o F = IsTidy (run_left o) F
 
 module _ (run : Running) (count : ℕ) (cl en : Bool) (i : Bytes) (F : FileMap) (tidy : IsTidy (running run) F) where
-  state : State
-  state = run.turn.next
-
   same : (reply : Reply) → Same i run.turn.call (after_call run.turn.call reply (alone run F)) (after_call run.turn.call reply (world_of run i F))
   same reply = same_after run.own [] i F run.turn.call reply
 

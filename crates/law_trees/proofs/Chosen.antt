@@ -4,6 +4,7 @@ use Rattle.std.specs.Prelude.{◌||◌, ◌-◌, min, not, if◌then◌else◌}
 use Rattle.std.specs.Str.{bytes_eq}
 use Rattle.std.proofs.Math.Seq.{drop-append_seam, take-append_seam}
 use mathlib.Core.Path.{fun_ext}
+use Rattle.std.proofs.lemmas.Bool.{or_right}
 use Rattle.mem_files.specs.Name.{Name, Bytes}
 use Rattle.mem_files.specs.Files.{FileMap, bytes_of}
 use Rattle.mem_files.proofs.Overlays.{written_none}
@@ -61,10 +62,6 @@ patched_none F f at = fun_ext (λ n. go (bytes_eq n f) (F n))
 or_end : (b : Bool) → (b || false) ≡ b
 or_end true = refl
 or_end false = refl
-
-or_true : (b : Bool) → (b || true) ≡ true
-or_true true = refl
-or_true false = refl
 
 module _ (profile : Profile) where
   -- a call of a known kind
@@ -132,7 +129,7 @@ module _ (profile : Profile) where
       (on_left a.0, ap (left_move lost q Y) a.1 ∙ (λ t. move_by silent (piped (or_end lost t) X' (sym e t) Y) G))
   chosen cl en i (left_refused {G = G} {X' = X'} {Y = Y} {lost = lost} {q = q} s closed) met =
       let a = chosen (not (keeps_0 Y)) en i s (ap not closed) in
-      (on_left a.0, ap (left_move lost q Y) a.1 ∙ (λ t. move_by silent (piped (or_true lost t) X' (append-nil q t) Y) G))
+      (on_left a.0, ap (left_move lost q Y) a.1 ∙ (λ t. move_by silent (piped (or_right lost true refl t) X' (append-nil q t) Y) G))
   chosen cl en i (right_silent {X = X} {lost = lost} {q = q} s) met =
       let a = chosen cl (not (keeps_1 X)) q s tt in
       (on_right a.0, ap (right_move lost X q) a.1)

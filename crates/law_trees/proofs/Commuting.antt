@@ -8,11 +8,11 @@ use Rattle.tree_model.specs.Residual.{Residual, piped, left_names, left_writes}
 use Rattle.tree_model.specs.Rules.{Label, silent, Steps}
 use Rattle.tree_model.specs.Rules.Steps.{left_silent, right_silent}
 use Rattle.tree_model.specs.Tidy.{IsTidy}
-use Rattle.law_trees.proofs.Bools.{apart}
 use Rattle.law_trees.proofs.Frame.{tidy_agree}
 use Rattle.law_trees.proofs.Progress.{After, after}
 use Rattle.law_trees.proofs.RuleFrame.{Elsewhere, elsewhere}
 use Rattle.law_trees.proofs.StepFrame.{named}
+use Rattle.meaning_model.proofs.Bools.{apart}
 
 module _ (profile : Profile) where
   pub commute : (X X' Y Y' : Residual) (F G H : FileMap) (l m : Label) → IsTidy X F → IsTidy Y F →

@@ -4,6 +4,7 @@ use Rattle.std.proofs.Common.{◌≡◌, ◌∙◌, ℕ, zero, suc, Bool, true, 
 use Rattle.std.specs.Prelude.{if◌then◌else◌}
 use Rattle.std.specs.Str.{bytes_eq}
 use Rattle.std.proofs.lemmas.Slice.Eq.{bytes_eq-Decides}
+use Rattle.std.proofs.lemmas.Bool.{false_from_ne_true, cond-false}
 use Rattle.mem_files.specs.Name.{Name, Bytes, is_openable}
 use Rattle.mem_files.specs.Files.{FileMap, bytes_of}
 use Rattle.mem_files.specs.Overlay.{written}
@@ -24,14 +25,12 @@ use Rattle.law_programs.proofs.Keeps.{open_changes_nothing}
 use Rattle.tree_model.specs.Residual.{Running, alone}
 use Rattle.tree_model.specs.Answers.{Kind, leaves, reads_input, writes_output, asks, kind_of, answer}
 use Rattle.tree_model.specs.Step.{read_input, put_some, write_output, act, acts}
-use Rattle.law_trees.proofs.Bools.{not_both, not_true, not_left}
+use Rattle.law_trees.proofs.Bools.{not_both}
 use Rattle.law_trees.proofs.Calls.{is_read, is_write}
+use Rattle.meaning_model.proofs.Bools.{not_left}
 
 other_name : (n name : Name) (P : Names) → P name ≡ true → P n ≡ false → bytes_eq n name ≡ false
-other_name n name P e none = not_true (bytes_eq n name) (λ g. not_both (P name) e (subst (λ x. P x ≡ false) ((bytes_eq-Decides n name).0 g) none))
-
-cond_false : (b : Bool) (x y : Option Bytes) → b ≡ false → (if b then x else y) ≡ y
-cond_false b x y e = ap (λ (t : Bool). if t then x else y) e
+other_name n name P e none = false_from_ne_true (bytes_eq n name) (λ g. not_both (P name) e (subst (λ x. P x ≡ false) ((bytes_eq-Decides n name).0 g) none))
 
 -- the names of the file that is open at a descriptor
 abbrev pub IsNamed : Option OwnFile → Names → Type 0
@@ -46,7 +45,7 @@ own_named fd reads names world own o is = let same : own.own ≡ o = inj (sym ow
 -- only what may be changed is
 only_file : (h : Option OwnFile) (bytes : Bytes) (world : World) (names : Names) (n : Name) → IsNamed h names → names n ≡ false → (after_file_write h bytes world).files n ≡ world.files n
 only_file None bytes world names n named none = refl
-only_file (Some o) bytes world names n named none = cond_false (bytes_eq n o.name) (Some (written (bytes_of (world.files o.name)) o.at bytes)) (world.files n) (other_name n o.name names (named o refl) none)
+only_file (Some o) bytes world names n named none = cond-false (bytes_eq n o.name) (Some (written (bytes_of (world.files o.name)) o.at bytes)) (world.files n) (other_name n o.name names (named o refl) none)
 
 only_own : (fd : ℕ) (bytes : Bytes) (answer : Answer (Unit {0})) (state : State) (world : World) (n : Name) → MayCall (Write fd bytes) state world → may_change state world n ≡ false → (after_write fd bytes answer world).files n ≡ world.files n
 only_own zero bytes answer state world n may none = absurd may
@@ -59,7 +58,7 @@ only_own fd bytes strays state world n may none = refl
 
 open_fresh : (b : Bool) (name n : Name) (F : FileMap) → (b ≡ true → bytes_eq n name ≡ false) → opened_files (if b then Some [] else None) name Fresh F n ≡ F n
 open_fresh false name n F h = refl
-open_fresh true name n F h = cond_false (bytes_eq n name) (Some []) (F n) (h refl)
+open_fresh true name n F h = cond-false (bytes_eq n name) (Some []) (F n) (h refl)
 
 only_open : (name : Name) (mode : Mode) (answer : Answer ℕ) (world : World) (n : Name) → opened_files (can_open name mode world.files) name mode world.files n ≡ world.files n → (after_open name mode answer world).files n ≡ world.files n
 only_open name mode (yields fd) world n e = e
@@ -140,7 +139,7 @@ act_unused run count cl en i F may none = go (kind_of run.turn.call) refl
     go (writes_output bytes) e = at_write (drop run.put bytes) count cl
     go asks e = refl
 
--- a write is refused only where nobody reads it, and where bytes of it are left
+-- a write is refused only where no process reads it, and where bytes of it are left
 pub record Lost (run : Running) (cl : Bool) : Type 0 where
   pub closed : cl ≡ true
   pub bytes : Bytes

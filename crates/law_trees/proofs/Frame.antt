@@ -15,11 +15,12 @@ use Rattle.law_programs.proofs.Elsewhere.{depends_alike, depends_first, waits_ag
 use Rattle.tree_model.specs.Residual.{Running, alone, Residual, done, todo, running, seq, piped, unopened, from, into, left_names, left_writes, left_uses}
 use Rattle.tree_model.specs.Final.{final}
 use Rattle.tree_model.specs.Tidy.{IsThere, IsTidy}
-use Rattle.law_trees.proofs.Bools.{not_left, not_right, apart, back}
+use Rattle.law_trees.proofs.Bools.{back}
 use Rattle.law_trees.proofs.Parts.{named_self, patched_other, pipe_files, alike_patch}
 use Rattle.law_trees.proofs.Running.{run_frame, run_only}
 use Rattle.law_trees.proofs.TreeFrame.{tree_frame, tree_only}
 use Rattle.law_trees.proofs.Values.{Agree, Alike, alike_nothing, alike_seq, alike_pipe, alike_from, alike_then}
+use Rattle.meaning_model.proofs.Bools.{apart, not_left, not_right}
 
 -- what is tidy with some files is so with others that agree on its names
 held_depends : (run : Running) (F : FileMap) (n : Name) → holds_to_write run.turn.next (alone run F) n ≡ true → depends_on run.turn.next (alone run F) n ≡ true

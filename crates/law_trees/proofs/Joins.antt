@@ -1,13 +1,15 @@
 -- How the values of parts keep the value of the whole.
 use Rattle.std.proofs.Common.{◌≡◌, Bool, true, false, [], ◌++◌, refl, sym, ap, ◌∙◌, append_assoc}
 use Rattle.std.specs.Prelude.{◌||◌, ◌&&◌, not}
+use Rattle.std.proofs.lemmas.Bool.{or_from}
 use Rattle.mem_files.specs.Name.{Name, Bytes}
 use Rattle.prog_parts.specs.NameSets.{Names}
 use Rattle.prog_parts.specs.Program.{is_empty}
 use Rattle.meaning_model.specs.Value.{Value, seq_value, from_value, is_cut}
 use Rattle.tree_model.specs.Final.{piped_value}
-use Rattle.law_trees.proofs.Bools.{not_left, not_right, neither, and_less, and_first, none3, all3, none4, all4}
+use Rattle.law_trees.proofs.Bools.{and_less, and_first, none3, all3, none4, all4}
 use Rattle.law_trees.proofs.Values.{Agree, Alike, Keeps}
+use Rattle.meaning_model.proofs.Bools.{not_left, not_right}
 
 pub keeps_refl : (v : Value) → ((n : Name) → v.met n ≡ false) → Keeps [] v v
 keeps_refl v b = record { out = refl; files = record { at = λ n h. refl }; rest = λ e. refl; loose = λ e. e; soft = λ n e. e; met = b }
@@ -26,8 +28,8 @@ keeps_seq ns u w v v' x x' k b f = record {
   out = (λ t. k.out t ++ f.out t) ∙ append_assoc w v'.out x'.out;
   files = record { at = λ n e. f.files.at n (not_left (v.soft n) (x.soft n) e) };
   rest = λ e. f.rest (not_left v.loose x.loose e);
-  loose = λ e. neither v'.loose x'.loose (k.loose (not_left v.loose x.loose e)) (sym f.loose ∙ not_right v.loose x.loose e);
-  soft = λ n e. neither (v'.soft n) (x'.soft n) (k.soft n (not_left (v.soft n) (x.soft n) e)) (sym (ap (λ s. s n) f.soft) ∙ not_right (v.soft n) (x.soft n) e);
+  loose = λ e. or_from v'.loose x'.loose (k.loose (not_left v.loose x.loose e)) (sym f.loose ∙ not_right v.loose x.loose e);
+  soft = λ n e. or_from (v'.soft n) (x'.soft n) (k.soft n (not_left (v.soft n) (x.soft n) e)) (sym (ap (λ s. s n) f.soft) ∙ not_right (v.soft n) (x.soft n) e);
   met = λ n.
       let h = none4 (v.met n) (x.met n) (v.soft n && ns n) (v.loose && u) (b n) in
       all4 (v'.met n) (x'.met n) (v'.soft n && ns n) (v'.loose && u) (k.met n) (sym (ap (λ s. s n) f.met) ∙ h.two)
@@ -43,23 +45,23 @@ keeps_left ws ws' us us' w v v' x x' k b less less_use a =
       out = a.out;
       files = record { at = λ n e. a.files.at n ((none3 (v.soft n) (x.soft n) (is_cut x && ws n) e).one) };
       rest = λ e. k.rest (not_left v.loose (is_cut x && us) e);
-      loose = λ e. neither v'.loose (is_cut x' && us') (k.loose (not_left v.loose (is_cut x && us) e))
+      loose = λ e. or_from v'.loose (is_cut x' && us') (k.loose (not_left v.loose (is_cut x && us) e))
           (and_less (is_cut x) (is_cut x') us us' (λ h. sym same_cut ∙ h) less_use (not_right v.loose (is_cut x && us) e));
       soft = λ n e.
           let h = none3 (v.soft n) (x.soft n) (is_cut x && ws n) e in
           all3 (v'.soft n) (x'.soft n) (is_cut x' && ws' n) (k.soft n h.one) (sym (ap (λ s. s n) a.soft) ∙ h.two)
           (and_less (is_cut x) (is_cut x') (ws n) (ws' n) (λ g. sym same_cut ∙ g) (less n) h.three);
-      met = λ n. neither (v'.met n) (x'.met n) (k.met n) (sym (ap (λ s. s n) a.met) ∙ not_right (v.met n) (x.met n) (b n));
+      met = λ n. or_from (v'.met n) (x'.met n) (k.met n) (sym (ap (λ s. s n) a.met) ∙ not_right (v.met n) (x.met n) (b n));
     }
 
--- a step of a left side that nobody reads any more, with a lost write before or now
+-- a step of a left side that no process reads any more, with a lost write before or now
 pub keeps_lost : (l : Bool) (ws ws' : Names) (us us' : Bool) (v v' x x' : Value) → ((n : Name) → (piped_value l ws us v x).met n ≡ false) → ((n : Name) → ws n ≡ false → ws' n ≡ false) → (us ≡ false → us' ≡ false) → (l ≡ false → is_cut x ≡ true) → (us ≡ false → v.rest ≡ v'.rest) → x.out ≡ x'.out → Agree (λ n. ws n ≡ false) x.files x'.files → x.soft ≡ x'.soft → x.met ≡ x'.met → Keeps [] (piped_value l ws us v x) (piped_value true ws' us' v' x')
 keeps_lost true ws ws' us us' v v' x x' b less less_use cut rest out files soft met = record {
   out = out;
   files = record { at = λ n e. files.at n (not_right (x.soft n) (ws n) e) };
   rest = rest;
   loose = less_use;
-  soft = λ n e. neither (x'.soft n) (ws' n) (sym (ap (λ s. s n) soft) ∙ not_left (x.soft n) (ws n) e) (less n (not_right (x.soft n) (ws n) e));
+  soft = λ n e. or_from (x'.soft n) (ws' n) (sym (ap (λ s. s n) soft) ∙ not_left (x.soft n) (ws n) e) (less n (not_right (x.soft n) (ws n) e));
   met = λ n. sym (ap (λ s. s n) met) ∙ b n;
 }
 keeps_lost false ws ws' us us' v v' x x' b less less_use cut rest out files soft met =
@@ -72,7 +74,7 @@ keeps_lost false ws ws' us us' v v' x x' b less less_use cut rest out files soft
       files = record { at = λ n e. files.at n (unwritten n e) };
       rest = λ e. rest (unread e);
       loose = λ e. less_use (unread e);
-      soft = λ n e. neither (x'.soft n) (ws' n) (sym (ap (λ s. s n) soft) ∙ (none3 (v.soft n) (x.soft n) (is_cut x && ws n) e).two) (less n (unwritten n e));
+      soft = λ n e. or_from (x'.soft n) (ws' n) (sym (ap (λ s. s n) soft) ∙ (none3 (v.soft n) (x.soft n) (is_cut x && ws n) e).two) (less n (unwritten n e));
       met = λ n. sym (ap (λ s. s n) met) ∙ not_right (v.met n) (x.met n) (b n);
     }
 
@@ -80,7 +82,7 @@ keeps_lost false ws ws' us us' v v' x x' b less less_use cut rest out files soft
 pub less_cut : (x x' : Value) (w : Bytes) → Keeps w x x' → is_cut x ≡ false → is_cut x' ≡ false
 less_cut x x' w k e =
     let t = not_right (not (is_empty x.rest)) x.loose e in
-    neither (not (is_empty x'.rest)) x'.loose (ap (λ z. not (is_empty z)) (sym (k.rest t)) ∙ not_left (not (is_empty x.rest)) x.loose e) (k.loose t)
+    or_from (not (is_empty x'.rest)) x'.loose (ap (λ z. not (is_empty z)) (sym (k.rest t)) ∙ not_left (not (is_empty x.rest)) x.loose e) (k.loose t)
 
 pub keeps_right : {N : Name → Type 0} (l : Bool) (ws : Names) (us : Bool) (w : Bytes) (v v' x x' : Value) → ((n : Name) → (piped_value l ws us v x).met n ≡ false) → Alike N v v' → Keeps w x x' → Keeps w (piped_value l ws us v x) (piped_value l ws us v' x')
 keeps_right true ws us w v v' x x' b a k = record {
@@ -88,20 +90,20 @@ keeps_right true ws us w v v' x x' b a k = record {
   files = record { at = λ n e. k.files.at n (not_left (x.soft n) (ws n) e) };
   rest = λ e. a.rest;
   loose = λ e. e;
-  soft = λ n e. neither (x'.soft n) (ws n) (k.soft n (not_left (x.soft n) (ws n) e)) (not_right (x.soft n) (ws n) e);
+  soft = λ n e. or_from (x'.soft n) (ws n) (k.soft n (not_left (x.soft n) (ws n) e)) (not_right (x.soft n) (ws n) e);
   met = k.met;
 }
 keeps_right false ws us w v v' x x' b a k = record {
   out = k.out;
   files = record { at = λ n e. k.files.at n ((none3 (v.soft n) (x.soft n) (is_cut x && ws n) e).two) };
   rest = λ e. a.rest;
-  loose = λ e. neither v'.loose (is_cut x' && us) (sym a.loose ∙ not_left v.loose (is_cut x && us) e)
+  loose = λ e. or_from v'.loose (is_cut x' && us) (sym a.loose ∙ not_left v.loose (is_cut x && us) e)
       (and_less (is_cut x) (is_cut x') us us (less_cut x x' w k) (λ h. h) (not_right v.loose (is_cut x && us) e));
   soft = λ n e.
       let h = none3 (v.soft n) (x.soft n) (is_cut x && ws n) e in
       all3 (v'.soft n) (x'.soft n) (is_cut x' && ws n) (sym (ap (λ s. s n) a.soft) ∙ h.one) (k.soft n h.two)
       (and_less (is_cut x) (is_cut x') (ws n) (ws n) (less_cut x x' w k) (λ g. g) h.three);
-  met = λ n. neither (v'.met n) (x'.met n) (sym (ap (λ s. s n) a.met) ∙ not_left (v.met n) (x.met n) (b n)) (k.met n);
+  met = λ n. or_from (v'.met n) (x'.met n) (sym (ap (λ s. s n) a.met) ∙ not_left (v.met n) (x.met n) (b n)) (k.met n);
 }
 
 pub keeps_from : (i : Bytes) (w : Bytes) (v v' : Value) → Keeps w v v' → Keeps w (from_value i v) (from_value i v')

@@ -4,6 +4,7 @@ use Rattle.std.proofs.Common.{◌≡◌, ◌+◌, Bool, true, false, [], ◌++�
 use Rattle.std.specs.Prelude.{◌&&◌, not}
 use Rattle.std.proofs.lemmas.Bool.Decides.{nat_tests}
 use mathlib.Core.Path.{transport}
+use Rattle.std.proofs.lemmas.Bool.{false_from_ne_true, not-true}
 use Rattle.sh_tree.specs.Tree.{Tree, exec, redir, pipe, list, back}
 use Rattle.conflict_check.specs.Names.{names, uses_input}
 use Rattle.meaning_model.specs.Value.{seq_value}
@@ -13,7 +14,7 @@ use Rattle.tree_model.specs.Rules.{is_gap}
 use Rattle.tree_model.specs.Step.{Choice, here, on_left, on_right, seq_end, piped_end, step}
 use Rattle.tree_model.specs.Final.{final}
 use Rattle.tree_model.specs.Tidy.{HasShortCommands, IsThere, IsTidy}
-use Rattle.law_trees.proofs.Bools.{not_left, not_both, not_true, not_not, and_first, and_second, none4}
+use Rattle.law_trees.proofs.Bools.{not_both, and_first, and_second, none4}
 use Rattle.law_trees.proofs.Frame.{right_tidy}
 use Rattle.law_trees.proofs.Joins.{Follow, keeps_refl, keeps_seq, keeps_from}
 use Rattle.law_trees.proofs.PipeKept.{pipe_bad_right, beside, lost_kept, rest_kept, files_kept, left_step, right_step}
@@ -30,6 +31,7 @@ use Rattle.mem_files.specs.Name.{Name, Bytes}
 use Rattle.mem_files.specs.Files.{FileMap, bytes_of}
 use Rattle.script_load.specs.declared.profile.Profile.{Profile}
 use Rattle.meaning_model.specs.Value.{Value}
+use Rattle.meaning_model.proofs.Bools.{not_left}
 
 pub no_gap_there : (x : Option Bytes) (at : Position) → IsThere x at → is_gap x at ≡ false
 no_gap_there None at h = absurd h
@@ -100,7 +102,7 @@ module _ (profile : Profile) where
   keeps (piped l X q Y) (on_right c) cl en i t F h he b r =
       let v = final profile X (i ++ t) F in
       let bs = beside profile l X Y q c cl (i ++ t) F h in
-      right_step profile l X q Y c cl i t F h b (keeps Y c cl (not (keeps_1 X)) q v.out v.files (right_tidy profile l X q Y (i ++ t) F h) (λ e. closed_1 profile X (i ++ t) F (not_not (keeps_1 X) e)) (λ n. pipe_bad_right l (left_writes X) (left_uses X) v _ n (b n)) (sym bs.refused ∙ r))
+      right_step profile l X q Y c cl i t F h b (keeps Y c cl (not (keeps_1 X)) q v.out v.files (right_tidy profile l X q Y (i ++ t) F h) (λ e. closed_1 profile X (i ++ t) F (not-true (keeps_1 X) e)) (λ n. pipe_bad_right l (left_writes X) (left_uses X) v _ n (b n)) (sym bs.refused ∙ r))
   keeps (unopened m f T) c cl en i t F h he b r = opens_kept profile m f T (i ++ t) F h b
   keeps (from f at X) (here k) cl en i t F h he b r = from_ends profile f at X (i ++ t) F b
   keeps (from f at X) (on_left c) cl en i t F h he b r =
@@ -115,5 +117,5 @@ module _ (profile : Profile) where
   keeps (into f at X) (on_left c) cl en i t F h he b r =
       let m = step profile X c (is_gap (F f) at) en i F in
       into_kept profile X f at m.wrote (i ++ t) (drop m.took i ++ t) F m.files m.next h.0 (step_tidy profile X c (is_gap (F f) at) en i F h.0) h.1 ((smaller profile X c (is_gap (F f) at) en i F h.0).names f h.1) (λ n e. step_only profile X c (is_gap (F f) at) en i F n h.0 e)
-      (keeps X c (is_gap (F f) at) en i t F h.0 he b (not_true m.refused (λ e. not_both (is_gap (F f) at) (refused_closed profile X c (is_gap (F f) at) en i F e) (no_gap_there (F f) at h.2))))
+      (keeps X c (is_gap (F f) at) en i t F h.0 he b (false_from_ne_true m.refused (λ e. not_both (is_gap (F f) at) (refused_closed profile X c (is_gap (F f) at) en i F e) (no_gap_there (F f) at h.2))))
   keeps (into f at X) (on_right c) cl en i t F h he b r = keeps_refl _ b

@@ -2,6 +2,7 @@
 -- recursive meaning.
 use Rattle.std.proofs.Common.{◌≡◌, true, false, List, [], ◌∷◌, ◌++◌, drop, refl, sym, ap, ◌∙◌, subst, append_assoc, append-nil}
 use mathlib.Core.Path.{transport}
+use Rattle.std.proofs.lemmas.Bool.{false_from_ne_true}
 use Rattle.mem_files.specs.Name.{Bytes}
 use Rattle.mem_files.specs.Files.{FileMap}
 use Rattle.prog_parts.specs.NameSets.{no_names}
@@ -16,7 +17,7 @@ use Rattle.tree_model.specs.Step.{Choice, step}
 use Rattle.tree_model.specs.Final.{final}
 use Rattle.tree_model.specs.Tidy.{HasShortCommands}
 use Rattle.tree_model.specs.Runs.{Stage, first_stage, Goes, Reaches, reached, goes_on, next_stage, after_steps, IsOnWay, Agrees}
-use Rattle.law_trees.proofs.Bools.{not_both, not_true}
+use Rattle.law_trees.proofs.Bools.{not_both}
 use Rattle.law_trees.proofs.Chosen.{chosen}
 use Rattle.law_trees.proofs.Joins.{keeps_refl}
 use Rattle.law_trees.proofs.Keep.{keeps}
@@ -41,7 +42,7 @@ module _ (profile : Profile) where
       let m = step profile x.left c false true x.input x.files in
       let whole = append-nil x.input in
       let k = keeps profile x.left c false true x.input [] x.files h.tidy (λ e. refl) (λ n. ap (λ j. (final profile x.left j x.files).met n) whole ∙ h.kept.met n)
-      (not_true m.refused (λ e. not_both false (refused_closed profile x.left c false true x.input x.files e) refl)) in
+      (false_from_ne_true m.refused (λ e. not_both false (refused_closed profile x.left c false true x.input x.files e) refl)) in
       let k2 : Keeps m.wrote (final profile x.left x.input x.files) (final profile m.next (drop m.took x.input) m.files) =
       transport (λ z. Keeps m.wrote (final profile x.left (whole z) x.files) (final profile m.next (append-nil (drop m.took x.input) z) m.files)) k in
       record { tidy = step_tidy profile x.left c false true x.input x.files h.tidy; kept = keeps_on x.out m.wrote v _ _ h.kept k2 }
@@ -62,7 +63,7 @@ module _ (profile : Profile) where
   reaches_way v reached h = h
   reaches_way v (goes_on {stage = x} {next = y} g r) h = reaches_way v r (goes_way v x y g h)
 
-  -- a settled script is on its way from the first stage on, and what is done has come to its meaning
+  -- a settled script is on its way from the first stage on, and what is done agrees with its meaning
   pub first_way : (lines : List ScriptLine) (i : Bytes) (F : FileMap) → IsSettledScript profile lines i F → HasShortCommands (script_tree lines) → IsOnWay profile (script_meaning profile lines i F) (first_stage (script_tree lines) i F)
   first_way lines i F settled short =
       record { tidy = (settled.1, short); kept = keeps_refl (script_meaning profile lines i F) ((meets_nothing profile (script_tree lines) no_names i F settled.2).met) }

@@ -1,4 +1,4 @@
--- Small scripts run in all orders of their steps, one by one: each order comes to an end, and to the output of the meaning.
+-- Small scripts run in all orders of their steps, one by one: each order ends, with the output of the meaning.
 use Rattle.std.proofs.Common.{◌≡◌, ℕ, zero, suc, Bool, true, false, List, [], ◌∷◌, ◌++◌, drop, refl, codes, ◌&&◌, not}
 use Rattle.std.specs.List.{list_all}
 use Rattle.std.specs.Str.{bytes_eq}
@@ -91,7 +91,7 @@ cat_head_gives = refl
 cat_head_means : (meaning Xv6 cat_head [] two_lines).out ≡ codes "a\n"
 cat_head_means = refl
 
--- echo a | (echo b | cat), where nobody reads what the first echo writes, from where all three programs have begun
+-- echo a | (echo b | cat), where no process reads what the first echo writes, from where all three programs have begun
 abbrev unread : Tree
 unread = pipe (exec (codes "echo" ∷ codes "a" ∷ [])) (pipe (exec (codes "echo" ∷ codes "b" ∷ [])) (exec (codes "cat" ∷ [])))
 

@@ -2,7 +2,7 @@
 use Rattle.std.proofs.Common.{◌≡◌, Bool, true, false, [], ◌∷◌, ◌++◌, drop, refl, sym, ap, ◌∙◌, subst, append_assoc, append-nil}
 use Rattle.std.specs.Prelude.{not}
 use mathlib.Core.Path.{fun_ext, transport}
-use Rattle.std.proofs.lemmas.Bool.{or_left}
+use Rattle.std.proofs.lemmas.Bool.{or_left, not-true}
 use Rattle.prog_parts.specs.Program.{is_empty}
 use Rattle.meaning_model.specs.Meaning.{meaning}
 use Rattle.program_model.specs.Alone.{to_out}
@@ -10,7 +10,7 @@ use Rattle.tree_model.specs.Residual.{Residual, running, seq, piped, from, left_
 use Rattle.tree_model.specs.Step.{Move, Choice, here, on_left, on_right, left_move, step}
 use Rattle.tree_model.specs.Final.{piped_value, final}
 use Rattle.tree_model.specs.Tidy.{IsTidy}
-use Rattle.law_trees.proofs.Bools.{not_right, not_not, back as back_to, apart}
+use Rattle.law_trees.proofs.Bools.{back as back_to}
 use Rattle.law_trees.proofs.Effects.{act_lost}
 use Rattle.law_trees.proofs.Frame.{tidy_agree, only, right_tidy, frame}
 use Rattle.law_trees.proofs.Joins.{keeps_left, keeps_lost, keeps_right}
@@ -24,6 +24,7 @@ use Rattle.mem_files.specs.Files.{FileMap, bytes_of}
 use Rattle.prog_parts.specs.NameSets.{Names}
 use Rattle.script_load.specs.declared.profile.Profile.{Profile}
 use Rattle.meaning_model.specs.Value.{Value}
+use Rattle.meaning_model.proofs.Bools.{apart, not_right}
 
 some_append : (a b : Bytes) → is_empty a ≡ false → is_empty (a ++ b) ≡ false
 some_append [] b e = cc
@@ -124,7 +125,7 @@ module _ (profile : Profile) where
       go true e =
           let z = not (keeps_0 Y) in
           let s = smaller profile X c z en i F h.0 in
-          subst Goal (sym e) (lost_kept false X m.next Y q (q ++ m.wrote) v v' d (not_not (keeps_0 Y) (refused_closed profile X c z en i F e)) h.2 b s.writes s.uses (λ g. refused_out X c z en i t F h.0 e) (rest_kept X c z en i t F h.0) (files_kept X c z en i (i ++ t) (drop m.took i ++ t) F h.0))
+          subst Goal (sym e) (lost_kept false X m.next Y q (q ++ m.wrote) v v' d (not-true (keeps_0 Y) (refused_closed profile X c z en i F e)) h.2 b s.writes s.uses (λ g. refused_out X c z en i t F h.0 e) (rest_kept X c z en i t F h.0) (files_kept X c z en i (i ++ t) (drop m.took i ++ t) F h.0))
 
   -- what the left side gives after a step of the right side, and what this step makes of the files that the left side leaves
   pub right_alike : (l : Bool) (X : Residual) (q : Bytes) (Y : Residual) (c : Choice) (cl : Bool) (j : Bytes) (F : FileMap) → IsTidy (piped l X q Y) F → Alike (λ n. left_writes Y n ≡ false) (final profile X j F) (final profile X j (step profile Y c cl (not (keeps_1 X)) q F).files)

@@ -1,5 +1,6 @@
 -- Runs of a script in which no pipe is cut: each gives the whole meaning, and in none is a write refused.
 use Rattle.std.proofs.Common.{◌≡◌, ◌∙◌, true, false, List, [], ◌++◌, drop, refl, sym, ap, subst, append-nil}
+use Rattle.std.proofs.lemmas.Bool.{false_from_ne_true}
 use Rattle.mem_files.specs.Name.{Bytes}
 use Rattle.mem_files.specs.Files.{FileMap}
 use Rattle.prog_parts.specs.NameSets.{no_names}
@@ -12,7 +13,7 @@ use Rattle.tree_model.specs.Step.{Move, step}
 use Rattle.tree_model.specs.Runs.{Stage, first_stage, Goes, Reaches, reached, goes_on, Agrees}
 use Rattle.tree_model.specs.Tidy.{HasShortCommands, IsTidy}
 use Rattle.tree_model.specs.Uncut.{IsUncutScript, AgreesWholly, has_lost}
-use Rattle.law_trees.proofs.Bools.{not_both, not_true}
+use Rattle.law_trees.proofs.Bools.{not_both}
 use Rattle.law_trees.proofs.Chosen.{chosen}
 use Rattle.law_trees.proofs.OneAnswer.{reaches_way, first_way, done_agrees}
 use Rattle.law_trees.proofs.Progress.{after}
@@ -31,7 +32,7 @@ module _ (profile : Profile) where
   goes_uncut x y g h =
       let a = chosen profile false true x.input g.steps g.met in
       let m = step profile x.left a.0 false true x.input x.files in
-      let u = step_uncut profile x.left a.0 false true x.input [] x.files h.tidy (λ e. refl) (not_true m.refused (λ e. not_both false (refused_closed profile x.left a.0 false true x.input x.files e) refl))
+      let u = step_uncut profile x.left a.0 false true x.input [] x.files h.tidy (λ e. refl) (false_from_ne_true m.refused (λ e. not_both false (refused_closed profile x.left a.0 false true x.input x.files e) refl))
       (subst (λ j. IsUncutLeft profile x.left j x.files) (sym (append-nil x.input)) h.uncut) in
       let whole : drop m.took x.input ++ [] ≡ y.input = append-nil (drop m.took x.input) ∙ ap (λ (k : Move Residual). drop k.took x.input) a.1 ∙ sym g.input in
       record {

@@ -17,12 +17,12 @@ use Rattle.tree_model.specs.Step.{Move}
 use Rattle.tree_model.specs.Moving.{IsPlain, Does, Moves, is_done, goes, may_read, may_put, may_end_write}
 use Rattle.tree_model.specs.Runs.{Stage, Goes, Reaches, reached, goes_on}
 use Rattle.tree_model.specs.Tidy.{IsTidy}
-use Rattle.law_trees.proofs.Bools.{not_left, not_right}
 use Rattle.law_trees.proofs.Chosen.{chosen}
 use Rattle.law_trees.proofs.Moving.{moves}
 use Rattle.law_trees.proofs.Smaller.{smaller}
 use Rattle.law_trees.proofs.StepFrame.{step_only}
 use Rattle.law_trees.proofs.StepTidy.{step_tidy}
+use Rattle.meaning_model.proofs.Bools.{not_left, not_right}
 
 begun_plain : (o : Option Running) → IsPlain (run_left o)
 begun_plain None = tt

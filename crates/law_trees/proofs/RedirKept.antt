@@ -21,7 +21,7 @@ use Rattle.tree_model.specs.Rules.{patch, patched}
 use Rattle.tree_model.specs.Step.{from_end, into_end}
 use Rattle.tree_model.specs.Final.{patch_value, final}
 use Rattle.tree_model.specs.Tidy.{HasShortCommands, IsTidyTree, IsTidy}
-use Rattle.law_trees.proofs.Bools.{not_both, not_true}
+use Rattle.law_trees.proofs.Bools.{not_both}
 use Rattle.law_trees.proofs.Frame.{tidy_agree, only, frame}
 use Rattle.law_trees.proofs.Joins.{keeps_refl}
 use Rattle.law_trees.proofs.Parts.{patched_other}
@@ -29,13 +29,12 @@ use Rattle.law_trees.proofs.StepFrame.{tree_named, named}
 use Rattle.law_trees.proofs.TreeFrame.{tree_only}
 use Rattle.law_trees.proofs.Values.{Alike, Keeps}
 use Rattle.std.specs.Str.{bytes_eq}
+use Rattle.std.proofs.lemmas.Bool.{false_from_ne_true, cond-false, cond-true}
 use Rattle.mem_files.specs.Name.{Name, Bytes}
 use Rattle.mem_files.specs.Files.{FileMap, bytes_of}
 use Rattle.script_load.specs.declared.profile.Profile.{Profile}
 use Rattle.meaning_model.specs.Value.{Value}
-
-itself_eq : (n f : Name) → bytes_eq n f ≡ true → n ≡ f
-itself_eq n f e = (bytes_eq-Decides n f).0 e
+use Rattle.law_programs.proofs.Giving.{same_name}
 
 patch_twice : (o : Option Bytes) (at : Position) (w x : Bytes) → patch o at (w ++ x) ≡ patch (patch o at w) (moved_on at (length w)) x
 patch_twice None at w x = refl
@@ -44,12 +43,6 @@ patch_twice (Some b) at_file_end w x =
     let whole : written b (length b) (w ++ x) ≡ (b ++ w) ++ x = written_end b (w ++ x) ∙ sym (append_assoc b w x) in
     let parts : written (written b (length b) w) (length (written b (length b) w)) x ≡ (b ++ w) ++ x = ap (λ z. written z (length z) x) (written_end b w) ∙ written_end (b ++ w) x in
     ap Some (whole ∙ sym parts)
-
-cond_true : (b : Bool) (x y : Option Bytes) → b ≡ true → (if b then x else y) ≡ x
-cond_true b x y e = ap (λ (t : Bool). if t then x else y) e
-
-cond_false : (b : Bool) (x y : Option Bytes) → b ≡ false → (if b then x else y) ≡ y
-cond_false b x y e = ap (λ (t : Bool). if t then x else y) e
 
 cond_same : (t : Bool) (x y : Option Bytes) → x ≡ y → (if t then x else y) ≡ y
 cond_same true x y e = e
@@ -75,10 +68,10 @@ module _ (profile : Profile) where
   opened_self : (m : Mode) (F : FileMap) (f n : Name) → IsOut m → bytes_eq n f ≡ true → (b : Bytes) → Some (at_end profile m (bytes_of (F f)) b) ≡ patch (opened m f F n) (start_at profile m) b
   opened_self Input F f n out e b = absurd out
   opened_self Fresh F f n out e b =
-      let o : opened Fresh f F n ≡ Some [] = cond_true (bytes_eq n f) (Some []) (F n) e in
+      let o : opened Fresh f F n ≡ Some [] = cond-true (bytes_eq n f) (Some []) (F n) e in
       ap Some (sym (written_start [] b ∙ ap (λ x. b ++ x) (drop-nil (length b)) ∙ append-nil b)) ∙ sym (ap (λ x. patch x (at_byte 0) b) o)
   opened_self Over F f n out e b =
-      let o : opened Over f F n ≡ Some (bytes_of (F f)) = cond_true (bytes_eq n f) (Some (bytes_of (F f))) (F n) e in
+      let o : opened Over f F n ≡ Some (bytes_of (F f)) = cond-true (bytes_eq n f) (Some (bytes_of (F f))) (F n) e in
       ap Some (over_self profile (bytes_of (F f)) b) ∙ sym (ap (λ x. patch x (over_start profile) b) o)
 
   open_kept : (m : Mode) (f : Name) (T : Tree) (i : Bytes) (F : FileMap) → IsOut m → HasShortCommands T → names T f ≡ false → ((n : Name) → (meaning profile T i (opened m f F)).met n ≡ false) → Keeps [] (written_value profile m f F (meaning profile T i (opened m f F))) (patch_value f (start_at profile m) (meaning profile T i (opened m f F)))
@@ -95,12 +88,12 @@ module _ (profile : Profile) where
       u = meaning profile T i (opened m f F)
 
       go : (n : Name) (t : Bool) → bytes_eq n f ≡ t → (if bytes_eq n f then Some (at_end profile m (bytes_of (F f)) u.out) else u.files n) ≡ (if bytes_eq n f then patch (u.files n) (start_at profile m) u.out else u.files n)
-      go n false e = cond_false (bytes_eq n f) (Some (at_end profile m (bytes_of (F f)) u.out)) (u.files n) e ∙ sym (cond_false (bytes_eq n f) (patch (u.files n) (start_at profile m) u.out) (u.files n) e)
+      go n false e = cond-false (bytes_eq n f) (Some (at_end profile m (bytes_of (F f)) u.out)) (u.files n) e ∙ sym (cond-false (bytes_eq n f) (patch (u.files n) (start_at profile m) u.out) (u.files n) e)
       go n true e =
-          let nf' : n ≡ f = itself_eq n f e in
+          let nf' : n ≡ f = same_name n f e in
           let un : writes T n ≡ false = tree_named T n (subst (λ x. names T x ≡ false) (sym nf') nf) in
           let fs : u.files n ≡ opened m f F n = tree_only profile T i (opened m f F) n s un in
-          cond_true (bytes_eq n f) (Some (at_end profile m (bytes_of (F f)) u.out)) (u.files n) e ∙ opened_self m F f n out e u.out ∙ ap (λ x. patch x (start_at profile m) u.out) (sym fs) ∙ sym (cond_true (bytes_eq n f) (patch (u.files n) (start_at profile m) u.out) (u.files n) e)
+          cond-true (bytes_eq n f) (Some (at_end profile m (bytes_of (F f)) u.out)) (u.files n) e ∙ opened_self m F f n out e u.out ∙ ap (λ x. patch x (start_at profile m) u.out) (sym fs) ∙ sym (cond-true (bytes_eq n f) (patch (u.files n) (start_at profile m) u.out) (u.files n) e)
 
   pub into_kept : (X : Residual) (f : Name) (at : Position) (w i j : Bytes) (F M : FileMap) (X' : Residual) → IsTidy X F → IsTidy X' M → left_names X f ≡ false → left_names X' f ≡ false → ((n : Name) → left_writes X n ≡ false → M n ≡ F n) → Keeps w (final profile X i F) (final profile X' j M) → Keeps [] (patch_value f at (final profile X i F)) (patch_value f (moved_on at (length w)) (final profile X' j (patched M f at w)))
   into_kept X f at w i j F M X' d d' nf nf' mf k = record {
@@ -125,7 +118,7 @@ module _ (profile : Profile) where
       v2 = final profile X' j (patched M f at w)
 
       unnamed : (n : Name) → left_names X' n ≡ true → bytes_eq n f ≡ false
-      unnamed n e = not_true (bytes_eq n f) (λ g. not_both (left_names X' f) (subst (λ x. left_names X' x ≡ true) (itself_eq n f g) e) nf')
+      unnamed n e = false_from_ne_true (bytes_eq n f) (λ g. not_both (left_names X' f) (subst (λ x. left_names X' x ≡ true) (same_name n f g) e) nf')
 
       a : Alike (λ n. bytes_eq n f ≡ false) (final profile X' j M) (final profile X' j (patched M f at w))
       a = frame profile (λ n. bytes_eq n f ≡ false) X' j M (patched M f at w) d' unnamed (record { at = λ n e. sym (patched_other M f n at w e) })
@@ -135,15 +128,15 @@ module _ (profile : Profile) where
 
       go : (n : Name) → v.soft n ≡ false → (t : Bool) → bytes_eq n f ≡ t → (if bytes_eq n f then patch (v.files n) at v.out else v.files n) ≡ (if bytes_eq n f then patch (v2.files n) (moved_on at (length w)) v2.out else v2.files n)
       go n s false e =
-          cond_false (bytes_eq n f) (patch (v.files n) at v.out) (v.files n) e ∙ k.files.at n s ∙ a.files.at n e ∙ sym (cond_false (bytes_eq n f) (patch (v2.files n) (moved_on at (length w)) v2.out) (v2.files n) e)
+          cond-false (bytes_eq n f) (patch (v.files n) at v.out) (v.files n) e ∙ k.files.at n s ∙ a.files.at n e ∙ sym (cond-false (bytes_eq n f) (patch (v2.files n) (moved_on at (length w)) v2.out) (v2.files n) e)
       go n s true e =
-          let g : n ≡ f = itself_eq n f e in
+          let g : n ≡ f = same_name n f e in
           let un : left_writes X n ≡ false = named X n (subst (λ x. left_names X x ≡ false) (sym g) nf) in
           let un' : left_writes X' n ≡ false = named X' n (subst (λ x. left_names X' x ≡ false) (sym g) nf') in
           let first : v.files n ≡ F n = only profile X i F n d un in
-          let second : v2.files n ≡ patch (F n) at w = only profile X' j (patched M f at w) n d2 un' ∙ cond_true (bytes_eq n f) (patch (M n) at w) (M n) e ∙ ap (λ x. patch x at w) (mf n un) in
+          let second : v2.files n ≡ patch (F n) at w = only profile X' j (patched M f at w) n d2 un' ∙ cond-true (bytes_eq n f) (patch (M n) at w) (M n) e ∙ ap (λ x. patch x at w) (mf n un) in
           let o : v.out ≡ w ++ v2.out = k.out ∙ ap (λ x. w ++ x) a.out in
-          cond_true (bytes_eq n f) (patch (v.files n) at v.out) (v.files n) e ∙ (λ t. patch (first t) at (o t)) ∙ patch_twice (F n) at w v2.out ∙ ap (λ x. patch x (moved_on at (length w)) v2.out) (sym second) ∙ sym (cond_true (bytes_eq n f) (patch (v2.files n) (moved_on at (length w)) v2.out) (v2.files n) e)
+          cond-true (bytes_eq n f) (patch (v.files n) at v.out) (v.files n) e ∙ (λ t. patch (first t) at (o t)) ∙ patch_twice (F n) at w v2.out ∙ ap (λ x. patch x (moved_on at (length w)) v2.out) (sym second) ∙ sym (cond-true (bytes_eq n f) (patch (v2.files n) (moved_on at (length w)) v2.out) (v2.files n) e)
 
   pub from_ends : (f : Name) (at : ℕ) (X : Residual) (i : Bytes) (F : FileMap) → ((n : Name) → (final profile (from f at X) i F).met n ≡ false) → Keeps [] (final profile (from f at X) i F) (final profile (from_end f at X) i F)
   from_ends f at done i F b = keeps_refl _ b

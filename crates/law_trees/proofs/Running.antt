@@ -2,6 +2,7 @@
 -- change, and leaves an input that it doesn't use. So does what a simple command gives, which is its program's as it begins.
 use Rattle.std.proofs.Common.{◌≡◌, ◌∙◌, Bool, true, false, List, [], ◌∷◌, ◌++◌, drop, Option, Some, None, refl, sym, ap}
 use Rattle.std.specs.Prelude.{◌||◌, if◌then◌else◌}
+use Rattle.std.proofs.lemmas.Bool.{or_from}
 use Rattle.mem_files.specs.Name.{Name, Bytes}
 use Rattle.mem_files.specs.Files.{FileMap, no_files}
 use Rattle.prog_parts.specs.declared.program.Program.{Program}
@@ -27,13 +28,12 @@ use Rattle.tree_model.specs.Begin.{run_left, begun, begun_words}
 use Rattle.tree_model.specs.Final.{run_value, final}
 use Rattle.tree_model.specs.Tidy.{IsShortCommand, IsTidy}
 use Rattle.law_trees.proofs.Acting.{waits_over}
-use Rattle.law_trees.proofs.Bools.{neither}
 use Rattle.law_trees.proofs.Values.{Agree, Alike, alike_nothing}
 
 pub run_firm : (run : Running) (i : Bytes) (F : FileMap) → IsFirm (run_value run i F)
 run_firm run i F = let h = still_firm run.turn.next (world_of run i F) in record { loose = h.loose; soft = h.soft; met = h.met }
 
--- a program's own files tell which it depends on, whatever the input and the files hold
+-- which files a program depends on follows from its own files, whatever the input and the files hold
 depends_bare : (run : Running) (i : Bytes) (F : FileMap) (n : Name) → depends_on run.turn.next (world_of run i F) n ≡ left_names (running run) n
 depends_bare run i F n = sym (depends_alike run.turn.next (world_of run i F) [] no_files n)
 
@@ -98,7 +98,7 @@ begin_names (word ∷ arguments) n e = go (program_of word) e
   where
     go : (found : Option Program) → (among (by_program files_read [] found arguments) n || among (by_program files_written [] found arguments) n) ≡ false → left_names (run_left (begun found arguments)) n ≡ false
     go None e = refl
-    go (Some program) e = neither (still_opens (begins program arguments) n) false e refl
+    go (Some program) e = or_from (still_opens (begins program arguments) n) false e refl
 
 pub begin_writes : (words : List Bytes) (n : Name) → words_write words n ≡ false → left_writes (run_left (begun_words words)) n ≡ false
 begin_writes [] n e = refl
@@ -106,7 +106,7 @@ begin_writes (word ∷ arguments) n e = go (program_of word) e
   where
     go : (found : Option Program) → among (by_program files_written [] found arguments) n ≡ false → left_writes (run_left (begun found arguments)) n ≡ false
     go None e = refl
-    go (Some program) e = neither (still_writes (begins program arguments) n) false e refl
+    go (Some program) e = or_from (still_writes (begins program arguments) n) false e refl
 
 pub begin_uses : (words : List Bytes) → words_use_input words ≡ false → left_uses (run_left (begun_words words)) ≡ false
 begin_uses [] e = refl
@@ -137,7 +137,7 @@ words_only (word ∷ arguments) i F n short e = go (program_of word) e
     go : (found : Option Program) → among (by_program files_written [] found arguments) n ≡ false → (program_value found arguments i F).files n ≡ F n
     go None e = refl
     go (Some program) e =
-        run_only (record { turn = record { call = Exec true; next = begins program arguments }; own = []; put = 0 }) i F n ((refl, short program), tt) (neither (still_writes (begins program arguments) n) false e refl)
+        run_only (record { turn = record { call = Exec true; next = begins program arguments }; own = []; put = 0 }) i F n ((refl, short program), tt) (or_from (still_writes (begins program arguments) n) false e refl)
 
 pub words_unused : (words : List Bytes) (i j : Bytes) (F : FileMap) → IsShortCommand words → words_use_input words ≡ false → words_value words i F ≡ record (words_value words j F) { rest = i }
 words_unused [] i j F short e = refl

@@ -1,8 +1,9 @@
 -- What is left after a step names, writes and uses no more than before, and holds descriptor 0 no longer where it didn't. A
--- write is refused only where nobody reads.
+-- write is refused only where no process reads.
 use Rattle.std.proofs.Common.{◌≡◌, ℕ, Bool, true, false, Option, Some, None, drop, refl}
 use Rattle.std.specs.Prelude.{not}
 use Rattle.std.specs.Str.{bytes_eq}
+use Rattle.std.proofs.lemmas.Bool.{or_from}
 use Rattle.sh_tree.specs.declared.tree.Mode.{Mode}
 use Rattle.sh_tree.specs.declared.tree.Mode.TheVariants.{Input, Fresh, Over}
 use Rattle.sh_tree.specs.Tree.{Tree, exec, redir, pipe, list, back}
@@ -17,9 +18,9 @@ use Rattle.tree_model.specs.Rules.{is_gap}
 use Rattle.tree_model.specs.Step.{Choice, here, on_left, on_right, acts, seq_end, piped_end, from_end, into_end, step}
 use Rattle.tree_model.specs.Tidy.{IsTidy}
 use Rattle.law_trees.proofs.Acting.{act_depends, act_changes, act_uses}
-use Rattle.law_trees.proofs.Bools.{not_left, not_right, neither}
 use Rattle.law_trees.proofs.Effects.{act_lost}
 use Rattle.law_trees.proofs.Running.{begin_names, begin_writes, begin_uses}
+use Rattle.meaning_model.proofs.Bools.{not_left, not_right}
 
 pub record Smaller (Y X : Residual) : Type 0 where
   pub names : (n : Name) → left_names X n ≡ false → left_names Y n ≡ false
@@ -61,23 +62,23 @@ smaller_into_end f at X = smaller_refl (into f at X)
 
 smaller_seq : (X Y : Residual) (T : Tree) → Smaller Y X → Smaller (seq Y T) (seq X T)
 smaller_seq X Y T a = record {
-  names = λ n e. neither (left_names Y n) (names T n) (a.names n (not_left (left_names X n) (names T n) e)) (not_right (left_names X n) (names T n) e);
-  writes = λ n e. neither (left_writes Y n) (writes T n) (a.writes n (not_left (left_writes X n) (writes T n) e)) (not_right (left_writes X n) (writes T n) e);
-  uses = λ e. neither (left_uses Y) (uses_input T) (a.uses (not_left (left_uses X) (uses_input T) e)) (not_right (left_uses X) (uses_input T) e);
+  names = λ n e. or_from (left_names Y n) (names T n) (a.names n (not_left (left_names X n) (names T n) e)) (not_right (left_names X n) (names T n) e);
+  writes = λ n e. or_from (left_writes Y n) (writes T n) (a.writes n (not_left (left_writes X n) (writes T n) e)) (not_right (left_writes X n) (writes T n) e);
+  uses = λ e. or_from (left_uses Y) (uses_input T) (a.uses (not_left (left_uses X) (uses_input T) e)) (not_right (left_uses X) (uses_input T) e);
   keeps_0 = λ e. cc;
 }
 
 smaller_pipe : (b c : Bool) (X X' : Residual) (q q' : Bytes) (Y Y' : Residual) → Smaller X' X → Smaller Y' Y → Smaller (piped c X' q' Y') (piped b X q Y)
 smaller_pipe b c X X' q q' Y Y' x y = record {
-  names = λ n e. neither (left_names X' n) (left_names Y' n) (x.names n (not_left (left_names X n) (left_names Y n) e)) (y.names n (not_right (left_names X n) (left_names Y n) e));
-  writes = λ n e. neither (left_writes X' n) (left_writes Y' n) (x.writes n (not_left (left_writes X n) (left_writes Y n) e)) (y.writes n (not_right (left_writes X n) (left_writes Y n) e));
+  names = λ n e. or_from (left_names X' n) (left_names Y' n) (x.names n (not_left (left_names X n) (left_names Y n) e)) (y.names n (not_right (left_names X n) (left_names Y n) e));
+  writes = λ n e. or_from (left_writes X' n) (left_writes Y' n) (x.writes n (not_left (left_writes X n) (left_writes Y n) e)) (y.writes n (not_right (left_writes X n) (left_writes Y n) e));
   uses = λ e. x.uses e;
   keeps_0 = λ e. cc;
 }
 
 smaller_from : (f : Name) (at to : ℕ) (X Y : Residual) → Smaller Y X → Smaller (from f to Y) (from f at X)
 smaller_from f at to X Y a = record {
-  names = λ n e. neither (bytes_eq n f) (left_names Y n) (not_left (bytes_eq n f) (left_names X n) e) (a.names n (not_right (bytes_eq n f) (left_names X n) e));
+  names = λ n e. or_from (bytes_eq n f) (left_names Y n) (not_left (bytes_eq n f) (left_names X n) e) (a.names n (not_right (bytes_eq n f) (left_names X n) e));
   writes = a.writes;
   uses = λ e. refl;
   keeps_0 = λ e. refl;
@@ -85,8 +86,8 @@ smaller_from f at to X Y a = record {
 
 smaller_into : (f : Name) (at to : Position) (X Y : Residual) → Smaller Y X → Smaller (into f to Y) (into f at X)
 smaller_into f at to X Y a = record {
-  names = λ n e. neither (bytes_eq n f) (left_names Y n) (not_left (bytes_eq n f) (left_names X n) e) (a.names n (not_right (bytes_eq n f) (left_names X n) e));
-  writes = λ n e. neither (bytes_eq n f) (left_writes Y n) (not_left (bytes_eq n f) (left_writes X n) e) (a.writes n (not_right (bytes_eq n f) (left_writes X n) e));
+  names = λ n e. or_from (bytes_eq n f) (left_names Y n) (not_left (bytes_eq n f) (left_names X n) e) (a.names n (not_right (bytes_eq n f) (left_names X n) e));
+  writes = λ n e. or_from (bytes_eq n f) (left_writes Y n) (not_left (bytes_eq n f) (left_writes X n) e) (a.writes n (not_right (bytes_eq n f) (left_writes X n) e));
   uses = a.uses;
   keeps_0 = a.keeps_0;
 }
@@ -124,7 +125,7 @@ module _ (profile : Profile) where
   smaller (into f at X) (on_left c) cl en i F d = smaller_into f at _ X _ (smaller X c (is_gap (F f) at) en i F d.0)
   smaller X c cl en i F d = smaller_refl X
 
-  -- a write is refused only where nobody reads it
+  -- a write is refused only where no process reads it
   pub refused_closed : (X : Residual) (c : Choice) (cl en : Bool) (i : Bytes) (F : FileMap) → (step profile X c cl en i F).refused ≡ true → cl ≡ true
   refused_closed (running run) (here k) cl en i F e = (act_lost run k cl en i F e).closed
   refused_closed (seq X T) (on_left c) cl en i F e = refused_closed X c cl en i F e

@@ -3,7 +3,7 @@
 use Rattle.std.proofs.Common.{◌≡◌, ℕ, ◌+◌, Bool, true, false, [], ◌++◌, Option, Some, None, length, drop, refl, sym, ap, ◌∙◌, subst}
 use Rattle.std.specs.Prelude.{◌||◌, not}
 use Rattle.std.specs.Str.{bytes_eq}
-use Rattle.std.proofs.lemmas.Bool.{or_left, or_right}
+use Rattle.std.proofs.lemmas.Bool.{or_left, or_right, or_from}
 use Rattle.sh_tree.specs.declared.tree.Mode.{Mode}
 use Rattle.sh_tree.specs.declared.tree.Mode.TheVariants.{Input, Fresh, Over}
 use Rattle.sh_tree.specs.Tree.{Tree, exec, redir, pipe, list, back}
@@ -19,32 +19,32 @@ use Rattle.tree_model.specs.Rules.{is_gap}
 use Rattle.tree_model.specs.Step.{Move, quiet, open_move, Choice, here, on_left, on_right, seq_end, piped_end, from_end, into_end, from_move, into_move, step}
 use Rattle.tree_model.specs.Tidy.{IsTidy}
 use Rattle.law_trees.proofs.Acting.{run_calls}
-use Rattle.law_trees.proofs.Bools.{not_left, not_right, neither}
 use Rattle.law_trees.proofs.CallFrame.{act_frame}
 use Rattle.law_trees.proofs.Effects.{act_only, act_unused}
 use Rattle.law_trees.proofs.Parts.{agree_opened, agree_patched, named_self, found_same, patched_other, opened_other}
 use Rattle.law_trees.proofs.Running.{run_named}
 use Rattle.law_trees.proofs.Values.{Agree, AlikeMove}
+use Rattle.meaning_model.proofs.Bools.{not_left, not_right}
 
 -- what is written is named
 pub tree_named : (T : Tree) (n : Name) → names T n ≡ false → writes T n ≡ false
 tree_named (exec words) n e = not_right (words_read words n) (words_write words n) e
 tree_named (back T) n e = tree_named T n e
 tree_named (redir Input f T) n e = tree_named T n (not_right (bytes_eq n f) (names T n) e)
-tree_named (redir Fresh f T) n e = neither (bytes_eq n f) (writes T n) (not_left (bytes_eq n f) (names T n) e) (tree_named T n (not_right (bytes_eq n f) (names T n) e))
-tree_named (redir Over f T) n e = neither (bytes_eq n f) (writes T n) (not_left (bytes_eq n f) (names T n) e) (tree_named T n (not_right (bytes_eq n f) (names T n) e))
-tree_named (list A B) n e = neither (writes A n) (writes B n) (tree_named A n (not_left (names A n) (names B n) e)) (tree_named B n (not_right (names A n) (names B n) e))
-tree_named (pipe A B) n e = neither (writes A n) (writes B n) (tree_named A n (not_left (names A n) (names B n) e)) (tree_named B n (not_right (names A n) (names B n) e))
+tree_named (redir Fresh f T) n e = or_from (bytes_eq n f) (writes T n) (not_left (bytes_eq n f) (names T n) e) (tree_named T n (not_right (bytes_eq n f) (names T n) e))
+tree_named (redir Over f T) n e = or_from (bytes_eq n f) (writes T n) (not_left (bytes_eq n f) (names T n) e) (tree_named T n (not_right (bytes_eq n f) (names T n) e))
+tree_named (list A B) n e = or_from (writes A n) (writes B n) (tree_named A n (not_left (names A n) (names B n) e)) (tree_named B n (not_right (names A n) (names B n) e))
+tree_named (pipe A B) n e = or_from (writes A n) (writes B n) (tree_named A n (not_left (names A n) (names B n) e)) (tree_named B n (not_right (names A n) (names B n) e))
 
 pub named : (X : Residual) (n : Name) → left_names X n ≡ false → left_writes X n ≡ false
 named done n e = refl
 named (todo T) n e = tree_named T n e
 named (running run) n e = run_named run n e
-named (seq X T) n e = neither (left_writes X n) (writes T n) (named X n (not_left (left_names X n) (names T n) e)) (tree_named T n (not_right (left_names X n) (names T n) e))
-named (piped b X q Y) n e = neither (left_writes X n) (left_writes Y n) (named X n (not_left (left_names X n) (left_names Y n) e)) (named Y n (not_right (left_names X n) (left_names Y n) e))
+named (seq X T) n e = or_from (left_writes X n) (writes T n) (named X n (not_left (left_names X n) (names T n) e)) (tree_named T n (not_right (left_names X n) (names T n) e))
+named (piped b X q Y) n e = or_from (left_writes X n) (left_writes Y n) (named X n (not_left (left_names X n) (left_names Y n) e)) (named Y n (not_right (left_names X n) (left_names Y n) e))
 named (unopened m f T) n e = tree_named (redir m f T) n e
 named (from f at X) n e = named X n (not_right (bytes_eq n f) (left_names X n) e)
-named (into f at X) n e = neither (bytes_eq n f) (left_writes X n) (not_left (bytes_eq n f) (left_names X n) e) (named X n (not_right (bytes_eq n f) (left_names X n) e))
+named (into f at X) n e = or_from (bytes_eq n f) (left_writes X n) (not_left (bytes_eq n f) (left_names X n) e) (named X n (not_right (bytes_eq n f) (left_names X n) e))
 
 -- a step among other files that agree on the names
 alike_stay : (N : Name → Type 0) (X : Residual) (F G : FileMap) → Agree N F G → AlikeMove N (quiet X F) (quiet X G)

@@ -3,6 +3,7 @@ use Rattle.std.proofs.Common.{◌≡◌, ℕ, ◌≤◌, Bool, true, false, [], 
 use Rattle.std.specs.Prelude.{◌||◌, not, if◌then◌else◌}
 use Rattle.std.specs.Str.{bytes_eq}
 use Rattle.std.proofs.lemmas.Slice.Eq.{bytes_eq-Decides}
+use Rattle.std.proofs.lemmas.Bool.{false_from_ne_true, not-true}
 use Rattle.sh_tree.specs.declared.tree.Mode.{Mode}
 use Rattle.sh_tree.specs.declared.tree.Mode.TheVariants.{Input, Fresh, Over}
 use Rattle.sh_tree.specs.Tree.{Tree, exec, redir, pipe, list, back}
@@ -21,12 +22,13 @@ use Rattle.tree_model.specs.Rules.{patch, patched, is_gap}
 use Rattle.tree_model.specs.Step.{Choice, here, on_left, on_right, seq_end, piped_end, from_end, into_end, step}
 use Rattle.tree_model.specs.Tidy.{IsTidyTree, IsThere, IsTidy}
 use Rattle.law_trees.proofs.Acting.{act_tidy}
-use Rattle.law_trees.proofs.Bools.{not_both, not_true, not_not, back as back_to, apart}
+use Rattle.law_trees.proofs.Bools.{not_both, back as back_to}
 use Rattle.law_trees.proofs.Frame.{tidy_agree}
 use Rattle.law_trees.proofs.Parts.{patched_other}
 use Rattle.law_trees.proofs.Running.{begin_tidy}
 use Rattle.law_trees.proofs.Smaller.{smaller, refused_closed}
 use Rattle.law_trees.proofs.StepFrame.{named, step_only}
+use Rattle.meaning_model.proofs.Bools.{apart}
 
 tidy_seq_end : (X : Residual) (T : Tree) (F : FileMap) → IsTidy (seq X T) F → IsTidy (seq_end X T) F
 tidy_seq_end done T F h = h.1
@@ -95,7 +97,7 @@ module _ (profile : Profile) where
         tidy_agree Y F m.files (λ n e. sym (step_only profile X c (not (keeps_0 Y)) en i F n h.0 (apart (left_writes X n) (left_names Y n) (h.2 n) e))) h.1,
         λ n e. h.2 n (back_to _ (left_writes X n) (s.writes n) e),
         λ n e. s.names n (h.3 n e),
-        lost_before b _ (keeps_0 Y ≡ false) h.4 (λ e. not_not (keeps_0 Y) (refused_closed profile X c (not (keeps_0 Y)) en i F e)),
+        lost_before b _ (keeps_0 Y ≡ false) h.4 (λ e. not-true (keeps_0 Y) (refused_closed profile X c (not (keeps_0 Y)) en i F e)),
       )
   step_tidy (piped b X q Y) (on_right c) cl en i F h =
       let m = step profile Y c cl (not (keeps_1 X)) q F in
@@ -123,5 +125,5 @@ module _ (profile : Profile) where
       )
     where
       unnamed : (Y : Residual) (n : Name) → left_names Y n ≡ true → left_names Y f ≡ false → bytes_eq n f ≡ false
-      unnamed Y n e nf = not_true (bytes_eq n f) (λ g. not_both (left_names Y n) e (subst (λ x. left_names Y x ≡ false) (sym ((bytes_eq-Decides n f).0 g)) nf))
+      unnamed Y n e nf = false_from_ne_true (bytes_eq n f) (λ g. not_both (left_names Y n) e (subst (λ x. left_names Y x ≡ false) (sym ((bytes_eq-Decides n f).0 g)) nf))
   step_tidy X c cl en i F h = h

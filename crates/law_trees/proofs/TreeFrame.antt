@@ -13,10 +13,10 @@ use Rattle.meaning_model.specs.Inputs.{found}
 use Rattle.meaning_model.specs.Value.{Value}
 use Rattle.meaning_model.specs.Meaning.{output_value, opened, at_end, written_value, meaning}
 use Rattle.tree_model.specs.Tidy.{HasShortCommands}
-use Rattle.law_trees.proofs.Bools.{not_left, not_right}
 use Rattle.law_trees.proofs.Parts.{agree_opened, alike_into, found_same, alike_input, alike_output, named_self, with_other, opened_other, input_only, output_only}
 use Rattle.law_trees.proofs.Running.{words_frame, words_only}
 use Rattle.law_trees.proofs.Values.{Agree, Alike, alike_seq, alike_pipe, alike_then}
+use Rattle.meaning_model.proofs.Bools.{not_left, not_right}
 
 module _ (profile : Profile) where
   pub at_end-ap : (m : Mode) (w w' o o' : Bytes) → w ≡ w' → o ≡ o' → at_end profile m w o ≡ at_end profile m w' o'

@@ -1,6 +1,7 @@
 -- Where no pipe is cut nothing is soft, loose or met; so such a tree is settled.
 use Rattle.std.proofs.Common.{◌≡◌, Bool, true, false, Option, Some, None, refl}
 use Rattle.std.specs.Prelude.{◌&&◌, IfSome}
+use Rattle.std.proofs.lemmas.Bool.{or_from, and_left}
 use Rattle.sh_tree.specs.declared.tree.Mode.{Mode}
 use Rattle.sh_tree.specs.declared.tree.Mode.TheVariants.{Input, Fresh, Over}
 use Rattle.sh_tree.specs.Tree.{Tree, exec, redir, pipe, list, back}
@@ -16,27 +17,23 @@ use Rattle.meaning_model.specs.Settled.{with_name, IsSettled}
 use Rattle.meaning_model.specs.Value.{Value, nothing, seq_value, pipe_value, is_cut}
 use Rattle.meaning_model.proofs.Firm.{firm_words}
 use Rattle.tree_model.specs.Uncut.{IsUncut}
-use Rattle.law_trees.proofs.Bools.{neither, not_both, all4}
-
-and_off : (a b : Bool) → a ≡ false → (a && b) ≡ false
-and_off true b e = cc
-and_off false b e = refl
+use Rattle.law_trees.proofs.Bools.{not_both, all4}
 
 pub firm_nothing : (i : Bytes) (F : FileMap) → IsFirm (nothing i F)
 firm_nothing i F = record { loose = refl; soft = λ n. refl; met = λ n. refl }
 
 pub firm_seq : (ns : Names) (u : Bool) (v w : Value) → IsFirm v → IsFirm w → IsFirm (seq_value ns u v w)
 firm_seq ns u v w a b = record {
-  loose = neither v.loose w.loose a.loose b.loose;
-  soft = λ n. neither (v.soft n) (w.soft n) (a.soft n) (b.soft n);
-  met = λ n. all4 (v.met n) (w.met n) (v.soft n && ns n) (v.loose && u) (a.met n) (b.met n) (and_off (v.soft n) (ns n) (a.soft n)) (and_off v.loose u a.loose);
+  loose = or_from v.loose w.loose a.loose b.loose;
+  soft = λ n. or_from (v.soft n) (w.soft n) (a.soft n) (b.soft n);
+  met = λ n. all4 (v.met n) (w.met n) (v.soft n && ns n) (v.loose && u) (a.met n) (b.met n) (and_left (v.soft n) (ns n) (a.soft n)) (and_left v.loose u a.loose);
 }
 
 pub firm_pipe : (ws : Names) (u : Bool) (v w : Value) → is_cut w ≡ false → IsFirm v → IsFirm w → IsFirm (pipe_value ws u v w)
 firm_pipe ws u v w c a b = record {
-  loose = neither v.loose (is_cut w && u) a.loose (and_off (is_cut w) u c);
-  soft = λ n. neither (either n) (is_cut w && ws n) (neither (v.soft n) (w.soft n) (a.soft n) (b.soft n)) (and_off (is_cut w) (ws n) c);
-  met = λ n. neither (v.met n) (w.met n) (a.met n) (b.met n);
+  loose = or_from v.loose (is_cut w && u) a.loose (and_left (is_cut w) u c);
+  soft = λ n. or_from (either n) (is_cut w && ws n) (or_from (v.soft n) (w.soft n) (a.soft n) (b.soft n)) (and_left (is_cut w) (ws n) c);
+  met = λ n. or_from (v.met n) (w.met n) (a.met n) (b.met n);
 }
   where
     either : Name → Bool

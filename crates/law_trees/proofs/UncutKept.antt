@@ -4,6 +4,7 @@ use Rattle.std.specs.Prelude.{◌||◌, not, IfSome}
 use Rattle.std.specs.Str.{bytes_eq}
 use Rattle.std.proofs.lemmas.Slice.Eq.{bytes_eq-Decides}
 use mathlib.Core.Path.{fun_ext, transport}
+use Rattle.std.proofs.lemmas.Bool.{or_from, false_from_ne_true, not-true}
 use Rattle.sh_tree.specs.declared.tree.Mode.{Mode}
 use Rattle.sh_tree.specs.declared.tree.Mode.TheVariants.{Input, Fresh, Over}
 use Rattle.sh_tree.specs.Tree.{Tree, exec, redir, pipe, list, back}
@@ -22,7 +23,7 @@ use Rattle.tree_model.specs.Step.{Choice, here, on_left, on_right, acts, seq_end
 use Rattle.tree_model.specs.Final.{final}
 use Rattle.tree_model.specs.Tidy.{IsTidy}
 use Rattle.tree_model.specs.Uncut.{IsUncut, has_lost}
-use Rattle.law_trees.proofs.Bools.{not_left, neither, not_both, not_true, not_not, apart}
+use Rattle.law_trees.proofs.Bools.{not_both}
 use Rattle.law_trees.proofs.Frame.{right_tidy}
 use Rattle.law_trees.proofs.Joins.{less_cut}
 use Rattle.law_trees.proofs.Keep.{keeps, no_gap_there}
@@ -33,13 +34,11 @@ use Rattle.law_trees.proofs.StepFrame.{step_only}
 use Rattle.law_trees.proofs.StepTidy.{step_tidy}
 use Rattle.law_trees.proofs.Unused.{closed_0, closed_1}
 use Rattle.law_trees.proofs.UncutFrame.{IsUncutLeft, left_firm, left_uncut}
+use Rattle.meaning_model.proofs.Bools.{apart, not_left}
 
 run_uncut : (profile : Profile) (o : Option Running) (i : Bytes) (F : FileMap) → IsUncutLeft profile (run_left o) i F
 run_uncut profile None i F = tt
 run_uncut profile (Some run) i F = tt
-
-or_refused : (b r : Bool) → b ≡ false → r ≡ false → (b || r) ≡ false
-or_refused b r e f = neither b r e f
 
 module _ (profile : Profile) where
   unfolded_uncut : (T : Tree) (i : Bytes) (F : FileMap) → IsUncut profile T i F → IsUncutLeft profile (unfolded T) i F
@@ -72,9 +71,9 @@ module _ (profile : Profile) where
       let v = final profile X (i ++ t) F in
       let j = q ++ v.out in
       let y = final profile Y j v.files in
-      not_true (step profile X c (not (keeps_0 Y)) en i F).refused
+      false_from_ne_true (step profile X c (not (keeps_0 Y)) en i F).refused
       (λ e.
-      let closed = not_not (keeps_0 Y) (refused_closed profile X c (not (keeps_0 Y)) en i F e) in
+      let closed = not-true (keeps_0 Y) (refused_closed profile X c (not (keeps_0 Y)) en i F e) in
       let rest : y.rest ≡ j = ap (λ x. x.rest) (closed_0 profile Y j j v.files closed).same in
       let some = some_behind q v.out (refused_out profile X c (not (keeps_0 Y)) en i t F d.0 e) in
       not_both (is_empty y.rest) (not_empty y.rest (not_left (not (is_empty y.rest)) y.loose h.3)) (ap is_empty rest ∙ some))
@@ -129,7 +128,7 @@ module _ (profile : Profile) where
       let k = keeps profile X c z en i t F d.0 he firm.met none in
       let files : v.files ≡ v'.files = fun_ext (λ n. k.files.at n (firm.soft n)) in
       let out : q ++ v.out ≡ (q ++ m.wrote) ++ v'.out = ap (λ x. q ++ x) k.out ∙ sym (append_assoc q m.wrote v'.out) in (
-        or_refused l m.refused h.0 none,
+        or_from l m.refused h.0 none,
         step_uncut X c z en i t F d.0 he none h.1,
         transport (λ z. IsUncutLeft profile Y (out z) (files z)) h.2,
         transport (λ z. is_cut (final profile Y (out z) (files z)) ≡ false) h.3,
@@ -143,7 +142,7 @@ module _ (profile : Profile) where
       let bs = beside profile l X Y q c cl (i ++ t) F d in
       let a = right_alike profile l X q Y c cl (i ++ t) F d in
       let fs = right_files profile l X q Y c cl (i ++ t) F d in
-      let ends = λ (e : z ≡ true). closed_1 profile X (i ++ t) F (not_not (keeps_1 X) e) in
+      let ends = λ (e : z ≡ true). closed_1 profile X (i ++ t) F (not-true (keeps_1 X) e) in
       let k = keeps profile Y c cl z q v.out v.files dy ends ((left_firm profile Y (q ++ v.out) v.files h.2).met) (sym bs.refused ∙ r) in
       let u = step_uncut Y c cl z q v.out v.files dy ends (sym bs.refused ∙ r) h.2 in
       let cut = less_cut (final profile Y (q ++ v.out) v.files) (final profile m1.next (drop m1.took q ++ v.out) m1.files) m1.wrote k h.3 in
@@ -168,13 +167,13 @@ module _ (profile : Profile) where
   step_uncut (into f at X) (on_left c) cl en i t F d he r h =
       let z = is_gap (F f) at in
       let m = step profile X c z en i F in
-      let none = not_true m.refused (λ e. not_both z (refused_closed profile X c z en i F e) (no_gap_there (F f) at d.2)) in
+      let none = false_from_ne_true m.refused (λ e. not_both z (refused_closed profile X c z en i F e) (no_gap_there (F f) at d.2)) in
       let nf = (smaller profile X c z en i F d.0).names f d.1 in
       left_uncut profile (λ n. bytes_eq n f ≡ false) m.next (drop m.took i ++ t) m.files (patched m.files f at m.wrote) (step_tidy profile X c z en i F d.0)
       (λ n e. unnamed m.next n e nf) (record { at = λ n e. sym (patched_other m.files f n at m.wrote e) }) (step_uncut X c z en i t F d.0 he none h)
     where
       unnamed : (Z : Residual) (n : Name) → left_names Z n ≡ true → left_names Z f ≡ false → bytes_eq n f ≡ false
-      unnamed Z n e nf = not_true (bytes_eq n f) (λ g. not_both (left_names Z n) e (subst (λ x. left_names Z x ≡ false) (sym ((bytes_eq-Decides n f).0 g)) nf))
+      unnamed Z n e nf = false_from_ne_true (bytes_eq n f) (λ g. not_both (left_names Z n) e (subst (λ x. left_names Z x ≡ false) (sym ((bytes_eq-Decides n f).0 g)) nf))
   step_uncut (into f at X) (on_right c) cl en i t F d he r h = h
 
   pub uncut_lost : (X : Residual) (i : Bytes) (F : FileMap) → IsUncutLeft profile X i F → has_lost X ≡ false
@@ -184,7 +183,7 @@ module _ (profile : Profile) where
   uncut_lost (seq X T) i F h = uncut_lost X i F h.0
   uncut_lost (piped l X q Y) i F h =
       let v = final profile X i F in
-      neither (l || has_lost X) (has_lost Y) (neither l (has_lost X) h.0 (uncut_lost X i F h.1)) (uncut_lost Y (q ++ v.out) v.files h.2)
+      or_from (l || has_lost X) (has_lost Y) (or_from l (has_lost X) h.0 (uncut_lost X i F h.1)) (uncut_lost Y (q ++ v.out) v.files h.2)
   uncut_lost (unopened m f T) i F h = refl
   uncut_lost (from f at X) i F h = uncut_lost X (drop at (bytes_of (F f))) F h
   uncut_lost (into f at X) i F h = uncut_lost X i F h

@@ -3,6 +3,7 @@
 use Rattle.std.proofs.Common.{◌≡◌, Bool, true, false, [], ◌++◌, Option, Some, None, drop, refl, sym, ap, ◌∙◌, subst}
 use Rattle.std.specs.Prelude.{◌&&◌}
 use Rattle.std.specs.Str.{bytes_eq}
+use Rattle.std.proofs.lemmas.Bool.{or_from, and_right}
 use Rattle.sh_tree.specs.declared.tree.Mode.{Mode}
 use Rattle.sh_tree.specs.declared.tree.Mode.TheVariants.{Input, Fresh, Over}
 use Rattle.sh_tree.specs.Tree.{Tree, exec, redir, pipe, list, back}
@@ -18,9 +19,10 @@ use Rattle.meaning_model.proofs.Firm.{firm_words}
 use Rattle.tree_model.specs.Residual.{Residual, done, todo, running, seq, piped, unopened, from, into, Position, left_writes, left_uses, keeps_0, keeps_1}
 use Rattle.tree_model.specs.Final.{piped_value, patch_value, final}
 use Rattle.tree_model.specs.Tidy.{HasShortCommands, IsTidy}
-use Rattle.law_trees.proofs.Bools.{not_left, not_right, neither, and_none, all3}
+use Rattle.law_trees.proofs.Bools.{all3}
 use Rattle.law_trees.proofs.Running.{words_unused, run_firm, run_unused}
 use Rattle.law_trees.proofs.TreeFrame.{out_value}
+use Rattle.meaning_model.proofs.Bools.{not_left, not_right}
 
 abbrev pub with_rest : Bytes → Value → Value
 with_rest i v = record v { rest = i }
@@ -36,8 +38,8 @@ soft_input None i F k n a = refl
 soft_input (Some b) i F k n a = a b
 
 soft_pipe : (c : Bool) (ws : Names) (u : Bool) (v w : Value) (n : Name) → ws n ≡ false → v.soft n ≡ false → w.soft n ≡ false → (piped_value c ws u v w).soft n ≡ false
-soft_pipe false ws u v w n e a b = all3 (v.soft n) (w.soft n) (is_cut w && ws n) a b (ap (λ t. is_cut w && t) e ∙ and_none (is_cut w))
-soft_pipe true ws u v w n e a b = neither (w.soft n) (ws n) b e
+soft_pipe false ws u v w n e a b = all3 (v.soft n) (w.soft n) (is_cut w && ws n) a b (ap (λ t. is_cut w && t) e ∙ and_right (is_cut w) false refl)
+soft_pipe true ws u v w n e a b = or_from (w.soft n) (ws n) b e
 
 -- unused input
 free_input : (b : Option Bytes) (i j : Bytes) (F : FileMap) (k : Bytes → Value) → Free (input_value b i F k) (input_value b j F k) i
@@ -46,11 +48,11 @@ free_input (Some b) i j F k = record { same = refl; tight = refl }
 
 free_seq : (ns : Names) (u : Bool) (v v' w w' : Value) (i : Bytes) → Free v v' i → Free w w' i → Free (seq_value ns u v w) (seq_value ns u v' w') i
 free_seq ns u v v' w w' i a b =
-    record { same = λ t. seq_value ns u (a.same t) (b.same t); tight = neither v.loose w.loose a.tight b.tight }
+    record { same = λ t. seq_value ns u (a.same t) (b.same t); tight = or_from v.loose w.loose a.tight b.tight }
 
 free_pipe : (c : Bool) (ws : Names) (u : Bool) (v v' w w' : Value) (i : Bytes) → u ≡ false → Free v v' i → w ≡ w' → Free (piped_value c ws u v w) (piped_value c ws u v' w') i
 free_pipe false ws u v v' w w' i e a b =
-    record { same = λ t. piped_value false ws u (a.same t) (b t); tight = neither v.loose _ a.tight (ap (λ x. is_cut w && x) e ∙ and_none (is_cut w)) }
+    record { same = λ t. piped_value false ws u (a.same t) (b t); tight = or_from v.loose _ a.tight (ap (λ x. is_cut w && x) e ∙ and_right (is_cut w) false refl) }
 free_pipe true ws u v v' w w' i e a b =
     record { same = λ t. piped_value true ws u (a.same t) (b t); tight = e }
 
@@ -77,7 +79,7 @@ module _ (profile : Profile) where
   tree_soft (redir Over f T) i F n e = soft_out Over f i F (meaning profile T i (opened Over f F)) n (tree_soft T i (opened Over f F) n (not_right (bytes_eq n f) (writes T n) e))
   tree_soft (list A B) i F n e =
       let v = meaning profile A i F in
-      neither (v.soft n) ((meaning profile B v.rest v.files).soft n) (tree_soft A i F n (not_left (writes A n) (writes B n) e)) (tree_soft B v.rest v.files n (not_right (writes A n) (writes B n) e))
+      or_from (v.soft n) ((meaning profile B v.rest v.files).soft n) (tree_soft A i F n (not_left (writes A n) (writes B n) e)) (tree_soft B v.rest v.files n (not_right (writes A n) (writes B n) e))
   tree_soft (pipe A B) i F n e =
       let v = meaning profile A i F in
       let ea = not_left (writes A n) (writes B n) e in
@@ -89,7 +91,7 @@ module _ (profile : Profile) where
   soft (running run) i F n e = (run_firm run i F).soft n
   soft (seq X B) i F n e =
       let v = final profile X i F in
-      neither (v.soft n) ((meaning profile B v.rest v.files).soft n) (soft X i F n (not_left (left_writes X n) (writes B n) e)) (tree_soft B v.rest v.files n (not_right (left_writes X n) (writes B n) e))
+      or_from (v.soft n) ((meaning profile B v.rest v.files).soft n) (soft X i F n (not_left (left_writes X n) (writes B n) e)) (tree_soft B v.rest v.files n (not_right (left_writes X n) (writes B n) e))
   soft (piped c X q Y) i F n e =
       let v = final profile X i F in
       let ea = not_left (left_writes X n) (left_writes Y n) e in

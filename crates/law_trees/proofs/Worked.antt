@@ -86,7 +86,7 @@ append_ends = refl
 append_writes : (after_steps Append writes_b (first_stage behind [] lines)).files (codes "x") ≡ Some (codes "a\nc\nb\n")
 append_writes = refl
 
--- a write past the end of its file, as no clear script comes to it, is refused and leaves the file
+-- a write past the end of its file, which no clear script makes, is refused and leaves the file
 abbrev past : Residual
 past = into (codes "x") (at_byte 5) (running (record { turn = record { call = Write 1 (codes "b"); next = told }; own = []; put = 0 }))
 

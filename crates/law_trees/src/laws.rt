@@ -26,8 +26,8 @@ pub fn each_rule_is_a_choice()
 {}
 
 /// The two sides of a pipe commute: a step of the left side, as an open, a read or a write of a file, and then one of the right
-/// side give the same as these two in the other order, since where the tree was clear neither side comes upon the other at a
-/// file.
+/// side give the same as these two in the other order, since in a clear tree neither side writes a file that the other
+/// names.
 pub fn steps_of_the_two_sides_commute()
     ensures sides { (profile : Profile) (X NextX Y NextY : Residual) (F G H : FileMap) (left right : Label) → IsTidy X F → IsTidy Y F
         → ((name : Name) → left_writes X name ≡ true → left_names Y name ≡ false) → ((name : Name) → left_writes Y name ≡ true → left_names X name ≡ false)

@@ -8,7 +8,7 @@ use Rattle.meaning_model.specs.Value.{Value}
 use Rattle.meaning_model.specs.Tee.{tee_bytes, tee_value}
 use Rattle.program_model.specs.Alone.{OwnFile, World, is_to_read, held}
 
--- the byte at which an open file goes on, where it has this name; else what is told of others
+-- the byte at which an open file goes on, where it has this name; else the one found for the other files
 abbrev pub place_or : Option OwnFile → Name → Option ℕ → Option ℕ
 place_or None name other = other
 place_or (Some own) name other = if bytes_eq name own.name then Some own.at else other
@@ -18,7 +18,7 @@ abbrev pub place_in : List ℕ → List OwnFile → Name → Option ℕ
 place_in [] own name = None
 place_in (fd ∷ fds) own name = place_or (held own fd) name (place_in fds own name)
 
--- what a file that held this holds once these bytes are written from a place on; without a place, what is told
+-- what a file that held this holds once these bytes are written from a place on; without a place, the last argument
 abbrev pub written_from : Option ℕ → Bytes → Option Bytes → Option Bytes → Option Bytes
 written_from None bytes before other = other
 written_from (Some at) bytes before other = Some (written (bytes_of before) at bytes)

@@ -9,6 +9,6 @@ use Rattle.user_progs.specs.Turn.{Turn, tells, turn}
 abbrev pub IsTold : Turn → Type 0
 IsTold turn = (message : Bytes) × (turn ≡ tells message)
 
--- a refused write is passed over, as if it had been done, or told
+-- after a refused write the program goes on as if it had been done, or writes a message and exits
 abbrev pub PassesOrTells : State → Type 0
 PassesOrTells state = (turn state Refused ≡ turn state Done) ⊎ IsTold (turn state Refused)

@@ -46,7 +46,7 @@ abbrev pub MayBe : Process → List Reply → Type 0
 MayBe process [] = Unit {0}
 MayBe process (reply ∷ replies) = May process.call reply process.world × MayBe (after_reply process reply) replies
 
--- so it may, where writes may be refused too, as in a pipe that nobody reads
+-- so it may, where writes may be refused too, as in a pipe that no process reads
 abbrev pub MayOrRefuse : Call → Reply → World → Type 0
 MayOrRefuse call reply world = May call reply world ⊎ ((fd : ℕ) × (bytes : Bytes) × (call ≡ Write fd bytes) × (reply ≡ Refused))
 

@@ -1,4 +1,4 @@
--- How long a run is, and where it comes to.
+-- How many steps a run has.
 use Rattle.std.specs.Prelude.{ℕ, suc}
 use Rattle.script_load.specs.declared.profile.Profile.{Profile}
 use Rattle.tree_model.specs.Runs.{Stage, Reaches, reached, goes_on}

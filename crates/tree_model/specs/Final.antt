@@ -13,7 +13,7 @@ use Rattle.program_model.specs.Still.{left_of}
 use Rattle.tree_model.specs.Residual.{Running, world_of, Residual, done, todo, running, seq, piped, unopened, from, into, Position, left_writes, left_uses}
 use Rattle.tree_model.specs.Rules.{patched}
 
--- a pipe, of whose left side a write was refused or not: where one was, nothing tells any more what this side would have left
+-- a pipe, of whose left side a write was refused or not: where one was, nothing says any more what this side would have left
 -- unread or written to files
 abbrev pub piped_value : Bool → Names → Bool → Value → Value → Value
 piped_value false written uses left right = pipe_value written uses left right

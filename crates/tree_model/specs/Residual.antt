@@ -98,7 +98,7 @@ gives_up_0 Input = true
 gives_up_0 Fresh = false
 gives_up_0 Over = false
 
--- whether descriptor 0 is still held: where the right side of a pipe no longer holds it, nobody reads the pipe
+-- whether descriptor 0 is still held: where the right side of a pipe no longer holds it, no process reads the pipe
 abbrev pub keeps_0 : Residual → Bool
 keeps_0 done = false
 keeps_0 (todo tree) = true
@@ -109,7 +109,7 @@ keeps_0 (unopened mode file body) = not (gives_up_0 mode)
 keeps_0 (from file at body) = false
 keeps_0 (into file at body) = keeps_0 body
 
--- whether descriptor 1 is still held: where the left side of a pipe no longer holds it, nobody writes to the pipe
+-- whether descriptor 1 is still held: where the left side of a pipe no longer holds it, no process writes to the pipe
 abbrev pub keeps_1 : Residual → Bool
 keeps_1 done = false
 keeps_1 (todo tree) = true

@@ -1,4 +1,4 @@
--- The steps of the machine, as rules. A label tells what a step does to the input and to the output around it.
+-- The steps of the machine, as rules. A label says what a step does to the input and to the output around it.
 use Rattle.std.specs.Prelude.{◌≡◌, ℕ, ◌+◌, ◌≤◌, Bool, true, false, nat_lt, [], ◌++◌, length, drop, Option, Some, None, if◌then◌else◌}
 use Rattle.std.specs.Str.{bytes_eq}
 use Rattle.sh_tree.specs.declared.tree.Mode.{Mode}
@@ -84,8 +84,8 @@ pub data Steps (profile : Profile) : Residual → FileMap → Label → Residual
   into_puts : {F G H : FileMap} {X X' : Residual} {file : Name} {at at' : Position} {bytes : Bytes} → Steps profile X F (puts bytes) X' G → (is_gap (F file) at ≡ true → bytes ≡ []) → at' ≡ moved_on at (length bytes) → H ≡ patched G file at bytes → Steps profile (into file at X) F silent (into file at' X') H
   into_refused : {F G : FileMap} {X X' : Residual} {file : Name} {at : Position} → Steps profile X F refused X' G → is_gap (F file) at ≡ true → Steps profile (into file at X) F silent (into file at X') G
 
--- where a label can be met: by these bytes of the input, whether these are all that ever come, and whether nobody reads the
--- output any more
+-- where a label can be met: by these bytes of the input, whether these are all that ever come, and whether no process reads
+-- the output any more
 abbrev pub IsMet : Label → Bool → Bool → Bytes → Type 0
 IsMet silent closed ended input = Unit {0}
 IsMet (takes bytes) closed ended input = (more : Bytes) × (input ≡ bytes ++ more)

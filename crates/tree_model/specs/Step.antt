@@ -40,7 +40,7 @@ abbrev pub put_some : Running → Bytes → Bytes → FileMap → Move (Option R
 put_some run now [] F = record (quiet (Some (resumed run Done)) F) { wrote = now }
 put_some run now (byte ∷ later) F = record (quiet (Some (record run { put = run.put + length now })) F) { wrote = now }
 
--- a write to the output, of which these bytes are left: refused only where nobody reads it any more
+-- a write to the output, of which these bytes are left: refused only where no process reads it any more
 abbrev pub write_output : Running → Bytes → ℕ → Bool → FileMap → Move (Option Running)
 write_output run [] count closed F = quiet (Some (resumed run Done)) F
 write_output run (byte ∷ left) zero true F = record (quiet (Some (resumed run Refused)) F) { refused = true }
@@ -108,8 +108,8 @@ into_move file at move = record {
   files = patched move.files file at move.wrote;
 }
 
--- a step; closed: nobody reads what is put to descriptor 1 any more; ended: the input gets no more bytes than these. A choice
--- that fits nothing leaves all as it is. Here a pipe takes any number of bytes: the rules alone know its room
+-- a step; closed: no process reads what is put to descriptor 1 any more; ended: the input gets no more bytes than these. A
+-- choice that fits nothing changes nothing. Here a pipe takes any number of bytes: the rules alone limit its room
 abbrev pub step : Profile → Residual → Choice → Bool → Bool → Bytes → FileMap → Move Residual
 step profile done c closed ended input F = quiet done F
 step profile (todo tree) c closed ended input F = quiet (unfolded tree) F
