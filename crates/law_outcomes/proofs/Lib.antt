@@ -1,3 +1,4 @@
+mod Ways
 mod ReadEnds
 mod WriteEnds
 mod OpenEnds

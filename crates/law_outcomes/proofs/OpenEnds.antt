@@ -27,6 +27,7 @@ use Rattle.kernel_model.specs.Replies.{answered, refused_for}
 use Rattle.kernel_model.specs.Descriptors.{closed_by, close, copied, dup_by, dup, opened_at, with_open, with_reader, with_ends, ends_reply, make_pipe, close_reply}
 use Rattle.kernel_model.specs.Opening.{open_reply, emptied_if, with_bytes, open_here, open_for_reading, open_for_writing, open_named, open_file}
 use Rattle.law_outcomes.specs.Outcome.{Outcome, refused, lacks, opens, opens_empty, closes, dups, pipes}
+use Rattle.law_outcomes.proofs.Ways.{denied, no_room, either}
 
 -- ---- a table that a call leaves as it was
 
@@ -61,16 +62,6 @@ module _ {S : Type 0} (k : KernelState S) (pid : ℕ) (after : S) (call : Call) 
   abbrev Ends : KernelState S → Type 0
   Ends new = Outcome k pid after call new
 
-  denied : Ends (answered k pid after Refused)
-  denied = refused refl
-
-  no_room : (full : Full) → Ends (refused_for k pid after full)
-  no_room full = lacks full refl
-
-  if_ends : (b : Bool) (x y : KernelState S) → (b ≡ true → Ends x) → (b ≡ false → Ends y) → Ends (if b then x else y)
-  if_ends true x y ex ey = ex refl
-  if_ends false x y ex ey = ey refl
-
   -- ---- open
 
   module _ (name : List ℕ) (mode : Mode) (is : call ≡ OpenFile name mode) (fd : ℕ) (place : lowest_free (fds_at k pid) ≡ Some fd) where
@@ -92,21 +83,21 @@ module _ {S : Type 0} (k : KernelState S) (pid : ℕ) (after : S) (call : Call) 
     writing_ends memory (Some bytes) = emptied_ends (empties mode)
     writing_ends memory None =
         let made : KernelState S = open_here (with_bytes k name []) pid after name mode in
-        if_ends (nat_le max_files (length k.files)) (refused_for k pid after Files) (if memory then refused_for k pid after Memory else made) (λ _. no_room Files)
-        (λ _. if_ends memory (refused_for k pid after Memory) made (λ _. no_room Memory) (λ _. here_empty))
+        either (nat_le max_files (length k.files)) (refused_for k pid after Files) (if memory then refused_for k pid after Memory else made) (λ _. no_room Files)
+        (λ _. either memory (refused_for k pid after Memory) made (λ _. no_room Memory) (λ _. here_empty))
 
     named_ends : (memory : Bool) → Ends (open_named k pid after name mode memory)
     named_ends memory =
-        if_ends (reads mode) (open_for_reading k pid after name mode (files k.files name)) (open_for_writing k pid after name mode memory (files k.files name)) (λ _. reading_ends (files k.files name)) (λ _. writing_ends memory (files k.files name))
+        either (reads mode) (open_for_reading k pid after name mode (files k.files name)) (open_for_writing k pid after name mode memory (files k.files name)) (λ _. reading_ends (files k.files name)) (λ _. writing_ends memory (files k.files name))
 
   pub open_ends : (name : List ℕ) (mode : Mode) (memory : Bool) → call ≡ OpenFile name mode → Ends (open_file k pid after name mode memory)
   open_ends name mode memory is =
       let named : KernelState S = open_named k pid after name mode memory in
       let good : KernelState S = if is_openable name then named else answered k pid after Refused in
       let roomy : KernelState S = if is_none (lowest_free (fds_at k pid)) then refused_for k pid after Fds else good in
-      if_ends (free_count k.entries == 0) (refused_for k pid after Open) roomy (λ _. no_room Open)
-      (λ _. if_ends (is_none (lowest_free (fds_at k pid))) (refused_for k pid after Fds) good (λ _. no_room Fds)
-      (λ free. if_ends (is_openable name) named (answered k pid after Refused)
+      either (free_count k.entries == 0) (refused_for k pid after Open) roomy (λ _. no_room Open)
+      (λ _. either (is_none (lowest_free (fds_at k pid))) (refused_for k pid after Fds) good (λ _. no_room Fds)
+      (λ free. either (is_openable name) named (answered k pid after Refused)
       (λ _. let place = some_is (lowest_free (fds_at k pid)) (not_none (lowest_free (fds_at k pid)) free) in named_ends name mode is place.0 place.1 memory)
       (λ _. denied)))
 
@@ -147,7 +138,7 @@ module _ {S : Type 0} (k : KernelState S) (pid : ℕ) (after : S) (call : Call) 
       let done : KernelState S = answered (with_ends k pid k.events) pid after (ends_reply (lowest_free (fds_at k pid)) (lowest_free (fds_at (with_reader k pid k.events) pid))) in
       let rest : KernelState S = if memory then refused_for k pid after Memory else done in
       let places : KernelState S = if nat_lt (free_count (fds_at k pid)) 2 then refused_for k pid after Fds else rest in
-      if_ends (nat_lt (free_count k.entries) 2) (refused_for k pid after Open) places (λ _. no_room Open)
-      (λ entries. if_ends (nat_lt (free_count (fds_at k pid)) 2) (refused_for k pid after Fds) rest (λ _. no_room Fds)
-      (λ free. if_ends memory (refused_for k pid after Memory) done (λ _. no_room Memory)
+      either (nat_lt (free_count k.entries) 2) (refused_for k pid after Open) places (λ _. no_room Open)
+      (λ entries. either (nat_lt (free_count (fds_at k pid)) 2) (refused_for k pid after Fds) rest (λ _. no_room Fds)
+      (λ free. either memory (refused_for k pid after Memory) done (λ _. no_room Memory)
       (λ _. made is (ltb-false (free_count k.entries) 2 entries) (ltb-false (free_count (fds_at k pid)) 2 free))))

@@ -2,6 +2,7 @@
 use Rattle.std.proofs.Common.{◌≡◌, ℕ, zero, suc, List, [], ◌∷◌, Bool, true, false, Option, Some, None, length, drop, take, refl, sym, ap, ◌∙◌, arith}
 use Rattle.std.proofs.lemmas.Bool.{eqb-true, eqb-false}
 use Rattle.std.specs.Prelude.{◌==◌, min, if◌then◌else◌}
+use Rattle.std.proofs.lemmas.List.{nil_from_length, drop_all}
 use Rattle.user_calls.specs.declared.block.TheConstants.{BLOCK_SIZE}
 use Rattle.user_calls.specs.declared.calls.Call.{Call}
 use Rattle.user_calls.specs.declared.calls.Call.TheVariants.{Read}
@@ -21,6 +22,7 @@ use Rattle.kernel_model.specs.Pipes.{Pipes, pipe_of, with_pipe}
 use Rattle.kernel_model.specs.Replies.{answered, sleeps}
 use Rattle.kernel_model.specs.Reading.{read_file, read_mode, read_by, read_pipe, read_object, read_entry, read_held, read}
 use Rattle.law_outcomes.specs.Outcome.{Outcome, IsRead, object_of, refused, reads_input, reads_file, takes, waits_for_bytes, meets_end}
+use Rattle.law_outcomes.proofs.Ways.{denied}
 
 -- ---- a pipe that a call leaves as it was
 
@@ -31,16 +33,8 @@ with_pipe_back (x ∷ rest) id p found = by (id == x.0) (with_pipe_back rest id 
   by true later is = let it : p ≡ x.1 = cc in ap (λ (q : PipeState). (x.0, q) ∷ rest) it
   by false later is = ap (λ (l : Pipes). x ∷ l) (later is)
 
-pub no_bytes : (xs : List ℕ) → length xs ≡ 0 → xs ≡ []
-no_bytes [] is = refl
-no_bytes (x ∷ xs) is = absurd (omega (arith, is))
-
-drop_none : (n : ℕ) → drop {A = ℕ} n [] ≡ []
-drop_none zero = refl
-drop_none (suc n) = refl
-
 take_of_empty : (p : PipeState) (n : ℕ) → p.bytes ≡ [] → after_take p n ≡ p
-take_of_empty p n is = ap (λ (b : List ℕ). record { bytes = b; reader = p.reader; writer = p.writer }) (ap (drop n) is ∙ drop_none n ∙ sym is)
+take_of_empty p n is = ap (λ (b : List ℕ). record { bytes = b; reader = p.reader; writer = p.writer }) (ap (drop n) is ∙ drop_all {X = ℕ} n [] (omega arith) ∙ sym is)
 
 -- a take from an empty pipe leaves the pipes as they were
 pub nothing_taken : (pipes : Pipes) (id n : ℕ) (p : PipeState) → pipe_of pipes id ≡ Some p → p.bytes ≡ [] → with_pipe pipes id (after_take p n) ≡ pipes
@@ -51,9 +45,6 @@ nothing_taken pipes id n p found is = ap (with_pipe pipes id) (take_of_empty p n
 module _ {S : Type 0} (k : KernelState S) (pid : ℕ) (after : S) (call : Call) where
   abbrev Ends : KernelState S → Type 0
   Ends new = Outcome k pid after call new
-
-  denied : Ends (answered k pid after Refused)
-  denied = refused refl
 
   read_file_ends : (e offset n : ℕ) (name : List ℕ) (mode : Mode) (o : Option (List ℕ)) → IsRead k pid call (File name mode) → Ends (read_file k pid after e offset n o)
   read_file_ends e offset n name mode None is = denied
@@ -74,10 +65,10 @@ module _ {S : Type 0} (k : KernelState S) (pid : ℕ) (after : S) (call : Call) 
     by : (empty writer : Bool) → (length p.bytes == 0) ≡ empty → p.writer ≡ writer → Ends (read_by now pid after id (take n p.bytes) (if empty then (if writer then Empty else End) else Got (min (length p.bytes) n)))
     by false writer test w = takes id n p is found (λ none. let long : length p.bytes ≡ 0 = ap length none in eqb-false (length p.bytes) 0 test long) refl
     by true true test w =
-        let none : p.bytes ≡ [] = no_bytes p.bytes (eqb-true (length p.bytes) 0 test) in
+        let none : p.bytes ≡ [] = nil_from_length p.bytes (eqb-true (length p.bytes) 0 test) in
         waits_for_bytes id p is found none w (ap (λ (l : Pipes). sleeps (record k { pipes = l }) pid (PipeBytes id) 0) (nothing_taken k.pipes id n p found none))
     by true false test w =
-        let none : p.bytes ≡ [] = no_bytes p.bytes (eqb-true (length p.bytes) 0 test) in
+        let none : p.bytes ≡ [] = nil_from_length p.bytes (eqb-true (length p.bytes) 0 test) in
         meets_end id p is found none w (ap (λ (l : Pipes). answered (record k { pipes = l }) pid after (Given [])) (nothing_taken k.pipes id n p found none))
 
   read_object_ends : (e offset n : ℕ) (object : Object) → IsRead k pid call object → Ends (read_object k pid after e offset n object)

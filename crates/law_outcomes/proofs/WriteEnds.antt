@@ -2,6 +2,7 @@
 use Rattle.std.proofs.Common.{◌≡◌, ℕ, zero, suc, ◌+◌, ◌<◌, ◌≤◌, List, [], ◌∷◌, ◌++◌, Bool, true, false, Option, Some, None, length, take, refl, sym, ap, ◌∙◌, arith}
 use Rattle.std.proofs.lemmas.Bool.{eqb-true, eqb-false}
 use Rattle.std.specs.Prelude.{◌==◌, min, not, nat_lt, if◌then◌else◌}
+use Rattle.std.proofs.lemmas.List.{nil_from_length, append-nil, take_all, length-append, take_min}
 use Rattle.user_calls.specs.declared.calls.Call.{Call}
 use Rattle.user_calls.specs.declared.calls.Call.TheVariants.{Write}
 use Rattle.user_calls.specs.declared.calls.Reply.TheVariants.{Done, Refused}
@@ -25,40 +26,16 @@ use Rattle.kernel_model.specs.Pipes.{Pipes, pipe_of, with_pipe}
 use Rattle.kernel_model.specs.Replies.{answered, refused_for, sleeps, wakes}
 use Rattle.kernel_model.specs.Writing.{write_file, append_file, write_mode, write_by, write_pipe, write_object, write_entry, write_held, write}
 use Rattle.law_outcomes.specs.Outcome.{Outcome, IsWrite, object_of, left_of, refused, lacks, tells, complains, writes_over, appends, puts_all, puts_part}
-use Rattle.law_outcomes.proofs.ReadEnds.{with_pipe_back, no_bytes}
+use Rattle.law_outcomes.proofs.ReadEnds.{with_pipe_back}
+use Rattle.law_outcomes.proofs.Ways.{denied, no_room}
 
 -- ---- what a put appends
-
-none_appended : (xs : List ℕ) → xs ++ [] ≡ xs
-none_appended [] = refl
-none_appended (x ∷ xs) = ap (λ (l : List ℕ). x ∷ l) (none_appended xs)
-
-take_all : (n : ℕ) (xs : List ℕ) → length xs ≤ n → take n xs ≡ xs
-take_all zero [] fits = refl
-take_all zero (x ∷ xs) fits = absurd (omega arith)
-take_all (suc n) [] fits = refl
-take_all (suc n) (x ∷ xs) fits = ap (λ (l : List ℕ). x ∷ l) (take_all n xs (omega arith))
-
-take_none : (n : ℕ) → take {A = ℕ} n [] ≡ []
-take_none zero = refl
-take_none (suc n) = refl
-
-take_fewer : (n m : ℕ) (xs : List ℕ) → m ≡ min n (length xs) → take n xs ≡ take m xs
-take_fewer zero zero xs is = refl
-take_fewer zero (suc m) xs is = absurd (omega (arith, is))
-take_fewer (suc n) m [] is = sym (take_none m)
-take_fewer (suc n) zero (x ∷ xs) is = absurd (omega (arith, is))
-take_fewer (suc n) (suc m) (x ∷ xs) is = ap (λ (l : List ℕ). x ∷ l) (take_fewer n m xs (omega (arith, is)))
-
-joined_length : (xs ys : List ℕ) → length (xs ++ ys) ≡ length xs + length ys
-joined_length [] ys = omega arith
-joined_length (x ∷ xs) ys = omega (arith, joined_length xs ys)
 
 -- a put into a pipe whose reader is closed leaves it as it was
 put_to_nobody : (p : PipeState) (xs : List ℕ) → p.reader ≡ false → after_put p xs ≡ p
 put_to_nobody p xs closed =
     let none : appended p xs ≡ [] = ap (λ (b : Bool). if b then take (room p) xs else []) closed in
-    ap (λ (b : List ℕ). record { bytes = b; reader = p.reader; writer = p.writer }) (ap (λ (l : List ℕ). p.bytes ++ l) none ∙ none_appended p.bytes)
+    ap (λ (b : List ℕ). record { bytes = b; reader = p.reader; writer = p.writer }) (ap (λ (l : List ℕ). p.bytes ++ l) none ∙ append-nil p.bytes)
 
 appended_none : (p : PipeState) (b : Bool) → (if b then take {A = ℕ} (room p) [] else []) ≡ []
 appended_none p true = take_all (room p) [] (omega arith)
@@ -69,12 +46,6 @@ appended_none p false = refl
 module _ {S : Type 0} (k : KernelState S) (pid : ℕ) (after : S) (call : Call) where
   abbrev Ends : KernelState S → Type 0
   Ends new = Outcome k pid after call new
-
-  denied : Ends (answered k pid after Refused)
-  denied = refused refl
-
-  no_room : (full : Full) → Ends (refused_for k pid after full)
-  no_room full = lacks full refl
 
   either : (b : Bool) (x y : KernelState S) → Ends x → Ends y → Ends (if b then x else y)
   either true x y ex ey = ex
@@ -98,7 +69,7 @@ module _ {S : Type 0} (k : KernelState S) (pid : ℕ) (after : S) (call : Call) 
       let rest : KernelState S = if memory then refused_for k pid after Memory else done in
       either (nat_lt max_size end) (refused_for k pid after Size) rest (no_room Size)
       (either memory (refused_for k pid after Memory) done (no_room Memory)
-      (appends name mode e b (bytes ++ b) is (ap (λ (n : ℕ). answered (record k { files = with_entry k.files name (bytes ++ b); entries = moved_to k.entries e n }) pid after Done) (sym (joined_length bytes b)))))
+      (appends name mode e b (bytes ++ b) is (ap (λ (n : ℕ). answered (record k { files = with_entry k.files name (bytes ++ b); entries = moved_to k.entries e n }) pid after Done) (sym (length-append bytes b)))))
 
   write_mode_ends : (e : ℕ) (name : List ℕ) (offset : ℕ) (b : List ℕ) (memory : Bool) (mode : Mode) → IsWrite k pid call (File name mode) b → Ends (write_mode k pid after e name offset b memory mode)
   write_mode_ends e name offset b memory ForReading is = denied
@@ -126,7 +97,7 @@ module _ {S : Type 0} (k : KernelState S) (pid : ℕ) (after : S) (call : Call) 
     answers : (none reader full : Bool) → (length xs == 0) ≡ none → p.reader ≡ reader → (room p == 0) ≡ full
         → Ends (write_by now pid after id put (length xs) (if none then Took 0 else (if not reader then Closed else (if full then NoRoom else Took (min (room p) (length xs))))))
     answers true reader full test r f =
-        took 0 (0 == length xs) refl (omega arith) (λ some. absurd (omega (arith, some, eqb-true (length xs) 0 test))) (ap (appended p) (no_bytes xs (eqb-true (length xs) 0 test)) ∙ appended_none p p.reader)
+        took 0 (0 == length xs) refl (omega arith) (λ some. absurd (omega (arith, some, eqb-true (length xs) 0 test))) (ap (appended p) (nil_from_length xs (eqb-true (length xs) 0 test)) ∙ appended_none p p.reader)
     answers false false full test r f =
         refused (ap (λ (l : Pipes). answered (record k { pipes = l }) pid after Refused) (ap (with_pipe k.pipes id) (put_to_nobody p xs r) ∙ with_pipe_back k.pipes id p found))
     answers false true true test r f =
@@ -137,7 +108,7 @@ module _ {S : Type 0} (k : KernelState S) (pid : ℕ) (after : S) (call : Call) 
           by ne = omega (arith, ne)
     answers false true false test r f =
         let are : appended p xs ≡ take (room p) xs = ap (λ (o : Bool). if o then take (room p) xs else []) r in
-        took (min (room p) (length xs)) (min (room p) (length xs) == length xs) refl (omega arith) (λ some. (r, omega (arith, some))) (are ∙ take_fewer (room p) (min (room p) (length xs)) xs refl)
+        took (min (room p) (length xs)) (min (room p) (length xs) == length xs) refl (omega arith) (λ some. (r, omega (arith, some))) (are ∙ sym (take_min (room p) xs))
 
     write_found : Ends (write_pipe k pid after id put xs (Some p))
     write_found = answers (length xs == 0) p.reader (room p == 0) refl refl refl

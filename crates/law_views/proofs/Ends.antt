@@ -1,4 +1,4 @@
--- An end of a pipe that is closed is held by nobody, and the pipe of an end that is open is there.
+-- An end of a pipe that is closed is held by no process, and the pipe of an end that is open is there.
 use Rattle.std.proofs.Common.{◌≡◌, ℕ, zero, suc, ◌+◌, ◌≤◌, Bool, true, false, Option, Some, None, length, refl, sym, ap, ◌∙◌, arith}
 use Rattle.std.specs.Prelude.{option_map, count_by}
 use Rattle.std.proofs.lemmas.Bool.{eq-eqb}

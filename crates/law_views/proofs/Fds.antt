@@ -1,6 +1,6 @@
 -- Descriptors as they are seen: what each is open on, changes of one, and the lowest that is free.
 use Rattle.std.proofs.Common.{◌≡◌, ◌≢◌, ℕ, zero, suc, ◌+◌, Bool, true, false, List, [], ◌∷◌, Option, Some, None, length, refl, sym, ap, ◌∙◌, arith}
-use Rattle.std.specs.Prelude.{map, option_map, slice_set, position, cond, nat_lt, IsSome}
+use Rattle.std.specs.Prelude.{replicate, map, option_map, slice_set, position, cond, nat_lt, IsSome}
 use Rattle.std.specs.List.{position_or_len}
 use Rattle.fd_table.specs.Entries.{OpenFile, entry_at, is_free}
 use Rattle.fd_table.specs.Descriptors.{Descriptors, entry_of, lowest_free, HoldsInUse}
@@ -40,18 +40,18 @@ seen_lowest name d =
 
 -- ---- what a descriptor holds is in use
 
-none_open : (n fd e : ℕ) → entry_of (Rattle.std.specs.Prelude.replicate n None) fd ≡ Some e → ⊥
+pub none_open : (n fd e : ℕ) → entry_of (replicate n None) fd ≡ Some e → ⊥
 none_open zero fd e is = let z : ⊥ = cc in z
 none_open (suc n) zero e is = let z : ⊥ = cc in z
 none_open (suc n) (suc fd) e is = none_open n fd e is
 
-in_use : (o : Option OpenFile) → IsSome o → (f : OpenFile) × (o ≡ Some f)
-in_use None some = absurd (let z : ⊥ = cc in z)
-in_use (Some f) some = (f, refl)
+pub some_is : {X : Type 0} (o : Option X) → IsSome o → (x : X) × (o ≡ Some x)
+some_is None some = absurd (let z : ⊥ = cc in z)
+some_is (Some x) some = (x, refl)
 
 pub held_is_used : (k : KernelState User) → IsSound k.table k.entries → (r fd e : ℕ) → entry_of (fds_at k r) fd ≡ Some e → (f : OpenFile) × (entry_at k.entries e ≡ Some f)
 held_is_used k sound r fd e is = by (at k.table r) refl
   where
     by : (x : Slot User) → at k.table r ≡ x → (f : OpenFile) × (entry_at k.entries e ≡ Some f)
     by None empty = absurd (none_open DESCRIPTORS fd e (sym (ap (λ y. entry_of (fds_of y) fd) empty) ∙ is))
-    by (Some p) there = in_use (entry_at k.entries e) (Rattle.std.proofs.Common.subst (λ (o : Option ℕ). HoldsInUse k.entries o) is (held_in_use k.table k.entries r fd (used_within k.table r p there) sound))
+    by (Some p) there = some_is (entry_at k.entries e) (Rattle.std.proofs.Common.subst (λ (o : Option ℕ). HoldsInUse k.entries o) is (held_in_use k.table k.entries r fd (used_within k.table r p there) sound))

@@ -34,11 +34,11 @@ use Rattle.process_model.specs.Seen.{file, Place, fds_seen, seen_slot, Names, vi
 use Rattle.process_model.specs.Shows.{IsNamed, GoesOnAt, Shows, ShowsIn}
 use Rattle.process_model.specs.Effect.{OpensNamed, OpensBy, Opens, files_read, files_kept, files_opened, first_byte}
 use Rattle.law_views.proofs.Tables.{At}
-use Rattle.law_views.proofs.Fds.{seen_lowest}
+use Rattle.law_views.proofs.Fds.{seen_lowest, some_is}
 use Rattle.law_views.proofs.Showing.{Stay, kept_all, kept_pipes, shows_on}
 use Rattle.law_views.proofs.Opened.{with_name, shows_opened, with_place, place_here, place_elsewhere, shows_new_place}
 use Rattle.law_views.proofs.Mid as during
-use Rattle.law_views.proofs.Installs.{some_is, entry_free, NotIn, more_held, opened_own, opened_others, opened_fds, no_reader, no_writer, no_file}
+use Rattle.law_views.proofs.Installs.{entry_free, NotIn, more_held, opened_own, opened_others, opened_fds, no_reader, no_writer, no_file}
 use Rattle.law_views.proofs.Installs as installs
 
 module _ (g : Names) (k : KernelState User) (p : ℕ) (q : Process User) (up : p ≢ 0) (is : at k.table p ≡ Some q) (alive : is_zombie_status q.status ≡ false) (shows : ShowsIn g k) (used : (r fd e : ℕ) → entry_of (fds_at k r) fd ≡ Some e → (f : OpenFile) × (entry_at k.entries e ≡ Some f)) where
@@ -65,9 +65,6 @@ module _ (g : Names) (k : KernelState User) (p : ℕ) (q : Process User) (up : p
 
   abbrev parent : ℕ
   parent = parent_or_init q.parent
-
-  refuses : (call : Call) → during.Called g k p q (answered (counted k) p next Refused) call → Called (answered (counted k) p next Refused) call
-  refuses call c = c
 
   goes_on : (mode : Mode) (held : Option Bytes) → GoesOnAt mode (first_byte mode held) 0
   goes_on ToRead held = refl

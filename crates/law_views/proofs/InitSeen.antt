@@ -23,11 +23,11 @@ use Rattle.law_views.specs.Seen.{IsInit, InitWaits, takes_away, waits_on}
 use Rattle.law_views.proofs.Tables.{seen_up}
 use Rattle.law_views.proofs.Showing.{shows_later}
 
-its_parent : (o : Option ℕ) → is_number 0 o ≡ true → parent_or_init o ≡ 0
+pub its_parent : (o : Option ℕ) → is_number 0 o ≡ true → parent_or_init o ≡ 0
 its_parent None is = refl
 its_parent (Some n) is = sym (eqb-true 0 n is)
 
-zombie_seen : (name : ℕ → Entry) (x : Slot User) → is_child_of 0 x ≡ true → is_zombie x ≡ true → seen_slot name x ≡ zombie 0
+pub zombie_seen : (name : ℕ → Entry) (x : Slot User) → is_child_of 0 x ≡ true → is_zombie x ≡ true → seen_slot name x ≡ zombie 0
 zombie_seen name None is dead = absurd (let z : ⊥ = cc in z)
 zombie_seen name (Some x) is dead = ap (λ b. seen_by b name x) dead ∙ ap zombie (its_parent x.parent is)
 

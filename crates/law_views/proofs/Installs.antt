@@ -1,4 +1,4 @@
--- What is opened gets a free entry and a free descriptor, and a name that nobody has yet.
+-- What is opened gets a free entry and a free descriptor, and a name that is not in use yet.
 use Rattle.std.proofs.Common.{◌≡◌, ◌≢◌, ◌⊎◌, ℕ, zero, suc, ◌+◌, ◌-◌, ◌<◌, ◌≤◌, Bool, true, false, List, [], ◌∷◌, Option, Some, None, length, refl, sym, ap, ◌∙◌, subst, inl, inr, arith, get_or, get_or-set_other, get_or-set_same}
 use Rattle.std.specs.Prelude.{slice_set, IsSome}
 use Rattle.std.proofs.lemmas.Bool.{cases_eq}
@@ -28,10 +28,6 @@ use Rattle.law_views.proofs.Mid as during
 pub free_is : {X : Type 0} (x : Option X) → is_free x ≡ true → x ≡ None
 free_is None is = refl
 free_is (Some y) is = absurd (let z : ⊥ = cc in z)
-
-pub some_is : {X : Type 0} (o : Option X) → IsSome o → (x : X) × (o ≡ Some x)
-some_is None some = absurd (let z : ⊥ = cc in z)
-some_is (Some x) some = (x, refl)
 
 -- the lowest free entry is free
 pub entry_free : (E : Entries) (e : ℕ) → lowest_free_entry E ≡ Some e → (e < length E) × (entry_at E e ≡ None)
@@ -111,7 +107,7 @@ module _ (g : Names) (k : KernelState User) (p : ℕ) (q : Process User) (up : p
   pub own : At k.table p q.parent q.machine q.reply q.fds q.put
   own = during.own g k p q up is alive shows
 
-  -- nobody holds a free entry
+  -- no process holds a free entry
   pub nobody : (e : ℕ) → entry_at k.entries e ≡ None → (r : ℕ) → NotIn (fds_at k r) e
   nobody e free r fd n it same = let f = used r fd n it in let z : None ≡ Some f.0 = sym free ∙ ap (entry_at k.entries) (sym same) ∙ f.1 in let w : ⊥ = cc in w
 

@@ -3,6 +3,7 @@ use Rattle.std.proofs.Common.{◌≡◌, ◌≢◌, ◌⊎◌, ℕ, zero, suc, �
 use Rattle.std.specs.Prelude.{◌==◌, min, if◌then◌else◌, option_map, slice_set}
 use Rattle.std.specs.Option.{is_some}
 use Rattle.std.proofs.lemmas.Bool.{cases_eq, eqb-true, eqb-false}
+use Rattle.std.proofs.lemmas.List.{nil_from_length}
 use Rattle.mem_files.specs.Name.{Name, Bytes}
 use Rattle.mem_files.specs.Files.{files}
 use Rattle.byte_pipe.specs.declared.Take.{Take}
@@ -37,14 +38,6 @@ use Rattle.law_views.proofs.Fds.{seen_fd}
 use Rattle.law_views.proofs.Showing.{with_bytes, bytes_here, bytes_elsewhere, shows_bytes}
 use Rattle.law_views.proofs.Opened.{with_place, place_here, place_elsewhere, shows_moved}
 use Rattle.law_views.proofs.Mid as during
-
-empty_is : (xs : List ℕ) → length xs ≡ 0 → xs ≡ []
-empty_is [] e = refl
-empty_is (x ∷ xs) e = absurd (omega (arith, e))
-
-some_bytes : (n : ℕ) → n ≢ 0 → 1 ≤ n
-some_bytes zero ne = absurd (ne refl)
-some_bytes (suc n) ne = omega arith
 
 drop_none : (n : ℕ) (xs : List ℕ) → xs ≡ [] → drop n xs ≡ xs
 drop_none n xs none = ap (drop n) none ∙ by n ∙ sym none
@@ -137,8 +130,8 @@ module _ (g : Names) (k : KernelState User) (p : ℕ) (q : Process User) (up : p
         by_writer false off none = ended none off
 
         by : (b : Bool) → (length pp.bytes == 0) ≡ b → Read' (if b then (if pp.writer then Empty else End) else Got (min (length pp.bytes) most))
-        by true test = by_writer pp.writer refl (empty_is pp.bytes (eqb-true (length pp.bytes) 0 test))
-        by false test = got (min (length pp.bytes) most) (some_bytes (length pp.bytes) (eqb-false (length pp.bytes) 0 test))
+        by true test = by_writer pp.writer refl (nil_from_length pp.bytes (eqb-true (length pp.bytes) 0 test))
+        by false test = got (min (length pp.bytes) most) (omega (arith, eqb-false (length pp.bytes) 0 test))
 
     read_shows : (o : Take) → Shows h (read_by m p next id (take most pp.bytes) o).entries (read_by m p next id (take most pp.bytes) o).pipes (files (read_by m p next id (take most pp.bytes) o).files) (k.events + 1 + 1)
     read_shows (Got n) = now_shows

@@ -9,7 +9,7 @@ use Rattle.kernel_model.specs.KernelState.{KernelState}
 use Rattle.kernel_model.specs.Boot.{boot_kernel}
 use Rattle.kernel_model.specs.Events.{happens, run}
 use Rattle.kernel_model.proofs.Runs.{run_more}
-use Rattle.kernel_model.proofs.Lasting.{run_later}
+use Rattle.kernel_model.proofs.Lasting.{run_later, no_run as none_runs}
 use Rattle.law_kernel.proofs.Runs.{every_run_rests}
 use Rattle.law_kernel.proofs.EndsRuns.{every_run_in_step}
 use Rattle.law_kernel.proofs.SoundRuns.{every_run_is_sound}
@@ -18,10 +18,7 @@ use Rattle.sh_machine.specs.Turn.{call_of, next_of}
 use Rattle.law_views.specs.Settled.{IsSettled}
 
 pub no_run : (es : List Event) (ns : List Bool) (m : KernelState User) → run call_of next_of None es ns ≡ Some m → ⊥
-no_run [] [] m is = let z : ⊥ = cc in z
-no_run (e ∷ es) (n ∷ ns) m is = no_run es ns m is
-no_run [] (n ∷ ns) m is = let z : ⊥ = cc in z
-no_run (e ∷ es) [] m is = let z : ⊥ = cc in z
+no_run = none_runs call_of next_of
 
 pub unmarked : (o : Option Full) → ((full : Full) → o ≡ Some full → ⊥) → o ≡ None
 unmarked None h = refl

@@ -3,7 +3,7 @@ use Rattle.std.proofs.Common.{◌≡◌, ◌≢◌, ◌⊎◌, ℕ, zero, suc, �
 use Rattle.std.specs.Prelude.{◌==◌, min, not, nat_le, nat_lt, if◌then◌else◌, option_map, slice_set}
 use Rattle.std.specs.Option.{is_some}
 use Rattle.std.proofs.lemmas.Bool.{cases_eq, eqb-true, eqb-false, ne_eqb, eq-eqb, leb-true, leb-false}
-use Rattle.std.proofs.lemmas.List.{length-take, length-drop, length-append}
+use Rattle.std.proofs.lemmas.List.{length-take, length-drop, length-append, nil_from_length, take_all, length-take-le, append-nil, take-append-drop}
 use mathlib.Core.Path.{fun_ext}
 use Rattle.mem_files.specs.Name.{Name, Bytes}
 use Rattle.mem_files.specs.Files.{files, with_file}
@@ -45,36 +45,6 @@ use Rattle.law_views.proofs.Fds.{seen_fd}
 use Rattle.law_views.proofs.Showing.{Stay, with_bytes, bytes_here, bytes_elsewhere, shows_bytes}
 use Rattle.law_views.proofs.Opened.{with_place, place_here, place_elsewhere, shows_moved}
 use Rattle.law_views.proofs.Mid as during
-
-empty_is : (xs : List ℕ) → length xs ≡ 0 → xs ≡ []
-empty_is [] e = refl
-empty_is (x ∷ xs) e = absurd (omega (arith, e))
-
-some_bytes : (n : ℕ) → n ≢ 0 → 1 ≤ n
-some_bytes zero ne = absurd (ne refl)
-some_bytes (suc n) ne = omega arith
-
-take_all : (n : ℕ) (xs : List ℕ) → length xs ≤ n → take n xs ≡ xs
-take_all zero [] le = refl
-take_all zero (x ∷ xs) le = absurd (omega (arith, le))
-take_all (suc n) [] le = refl
-take_all (suc n) (x ∷ xs) le = ap (λ l. x ∷ l) (take_all n xs (omega (arith, le)))
-
-take_then_drop : (n : ℕ) (xs : List ℕ) → xs ≡ take n xs ++ drop n xs
-take_then_drop zero xs = refl
-take_then_drop (suc n) [] = refl
-take_then_drop (suc n) (x ∷ xs) = ap (λ l. x ∷ l) (take_then_drop n xs)
-
-length_taken : (n : ℕ) (xs : List ℕ) → n ≤ length xs → length (take n xs) ≡ n
-length_taken n xs le = omega (arith, length-take {A = ℕ} n xs, le)
-
-nothing_more : (xs : List ℕ) → xs ++ [] ≡ xs
-nothing_more [] = refl
-nothing_more (x ∷ xs) = ap (λ l. x ∷ l) (nothing_more xs)
-
-none_taken : (n : ℕ) → take {A = ℕ} n [] ≡ []
-none_taken zero = refl
-none_taken (suc n) = refl
 
 module _ (g : Names) (k : KernelState User) (p : ℕ) (q : Process User) (up : p ≢ 0) (is : at k.table p ≡ Some q) (alive : is_zombie_status q.status ≡ false) (shows : ShowsIn g k) where
   abbrev Called : KernelState User → Call → Type 0
@@ -129,7 +99,7 @@ module _ (g : Names) (k : KernelState User) (p : ℕ) (q : Process User) (up : p
     same_rest l none f i o = record { pipes = λ j. by j (cases_eq j id); places = λ e. refl; files = ap files f; input = i; out = o }
       where
         by : (j : ℕ) → (j ≡ id) ⊎ (j ≢ id) → h.pipes j ≡ g.pipes j
-        by j (inl same) = ap h.pipes same ∙ gives [] none ∙ nothing_more (g.pipes id) ∙ ap g.pipes (sym same)
+        by j (inl same) = ap h.pipes same ∙ gives [] none ∙ append-nil (g.pipes id) ∙ ap g.pipes (sym same)
         by j (inr ne) = bytes_elsewhere g id j now.bytes ne
 
     changes : (l : KernelState User) → l.files ≡ k.files → l.input ≡ k.input → l.out ≡ k.out → PipeChanges (view g k) (view h l) id
@@ -164,8 +134,8 @@ module _ (g : Names) (k : KernelState User) (p : ℕ) (q : Process User) (up : p
     in_part n low high part true t = absurd (let z : ⊥ = cc in z)
     in_part n low high part false t =
         let l = wakes (PipeBytes id) (sleeps m p (PipeRoom id) (q.put + n)) in
-        let count = length_taken n left (omega (arith, high)) in
-        puts_some (take n left) (drop n left) (take_then_drop n left) (omega (arith, count, low)) (omega (arith, length-drop {A = ℕ} n left, high)) (gives (take n left) part) fits (changes l refl refl refl)
+        let count = length-take-le n left (omega (arith, high)) in
+        puts_some (take n left) (drop n left) (sym (take-append-drop {A = ℕ} n left)) (omega (arith, count, low)) (omega (arith, length-drop {A = ℕ} n left, high)) (gives (take n left) part) fits (changes l refl refl refl)
         (subst (λ put. Sets (view g k) (view h l) p (live parent (during.act g k p q) (q.put + put) (fds_seen g.name q.fds))) (sym count) (asleep_sets (q.put + n)))
 
     asleep : 1 ≤ length left → appended pp left ≡ [] → Put' NoRoom
@@ -192,7 +162,7 @@ module _ (g : Names) (k : KernelState User) (p : ℕ) (q : Process User) (up : p
     into_room some on n e false test = by (nat_le (length left) n) refl
       where
         low : 1 ≤ n
-        low = some_bytes n (eqb-false n 0 test)
+        low = omega (arith, eqb-false n 0 test)
 
         by : (c : Bool) → nat_le (length left) n ≡ c → Put' (Took (min n (length left)))
         by true le =
@@ -209,7 +179,7 @@ module _ (g : Names) (k : KernelState User) (p : ℕ) (q : Process User) (up : p
     while_read some false off = refused_by some off
 
     nothing_left : left ≡ [] → (c : Bool) → (if c then take (room pp) left else []) ≡ left
-    nothing_left none true = ap (take (room pp)) none ∙ none_taken (room pp) ∙ sym none
+    nothing_left none true = ap (take (room pp)) none ∙ take_all {A = ℕ} (room pp) [] (omega arith) ∙ sym none
     nothing_left none false = sym none
 
     writes_pipe : Put' (put_answer pp left)
@@ -218,8 +188,8 @@ module _ (g : Names) (k : KernelState User) (p : ℕ) (q : Process User) (up : p
         by : (c : Bool) → (length left == 0) ≡ c → Put' (if c then Took 0 else (if not pp.reader then Closed else (if room pp == 0 then NoRoom else Took (min (room pp) (length left)))))
         by true test =
             let none = eqb-true (length left) 0 test in
-            whole 0 (nothing_left (empty_is left none) pp.reader) (0 == length left) (eq-eqb 0 (length left) (sym none))
-        by false test = while_read (some_bytes (length left) (eqb-false (length left) 0 test)) pp.reader refl
+            whole 0 (nothing_left (nil_from_length left none) pp.reader) (0 == length left) (eq-eqb 0 (length left) (sym none))
+        by false test = while_read (omega (arith, eqb-false (length left) 0 test)) pp.reader refl
 
     put_shows : (o : Put) → Shows h (write_by m p next id q.put (length left) o).entries (write_by m p next id q.put (length left) o).pipes (files (write_by m p next id q.put (length left) o).files) (k.events + 1 + 1)
     put_shows (Took n) = by (n == length left)

@@ -7,8 +7,8 @@ use Rattle.law_kernel.specs.Ends.{EndsAgree}
 use Rattle.law_kernel.specs.Sleeping.{Rests}
 use Rattle.sh_machine.specs.State.{User}
 
--- counts are right, whoever sleeps has to, the ends of pipes and their entries are in step, and no pipe has the name of an
--- event to come
+-- counts are right, a process sleeps only where it has to, the ends of pipes and their entries are in step, and no pipe has
+-- the name of an event to come
 pub record IsSettled (k : KernelState User) : Type 0 where
   pub sound : IsSound k.table k.entries
   pub rests : Rests k.table k.pipes

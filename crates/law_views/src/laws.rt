@@ -21,21 +21,21 @@ ghost use Rattle.process_model.specs.Effect.{Quiet};
 ghost use Rattle.law_views.specs.Settled.{IsSettled};
 ghost use Rattle.law_views.specs.Seen.{IsSeen, IsInit, InitWaits};
 
-/// Each of the ten calls does what is said of it in the words of the tree of processes, under names that are right again,
-/// where nothing is refused for want of room.
+/// Each of the ten calls does to the tree of processes what `process_model` defines of it (`Effect`), under names that are right
+/// again, where nothing is refused because something is full.
 pub fn each_call_is_seen_as_its_effect()
     ensures { (k l : KernelState User) (g : Names) (h p : ℕ) (refused : Bool) → p ≢ 0 → IsSettled k → ShowsIn g k
         → happens call_of next_of k (Trap h p) refused ≡ Some l → l.full ≡ None → IsSeen g k l p }
 {}
 
-/// Nothing is seen of a dispatch.
+/// A dispatch changes nothing in the tree of processes.
 pub fn a_dispatch_is_not_seen()
     ensures names { (k l : KernelState User) (g : Names) (h p : ℕ) (refused : Bool) → ShowsIn g k → happens call_of next_of k (Dispatch h p) refused ≡ Some l → ShowsIn g l }
     ensures quiet { (k l : KernelState User) (g : Names) (h p : ℕ) (refused : Bool) → ShowsIn g k → happens call_of next_of k (Dispatch h p) refused ≡ Some l
         → Quiet (view g k) (view g l) }
 {}
 
-/// Of init's calls it is seen that a child that is a zombie is taken away, or nothing.
+/// Init's calls take away a child of init that is a zombie, or change nothing in the tree of processes.
 pub fn init_takes_zombies_away()
     ensures names { (k l : KernelState User) (g : Names) (h : ℕ) (refused : Bool) → IsSettled k → ShowsIn g k → IsInit k
         → happens call_of next_of k (Trap h 0) refused ≡ Some l → ShowsIn g l }

@@ -18,7 +18,7 @@ use Rattle.sh_machine.specs.declared.state.Phase.TheVariants.{Starts}
 use Rattle.process_model.specs.Seen.{Entry, input, out, diag, reader, writer, Seen, live, seen}
 use Rattle.process_model.specs.Phases.{Phase, waits_line, begins, forks_left, forks_right, has_forked, closes_read, closes_write, waits_two, on_left, on_right, closes_old, dups_kept, drops_read, drops_write, does, has_open}
 
--- both ends of a pipe are closed while it holds a byte that nobody read: it is given up, and its byte with it
+-- both ends of a pipe are closed while it holds a byte that no process read: it is given up, and its byte with it
 one_byte : Pipes
 one_byte = (7, record { bytes = 1 ∷ []; reader = true; writer = false }) ∷ []
 
@@ -36,7 +36,7 @@ module _ (tree : Tree) (list : List (Name × Bytes)) where
   unfolding turns
   after ps = run call_of next_of (Some (boot_kernel init (shell Xv6 (top Starts (command tree ∷ []))) [] list)) (turns ps) (replicate (length (turns ps)) false)
 
--- ---- cat < a < b: the second file gets the entry that the first had, while the tree still tells of the first
+-- ---- cat < a < b: the second file gets the entry that the first had, while the tree still has the first
 
 two_files : List (Name × Bytes)
 two_files = (97 ∷ [], 1 ∷ []) ∷ (98 ∷ [], 2 ∷ []) ∷ []

@@ -32,7 +32,7 @@ Holds free x = ⊥
 Holds (zombie q) x = ⊥
 Holds (live q act put d) x = HasOpen d x
 
--- nobody holds it
+-- no process holds it
 abbrev pub NoHolder : View → Entry → Type 0
 NoHolder V x = (q : ℕ) → Holds (V.slots q) x → ⊥
 
@@ -194,7 +194,7 @@ abbrev pub OpensNamed : View → View → ℕ → ℕ → Act → Fds → Name �
 OpensNamed V W p parent act d name mode true = OpensBy V W p parent act d name mode (files_opened V.files name mode)
 OpensNamed V W p parent act d name mode false = Answers V W p parent act Refused d
 
--- read of at most `most` bytes: of a pipe some bytes that are there; its end where it is empty and nobody holds its write
+-- read of at most `most` bytes: of a pipe some bytes that are there; its end where it is empty and no process holds its write
 -- end; else p sleeps
 pub data ReadsPipe (V W : View) (p parent : ℕ) (act : Act) (d : Fds) (most i : ℕ) : Type 0 where
   gets : 1 ≤ length (V.pipes i) → W.pipes i ≡ drop most (V.pipes i) → PipeChanges V W i
@@ -228,7 +228,7 @@ ReadsAt V W p parent act d most (Some (reader i)) = ReadsPipe V W p parent act d
 ReadsAt V W p parent act d most (Some (writer i)) = Answers V W p parent act Refused d
 ReadsAt V W p parent act d most (Some (file e)) = ReadsFile V W p parent act d most e (V.places e).mode
 
--- write: to a pipe all that is left, or a part and then p sleeps; refused where nobody holds its read end; nothing where it
+-- write: to a pipe all that is left, or a part and then p sleeps; refused where no process holds its read end; nothing where it
 -- is full
 pub data WritesPipe (V W : View) (p parent put : ℕ) (act : Act) (d : Fds) (bytes : Bytes) (i : ℕ) : Type 0 where
   puts_all : W.pipes i ≡ V.pipes i ++ drop put bytes → length (W.pipes i) ≤ PIPE_SIZE → PipeChanges V W i

@@ -15,13 +15,13 @@ ghost use Rattle.tree_model.specs.Residual.{done};
 ghost use Rattle.tree_model.specs.Runs.{Stage, first_stage};
 ghost use Rattle.process_model.specs.Standing.{Stands};
 
-/// At its start a kernel stands for the whole script, before the machine's first step.
+/// At its start a kernel's state stands for the whole script, before the tree machine's first step.
 pub fn the_start_stands_for_the_script()
     ensures { (profile : Profile) (lines : List ScriptLine) (input : Bytes) (list : List (Name × Bytes))
         → Stands profile (boot_kernel init (shell profile (top Starts lines)) input list) (first_stage (script_tree lines) input (files list)) }
 {}
 
-/// A kernel in which every slot but init's is free stands for nothing left to do.
+/// The state of a kernel in which every slot but init's is free stands for nothing left to do.
 pub fn a_finished_kernel_stands_for_nothing_left()
     ensures { (profile : Profile) (k : KernelState User) (stage : Stage) → Stands profile k stage → IsAlone k.table → stage.left ≡ done }
 {}

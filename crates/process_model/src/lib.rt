@@ -1,5 +1,5 @@
-//! What the tree of processes of a kernel is, and when it stands for what the tree machine has left: definitions. There
-//! is no code here.
+//! The tree of processes of a kernel, and when it is in the state that the tree machine has: definitions. There is no code
+//! here.
 #![tactic(auto)]
 
 pub mod laws;
