@@ -16,6 +16,7 @@ use Rattle.sh_machine.specs.declared.state.Side.TheVariants.{Closes, Dups, Close
 use Rattle.sh_machine.specs.Held.{ends_of, held_by, held_next}
 use Rattle.sh_machine.specs.State.{Parent, makes, forks_writer, forks_reader, closes_reader, closes_writer, waits_first, waits_second, Shell, top, unknown, closes_old, opens_file, forks_left, waits_left, pipes, side, forks_back, told, ended}
 use Rattle.sh_machine.specs.Turn.{Turn, execs_found, failed, on_done, on_fd, on_fork, on_pipe, on_unknown, runs, runs_first, shell_turn, takes_first}
+use Rattle.sh_machine.proofs.Answered.{by_done, by_fd, by_fork, by_unknown}
 
 -- after this turn the shell holds none but these
 abbrev Within : List ℕ → Turn → Type 0
@@ -33,34 +34,19 @@ reader_twice : (reader writer fd : ℕ) → Contains (reader ∷ reader ∷ writ
 reader_twice reader writer fd (zero, within, is) = (0, omega arith, is)
 reader_twice reader writer fd (suc n, within, is) = (n, omega arith, is)
 
--- what comes of each answer
+-- what each answer leads to
+
+wider : (fds : List ℕ) (reply : Reply) (turn : Turn) → Within fds turn → Within (fds ++ ends_of reply) turn
+wider fds reply turn within fd held = Contains-append_left fds (ends_of reply) fd (within fd held)
 
 done_holds : (fds : List ℕ) (reply : Reply) (then : Turn) → Within fds then → Within (fds ++ ends_of reply) (on_done reply then)
-done_holds fds Start then holds fd held = none (fds ++ []) fd held
-done_holds fds Child then holds fd held = none (fds ++ []) fd held
-done_holds fds Done then holds fd held = Contains-append_left fds [] fd (holds fd held)
-done_holds fds (Bytes bytes) then holds fd held = none (fds ++ []) fd held
-done_holds fds (Fd n) then holds fd held = none (fds ++ []) fd held
-done_holds fds (Ends reader writer) then holds fd held = none (fds ++ reader ∷ writer ∷ []) fd held
-done_holds fds Refused then holds fd held = none (fds ++ []) fd held
+done_holds fds reply then holds = wider fds reply (on_done reply then) (by_done (Within fds) (none fds) reply then holds)
 
 fd_holds : (fds : List ℕ) (reply : Reply) (then refused : Turn) → Within fds then → Within fds refused → Within (fds ++ ends_of reply) (on_fd reply then refused)
-fd_holds fds Start then refused holds other fd held = none (fds ++ []) fd held
-fd_holds fds Child then refused holds other fd held = none (fds ++ []) fd held
-fd_holds fds Done then refused holds other fd held = none (fds ++ []) fd held
-fd_holds fds (Bytes bytes) then refused holds other fd held = none (fds ++ []) fd held
-fd_holds fds (Fd n) then refused holds other fd held = Contains-append_left fds [] fd (holds fd held)
-fd_holds fds (Ends reader writer) then refused holds other fd held = none (fds ++ reader ∷ writer ∷ []) fd held
-fd_holds fds Refused then refused holds other fd held = Contains-append_left fds [] fd (other fd held)
+fd_holds fds reply then refused holds other = wider fds reply (on_fd reply then refused) (by_fd (Within fds) (none fds) reply then refused holds other)
 
 fork_holds : (fds : List ℕ) (reply : Reply) (parent child : Turn) → Within fds parent → Within fds child → Within (fds ++ ends_of reply) (on_fork reply parent child)
-fork_holds fds Start parent child holds other fd held = none (fds ++ []) fd held
-fork_holds fds Child parent child holds other fd held = Contains-append_left fds [] fd (other fd held)
-fork_holds fds Done parent child holds other fd held = Contains-append_left fds [] fd (holds fd held)
-fork_holds fds (Bytes bytes) parent child holds other fd held = none (fds ++ []) fd held
-fork_holds fds (Fd n) parent child holds other fd held = none (fds ++ []) fd held
-fork_holds fds (Ends reader writer) parent child holds other fd held = none (fds ++ reader ∷ writer ∷ []) fd held
-fork_holds fds Refused parent child holds other fd held = none (fds ++ []) fd held
+fork_holds fds reply parent child holds other = wider fds reply (on_fork reply parent child) (by_fork (Within fds) (none fds) reply parent child holds other (none fds))
 
 pipe_holds : (reply : Reply) (left right : Tree) → Within ([] ++ ends_of reply) (on_pipe reply left right)
 pipe_holds Start left right fd held = none [] fd held
@@ -72,13 +58,7 @@ pipe_holds (Ends reader writer) left right fd held = held
 pipe_holds Refused left right fd held = none [] fd held
 
 unknown_holds : (fds : List ℕ) (reply : Reply) (what name : List ℕ) → Within fds (on_unknown reply (failed what name))
-unknown_holds fds Start what name fd held = none fds fd held
-unknown_holds fds Child what name fd held = none fds fd held
-unknown_holds fds Done what name fd held = none fds fd held
-unknown_holds fds (Bytes bytes) what name fd held = none fds fd held
-unknown_holds fds (Fd n) what name fd held = none fds fd held
-unknown_holds fds (Ends reader writer) what name fd held = none fds fd held
-unknown_holds fds Refused what name fd held = none fds fd held
+unknown_holds fds reply what name = by_unknown (Within fds) (none fds) reply (failed what name) (none fds)
 
 -- what is only begun holds none
 

@@ -17,36 +17,19 @@ use Rattle.sh_machine.specs.declared.state.Side.TheVariants.{Closes, Dups, Close
 use Rattle.sh_machine.specs.Held.{MayCall, held_by}
 use Rattle.sh_machine.specs.State.{Parent, makes, forks_writer, forks_reader, closes_reader, closes_writer, waits_first, waits_second, Shell, top, unknown, closes_old, opens_file, forks_left, waits_left, pipes, side, forks_back, told, ended}
 use Rattle.sh_machine.specs.Turn.{Turn, execs_found, failed, on_done, on_fd, on_fork, on_pipe, on_unknown, runs, runs_first, shell_turn, takes_first}
+use Rattle.sh_machine.proofs.Answered.{by_done, by_fd, by_fork, by_unknown}
 
 abbrev May : Shell → Turn → Type 0
 May at turn = MayCall at turn.call
 
 done_may : (at : Shell) (reply : Reply) (then : Turn) → May at then → May at (on_done reply then)
-done_may at Start then may = tt
-done_may at Child then may = tt
-done_may at Done then may = may
-done_may at (Bytes bytes) then may = tt
-done_may at (Fd fd) then may = tt
-done_may at (Ends reader writer) then may = tt
-done_may at Refused then may = tt
+done_may at reply then may = by_done (May at) tt reply then may
 
 fd_may : (at : Shell) (reply : Reply) (then refused : Turn) → May at then → May at refused → May at (on_fd reply then refused)
-fd_may at Start then refused may other = tt
-fd_may at Child then refused may other = tt
-fd_may at Done then refused may other = tt
-fd_may at (Bytes bytes) then refused may other = tt
-fd_may at (Fd fd) then refused may other = may
-fd_may at (Ends reader writer) then refused may other = tt
-fd_may at Refused then refused may other = other
+fd_may at reply then refused may other = by_fd (May at) tt reply then refused may other
 
 fork_may : (at : Shell) (reply : Reply) (parent child : Turn) → May at parent → May at child → May at (on_fork reply parent child)
-fork_may at Start parent child may other = tt
-fork_may at Child parent child may other = other
-fork_may at Done parent child may other = may
-fork_may at (Bytes bytes) parent child may other = tt
-fork_may at (Fd fd) parent child may other = tt
-fork_may at (Ends reader writer) parent child may other = tt
-fork_may at Refused parent child may other = refl
+fork_may at reply parent child may other = by_fork (May at) tt reply parent child may other refl
 
 pipe_may : (at : Shell) (reply : Reply) (left right : Tree) → May at (on_pipe reply left right)
 pipe_may at Start left right = tt
@@ -58,13 +41,7 @@ pipe_may at (Ends reader writer) left right = tt
 pipe_may at Refused left right = refl
 
 unknown_may : (at : Shell) (reply : Reply) (then : Turn) → May at then → May at (on_unknown reply then)
-unknown_may at Start then may = tt
-unknown_may at Child then may = tt
-unknown_may at Done then may = tt
-unknown_may at (Bytes bytes) then may = tt
-unknown_may at (Fd fd) then may = tt
-unknown_may at (Ends reader writer) then may = tt
-unknown_may at Refused then may = may
+unknown_may at reply then may = by_unknown (May at) tt reply then may
 
 execs_may : (at : Shell) (found : Option State) (name : List ℕ) → May at (execs_found found name)
 execs_may at None name = tt

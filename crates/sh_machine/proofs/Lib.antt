@@ -1,3 +1,4 @@
+pub mod Answered
 pub mod Ends
 pub mod Holding
 pub mod Keeping
