@@ -17,7 +17,7 @@ use Rattle.program_model.specs.Waits.{IsOpen, TeeWaits, Waits}
 use Rattle.program_model.specs.Frame.{is_given, tee_holds, holds, holds_to_write, depends_on, may_change}
 use Rattle.program_model.specs.Fits.{IsWithin, AreWithin, outputs, Fits}
 use Rattle.law_programs.proofs.Framing.{itself}
-use Rattle.law_programs.proofs.Holding.{cut_given}
+use Rattle.law_programs.proofs.Holding.{cut_given, written_held}
 use Rattle.meaning_model.proofs.Bools.{not_left, not_right}
 
 abbrev pub elsewhere : World → Bytes → FileMap → World
@@ -71,20 +71,9 @@ opens_first (tees tee) n e = e
 opens_first told n e = refl
 opens_first ended n e = refl
 
-holds_first : (state : State) (world : World) (n : Name) → holds state world n ≡ false → holds_to_write state world n ≡ false
-holds_first (begins program arguments) world n e = refl
-holds_first (echo_word later) world n e = refl
-holds_first (echo_space later) world n e = refl
-holds_first (opens filter current later) world n e = refl
-holds_first (works work source) world n e = refl
-holds_first (closes filter later) world n e = refl
-holds_first (tees tee) world n e = e
-holds_first told world n e = refl
-holds_first ended world n e = refl
-
 pub depends_first : (state : State) (world : World) (n : Name) → depends_on state world n ≡ false → may_change state world n ≡ false
 depends_first state world n e =
-    or_from (still_writes state n) (holds_to_write state world n) (opens_first state n (not_left (still_opens state n) (holds state world n) e)) (holds_first state world n (not_right (still_opens state n) (holds state world n) e))
+    or_from (still_writes state n) (holds_to_write state world n) (opens_first state n (not_left (still_opens state n) (holds state world n) e)) (written_held state world n (not_right (still_opens state n) (holds state world n) e))
 
 -- names at descriptors
 pub given_here : (own : OwnFile) (other : Option ℕ) → is_some (place_or (Some own) own.name other) ≡ true
@@ -190,7 +179,7 @@ held_depends state world n e = or_right (still_opens state n) (holds state world
   where
     go : (is : Bool) → holds state world n ≡ is → is ≡ true
     go true none = refl
-    go false none = let never : true ≡ false = sym e ∙ holds_first state world n none in cc
+    go false none = let never : true ≡ false = sym e ∙ written_held state world n none in cc
 
 pub waits_agree : (state : State) (call : Call) (world : World) (i : Bytes) (G : FileMap) → Waits state call world → ((n : Name) → depends_on state world n ≡ true → world.files n ≡ G n) → Waits state call (elsewhere world i G)
 waits_agree state call world i G waits agree =

@@ -30,6 +30,7 @@ use Rattle.law_programs.proofs.Teeing.{new_file}
 use Rattle.law_programs.proofs.Waiting.{IsOwnCall, own_call}
 use Rattle.law_programs.proofs.Framing.{itself}
 use Rattle.law_programs.proofs.Reading.{opened_input}
+use Rattle.law_programs.proofs.Taking.{read_files}
 
 -- where it goes on, of which so many bytes were read
 step_ahead : (step : Step) (filter : Filter) (source : Source) (own after : List OwnFile) (L : Sizes) (count : ℕ) → source_ahead source after L + count ≤ source_ahead source own L →
@@ -154,10 +155,6 @@ source_less (file zero name later) most bytes world ready is = absurd (omega (ar
 source_less (file (suc fd) name later) most bytes world ready is =
     omega (arith, moved_ahead world.own (suc fd) (length bytes) world.files (taken_few most (left_at (suc fd) world) bytes is))
 
-read_sizes : (fd : ℕ) (bytes : Bytes) (world : World) → (after_read fd (yields bytes) world).files ≡ world.files
-read_sizes zero bytes world = refl
-read_sizes (suc fd) bytes world = refl
-
 work_less : (work : Work) (source : Source) (call : Call) (reply : Reply) (world : World) → WorkWaits work (fd_of source) call → IsOpen source world → May call reply world → Less (works work source) call reply world
 work_less work source call reply world waits ready may = go (own_call work (fd_of source) call waits)
   where
@@ -169,7 +166,7 @@ work_less work source call reply world waits ready may = go (own_call work (fd_o
         let step = work_step work (name_of source) (Bytes' bytes) in
         let here = step_ahead step (filter_of work) source world.own after.own (sizes world.files) (read_of_file (fd_of source) (Bytes' bytes)) (source_less source most bytes world ready heard.2) in
         let now : read_of_file (fd_of source) (Bytes' bytes) + files_ahead (turn_by step (filter_of work) source).next after.own (sizes after.files) ≤ source_ahead source world.own (sizes world.files) =
-        subst (λ (F : FileMap). read_of_file (fd_of source) (Bytes' bytes) + files_ahead (turn_by step (filter_of work) source).next after.own (sizes F) ≤ source_ahead source world.own (sizes world.files)) (sym (read_sizes (fd_of source) bytes world))
+        subst (λ (F : FileMap). read_of_file (fd_of source) (Bytes' bytes) + files_ahead (turn_by step (filter_of work) source).next after.own (sizes F) ≤ source_ahead source world.own (sizes world.files)) (sym (read_files (fd_of source) bytes world))
         (omega (arith, here)) in
         subst (λ (c : Call). Less (works work source) c reply world) (sym is) (subst (λ (r : Reply). Less (works work source) (Read (fd_of source) most) r world) (sym heard.1) now)
 

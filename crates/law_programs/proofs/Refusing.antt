@@ -148,26 +148,29 @@ passes (tees tee) fd bytes world waits = inr (tee_tells tee fd bytes world waits
 passes told fd bytes world waits = inl refl
 passes ended fd bytes world waits = inl refl
 
--- of the programs, tee alone writes to files of its own
-out_only : {A : Type 0} (fd : ℕ) (bytes more : Bytes) → 2 < fd → Write fd bytes ≡ Write 1 more → A
-out_only fd bytes more high is = let one : fd ≡ 1 = cc in absurd (omega (arith, one, high))
+-- of the programs, tee alone writes to files of its own: the others write their output to descriptor 1
+pub to_one : (fd : ℕ) (bytes more : Bytes) → Write fd bytes ≡ Write 1 more → fd ≡ 1
+to_one fd bytes more is = cc
 
-own_work : {A : Type 0} (work : Work) (from fd : ℕ) (bytes : Bytes) → 2 < fd → WorkWaits work from (Write fd bytes) → A
-own_work cat_reads from fd bytes high waits = cc
-own_work cat_writes from fd bytes high (more, is) = out_only fd bytes more high is
-own_work (head_reads lines wanted) from fd bytes high waits = let is = waits.1 in cc
-own_work (head_writes lines wanted) from fd bytes high (more, is) = out_only fd bytes more high is
-own_work (wc_reads lines words count inside) from fd bytes high (a, b, c, is) = cc
-own_work wc_writes from fd bytes high (more, is) = out_only fd bytes more high is
-own_work (grep_reads pattern kept) from fd bytes high (none, few, is) = cc
-own_work (grep_writes pattern rest) from fd bytes high waits = out_only fd bytes waits.1.0 high waits.1.1
+pub work_to_one : (work : Work) (from fd : ℕ) (bytes : Bytes) → WorkWaits work from (Write fd bytes) → fd ≡ 1
+work_to_one cat_reads from fd bytes waits = cc
+work_to_one cat_writes from fd bytes (more, is) = to_one fd bytes more is
+work_to_one (head_reads lines wanted) from fd bytes waits = let is = waits.1 in cc
+work_to_one (head_writes lines wanted) from fd bytes (more, is) = to_one fd bytes more is
+work_to_one (wc_reads lines words count inside) from fd bytes (a, b, c, is) = cc
+work_to_one wc_writes from fd bytes (more, is) = to_one fd bytes more is
+work_to_one (grep_reads pattern kept) from fd bytes (none, few, is) = cc
+work_to_one (grep_writes pattern rest) from fd bytes waits = to_one fd bytes waits.1.0 waits.1.1
+
+not_one : {A : Type 0} (fd : ℕ) → 2 < fd → fd ≡ 1 → A
+not_one fd high one = absurd (omega (arith, one, high))
 
 pub own_tells : (state : State) (fd : ℕ) (bytes : Bytes) (world : World) → Waits state (Write fd bytes) world → 2 < fd → IsTold (turn state Refused)
 own_tells (begins program arguments) fd bytes world waits high = let is = waits.0 in cc
-own_tells (echo_word later) fd bytes world ((more, is), short) high = out_only fd bytes more high is
-own_tells (echo_space later) fd bytes world ((more, is), short) high = out_only fd bytes more high is
+own_tells (echo_word later) fd bytes world ((more, is), short) high = not_one fd high (to_one fd bytes more is)
+own_tells (echo_space later) fd bytes world ((more, is), short) high = not_one fd high (to_one fd bytes more is)
 own_tells (opens filter name later) fd bytes world waits high = cc
-own_tells (works work source) fd bytes world waits high = own_work work (fd_of source) fd bytes high waits.0
+own_tells (works work source) fd bytes world waits high = not_one fd high (work_to_one work (fd_of source) fd bytes waits.0)
 own_tells (closes filter later) fd bytes world (closing, is, held) high = cc
 own_tells (tees tee) fd bytes world waits high = tee_tells tee fd bytes world waits
 own_tells told fd bytes world (at, some, low, (more, is)) high = let same : fd ≡ at = cc in absurd (omega (arith, same, low, high))

@@ -132,7 +132,7 @@ read_left standard world bytes is = refl
 read_left (file zero name later) world bytes is = absurd (omega (arith, is.0))
 read_left (file (suc fd) name later) world bytes is = moved_left world.own (suc fd) (length bytes) world.files
 
-read_files : (fd : ℕ) (bytes : Bytes) (world : World) → (after_read fd (yields bytes) world).files ≡ world.files
+pub read_files : (fd : ℕ) (bytes : Bytes) (world : World) → (after_read fd (yields bytes) world).files ≡ world.files
 read_files zero bytes world = refl
 read_files (suc fd) bytes world = refl
 

@@ -10,34 +10,25 @@ use Rattle.program_model.specs.Waits.{WorkWaits, TeeWaits, Waits}
 use Rattle.program_model.specs.Fits.{AreWithin, outputs, Fits}
 use Rattle.law_programs.proofs.Fitting.{gives_done}
 use Rattle.law_programs.proofs.Keeps.{low_done}
+use Rattle.law_programs.proofs.Refusing.{to_one, work_to_one}
 
-to_out : (fd : ℕ) (bytes more : Bytes) (world : World) → Write fd bytes ≡ Write 1 more → may_write fd world ≡ true
-to_out fd bytes more world is = let one : fd ≡ 1 = cc in ap (λ (d : ℕ). may_write d world) one
-
-work_unrefused : (work : Work) (from fd : ℕ) (bytes : Bytes) (world : World) → WorkWaits work from (Write fd bytes) → may_write fd world ≡ true
-work_unrefused cat_reads from fd bytes world waits = cc
-work_unrefused cat_writes from fd bytes world (more, is) = to_out fd bytes more world is
-work_unrefused (head_reads lines wanted) from fd bytes world waits = let is = waits.1 in cc
-work_unrefused (head_writes lines wanted) from fd bytes world (more, is) = to_out fd bytes more world is
-work_unrefused (wc_reads lines words count inside) from fd bytes world (a, b, c, is) = cc
-work_unrefused wc_writes from fd bytes world (more, is) = to_out fd bytes more world is
-work_unrefused (grep_reads pattern kept) from fd bytes world (none, few, is) = cc
-work_unrefused (grep_writes pattern rest) from fd bytes world waits = to_out fd bytes waits.1.0 world waits.1.1
+to_out : (fd : ℕ) (world : World) → fd ≡ 1 → may_write fd world ≡ true
+to_out fd world one = ap (λ (d : ℕ). may_write d world) one
 
 tee_unrefused : (tee : Tee) (fd : ℕ) (bytes : Bytes) (world : World) → TeeWaits tee (Write fd bytes) world → AreWithin (outputs tee) world.own world.files → may_write fd world ≡ true
 tee_unrefused (tee_opens fds name later) fd bytes world waits within = let is = waits.0 in cc
 tee_unrefused (tee_reads fds) fd bytes world waits within = let is = waits.0 in cc
-tee_unrefused (tee_writes fds more) fd bytes world waits within = to_out fd bytes more world waits.0
+tee_unrefused (tee_writes fds more) fd bytes world waits within = to_out fd world (to_one fd bytes more waits.0)
 tee_unrefused (tee_gives fds at more) fd bytes world (is, inside, distinct, (place, had, stands)) within =
     let same : fd ≡ slice_index_or fds at 0 = cc in
     ap (λ (d : ℕ). may_write d world) same ∙ gives_done fds at place world inside stands within
 
 pub unrefused : (state : State) (fd : ℕ) (bytes : Bytes) (world : World) → Waits state (Write fd bytes) world → Fits state world → may_write fd world ≡ true
 unrefused (begins program arguments) fd bytes world waits fits = let is = waits.0 in cc
-unrefused (echo_word later) fd bytes world ((more, is), short) fits = to_out fd bytes more world is
-unrefused (echo_space later) fd bytes world ((more, is), short) fits = to_out fd bytes more world is
+unrefused (echo_word later) fd bytes world ((more, is), short) fits = to_out fd world (to_one fd bytes more is)
+unrefused (echo_space later) fd bytes world ((more, is), short) fits = to_out fd world (to_one fd bytes more is)
 unrefused (opens filter name later) fd bytes world waits fits = cc
-unrefused (works work source) fd bytes world waits fits = work_unrefused work (fd_of source) fd bytes world waits.0
+unrefused (works work source) fd bytes world waits fits = to_out fd world (work_to_one work (fd_of source) fd bytes waits.0)
 unrefused (closes filter later) fd bytes world (closing, is, held_so) fits = cc
 unrefused (tees tee) fd bytes world waits fits = tee_unrefused tee fd bytes world waits fits
 unrefused told fd bytes world (at, some, low, (more, is)) fits =

@@ -1,5 +1,5 @@
 -- What the files answer to a call is what a program alone may be answered; it doesn't depend on the input, and leaves it.
-use Rattle.std.proofs.Common.{◌≡◌, ◌∙◌, ℕ, zero, suc, ◌+◌, ◌≤◌, Bool, true, false, List, [], ◌∷◌, ◌++◌, take, drop, Option, Some, None, refl, sym, ap, arith, take-append-drop, append_assoc}
+use Rattle.std.proofs.Common.{◌≡◌, ◌∙◌, ℕ, zero, suc, ◌+◌, ◌≤◌, Bool, true, false, List, [], ◌∷◌, ◌++◌, take, drop, Option, Some, None, refl, sym, ap, subst, arith, take-append-drop, append_assoc}
 use Rattle.std.specs.Prelude.{◌-◌, ◌==◌, min, if◌then◌else◌}
 use Rattle.std.specs.Option.{is_some}
 use Rattle.std.proofs.lemmas.Bool.{eqb-true}
@@ -15,56 +15,41 @@ use Rattle.user_progs.specs.Turn.{Answer, yields, denies, strays, bytes_in, fd_i
 use Rattle.program_model.specs.Alone.{OwnFile, World, held, readable, Takes, IsNew, can_open, MayOpen, MayRead, May, after_call, after_read, after_write, after_file_write, after_open, after_close}
 use Rattle.program_model.specs.Calls.{MayCall}
 use Rattle.tree_model.specs.Residual.{Running, alone}
-use Rattle.tree_model.specs.Answers.{leaves, reads_input, writes_output, asks, kind_of, all_fds, lowest, new_fd, read_reply, open_reply, reply_of, resumed, replied}
+use Rattle.tree_model.specs.Answers.{Kind, leaves, reads_input, writes_output, asks, kind_of, all_fds, lowest, new_fd, read_reply, open_reply, reply_of, resumed, replied}
 
 abbrev pub over : List OwnFile → Bytes → FileMap → World
 over own input F = record { own = own; input = input; files = F }
 
 -- which call is of which kind
+abbrev IsOfKind : Call → Kind → Type 0
+IsOfKind call leaves = call ≡ Exit
+IsOfKind call (reads_input most) = call ≡ Read 0 most
+IsOfKind call (writes_output bytes) = call ≡ Write 1 bytes
+IsOfKind call asks = Unit {0}
+
+is_of_kind : (call : Call) → IsOfKind call (kind_of call)
+is_of_kind Fork = tt
+is_of_kind (Exec is_known) = tt
+is_of_kind Exit = refl
+is_of_kind Wait = tt
+is_of_kind MakePipe = tt
+is_of_kind (Read zero most) = refl
+is_of_kind (Read (suc fd) most) = tt
+is_of_kind (Write zero bytes) = tt
+is_of_kind (Write (suc zero) bytes) = refl
+is_of_kind (Write (suc (suc fd)) bytes) = tt
+is_of_kind (OpenFile name mode) = tt
+is_of_kind (Close fd) = tt
+is_of_kind (Dup fd) = tt
+
 pub is_exit : (call : Call) → kind_of call ≡ leaves → call ≡ Exit
-is_exit Fork e = cc
-is_exit (Exec is_known) e = cc
-is_exit Exit e = refl
-is_exit Wait e = cc
-is_exit MakePipe e = cc
-is_exit (Read zero most) e = cc
-is_exit (Read (suc fd) most) e = cc
-is_exit (Write zero bytes) e = cc
-is_exit (Write (suc zero) bytes) e = cc
-is_exit (Write (suc (suc fd)) bytes) e = cc
-is_exit (OpenFile name mode) e = cc
-is_exit (Close fd) e = cc
-is_exit (Dup fd) e = cc
+is_exit call e = subst (IsOfKind call) e (is_of_kind call)
 
 pub is_read : (call : Call) (most : ℕ) → kind_of call ≡ reads_input most → call ≡ Read 0 most
-is_read Fork most e = cc
-is_read (Exec is_known) most e = cc
-is_read Exit most e = cc
-is_read Wait most e = cc
-is_read MakePipe most e = cc
-is_read (Read zero other) most e = cc
-is_read (Read (suc fd) other) most e = cc
-is_read (Write zero bytes) most e = cc
-is_read (Write (suc zero) bytes) most e = cc
-is_read (Write (suc (suc fd)) bytes) most e = cc
-is_read (OpenFile name mode) most e = cc
-is_read (Close fd) most e = cc
-is_read (Dup fd) most e = cc
+is_read call most e = subst (IsOfKind call) e (is_of_kind call)
 
 pub is_write : (call : Call) (bytes : Bytes) → kind_of call ≡ writes_output bytes → call ≡ Write 1 bytes
-is_write Fork bytes e = cc
-is_write (Exec is_known) bytes e = cc
-is_write Exit bytes e = cc
-is_write Wait bytes e = cc
-is_write MakePipe bytes e = cc
-is_write (Read zero most) bytes e = cc
-is_write (Read (suc fd) most) bytes e = cc
-is_write (Write zero other) bytes e = cc
-is_write (Write (suc zero) other) bytes e = cc
-is_write (Write (suc (suc fd)) other) bytes e = cc
-is_write (OpenFile name mode) bytes e = cc
-is_write (Close fd) bytes e = cc
-is_write (Dup fd) bytes e = cc
+is_write call bytes e = subst (IsOfKind call) e (is_of_kind call)
 
 -- the new descriptor of an open is above 2, and free
 held_none : (h : Option OwnFile) → is_some h ≡ false → h ≡ None

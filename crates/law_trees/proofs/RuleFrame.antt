@@ -37,12 +37,12 @@ module _ (profile : Profile) where
       go n m true is = a.at n is
       go n m false is = (after profile l s d).only n (named X n is) ∙ h.at n m ∙ sym ((after profile l t e).only n (named X n is))
 
-  part : {X X' : Residual} {F G : FileMap} {l : Label} (N : Name → Type 0) (K : FileMap) → Steps profile X F l X' G → IsTidy X F → ((n : Name) → left_names X n ≡ true → N n) → Agree N F K → Elsewhere profile (λ n. left_names X n ≡ true) X K l X' G → Elsewhere profile N X K l X' G
-  part {X} {X'} {F} {G} {l} N K s d sub h m =
+  -- a part steps among the other files where it does so alone
+  part : {X X' : Residual} {F G : FileMap} {l : Label} (N : Name → Type 0) (K : FileMap) → Steps profile X F l X' G → IsTidy X F → ((n : Name) → left_names X n ≡ true → N n) → Agree N F K
+      → (((n : Name) → left_names X n ≡ true → left_names X n ≡ true) → Agree (λ n. left_names X n ≡ true) F K → Elsewhere profile (λ n. left_names X n ≡ true) X K l X' G) → Elsewhere profile N X K l X' G
+  part {X} {X'} {F} {G} {l} N K s d sub h alone =
+      let m = alone (λ n e. e) (record { at = λ n e. h.at n (sub n e) }) in
       record { files = m.files; steps = m.steps; alike = wider N X X' l F K G m.files s m.steps d (tidy_agree X F K (λ n e. h.at n (sub n e)) d) h m.alike }
-
-  own : {F : FileMap} (N : Name → Type 0) (X : Residual) (K : FileMap) → ((n : Name) → left_names X n ≡ true → N n) → Agree N F K → Agree (λ n. left_names X n ≡ true) F K
-  own N X K sub h = record { at = λ n e. h.at n (sub n e) }
 
   patch_alike : (N : Name → Type 0) (G H : FileMap) (f : Name) (at : Position) (b : Bytes) → Agree N G H → Agree N (patched G f at b) (patched H f at b)
   patch_alike N G H f at b h = record { at = λ n e t. if bytes_eq n f then patch (h.at n e t) at b else h.at n e t }
@@ -66,49 +66,49 @@ module _ (profile : Profile) where
   elsewhere N K from_ends d sub h = record { files = K; steps = from_ends; alike = h }
   elsewhere N K into_ends d sub h = record { files = K; steps = into_ends; alike = h }
   elsewhere N K (seq_steps {X = X} {X' = X'} {later = T} {label = l} s) d sub h =
-      let m = part N K s d.0 (λ n e. sub n (or_left (left_names X n) (names T n) e)) h (elsewhere (λ n. left_names X n ≡ true) K s d.0 (λ n e. e) (own N X K (λ n e. sub n (or_left (left_names X n) (names T n) e)) h)) in record { files = m.files; steps = seq_steps m.steps; alike = m.alike }
+      let m = part N K s d.0 (λ n e. sub n (or_left (left_names X n) (names T n) e)) h (elsewhere (λ n. left_names X n ≡ true) K s d.0) in record { files = m.files; steps = seq_steps m.steps; alike = m.alike }
   elsewhere N K (left_silent {X = X} {Y = Y} s) d sub h =
-      let m = part N K s d.0 (λ n e. sub n (or_left (left_names X n) (left_names Y n) e)) h (elsewhere (λ n. left_names X n ≡ true) K s d.0 (λ n e. e) (own N X K (λ n e. sub n (or_left (left_names X n) (left_names Y n) e)) h)) in record { files = m.files; steps = left_silent m.steps; alike = m.alike }
+      let m = part N K s d.0 (λ n e. sub n (or_left (left_names X n) (left_names Y n) e)) h (elsewhere (λ n. left_names X n ≡ true) K s d.0) in record { files = m.files; steps = left_silent m.steps; alike = m.alike }
   elsewhere N K (left_takes {X = X} {Y = Y} s) d sub h =
-      let m = part N K s d.0 (λ n e. sub n (or_left (left_names X n) (left_names Y n) e)) h (elsewhere (λ n. left_names X n ≡ true) K s d.0 (λ n e. e) (own N X K (λ n e. sub n (or_left (left_names X n) (left_names Y n) e)) h)) in record { files = m.files; steps = left_takes m.steps; alike = m.alike }
+      let m = part N K s d.0 (λ n e. sub n (or_left (left_names X n) (left_names Y n) e)) h (elsewhere (λ n. left_names X n ≡ true) K s d.0) in record { files = m.files; steps = left_takes m.steps; alike = m.alike }
   elsewhere N K (left_meets_end {X = X} {Y = Y} s) d sub h =
-      let m = part N K s d.0 (λ n e. sub n (or_left (left_names X n) (left_names Y n) e)) h (elsewhere (λ n. left_names X n ≡ true) K s d.0 (λ n e. e) (own N X K (λ n e. sub n (or_left (left_names X n) (left_names Y n) e)) h)) in record { files = m.files; steps = left_meets_end m.steps; alike = m.alike }
+      let m = part N K s d.0 (λ n e. sub n (or_left (left_names X n) (left_names Y n) e)) h (elsewhere (λ n. left_names X n ≡ true) K s d.0) in record { files = m.files; steps = left_meets_end m.steps; alike = m.alike }
   elsewhere N K (left_puts {X = X} {Y = Y} s e room) d sub h =
-      let m = part N K s d.0 (λ n e. sub n (or_left (left_names X n) (left_names Y n) e)) h (elsewhere (λ n. left_names X n ≡ true) K s d.0 (λ n e. e) (own N X K (λ n e. sub n (or_left (left_names X n) (left_names Y n) e)) h)) in record { files = m.files; steps = left_puts m.steps e room; alike = m.alike }
+      let m = part N K s d.0 (λ n e. sub n (or_left (left_names X n) (left_names Y n) e)) h (elsewhere (λ n. left_names X n ≡ true) K s d.0) in record { files = m.files; steps = left_puts m.steps e room; alike = m.alike }
   elsewhere N K (left_refused {X = X} {Y = Y} s closed) d sub h =
-      let m = part N K s d.0 (λ n e. sub n (or_left (left_names X n) (left_names Y n) e)) h (elsewhere (λ n. left_names X n ≡ true) K s d.0 (λ n e. e) (own N X K (λ n e. sub n (or_left (left_names X n) (left_names Y n) e)) h)) in record { files = m.files; steps = left_refused m.steps closed; alike = m.alike }
+      let m = part N K s d.0 (λ n e. sub n (or_left (left_names X n) (left_names Y n) e)) h (elsewhere (λ n. left_names X n ≡ true) K s d.0) in record { files = m.files; steps = left_refused m.steps closed; alike = m.alike }
   elsewhere N K (right_silent {X = X} {Y = Y} s) d sub h =
-      let m = part N K s d.1 (λ n e. sub n (or_right (left_names X n) (left_names Y n) e)) h (elsewhere (λ n. left_names Y n ≡ true) K s d.1 (λ n e. e) (own N Y K (λ n e. sub n (or_right (left_names X n) (left_names Y n) e)) h)) in record { files = m.files; steps = right_silent m.steps; alike = m.alike }
+      let m = part N K s d.1 (λ n e. sub n (or_right (left_names X n) (left_names Y n) e)) h (elsewhere (λ n. left_names Y n ≡ true) K s d.1) in record { files = m.files; steps = right_silent m.steps; alike = m.alike }
   elsewhere N K (right_takes {X = X} {Y = Y} s e) d sub h =
-      let m = part N K s d.1 (λ n e. sub n (or_right (left_names X n) (left_names Y n) e)) h (elsewhere (λ n. left_names Y n ≡ true) K s d.1 (λ n e. e) (own N Y K (λ n e. sub n (or_right (left_names X n) (left_names Y n) e)) h)) in record { files = m.files; steps = right_takes m.steps e; alike = m.alike }
+      let m = part N K s d.1 (λ n e. sub n (or_right (left_names X n) (left_names Y n) e)) h (elsewhere (λ n. left_names Y n ≡ true) K s d.1) in record { files = m.files; steps = right_takes m.steps e; alike = m.alike }
   elsewhere N K (right_meets_end {X = X} {Y = Y} s none closed) d sub h =
-      let m = part N K s d.1 (λ n e. sub n (or_right (left_names X n) (left_names Y n) e)) h (elsewhere (λ n. left_names Y n ≡ true) K s d.1 (λ n e. e) (own N Y K (λ n e. sub n (or_right (left_names X n) (left_names Y n) e)) h)) in record { files = m.files; steps = right_meets_end m.steps none closed; alike = m.alike }
+      let m = part N K s d.1 (λ n e. sub n (or_right (left_names X n) (left_names Y n) e)) h (elsewhere (λ n. left_names Y n ≡ true) K s d.1) in record { files = m.files; steps = right_meets_end m.steps none closed; alike = m.alike }
   elsewhere N K (right_puts {X = X} {Y = Y} s) d sub h =
-      let m = part N K s d.1 (λ n e. sub n (or_right (left_names X n) (left_names Y n) e)) h (elsewhere (λ n. left_names Y n ≡ true) K s d.1 (λ n e. e) (own N Y K (λ n e. sub n (or_right (left_names X n) (left_names Y n) e)) h)) in record { files = m.files; steps = right_puts m.steps; alike = m.alike }
+      let m = part N K s d.1 (λ n e. sub n (or_right (left_names X n) (left_names Y n) e)) h (elsewhere (λ n. left_names Y n ≡ true) K s d.1) in record { files = m.files; steps = right_puts m.steps; alike = m.alike }
   elsewhere N K (right_refused {X = X} {Y = Y} s) d sub h =
-      let m = part N K s d.1 (λ n e. sub n (or_right (left_names X n) (left_names Y n) e)) h (elsewhere (λ n. left_names Y n ≡ true) K s d.1 (λ n e. e) (own N Y K (λ n e. sub n (or_right (left_names X n) (left_names Y n) e)) h)) in record { files = m.files; steps = right_refused m.steps; alike = m.alike }
+      let m = part N K s d.1 (λ n e. sub n (or_right (left_names X n) (left_names Y n) e)) h (elsewhere (λ n. left_names Y n ≡ true) K s d.1) in record { files = m.files; steps = right_refused m.steps; alike = m.alike }
   elsewhere N K (from_silent {X = X} {file = f} s) d sub h =
-      let m = part N K s d.0 (λ n e. sub n (or_right (bytes_eq n f) (left_names X n) e)) h (elsewhere (λ n. left_names X n ≡ true) K s d.0 (λ n e. e) (own N X K (λ n e. sub n (or_right (bytes_eq n f) (left_names X n) e)) h)) in record { files = m.files; steps = from_silent m.steps; alike = m.alike }
+      let m = part N K s d.0 (λ n e. sub n (or_right (bytes_eq n f) (left_names X n) e)) h (elsewhere (λ n. left_names X n ≡ true) K s d.0) in record { files = m.files; steps = from_silent m.steps; alike = m.alike }
   elsewhere N K (from_takes {X = X} {file = f} {at = at} more s cut e) d sub h =
-      let m = part N K s d.0 (λ n e. sub n (or_right (bytes_eq n f) (left_names X n) e)) h (elsewhere (λ n. left_names X n ≡ true) K s d.0 (λ n e. e) (own N X K (λ n e. sub n (or_right (bytes_eq n f) (left_names X n) e)) h)) in
+      let m = part N K s d.0 (λ n e. sub n (or_right (bytes_eq n f) (left_names X n) e)) h (elsewhere (λ n. left_names X n ≡ true) K s d.0) in
       let same = h.at f (sub f (named_self f (left_names X f))) in
       record { files = m.files; steps = from_takes more m.steps (sym (ap (λ o. drop at (bytes_of o)) same) ∙ cut) e; alike = m.alike }
   elsewhere N K (from_meets_end {X = X} {file = f} {at = at} s none) d sub h =
-      let m = part N K s d.0 (λ n e. sub n (or_right (bytes_eq n f) (left_names X n) e)) h (elsewhere (λ n. left_names X n ≡ true) K s d.0 (λ n e. e) (own N X K (λ n e. sub n (or_right (bytes_eq n f) (left_names X n) e)) h)) in
+      let m = part N K s d.0 (λ n e. sub n (or_right (bytes_eq n f) (left_names X n) e)) h (elsewhere (λ n. left_names X n ≡ true) K s d.0) in
       let same = h.at f (sub f (named_self f (left_names X f))) in
       record { files = m.files; steps = from_meets_end m.steps (sym (ap (λ o. drop at (bytes_of o)) same) ∙ none); alike = m.alike }
   elsewhere N K (from_puts {X = X} {file = f} s) d sub h =
-      let m = part N K s d.0 (λ n e. sub n (or_right (bytes_eq n f) (left_names X n) e)) h (elsewhere (λ n. left_names X n ≡ true) K s d.0 (λ n e. e) (own N X K (λ n e. sub n (or_right (bytes_eq n f) (left_names X n) e)) h)) in record { files = m.files; steps = from_puts m.steps; alike = m.alike }
+      let m = part N K s d.0 (λ n e. sub n (or_right (bytes_eq n f) (left_names X n) e)) h (elsewhere (λ n. left_names X n ≡ true) K s d.0) in record { files = m.files; steps = from_puts m.steps; alike = m.alike }
   elsewhere N K (from_refused {X = X} {file = f} s) d sub h =
-      let m = part N K s d.0 (λ n e. sub n (or_right (bytes_eq n f) (left_names X n) e)) h (elsewhere (λ n. left_names X n ≡ true) K s d.0 (λ n e. e) (own N X K (λ n e. sub n (or_right (bytes_eq n f) (left_names X n) e)) h)) in record { files = m.files; steps = from_refused m.steps; alike = m.alike }
+      let m = part N K s d.0 (λ n e. sub n (or_right (bytes_eq n f) (left_names X n) e)) h (elsewhere (λ n. left_names X n ≡ true) K s d.0) in record { files = m.files; steps = from_refused m.steps; alike = m.alike }
   elsewhere N K (into_silent {X = X} {file = f} s) d sub h =
-      let m = part N K s d.0 (λ n e. sub n (or_right (bytes_eq n f) (left_names X n) e)) h (elsewhere (λ n. left_names X n ≡ true) K s d.0 (λ n e. e) (own N X K (λ n e. sub n (or_right (bytes_eq n f) (left_names X n) e)) h)) in record { files = m.files; steps = into_silent m.steps; alike = m.alike }
+      let m = part N K s d.0 (λ n e. sub n (or_right (bytes_eq n f) (left_names X n) e)) h (elsewhere (λ n. left_names X n ≡ true) K s d.0) in record { files = m.files; steps = into_silent m.steps; alike = m.alike }
   elsewhere N K (into_takes {X = X} {file = f} s) d sub h =
-      let m = part N K s d.0 (λ n e. sub n (or_right (bytes_eq n f) (left_names X n) e)) h (elsewhere (λ n. left_names X n ≡ true) K s d.0 (λ n e. e) (own N X K (λ n e. sub n (or_right (bytes_eq n f) (left_names X n) e)) h)) in record { files = m.files; steps = into_takes m.steps; alike = m.alike }
+      let m = part N K s d.0 (λ n e. sub n (or_right (bytes_eq n f) (left_names X n) e)) h (elsewhere (λ n. left_names X n ≡ true) K s d.0) in record { files = m.files; steps = into_takes m.steps; alike = m.alike }
   elsewhere N K (into_meets_end {X = X} {file = f} s) d sub h =
-      let m = part N K s d.0 (λ n e. sub n (or_right (bytes_eq n f) (left_names X n) e)) h (elsewhere (λ n. left_names X n ≡ true) K s d.0 (λ n e. e) (own N X K (λ n e. sub n (or_right (bytes_eq n f) (left_names X n) e)) h)) in record { files = m.files; steps = into_meets_end m.steps; alike = m.alike }
+      let m = part N K s d.0 (λ n e. sub n (or_right (bytes_eq n f) (left_names X n) e)) h (elsewhere (λ n. left_names X n ≡ true) K s d.0) in record { files = m.files; steps = into_meets_end m.steps; alike = m.alike }
   elsewhere N K (into_puts {G = G} {X = X} {file = f} {at = at} {bytes = b} s within e made) d sub h =
-      let m = part N K s d.0 (λ n e. sub n (or_right (bytes_eq n f) (left_names X n) e)) h (elsewhere (λ n. left_names X n ≡ true) K s d.0 (λ n e. e) (own N X K (λ n e. sub n (or_right (bytes_eq n f) (left_names X n) e)) h)) in
+      let m = part N K s d.0 (λ n e. sub n (or_right (bytes_eq n f) (left_names X n) e)) h (elsewhere (λ n. left_names X n ≡ true) K s d.0) in
       let same = h.at f (sub f (named_self f (left_names X f))) in
       record {
         files = patched m.files f at b;
@@ -116,6 +116,6 @@ module _ (profile : Profile) where
         alike = subst (λ z. Agree N z (patched m.files f at b)) (sym made) (patch_alike N G m.files f at b m.alike);
       }
   elsewhere N K (into_refused {X = X} {file = f} {at = at} s gap) d sub h =
-      let m = part N K s d.0 (λ n e. sub n (or_right (bytes_eq n f) (left_names X n) e)) h (elsewhere (λ n. left_names X n ≡ true) K s d.0 (λ n e. e) (own N X K (λ n e. sub n (or_right (bytes_eq n f) (left_names X n) e)) h)) in
+      let m = part N K s d.0 (λ n e. sub n (or_right (bytes_eq n f) (left_names X n) e)) h (elsewhere (λ n. left_names X n ≡ true) K s d.0) in
       let same = h.at f (sub f (named_self f (left_names X f))) in
       record { files = m.files; steps = into_refused m.steps (sym (ap (λ o. is_gap o at) same) ∙ gap); alike = m.alike }

@@ -4,7 +4,7 @@ use Rattle.std.specs.Prelude.{◌||◌, not, IfSome}
 use Rattle.std.specs.Str.{bytes_eq}
 use Rattle.std.proofs.lemmas.Slice.Eq.{bytes_eq-Decides}
 use mathlib.Core.Path.{fun_ext, transport}
-use Rattle.std.proofs.lemmas.Bool.{or_from, false_from_ne_true, not-true}
+use Rattle.std.proofs.lemmas.Bool.{or_from, false_from_ne_true, not-true, not-false}
 use Rattle.sh_tree.specs.declared.tree.Mode.{Mode}
 use Rattle.sh_tree.specs.declared.tree.Mode.TheVariants.{Input, Fresh, Over}
 use Rattle.sh_tree.specs.Tree.{Tree, exec, redir, pipe, list, back}
@@ -76,14 +76,7 @@ module _ (profile : Profile) where
       let closed = not-true (keeps_0 Y) (refused_closed profile X c (not (keeps_0 Y)) en i F e) in
       let rest : y.rest ≡ j = ap (λ x. x.rest) (closed_0 profile Y j j v.files closed).same in
       let some = some_behind q v.out (refused_out profile X c (not (keeps_0 Y)) en i t F d.0 e) in
-      not_both (is_empty y.rest) (not_empty y.rest (not_left (not (is_empty y.rest)) y.loose h.3)) (ap is_empty rest ∙ some))
-    where
-      not_empty : (b : Bytes) → not (is_empty b) ≡ false → is_empty b ≡ true
-      not_empty b e = flip (is_empty b) e
-        where
-          flip : (x : Bool) → not x ≡ false → x ≡ true
-          flip true e = refl
-          flip false e = cc
+      not_both (is_empty y.rest) (not-false (is_empty y.rest) (not_left (not (is_empty y.rest)) y.loose h.3)) (ap is_empty rest ∙ some))
 
   seq_end_uncut : (X : Residual) (T : Tree) (i : Bytes) (F : FileMap) → IsUncutLeft profile (seq X T) i F → IsUncutLeft profile (seq_end X T) i F
   seq_end_uncut done T i F h = h.1
