@@ -1,4 +1,4 @@
--- What each system call of a process does, as it is seen, where nothing is refused for want of room.
+-- What each system call of a process does to the tree of processes, where no call is refused because something is full.
 use Rattle.std.specs.Prelude.{◌≡◌, ◌≢◌, ℕ, ◌+◌, ◌≤◌, ◌==◌, min, nat_lt, Bool, true, false, if◌then◌else◌, [], ◌++◌, length, take, drop, Option, Some, None, position, slice_set}
 use Rattle.mem_files.specs.Name.{Name, Bytes, is_openable}
 use Rattle.mem_files.specs.Files.{FileMap, with_file}
@@ -41,7 +41,7 @@ pub record Sets (V W : View) (p : ℕ) (s : Seen) : Type 0 where
   pub here : W.slots p ≡ s
   pub others : (q : ℕ) → q ≢ p → W.slots q ≡ V.slots q
 
--- what is no slot stays
+-- the pipes, the places of files, the files, the input and the output stay
 pub record Rest (V W : View) : Type 0 where
   pub pipes : (i : ℕ) → W.pipes i ≡ V.pipes i
   pub places : (e : ℕ) → W.places e ≡ V.places e
@@ -49,7 +49,7 @@ pub record Rest (V W : View) : Type 0 where
   pub input : W.input ≡ V.input
   pub out : W.out ≡ V.out
 
--- of it only the input changes, or the output, or one pipe
+-- of these only the input changes, or the output, or one pipe
 pub record InputChanges (V W : View) : Type 0 where
   pub pipes : (i : ℕ) → W.pipes i ≡ V.pipes i
   pub places : (e : ℕ) → W.places e ≡ V.places e
@@ -269,7 +269,7 @@ WritesAt V W p parent put act d bytes (Some (reader i)) = Answers V W p parent a
 WritesAt V W p parent put act d bytes (Some (writer i)) = WritesPipe V W p parent put act d bytes i
 WritesAt V W p parent put act d bytes (Some (file e)) = WritesFile V W p parent act d bytes e (V.places e).mode
 
--- any call
+-- by the call, what p, the child of `parent`, does, with so many bytes of the call put and these descriptors
 abbrev pub EffectBy : View → View → ℕ → ℕ → ℕ → Act → Fds → Call → Type 0
 EffectBy V W p parent put act d Fork = Forks V W p parent act d
 EffectBy V W p parent put act d (Exec found) = Answers V W p parent act (if found then Done else Refused) d

@@ -99,7 +99,7 @@ HoldsSome (tees tee) = TeeHoldsSome tee
 HoldsSome told = Unit {0}
 HoldsSome ended = Unit {0}
 
--- a write of no bytes, as echo's of an empty argument, is all the same to it whether it is done or refused: behind a gap in
+-- after a write of no bytes, as echo's of an empty argument, it does the same whether that was done or refused: behind a gap in
 -- a file the kernel refuses it
 pub record IsSteady (turn : Turn) : Type 0 where
   pub holds : HoldsSome turn.next

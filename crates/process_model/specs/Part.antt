@@ -126,7 +126,7 @@ Refuses V (reader i) = ⊥
 Refuses V (writer i) = NoHolder V (reader i)
 Refuses V (file e) = is_gap (V.files (V.places e).name) (position_of (V.places e)) ≡ true
 
--- what the label of a step says of a and b
+-- how a step with this label changes a and b
 abbrev pub Tells : View → View → FileMap → Entry → Entry → Label → Type 0
 Tells V W F a b silent = Same V W a × Same V W b × (W.files ≡ F)
 Tells V W F a b (takes c) = Takes V W a c × Same V W b × (W.files ≡ F)

@@ -58,7 +58,7 @@ stage_turn waits_two = calls Wait (pipes waits_first)
 stage_turn waits_one = calls Wait (pipes waits_second)
 stage_turn leaves_pipe = exits
 
--- a child gives up its old descriptor, 1 on the left and 0 on the right, and doubles its end, at 4 or at 3
+-- a child gives up its old descriptor, 1 on the left and 0 on the right, and duplicates its end, at 4 or at 3
 abbrev step_turn : Step → ℕ → ℕ → Tree → Turn
 step_turn closes_old old kept tree = calls (Close old) (side (Closes kept 3 4) tree)
 step_turn dups_kept old kept tree = calls (Dup kept) (side (Dups 3 4) tree)

@@ -1,4 +1,4 @@
--- A kernel as a tree of processes is read from it: without what only the scheduler looks at, but for who sleeps, and with
+-- A kernel as a tree of processes is read from it: without what only the scheduler uses, but for which processes sleep, and with
 -- names where the kernel has numbers of entries, which are used again (own: xv6 has pointers).
 use Rattle.std.specs.Prelude.{ℕ, zero, suc, ◌+◌, Bool, true, false, List, map, option_map, Option, Some, None, slice_index_or}
 use Rattle.mem_files.specs.Name.{Name, Bytes}
@@ -48,7 +48,7 @@ pub data Seen : Type 0 where
 abbrev pub fds_seen : (ℕ → Entry) → Descriptors → Fds
 fds_seen name fds = map (option_map name) fds
 
--- a process, as it is a zombie or lives
+-- a process as it is seen: a zombie, or one that lives
 abbrev pub seen_by : Bool → (ℕ → Entry) → Process User → Seen
 seen_by true name process = zombie (parent_or_init process.parent)
 seen_by false name process =
@@ -84,7 +84,7 @@ pub record View : Type 0 where
   -- the number of the next event, which names what it makes
   pub next : ℕ
 
--- what a kernel doesn't say of itself: the name of each entry, and what pipes and entries that are gone had at last
+-- what is not in the kernel's state: the name of each entry, and what pipes and entries that are gone had at last
 pub record Names : Type 0 where
   pub name : ℕ → Entry
   pub pipes : ℕ → Bytes

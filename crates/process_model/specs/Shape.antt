@@ -108,13 +108,13 @@ module _ (profile : Profile) where
   Has V a b old parent (under_output e mode name at x) =
       (V.places e ≡ record { name = name; mode = mode; at = at }) × (is_up x ≡ 1) × Has V a (file e) old parent x × OpensOutput profile mode
 
--- ---- who occurs in a tree
+-- ---- which processes and names occur in a tree
 
 -- 1 where two numbers are the same
 unfoldable pub same : ℕ → ℕ → ℕ
 same q p = if q == p then 1 else 0
 
--- how often a process does
+-- how often a process occurs
 abbrev pub occurs : ℕ → Node → ℕ
 occurs q reaped = 0
 occurs q (gone p) = same q p
@@ -134,7 +134,7 @@ occurs q (opening p mode name body) = same q p
 occurs q (under_input e name at x) = occurs q x
 occurs q (under_output e mode name at x) = occurs q x
 
--- how often the name of a pipe or of a file's entry does
+-- how often the name of a pipe or of a file's entry occurs
 abbrev pub owned_names : ℕ → List Owned → ℕ
 owned_names k [] = 0
 owned_names k (o ∷ later) = same k o.entry + owned_names k later

@@ -1,4 +1,4 @@
--- Which names a program may still open or write, and whether it still reads standard input, by its state. Sets of names are tests.
+-- Which names a program may still open or write, and whether it still reads standard input, by its state. A set of names is a test on names.
 use Rattle.std.specs.Prelude.{Bool, true, false, ◌||◌, ◌∷◌}
 use Rattle.prog_parts.specs.Program.{program_uses_input}
 use Rattle.prog_parts.specs.NameSets.{Names, among}

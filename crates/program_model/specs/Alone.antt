@@ -81,7 +81,7 @@ abbrev pub IsNew : ℕ → World → Type 0
 IsNew fd world = (2 < fd) × (held world.own fd ≡ None)
 
 -- an open is granted where a name can be opened in that mode: for reading where there is a file, and for writing
--- always; no program opens a file to append, and alone it is not granted that
+-- always. No program opens a file to append, and here such an open is not granted
 abbrev pub can_open : Name → Mode → FileMap → Option Bytes
 can_open name Input F = found F name
 can_open name Fresh F = if is_openable name then Some [] else None

@@ -12,7 +12,7 @@ use Rattle.user_progs.specs.Turn.{turn}
 use Rattle.program_model.specs.Alone.{OwnFile, World, held, readable, can_open, may_write, done_if, after_call}
 use Rattle.tree_model.specs.Residual.{Running, alone}
 
--- by whom a call is answered
+-- what answers a call
 pub data Kind : Type 0 where
   -- Exit, which gets no reply
   leaves : Kind
@@ -72,7 +72,7 @@ reply_of (OpenFile name mode) world = open_reply (can_open name mode world.files
 reply_of (Close fd) world = done_if (is_some (held world.own fd))
 reply_of (Dup fd) world = Refused
 
--- a program that is given this reply makes its next call; its own files are as they were, or as the call left them
+-- a program that is given this reply makes its next call; its own files don't change, or are as the call left them
 abbrev pub resumed : Running → Reply → Running
 resumed run reply = record { turn = turn run.turn.next reply; own = run.own; put = 0 }
 

@@ -29,7 +29,7 @@ abbrev pub run_left : Option Running → Residual
 run_left None = done
 run_left (Some run) = running run
 
--- a command is begun by its node; a command behind & goes nowhere, since this machine has no case for it
+-- a command is begun by its node; a command behind & is never begun, since this machine has no case for it
 abbrev pub unfolded : Tree → Residual
 unfolded (exec words) = run_left (begun_words words)
 unfolded (redir mode file body) = unopened mode file body

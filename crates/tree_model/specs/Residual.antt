@@ -27,7 +27,7 @@ world_of run input F = record { own = run.own; input = input; files = F }
 abbrev pub alone : Running → FileMap → World
 alone run F = world_of run [] F
 
--- where a redirection of the output writes next: at a byte of its file, or wherever the file ends then
+-- where a redirection of the output writes next: at a byte of its file, or where the file ends at that time
 pub data Position : Type 0 where
   at_byte : ℕ → Position
   at_file_end : Position
