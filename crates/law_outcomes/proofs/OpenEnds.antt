@@ -18,7 +18,6 @@ use Rattle.mem_files.specs.Listing.{max_files}
 use Rattle.proc_table.specs.Slots.{Slot, Table, at}
 use Rattle.proc_table.specs.Calls.{with_fds, fds_set}
 use Rattle.proc_table.proofs.Changes.{written}
-use Rattle.kernel_model.specs.declared.events.Full.{Full}
 use Rattle.kernel_model.specs.declared.events.Full.TheVariants.{Open, Fds, Files, Memory}
 use Rattle.kernel_model.specs.KernelState.{KernelState, fds_of, fds_at}
 use Rattle.kernel_model.specs.Modes.{entry_mode, empties, reads}

@@ -1,12 +1,12 @@
 -- How a read can end.
-use Rattle.std.proofs.Common.{◌≡◌, ℕ, zero, suc, List, [], ◌∷◌, Bool, true, false, Option, Some, None, length, drop, take, refl, sym, ap, ◌∙◌, arith}
+use Rattle.std.proofs.Common.{◌≡◌, ℕ, List, [], ◌∷◌, Bool, true, false, Option, Some, None, length, drop, take, refl, sym, ap, ◌∙◌, arith}
 use Rattle.std.proofs.lemmas.Bool.{eqb-true, eqb-false}
 use Rattle.std.specs.Prelude.{◌==◌, min, if◌then◌else◌}
 use Rattle.std.proofs.lemmas.List.{nil_from_length, drop_all}
 use Rattle.user_calls.specs.declared.block.TheConstants.{BLOCK_SIZE}
 use Rattle.user_calls.specs.declared.calls.Call.{Call}
 use Rattle.user_calls.specs.declared.calls.Call.TheVariants.{Read}
-use Rattle.user_calls.specs.declared.calls.Reply.TheVariants.{Bytes as Given, Refused}
+use Rattle.user_calls.specs.declared.calls.Reply.TheVariants.{Bytes as Given}
 use Rattle.fd_table.specs.declared.names.Mode.{Mode}
 use Rattle.fd_table.specs.declared.names.Mode.TheVariants.{Input as ForReading, Fresh, Over, Append}
 use Rattle.fd_table.specs.declared.names.Object.{Object}
@@ -21,7 +21,7 @@ use Rattle.kernel_model.specs.KernelState.{KernelState, fds_at, file_at}
 use Rattle.kernel_model.specs.Pipes.{Pipes, pipe_of, with_pipe}
 use Rattle.kernel_model.specs.Replies.{answered, sleeps}
 use Rattle.kernel_model.specs.Reading.{read_file, read_mode, read_by, read_pipe, read_object, read_entry, read_held, read}
-use Rattle.law_outcomes.specs.Outcome.{Outcome, IsRead, object_of, refused, reads_input, reads_file, takes, waits_for_bytes, meets_end}
+use Rattle.law_outcomes.specs.Outcome.{Outcome, IsRead, object_of, reads_input, reads_file, takes, waits_for_bytes, meets_end}
 use Rattle.law_outcomes.proofs.Ways.{denied}
 
 -- ---- a pipe that a call leaves as it was

@@ -1,5 +1,5 @@
 -- How a write can end.
-use Rattle.std.proofs.Common.{◌≡◌, ℕ, zero, suc, ◌+◌, ◌<◌, ◌≤◌, List, [], ◌∷◌, ◌++◌, Bool, true, false, Option, Some, None, length, take, refl, sym, ap, ◌∙◌, arith}
+use Rattle.std.proofs.Common.{◌≡◌, ℕ, ◌+◌, ◌<◌, ◌≤◌, List, [], ◌++◌, Bool, true, false, Option, Some, None, length, take, refl, sym, ap, ◌∙◌, arith}
 use Rattle.std.proofs.lemmas.Bool.{eqb-true, eqb-false}
 use Rattle.std.specs.Prelude.{◌==◌, min, not, nat_lt, if◌then◌else◌}
 use Rattle.std.proofs.lemmas.List.{nil_from_length, append-nil, take_all, length-append, take_min}
@@ -19,13 +19,12 @@ use Rattle.mem_files.specs.Overlay.{written}
 use Rattle.mem_files.specs.Listing.{max_size, with_entry}
 use Rattle.proc_table.specs.declared.states.Channel.TheVariants.{PipeBytes, PipeRoom}
 use Rattle.proc_table.specs.Slots.{at, put_of}
-use Rattle.kernel_model.specs.declared.events.Full.{Full}
 use Rattle.kernel_model.specs.declared.events.Full.TheVariants.{Size, Memory}
 use Rattle.kernel_model.specs.KernelState.{KernelState, fds_at, file_at}
 use Rattle.kernel_model.specs.Pipes.{Pipes, pipe_of, with_pipe}
 use Rattle.kernel_model.specs.Replies.{answered, refused_for, sleeps, wakes}
 use Rattle.kernel_model.specs.Writing.{write_file, append_file, write_mode, write_by, write_pipe, write_object, write_entry, write_held, write}
-use Rattle.law_outcomes.specs.Outcome.{Outcome, IsWrite, object_of, left_of, refused, lacks, tells, complains, writes_over, appends, puts_all, puts_part}
+use Rattle.law_outcomes.specs.Outcome.{Outcome, IsWrite, object_of, left_of, refused, tells, complains, writes_over, appends, puts_all, puts_part}
 use Rattle.law_outcomes.proofs.ReadEnds.{with_pipe_back}
 use Rattle.law_outcomes.proofs.Ways.{denied, no_room}
 

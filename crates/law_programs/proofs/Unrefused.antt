@@ -3,10 +3,10 @@ use Rattle.std.proofs.Common.{◌≡◌, ◌∙◌, ℕ, true, ap}
 use Rattle.std.specs.Prelude.{slice_index_or}
 use Rattle.mem_files.specs.Name.{Bytes}
 use Rattle.user_calls.specs.declared.calls.Call.TheVariants.{Write}
-use Rattle.user_progs.specs.State.{Work, cat_reads, cat_writes, head_reads, head_writes, wc_reads, wc_writes, grep_reads, grep_writes, Tee, tee_opens, tee_reads, tee_writes, tee_gives, State, begins, echo_word, echo_space, opens, works, closes, tees, told, ended}
+use Rattle.user_progs.specs.State.{Tee, tee_opens, tee_reads, tee_writes, tee_gives, State, begins, echo_word, echo_space, opens, works, closes, tees, told, ended}
 use Rattle.user_progs.specs.Turn.{fd_of}
 use Rattle.program_model.specs.Alone.{World, may_write}
-use Rattle.program_model.specs.Waits.{WorkWaits, TeeWaits, Waits}
+use Rattle.program_model.specs.Waits.{TeeWaits, Waits}
 use Rattle.program_model.specs.Fits.{AreWithin, outputs, Fits}
 use Rattle.law_programs.proofs.Fitting.{gives_done}
 use Rattle.law_programs.proofs.Keeps.{low_done}

@@ -8,7 +8,6 @@ use Rattle.mem_files.specs.Files.{FileMap, no_files}
 use Rattle.user_calls.specs.declared.calls.Call.TheVariants.{Read, Write}
 use Rattle.user_calls.specs.declared.calls.Reply.{Reply}
 use Rattle.user_calls.specs.declared.calls.Reply.TheVariants.{Done, Bytes as Bytes', Refused}
-use Rattle.user_progs.specs.State.{State}
 use Rattle.user_progs.specs.Turn.{turn}
 use Rattle.program_model.specs.Ahead.{still_uses}
 use Rattle.program_model.specs.Alone.{OwnFile, Takes, May, after_call}
