@@ -1,6 +1,6 @@
 -- A call of init after which it doesn't sleep leaves it alone: it took the last zombie away, or had no child any more.
 use Rattle.std.proofs.Common.{◌≡◌, ◌≢◌, ◌⊎◌, inl, inr, ℕ, zero, suc, Bool, true, false, Option, Some, None, refl, sym, ap, ◌∙◌, arith}
-use Rattle.std.proofs.lemmas.Bool.{and_parts, both_ways, cases_eq, eq-eqb, eqb-true}
+use Rattle.std.proofs.lemmas.Bool.{and_parts, both_ways, cases_eq, eq-eqb}
 use Rattle.std.specs.Prelude.{is_some}
 use Rattle.script_load.specs.declared.profile.Profile.{Profile}
 use Rattle.user_calls.specs.declared.calls.Reply.TheVariants.{Done, Refused}
@@ -21,24 +21,14 @@ use Rattle.process_model.proofs.Counts.{same_other}
 use Rattle.law_views.proofs.Tables.{seen_up, slept_sleeps}
 use Rattle.law_standing.proofs.WaitsSeen.{has_kid, zombie_kid}
 use Rattle.law_bounds.proofs.Parents.{has_parent, HaveParents}
+use Rattle.law_never_stuck.proofs.Never.{used_by}
+use Rattle.law_views.proofs.InitSeen.{zombie_seen}
 
 -- ---- a slot as it is seen
-
-used_by : (name : ℕ → Entry) (b : Bool) (y : Process User) → is_used (seen_by b name y) ≡ 1
-used_by name true y = refl
-used_by name false y = refl
 
 unused_is_free : (name : ℕ → Entry) (x : Slot User) → is_used (seen_slot name x) ≡ 0 → x ≡ None
 unused_is_free name None none = refl
 unused_is_free name (Some y) none = absurd (omega (arith, none, used_by name (is_zombie_status y.status) y))
-
-its_parent : (o : Option ℕ) → is_number 0 o ≡ true → parent_or_init o ≡ 0
-its_parent None is = refl
-its_parent (Some n) is = sym (eqb-true 0 n is)
-
-zombie_seen : (name : ℕ → Entry) (x : Slot User) → is_child_of 0 x ≡ true → is_zombie x ≡ true → seen_slot name x ≡ zombie 0
-zombie_seen name None is dead = absurd (let z : ⊥ = cc in z)
-zombie_seen name (Some x) is dead = ap (λ b. seen_by b name x) dead ∙ ap zombie (its_parent x.parent is)
 
 -- a process that is seen as init's child is one, since it has a parent
 is_init's : (o : Option ℕ) → is_some o ≡ true → parent_or_init o ≡ 0 → is_number 0 o ≡ true

@@ -2,7 +2,7 @@
 use Rattle.std.proofs.Common.{◌≡◌, ◌≢◌, ◌⊎◌, inl, inr, ℕ, zero, suc, List, [], ◌∷◌, Bool, true, false, Option, Some, None, refl, sym, ap, ◌∙◌, subst}
 use Rattle.std.proofs.lemmas.Bool.{cases_eq}
 use Rattle.std.proofs.Math.ListN.{set}
-use Rattle.std.specs.Prelude.{if◌then◌else◌, is_some, map, replicate, Result, Ok, Err}
+use Rattle.std.specs.Prelude.{if◌then◌else◌, is_some, map, Result, Ok, Err}
 use Rattle.mem_files.specs.Name.{Name, Bytes}
 use Rattle.user_calls.specs.declared.calls.Call.{Call}
 use Rattle.user_calls.specs.declared.calls.Reply.{Reply}
@@ -27,6 +27,7 @@ use Rattle.kernel_model.specs.Descriptors.{let_go, let_go_of, taken_away, closed
 use Rattle.kernel_model.specs.Events.{acted, can_dispatch, counted, happens, run, then_happens, trapped}
 use Rattle.law_outcomes.specs.Outcome.{Outcome, refused, lacks, forks, runs, exits, reaps, waits, opens, opens_empty, closes, dups, pipes, reads_input, reads_file, takes, waits_for_bytes, meets_end, tells, complains, writes_over, appends, puts_all, puts_part}
 use Rattle.law_outcomes.proofs.Outcomes.{every_call_ends}
+use Rattle.law_kernel.proofs.Runs.{past_two}
 
 -- the slot is free, or its process has a parent
 abbrev pub has_parent : {S : Type 0} → Slot S → Bool
@@ -202,15 +203,10 @@ if_has : {S : Type 0} (b : Bool) (o : Option (KernelState S)) → HasIf o → Ha
 if_has true o h = h
 if_has false o h = tt
 
-no_slots : (S : Type 0) (n q : ℕ) → at {S = S} (replicate n None) q ≡ None
-no_slots S zero q = refl
-no_slots S (suc n) zero = refl
-no_slots S (suc n) (suc q) = no_slots S n q
-
 first_has : {S : Type 0} (init shell : S) → HaveParents (boot_table init shell)
 first_has init shell zero ne = absurd (ne refl)
 first_has init shell (suc zero) ne = refl
-first_has init shell (suc (suc q)) ne = ap has_parent (no_slots _ 62 q)
+first_has init shell (suc (suc q)) ne = ap has_parent (past_two _ 62 q)
 
 module _ {S : Type 0} (call : S → Reply → Call) (next : S → Reply → S) where
   trap_has : (k : KernelState S) (pid : ℕ) (x : Slot S) (n : Bool) → HaveParents k.table → HasIf (trapped call next k pid x n)

@@ -1,9 +1,10 @@
 -- How many entries have an object open: an open makes them one more, the last close one less, and nothing else counts.
-use Rattle.std.proofs.Common.{◌≡◌, ℕ, zero, suc, ◌+◌, ◌<◌, ◌≤◌, ◌⊎◌, List, [], ◌∷◌, Bool, true, false, Option, Some, None, length, refl, ap, arith, inl, inr}
+use Rattle.std.proofs.Common.{◌≡◌, ℕ, ◌+◌, ◌<◌, ◌≤◌, ◌⊎◌, [], ◌∷◌, Bool, true, false, Option, Some, None, length, refl, ap, arith, inl, inr}
 use Rattle.std.proofs.Math.ListN.{set}
 use Rattle.std.proofs.lemmas.Bool.{cases_lt}
 use Rattle.std.proofs.lemmas.List.Sums.{sum_by-set, sum_by-cons}
 use Rattle.std.specs.Prelude.{count_by, cond}
+use Rattle.std.proofs.lemmas.List.{set_past}
 use Rattle.fd_table.specs.declared.names.Object.{Object}
 use Rattle.fd_table.specs.Entries.{Entries, OpenFile, entry_at, is_free, opened, more_held, moved_on, going_on_at, added_at, advanced, moved_to, lowest_free_entry}
 use Rattle.fd_table.specs.Descriptors.{Descriptors, holders_in, all_held, all_held_from, held_by_dup}
@@ -15,12 +16,7 @@ tally_is : (b : Bool) → cond {A = ℕ} b 1 0 ≡ tally b
 tally_is true = refl
 tally_is false = refl
 
-past_end : {X : Type 0} (xs : List X) (i : ℕ) (y : X) → length xs ≤ i → set xs i y ≡ xs
-past_end [] i y ge = refl
-past_end (x ∷ xs) zero y ge = absurd (omega arith)
-past_end (x ∷ xs) (suc i) y ge = ap (λ (l : List _). x ∷ l) (past_end xs i y (omega arith))
-
-free_is : {X : Type 0} (x : Option X) → is_free x ≡ true → x ≡ None
+pub free_is : {X : Type 0} (x : Option X) → is_free x ≡ true → x ≡ None
 free_is None is = refl
 free_is (Some y) is = absurd (let z : ⊥ = cc in z)
 
@@ -38,7 +34,7 @@ module _ (test : Object → Bool) where
   unchanged E e y same = by (cases_lt e (length E)) where
     by : (e < length E) ⊎ (length E ≤ e) → count_by p (set E e y) ≡ count_by p E
     by (inl lt) = omega (arith, changed E e y lt, ap tally same)
-    by (inr ge) = ap (count_by p) (past_end E e y ge)
+    by (inr ge) = ap (count_by p) (set_past E e y ge)
 
   -- the last close of an entry
   pub freed : (E : Entries) (e : ℕ) (f : OpenFile) → entry_at E e ≡ Some f → count_by p (set E e None) + tally (test f.object) ≡ count_by p E

@@ -1,7 +1,7 @@
 -- An exit loses no wake-up: the parent is woken, and init where a zombie becomes its child. No other sleeper gets a zombie child, since nobody is its own child.
 use Rattle.std.proofs.Common.{◌≡◌, ◌≢◌, ◌⊎◌, ℕ, Bool, true, false, Option, Some, None, refl, sym, ap, subst, ◌∙◌, inl, inr}
-use Rattle.std.proofs.lemmas.Bool.{cases_eq, eq-eqb, ne_eqb, both_ways, or_right}
-use Rattle.std.specs.Prelude.{◌==◌, ◌||◌, ◌&&◌, is_some, if◌then◌else◌}
+use Rattle.std.proofs.lemmas.Bool.{cases_eq, eq-eqb, ne_eqb, both_ways, or_right, or_from}
+use Rattle.std.specs.Prelude.{◌==◌, ◌&&◌, is_some, if◌then◌else◌}
 use Rattle.proc_table.specs.declared.states.Channel.{Channel}
 use Rattle.proc_table.specs.declared.states.Channel.TheVariants.{PipeBytes, PipeRoom, Children}
 use Rattle.proc_table.specs.declared.states.Status.{Status}
@@ -21,7 +21,7 @@ of_if : {S : Type 0} (test : Slot S → Bool) (b : Bool) (x y : Slot S) (v : Boo
 of_if test true x y v xv yv = xv
 of_if test false x y v xv yv = yv
 
-zombie_by : (c : Channel) (s : Status) → is_zombie_status (woken_status c s) ≡ is_zombie_status s
+pub zombie_by : (c : Channel) (s : Status) → is_zombie_status (woken_status c s) ≡ is_zombie_status s
 zombie_by c Runnable = refl
 zombie_by c (Running h) = refl
 zombie_by c (Asleep d) = woken_or_not (is_asleep_on_status c (Asleep d)) d
@@ -99,9 +99,7 @@ module _ {S : Type 0} (t : Table S) (pid : ℕ) where
   -- no child of q that wasn't its own before, but of init's
   no_child : (q i : ℕ) → q ≢ pid → is_child_of q (at t i) ≡ false → (q ≡ 0 → is_child_of pid (at t i) ≡ false) → (q ≡ 0) ⊎ (q ≢ 0) → is_child_of q (at u i) ≡ false
   no_child q i ne mine inherited (inl is) =
-      ap (λ (k : ℕ). is_child_of k (at u i)) is ∙ exit_child t pid 0 i ∙ init_after pid (at t i) ∙ neither (is_child_of pid (at t i)) (is_child_of 0 (at t i)) (inherited is) (ap (λ (k : ℕ). is_child_of k (at t i)) (sym is) ∙ mine) where
-        neither : (a b : Bool) → a ≡ false → b ≡ false → (a || b) ≡ false
-        neither a b none_a none_b = ap (λ (x : Bool). x || b) none_a ∙ ap (λ (x : Bool). false || x) none_b
+      ap (λ (k : ℕ). is_child_of k (at u i)) is ∙ exit_child t pid 0 i ∙ init_after pid (at t i) ∙ or_from (is_child_of pid (at t i)) (is_child_of 0 (at t i)) (inherited is) (ap (λ (k : ℕ). is_child_of k (at t i)) (sym is) ∙ mine)
   no_child q i ne mine inherited (inr not_init) = exit_child t pid q i ∙ others_after pid q (at t i) ne not_init ∙ mine
 
   zombie_other : (i : ℕ) → i ≢ pid → is_zombie (at u i) ≡ is_zombie (at t i)

@@ -1,6 +1,7 @@
 -- Over every run from the start: what was put into a pipe is what was taken from it, in order, and then what it holds.
 use Rattle.std.proofs.Common.{◌≡◌, ℕ, ◌+◌, ◌≤◌, List, [], ◌∷◌, ◌++◌, Bool, true, false, Option, Some, None, refl, sym, ap, subst, ◌∙◌, arith}
 use Rattle.std.specs.Prelude.{⊤, if◌then◌else◌}
+use Rattle.std.proofs.lemmas.List.{append_assoc}
 use Rattle.user_calls.specs.declared.calls.Call.{Call}
 use Rattle.user_calls.specs.declared.calls.Reply.{Reply}
 use Rattle.byte_pipe.specs.PipeState.{PipeState}
@@ -17,8 +18,9 @@ use Rattle.kernel_model.proofs.Along.{acted_along}
 use Rattle.law_kernel.proofs.EndsRuns.{InStep, InStepIf, boot_in_step, happens_in_step}
 use Rattle.law_kernel.specs.Flow.{put_by, taken_by, moved_in_trap, moved_at, all_moved}
 use Rattle.law_outcomes.proofs.Outcomes.{every_call_ends}
-use Rattle.law_kernel.proofs.Flowing.{Flows, IsNew, then_none, regroup, flow_on, counted_put, counted_taken}
+use Rattle.law_kernel.proofs.Flowing.{Flows, IsNew, then_none, flow_on, counted_put, counted_taken}
 use Rattle.law_kernel.proofs.Moves.{outcome_moves}
+use Rattle.kernel_model.proofs.Lasting.{no_run}
 
 module _ {S : Type 0} (call : S → Reply → Call) (next : S → Reply → S) (id : ℕ) where
   module _ (k : KernelState S) (put taken : List ℕ) (step : InStep k) (f : Flows id k put taken) where
@@ -70,12 +72,6 @@ module _ {S : Type 0} (call : S → Reply → Call) (next : S → Reply → S) (
 
   -- ---- a run
 
-  never : (events : List Event) (notes : List Bool) (m : KernelState S) → run call next None events notes ≡ Some m → ⊥
-  never [] [] m is = cc
-  never (e ∷ es) (n ∷ ns) m is = never es ns m is
-  never [] (n ∷ ns) m is = cc
-  never (e ∷ es) [] m is = cc
-
   abbrev Passed : KernelState S → List ℕ → List ℕ → List Event → List Bool → Option (KernelState S) → Type 0
   Passed m put taken es ns o = Flows id m (put ++ all_moved call next (put_by id) o es ns) (taken ++ all_moved call next (taken_by id) o es ns)
 
@@ -87,7 +83,7 @@ module _ {S : Type 0} (call : S → Reply → Call) (next : S → Reply → S) (
 
   join : (m : KernelState S) (put taken x y X Y : List ℕ) → Flows id m ((put ++ x) ++ X) ((taken ++ y) ++ Y) → Flows id m (put ++ (x ++ X)) (taken ++ (y ++ Y))
   join m put taken x y X Y f =
-      subst (λ (l : List ℕ). Flows id m (put ++ (x ++ X)) l) (regroup taken y Y) (subst (λ (l : List ℕ). Flows id m l ((taken ++ y) ++ Y)) (regroup put x X) f)
+      subst (λ (l : List ℕ). Flows id m (put ++ (x ++ X)) l) (append_assoc taken y Y) (subst (λ (l : List ℕ). Flows id m l ((taken ++ y) ++ Y)) (append_assoc put x X) f)
 
   run_flows : (events : List Event) (notes : List Bool) (k m : KernelState S) (put taken : List ℕ) → run call next (Some k) events notes ≡ Some m → InStep k → Flows id k put taken → Passed m put taken events notes (Some k)
   run_flows [] [] k m put taken is step f = at_end m put taken k is f
@@ -97,7 +93,7 @@ module _ {S : Type 0} (call : S → Reply → Call) (next : S → Reply → S) (
     by : (o : Option (KernelState S)) → run call next o es ns ≡ Some m → InStepIf o → FlowsBy k put taken step f e o
         → ((new : KernelState S) (x y : List ℕ) → run call next (Some new) es ns ≡ Some m → InStep new → Flows id new x y → Passed m x y es ns (Some new))
         → Flows id m (put ++ (moved_at call next (put_by id) k e o ++ all_moved call next (put_by id) o es ns)) (taken ++ (moved_at call next (taken_by id) k e o ++ all_moved call next (taken_by id) o es ns))
-    by None go steps g later = absurd (never es ns m go)
+    by None go steps g later = absurd (no_run call next es ns m go)
     by (Some new) go steps g later =
         let x = moved_at call next (put_by id) k e (Some new) in
         let y = moved_at call next (taken_by id) k e (Some new) in

@@ -1,5 +1,6 @@
 -- What has passed through a pipe so far, and what one call adds to it.
 use Rattle.std.proofs.Common.{◌≡◌, ℕ, ◌<◌, ◌≤◌, List, [], ◌∷◌, ◌++◌, Some, None, refl, sym, ap, ◌∙◌, arith}
+use Rattle.std.proofs.lemmas.List.{append_assoc}
 use Rattle.user_calls.specs.declared.calls.Call.{Call}
 use Rattle.user_calls.specs.declared.calls.Call.TheVariants.{Fork, Exec, Exit, Wait, MakePipe, Read, Write, OpenFile, Close, Dup}
 use Rattle.byte_pipe.specs.PipeState.{PipeState}
@@ -14,10 +15,6 @@ use Rattle.law_kernel.proofs.Moves.{Moves, stays, begins, comes, goes}
 pub then_none : (xs ys : List ℕ) → ys ≡ [] → xs ++ ys ≡ xs
 then_none [] ys none = none
 then_none (x ∷ xs) ys none = ap (λ (l : List ℕ). x ∷ l) (then_none xs ys none)
-
-pub regroup : (xs ys zs : List ℕ) → (xs ++ ys) ++ zs ≡ xs ++ (ys ++ zs)
-regroup [] ys zs = refl
-regroup (x ∷ xs) ys zs = ap (λ (l : List ℕ). x ∷ l) (regroup xs ys zs)
 
 no_parts : (xs ys : List ℕ) → [] ≡ xs ++ ys → ys ≡ []
 no_parts [] ys none = sym none
@@ -56,14 +53,14 @@ module _ {S : Type 0} (id : ℕ) (k new : KernelState S) (put taken x y : List �
   flow_on rest f held (comes p found no_y more) =
       record {
         rest = rest ++ x;
-        flows = ap (λ (l : List ℕ). l ++ x) f ∙ regroup taken rest x ∙ ap (λ (l : List ℕ). l ++ (rest ++ x)) (sym (then_none taken y no_y));
+        flows = ap (λ (l : List ℕ). l ++ x) f ∙ append_assoc taken rest x ∙ ap (λ (l : List ℕ). l ++ (rest ++ x)) (sym (then_none taken y no_y));
         holds = λ q is. more q is ∙ ap (λ (l : List ℕ). l ++ x) (held p found);
         unborn = λ later. absurd (let no : Some p ≡ None = sym found ∙ (fresh (omega (arith, later, events))).1 in let z : ⊥ = cc in z);
       }
   flow_on rest f held (goes p left found no_x parts fewer) =
       record {
         rest = left;
-        flows = then_none put x no_x ∙ f ∙ ap (λ (l : List ℕ). taken ++ l) (sym (held p found) ∙ parts) ∙ sym (regroup taken y left);
+        flows = then_none put x no_x ∙ f ∙ ap (λ (l : List ℕ). taken ++ l) (sym (held p found) ∙ parts) ∙ sym (append_assoc taken y left);
         holds = fewer;
         unborn = λ later. then_none put x no_x ∙ (fresh (omega (arith, later, events))).0;
       }

@@ -1,7 +1,8 @@
 -- What one call puts into a pipe and takes from it accounts for what the pipe then holds.
-use Rattle.std.proofs.Common.{◌≡◌, ◌≢◌, ◌⊎◌, ℕ, zero, suc, ◌+◌, ◌-◌, List, [], ◌∷◌, ◌++◌, Bool, true, false, Option, Some, None, take, drop, refl, sym, ap, ◌∙◌, inl, inr, arith}
+use Rattle.std.proofs.Common.{◌≡◌, ◌≢◌, ◌⊎◌, ℕ, ◌+◌, ◌-◌, List, [], ◌++◌, Bool, true, false, Option, Some, None, take, drop, refl, sym, ap, ◌∙◌, inl, inr, arith}
 use Rattle.std.proofs.lemmas.Bool.{cases_eq, eq-eqb, ne_eqb}
 use Rattle.std.specs.Prelude.{◌==◌, if◌then◌else◌}
+use Rattle.std.proofs.lemmas.List.{take-append-drop}
 use Rattle.user_calls.specs.declared.calls.Call.{Call}
 use Rattle.user_calls.specs.declared.calls.Call.TheVariants.{Fork, Exec, Exit, Wait, MakePipe, Read, Write, OpenFile, Close, Dup}
 use Rattle.user_calls.specs.declared.calls.Reply.{Reply}
@@ -40,11 +41,6 @@ pub data Moves (id event : ℕ) (before now : Option PipeState) (x y : List ℕ)
 if_none : (b : Bool) (x : List ℕ) → x ≡ [] → (if b then x else []) ≡ []
 if_none true x none = none
 if_none false x none = refl
-
-take_then_drop : (n : ℕ) (xs : List ℕ) → xs ≡ take n xs ++ drop n xs
-take_then_drop zero xs = refl
-take_then_drop (suc n) [] = refl
-take_then_drop (suc n) (x ∷ xs) = ap (λ (l : List ℕ). x ∷ l) (take_then_drop n xs)
 
 less_again : (a n : ℕ) → (a + n) - a ≡ n
 less_again a n = omega arith
@@ -118,7 +114,7 @@ module _ {S : Type 0} (id : ℕ) (k : KernelState S) (pid : ℕ) (after : S) (ca
   take_step : (other n : ℕ) (p : PipeState) → IsRead k pid call (PipeRead other) → pipe_of k.pipes other ≡ Some p → new.pipes ≡ with_pipe k.pipes other (after_take p n) → got (at new.table pid) ≡ take n p.bytes → (id ≡ other) ⊎ (id ≢ other) → Step
   take_step other n p r found now answer (inl same) =
       goes p (drop n p.bytes) (ap (pipe_of k.pipes) same ∙ found) (ap (λ (d : Call). put_by id k pid d new) r.2)
-      (take_then_drop n p.bytes ∙ ap (λ (l : List ℕ). l ++ drop n p.bytes) (sym (taken_here other r ∙ ap (λ (b : Bool). if b then got (at new.table pid) else []) (eq-eqb id other same) ∙ answer)))
+      (sym (take-append-drop {A = ℕ} n p.bytes) ∙ ap (λ (l : List ℕ). l ++ drop n p.bytes) (sym (taken_here other r ∙ ap (λ (b : Bool). if b then got (at new.table pid) else []) (eq-eqb id other same) ∙ answer)))
       (λ q is.
       let both : Some (after_take p n) ≡ Some q = sym (found_now k.pipes other p (after_take p n) found) ∙ sym (ap (λ (l : Pipes). pipe_of l other) now) ∙ ap (pipe_of new.pipes) (sym same) ∙ is in
       let it : after_take p n ≡ q = cc in

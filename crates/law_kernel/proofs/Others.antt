@@ -2,7 +2,7 @@
 use Rattle.std.proofs.Common.{◌≡◌, ◌≢◌, ◌⊎◌, ℕ, zero, suc, ◌+◌, ◌-◌, ◌<◌, ◌≤◌, List, [], ◌∷◌, Bool, true, false, Option, Some, None, length, get_or, refl, sym, ap, ◌∙◌, inl, inr, arith, get_or-set_other}
 use Rattle.std.proofs.Math.ListN.{set}
 use Rattle.std.proofs.lemmas.Bool.{cases_eq, eq-eqb, leb-true}
-use Rattle.std.proofs.lemmas.List.Sums.{sum_by-cons}
+use Rattle.std.proofs.lemmas.List.Sums.{sum_by-cons, get_or-le-sum_by}
 use Rattle.std.specs.Prelude.{nat_le, sum_by, if◌then◌else◌}
 use Rattle.fd_table.specs.declared.names.Object.{Object}
 use Rattle.fd_table.specs.Entries.{Entries, OpenFile, entry_at, is_free, more_held, less_held, moved_on, going_on_at, added_at, advanced, moved_to, lowest_free_entry, opened}
@@ -128,16 +128,11 @@ opened_stay E fds (Some e) new found fd i object held is =
 
 -- ---- a close by another process
 
-part_of_sum : {X : Type 0} (f : X → ℕ) (xs : List X) (i : ℕ) (d : X) → i < length xs → f (get_or xs i d) ≤ sum_by f xs
-part_of_sum f [] i d within = absurd (omega arith)
-part_of_sum f (x ∷ xs) zero d within = omega (arith, sum_by-cons f x xs)
-part_of_sum f (x ∷ xs) (suc i) d within = omega (arith, sum_by-cons f x xs, part_of_sum f xs i d (omega arith))
-
 two_of_sum : {X : Type 0} (f : X → ℕ) (xs : List X) (i j : ℕ) (d : X) → i ≢ j → i < length xs → j < length xs → f (get_or xs i d) + f (get_or xs j d) ≤ sum_by f xs
 two_of_sum f [] i j d ne wi wj = absurd (omega arith)
 two_of_sum f (x ∷ xs) zero zero d ne wi wj = absurd (ne refl)
-two_of_sum f (x ∷ xs) zero (suc j) d ne wi wj = omega (arith, sum_by-cons f x xs, part_of_sum f xs j d (omega arith))
-two_of_sum f (x ∷ xs) (suc i) zero d ne wi wj = omega (arith, sum_by-cons f x xs, part_of_sum f xs i d (omega arith))
+two_of_sum f (x ∷ xs) zero (suc j) d ne wi wj = omega (arith, sum_by-cons f x xs, get_or-le-sum_by f xs j d (omega arith))
+two_of_sum f (x ∷ xs) (suc i) zero d ne wi wj = omega (arith, sum_by-cons f x xs, get_or-le-sum_by f xs i d (omega arith))
 two_of_sum f (x ∷ xs) (suc i) (suc j) d ne wi wj = omega (arith, sum_by-cons f x xs, two_of_sum f xs i j d (λ same. ne (ap suc same)) (omega arith) (omega arith))
 
 holds_one : (fds : Descriptors) (fd e : ℕ) → entry_of fds fd ≡ Some e → 1 ≤ holders_in fds e

@@ -31,7 +31,7 @@ busy t pipes pid r = record { others = λ q c ne sleeps. r.waits q c sleeps; sma
 
 -- ---- the start
 
-past_two : (S : Type 0) (n q : ℕ) → at {S = S} (replicate n None) q ≡ None
+pub past_two : (S : Type 0) (n q : ℕ) → at {S = S} (replicate n None) q ≡ None
 past_two S zero q = refl
 past_two S (suc n) zero = refl
 past_two S (suc n) (suc q) = past_two S n q
@@ -92,7 +92,7 @@ rests_where true o r = r refl
 rests_where false o r = tt
 
 -- who runs lives
-runs_alive : (h : ℕ) (s : Status) → is_running_on_status h s ≡ true → is_zombie_status s ≡ false
+pub runs_alive : (h : ℕ) (s : Status) → is_running_on_status h s ≡ true → is_zombie_status s ≡ false
 runs_alive h Runnable runs = refl
 runs_alive h (Running other) runs = refl
 runs_alive h (Asleep c) runs = refl

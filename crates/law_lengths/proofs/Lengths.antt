@@ -1,6 +1,6 @@
 -- Along every run from the start: what dispatches, calls that only sleep and calls that do more come to.
 use Rattle.std.proofs.Common.{◌≡◌, ◌∙◌, ℕ, suc, ◌+◌, ◌*◌, ◌≤◌, Bool, true, false, List, [], ◌∷◌, ◌++◌, Option, Some, None, length, refl, sym, ap, subst, arith}
-use Rattle.std.proofs.lemmas.Bool.{and_parts}
+use Rattle.std.proofs.lemmas.Bool.{and_parts, not-true}
 use Rattle.std.proofs.lemmas.List.Sums.{count_by-le-length, sum_by-cons}
 use Rattle.std.specs.Prelude.{cond, count_by, nat_lt, not, if◌then◌else◌}
 use Rattle.user_calls.specs.declared.calls.Call.{Call}
@@ -27,6 +27,7 @@ use Rattle.law_kernel.proofs.Runs.{every_run_rests}
 use Rattle.law_kernel.proofs.SoundRuns.{every_run_is_sound, every_run_has_files, hart_runs}
 use Rattle.law_lengths.specs.Kinds.{fell_asleep, only_sleeps, does_more, count_event, count_events}
 use Rattle.law_lengths.proofs.Falling.{falls}
+use Rattle.kernel_model.proofs.Lasting.{no_run}
 
 -- from k on, n events led to m, of which d were dispatches, s calls that only sleep, and o calls that do more
 pub record Spent {S : Type 0} (k m : KernelState S) (n d s o : ℕ) : Type 0 where
@@ -94,10 +95,7 @@ module _ {S : Type 0} (call : S → Reply → Call) (next : S → Reply → S) w
     by_kind true pid h p after c refused is runs kind =
         let new = acted (counted k) pid after c refused in
         let parts = and_parts (is_asleep (at new.table pid)) (not (nat_lt (put_of (at k.table pid)) (put_of (at new.table pid)))) kind in
-        omega (arith, falls (counted k) pid h p is runs rests.waits after c new (every_call_ends (counted k) pid after c refused) parts.0 (not_true (nat_lt (put_of (at k.table pid)) (put_of (at new.table pid))) parts.1)) where
-          not_true : (b : Bool) → not b ≡ true → b ≡ false
-          not_true false is = refl
-          not_true true is = absurd (let z : ⊥ = cc in z)
+        omega (arith, falls (counted k) pid h p is runs rests.waits after c new (every_call_ends (counted k) pid after c refused) parts.0 (not-true (nat_lt (put_of (at k.table pid)) (put_of (at new.table pid))) parts.1))
 
     trap_spends : (h pid : ℕ) (x : Slot S) (refused : Bool) (new : KernelState S) → at k.table pid ≡ x → is_running_on h x ≡ true → trapped call next k pid x refused ≡ Some new → SpentBy k (Trap h pid) new
     trap_spends h pid None refused new is runs went = absurd (let z : ⊥ = cc in z)
@@ -124,12 +122,6 @@ module _ {S : Type 0} (call : S → Reply → Call) (next : S → Reply → S) w
     event_spends (Trap h pid) refused new went =
         let both = if_true (is_running_on h (at k.table pid)) (trapped call next k pid (at k.table pid) refused) new went in
         trap_spends h pid (at k.table pid) refused new refl both.0 both.1
-
-  never : (events : List Event) (notes : List Bool) (m : KernelState S) → run call next None events notes ≡ Some m → ⊥
-  never [] [] m is = cc
-  never (e ∷ es) (n ∷ ns) m is = never es ns m is
-  never [] (n ∷ ns) m is = cc
-  never (e ∷ es) [] m is = cc
 
   module _ (init shell : S) (input : Bytes) (list : List (Name × Bytes)) (are : AreFiles list) where
     abbrev boot : KernelState S
@@ -165,7 +157,7 @@ module _ {S : Type 0} (call : S → Reply → Call) (next : S → Reply → S) w
           by : (o : Option (KernelState S)) → happens call next k e n ≡ o → run call next o es ns ≡ Some m
               → ((new : KernelState S) → run call next (Some boot) (before ++ e ∷ []) (noted ++ n ∷ []) ≡ Some new → run call next (Some new) es ns ≡ Some m → SpentIn new m es ns)
               → Spent k m (suc (length es)) (count_by is_dispatch (e ∷ es)) (count_event call next only_sleeps k e o + count_events call next only_sleeps o es ns) (count_event call next does_more k e o + count_events call next does_more o es ns)
-          by None went goes rest = absurd (never es ns m goes)
+          by None went goes rest = absurd (no_run call next es ns m goes)
           by (Some new) went goes rest =
               let later = rest new (run_more call next (Some boot) before noted k new e n so_far went) goes in
               let one = event_spends k first order named e n new went in

@@ -40,7 +40,7 @@ holder_used free e h = absurd h
 holder_used (zombie q) e h = absurd h
 holder_used (live q act put d) e h = refl
 
-used_by : (name : ℕ → Entry) (b : Bool) (y : Process User) → is_used (seen_by b name y) ≡ 1
+pub used_by : (name : ℕ → Entry) (b : Bool) (y : Process User) → is_used (seen_by b name y) ≡ 1
 used_by name true y = refl
 used_by name false y = refl
 

@@ -1,6 +1,6 @@
 -- Where nobody is awake each process has to wait for what its call asks for, and init has a child that lives.
 use Rattle.std.proofs.Common.{◌≡◌, ℕ, zero, suc, ◌+◌, Bool, true, false, Option, Some, None, length, refl, sym, ap, ◌∙◌, subst, arith}
-use Rattle.std.specs.Prelude.{option_map, ◌&&◌, replicate}
+use Rattle.std.specs.Prelude.{option_map, ◌&&◌}
 use Rattle.std.proofs.lemmas.Bool.{eq-eqb, eqb-true, both_ways}
 use Rattle.mem_files.specs.Files.{files}
 use Rattle.fd_table.specs.declared.names.Object.{Object}
@@ -30,14 +30,9 @@ use Rattle.process_model.specs.Shows.{IsNamed, ShowsIn}
 use Rattle.process_model.specs.Effect.{Holds}
 use Rattle.law_views.specs.Settled.{IsSettled}
 use Rattle.law_views.specs.Seen.{IsInit}
-use Rattle.law_views.proofs.Fds.{seen_fd}
+use Rattle.law_views.proofs.Fds.{seen_fd, none_open}
 use Rattle.law_never_stuck.proofs.Blocked.{IsHeld, Blocked, AllBlocked}
 use Rattle.law_never_stuck.proofs.Deciding.{is_awake_status, is_awake, AllAsleep}
-
-none_open : (n fd e : ℕ) → entry_of (replicate n None) fd ≡ Some e → ⊥
-none_open zero fd e is = let z : ⊥ = cc in z
-none_open (suc n) zero e is = let z : ⊥ = cc in z
-none_open (suc n) (suc fd) e is = none_open n fd e is
 
 reads_that : (id : ℕ) (o : Object) → reads_pipe id o ≡ true → o ≡ PipeRead id
 reads_that id Input is = absurd (let z : ⊥ = cc in z)

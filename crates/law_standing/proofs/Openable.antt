@@ -1,29 +1,11 @@
 -- A name that can be opened is handed over whole.
-use Rattle.std.proofs.Common.{◌≡◌, ◌⊎◌, inl, inr, ℕ, zero, suc, ◌<◌, ◌≤◌, List, [], ◌∷◌, Bool, true, false, length, take, arith, refl, sym, ap, ◌∙◌}
-use Rattle.std.specs.Prelude.{◌&&◌, nat_le}
-use Rattle.std.specs.List.{list_all}
-use Rattle.std.proofs.lemmas.Bool.{cases_lt, leb-true, both_ways}
-use Rattle.std.proofs.lemmas.List.{length-take}
+use Rattle.std.proofs.Common.{◌≡◌, ◌⊎◌, inl, inr, ℕ, ◌<◌, ◌≤◌, true, length, arith, refl, sym, ap, ◌∙◌}
+use Rattle.std.proofs.lemmas.Bool.{cases_lt, both_ways}
+use Rattle.std.proofs.lemmas.List.{length-take, take_all}
 use Rattle.user_calls.specs.declared.block.TheConstants.{BLOCK_SIZE}
-use Rattle.mem_files.specs.Name.{Name, is_openable, is_name_byte}
+use Rattle.mem_files.specs.Name.{Name, is_openable}
 use Rattle.user_progs.specs.Turn.{block}
-
-take_all : (n : ℕ) (xs : List ℕ) → length xs ≤ n → take n xs ≡ xs
-take_all zero [] le = refl
-take_all zero (x ∷ xs) le = absurd (omega (arith, le))
-take_all (suc n) [] le = refl
-take_all (suc n) (x ∷ xs) le = ap (λ l. x ∷ l) (take_all n xs (omega (arith, le)))
-
-no_and : (b : Bool) → (b && false) ≡ false
-no_and true = refl
-no_and false = refl
-
-too_long : (name : Name) → 14 < length name → is_openable name ≡ false
-too_long name long = by (nat_le (length name) 14) refl
-  where
-    by : (c : Bool) → nat_le (length name) 14 ≡ c → is_openable name ≡ false
-    by true le = absurd (omega (arith, leb-true (length name) 14 le, long))
-    by false le = ap (λ (c : Bool). (nat_le 1 (length name) && c) && list_all is_name_byte name) le ∙ ap (λ (c : Bool). c && list_all is_name_byte name) (no_and (nat_le 1 (length name)))
+use Rattle.user_progs.proofs.Blocks.{too_long}
 
 pub same_openable : (name : Name) → is_openable (block name) ≡ is_openable name
 same_openable name = by (cases_lt BLOCK_SIZE (length name))

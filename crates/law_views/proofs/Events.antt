@@ -8,7 +8,7 @@ use Rattle.mem_files.specs.Files.{files}
 use Rattle.proc_table.specs.declared.states.Status.{Status}
 use Rattle.proc_table.specs.declared.states.Status.TheVariants.{Runnable, Running, Asleep, Zombie}
 use Rattle.proc_table.specs.declared.table.TheConstants.{HARTS}
-use Rattle.proc_table.specs.Slots.{Slot, Process, at, is_running_on, is_running_on_status, is_runnable, is_runnable_status, is_zombie_status, parent_or_init}
+use Rattle.proc_table.specs.Slots.{Slot, Process, at, is_running_on, is_runnable, is_runnable_status, is_zombie_status, parent_or_init}
 use Rattle.proc_table.specs.Calls.{dispatched, lowest_free as lowest_free_slot}
 use Rattle.kernel_model.specs.declared.events.Event.TheVariants.{Dispatch, Trap}
 use Rattle.kernel_model.specs.KernelState.{KernelState}
@@ -31,6 +31,7 @@ use Rattle.law_views.proofs.PipeMade.{pipes}
 use Rattle.law_views.proofs.FileOpens.{opens_call}
 use Rattle.law_views.proofs.ReadSeen.{reads_call}
 use Rattle.law_views.proofs.WriteSeen.{writes_call}
+use Rattle.law_kernel.proofs.Runs.{runs_alive}
 
 module _ (g : Names) (k : KernelState User) (p : ℕ) (q : Process User) (up : p ≢ 0) (is : at k.table p ≡ Some q) (alive : is_zombie_status q.status ≡ false) (settled : IsSettled k) (shows : ShowsIn g k) where
   abbrev next : User
@@ -68,12 +69,6 @@ module _ (g : Names) (k : KernelState User) (p : ℕ) (q : Process User) (up : p
         };
       }
 
-running_alive : (h : ℕ) (s : Status) → is_running_on_status h s ≡ true → is_zombie_status s ≡ false
-running_alive h Runnable on = refl
-running_alive h (Running other) on = refl
-running_alive h (Asleep c) on = refl
-running_alive h Zombie on = absurd (let z : ⊥ = cc in z)
-
 runnable_alive : (s : Status) → is_runnable_status s ≡ true → is_zombie_status s ≡ false
 runnable_alive Runnable on = refl
 runnable_alive (Running other) on = refl
@@ -89,7 +84,7 @@ trap_seen g k l h p refused up settled shows happened full = by (is_running_on h
     go (Some q) is on e =
         let m = acted (counted k) p (next_of q.machine q.reply) (call_of q.machine q.reply) refused in
         let same : m ≡ l = cc in
-        subst (λ z. IsSeen g k z p) same (is_seen g k p q up is (running_alive h q.status on) settled shows refused (ap (λ (z : KernelState User). z.full) same ∙ full))
+        subst (λ z. IsSeen g k z p) same (is_seen g k p q up is (runs_alive h q.status on) settled shows refused (ap (λ (z : KernelState User). z.full) same ∙ full))
 
     by : (c : Bool) → is_running_on h (at k.table p) ≡ c → (if c then trapped call_of next_of k p (at k.table p) refused else None) ≡ Some l → IsSeen g k l p
     by true on e = go (at k.table p) refl on e

@@ -1,6 +1,6 @@
 -- Descriptors as they are seen: what each is open on, changes of one, and the lowest that is free.
-use Rattle.std.proofs.Common.{◌≡◌, ◌≢◌, ℕ, zero, suc, ◌+◌, Bool, true, false, List, [], ◌∷◌, Option, Some, None, length, refl, sym, ap, ◌∙◌, arith}
-use Rattle.std.specs.Prelude.{replicate, map, option_map, slice_set, position, cond, nat_lt, IsSome}
+use Rattle.std.proofs.Common.{◌≡◌, ℕ, zero, suc, ◌+◌, [], ◌∷◌, Option, Some, None, length, refl, sym, ap, ◌∙◌, arith}
+use Rattle.std.specs.Prelude.{replicate, option_map, slice_set, cond, nat_lt, IsSome}
 use Rattle.std.specs.List.{position_or_len}
 use Rattle.fd_table.specs.Entries.{OpenFile, entry_at, is_free}
 use Rattle.fd_table.specs.Descriptors.{Descriptors, entry_of, lowest_free, HoldsInUse}

@@ -4,7 +4,6 @@ use Rattle.std.specs.Prelude.{◌==◌, nat_le, if◌then◌else◌, slice_set, 
 use Rattle.std.specs.Option.{is_some}
 use Rattle.std.specs.Str.{bytes_eq}
 use Rattle.std.proofs.lemmas.Bool.{eqb-false}
-use Rattle.std.proofs.Math.ListN.{set}
 use mathlib.Core.Path.{fun_ext}
 use Rattle.mem_files.specs.Name.{Name, Bytes, is_openable}
 use Rattle.mem_files.specs.Files.{FileMap, files, with_file}
@@ -38,7 +37,7 @@ use Rattle.law_views.proofs.Fds.{seen_lowest, some_is}
 use Rattle.law_views.proofs.Showing.{Stay, kept_all, kept_pipes, shows_on}
 use Rattle.law_views.proofs.Opened.{with_name, shows_opened, with_place, place_here, place_elsewhere, shows_new_place}
 use Rattle.law_views.proofs.Mid as during
-use Rattle.law_views.proofs.Installs.{entry_free, NotIn, more_held, opened_own, opened_others, opened_fds, no_reader, no_writer, no_file}
+use Rattle.law_views.proofs.Installs.{entry_free, NotIn, opened_own, opened_others, opened_fds, no_file}
 use Rattle.law_views.proofs.Installs as installs
 
 module _ (g : Names) (k : KernelState User) (p : ℕ) (q : Process User) (up : p ≢ 0) (is : at k.table p ≡ Some q) (alive : is_zombie_status q.status ≡ false) (shows : ShowsIn g k) (used : (r fd e : ℕ) → entry_of (fds_at k r) fd ≡ Some e → (f : OpenFile) × (entry_at k.entries e ≡ Some f)) where

@@ -1,8 +1,7 @@
 -- What is opened gets a free entry and a free descriptor, and a name that is not in use yet.
-use Rattle.std.proofs.Common.{◌≡◌, ◌≢◌, ◌⊎◌, ℕ, zero, suc, ◌+◌, ◌-◌, ◌<◌, ◌≤◌, Bool, true, false, List, [], ◌∷◌, Option, Some, None, length, refl, sym, ap, ◌∙◌, subst, inl, inr, arith, get_or, get_or-set_other, get_or-set_same}
-use Rattle.std.specs.Prelude.{slice_set, IsSome}
+use Rattle.std.proofs.Common.{◌≡◌, ◌≢◌, ◌⊎◌, ℕ, ◌-◌, ◌<◌, false, Option, Some, None, length, sym, ap, ◌∙◌, subst, inl, inr, arith, get_or-set_other, get_or-set_same}
+use Rattle.std.specs.Prelude.{slice_set}
 use Rattle.std.proofs.lemmas.Bool.{cases_eq}
-use Rattle.std.proofs.Math.ListN.{set}
 use Rattle.mem_files.specs.Files.{FileMap}
 use Rattle.user_calls.specs.declared.calls.Call.{Call}
 use Rattle.user_calls.specs.declared.calls.Reply.{Reply}
@@ -22,12 +21,9 @@ use Rattle.process_model.specs.Shows.{IsNamed, ShowsIn}
 use Rattle.process_model.specs.Effect.{Sets, answered as answered_seen}
 use Rattle.law_views.proofs.Tables.{At, at_fds, at_ready, ready_others, seen_at, seen_up, seen_alike}
 use Rattle.law_views.proofs.Fds.{seen_set}
-use Rattle.law_views.proofs.Opened.{renamed, with_name, fds_renamed, slot_renamed, shows_opened, with_place, place_here, place_elsewhere, shows_new_place}
+use Rattle.law_views.proofs.Opened.{renamed, fds_renamed, slot_renamed}
 use Rattle.law_views.proofs.Mid as during
-
-pub free_is : {X : Type 0} (x : Option X) → is_free x ≡ true → x ≡ None
-free_is None is = refl
-free_is (Some y) is = absurd (let z : ⊥ = cc in z)
+use Rattle.law_kernel.proofs.EntryCounts.{free_is}
 
 -- the lowest free entry is free
 pub entry_free : (E : Entries) (e : ℕ) → lowest_free_entry E ≡ Some e → (e < length E) × (entry_at E e ≡ None)

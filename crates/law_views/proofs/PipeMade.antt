@@ -2,7 +2,6 @@
 use Rattle.std.proofs.Common.{◌≡◌, ◌≢◌, ◌⊎◌, ℕ, ◌+◌, ◌-◌, ◌<◌, ◌≤◌, Bool, true, false, [], Some, None, length, refl, sym, ap, ◌∙◌, subst, inl, inr, arith, get_or-set_other, get_or-set_same}
 use Rattle.std.specs.Prelude.{nat_lt, if◌then◌else◌, slice_set}
 use Rattle.std.proofs.lemmas.Bool.{cases_eq, ltb-false}
-use Rattle.std.proofs.Math.ListN.{set}
 use Rattle.mem_files.specs.Files.{FileMap, files}
 use Rattle.user_calls.specs.declared.calls.Call.{Call}
 use Rattle.user_calls.specs.declared.calls.Call.TheVariants.{MakePipe}
@@ -27,9 +26,9 @@ use Rattle.process_model.specs.Effect.{lowest}
 use Rattle.law_views.proofs.Tables.{At}
 use Rattle.law_views.proofs.Fds.{seen_lowest, some_is}
 use Rattle.law_views.proofs.Showing.{shows_later, with_bytes, bytes_here, bytes_elsewhere, shows_new_pipe}
-use Rattle.law_views.proofs.Opened.{renamed, with_name, fds_renamed, slot_renamed, shows_opened, with_place, place_here, place_elsewhere, shows_new_place}
+use Rattle.law_views.proofs.Opened.{with_name, shows_opened}
 use Rattle.law_views.proofs.Mid as during
-use Rattle.law_views.proofs.Installs.{entry_free, NotIn, more_held, opened_own, opened_others, opened_fds, no_reader, no_writer, no_file}
+use Rattle.law_views.proofs.Installs.{entry_free, NotIn, more_held, opened_own, opened_others, opened_fds, no_reader, no_writer}
 use Rattle.law_views.proofs.Installs as installs
 
 module _ (g : Names) (k : KernelState User) (p : ℕ) (q : Process User) (up : p ≢ 0) (is : at k.table p ≡ Some q) (alive : is_zombie_status q.status ≡ false) (shows : ShowsIn g k) (used : (r fd e : ℕ) → entry_of (fds_at k r) fd ≡ Some e → (f : OpenFile) × (entry_at k.entries e ≡ Some f)) where

@@ -13,12 +13,12 @@ use Rattle.fd_table.proofs.Holding.{entry_at-all_held}
 use Rattle.proc_table.specs.declared.states.Channel.TheVariants.{Children}
 use Rattle.proc_table.specs.declared.table.Waited.TheVariants.{Reaped, NoChildren, MustSleep}
 use Rattle.proc_table.specs.Slots.{Slot, Process, at, is_free, is_number, is_child_of, is_zombie, is_zombie_child_of, is_zombie_status, parent_or_init}
-use Rattle.proc_table.specs.Calls.{readied, slept, fds_set, forked, newborn, reaped, zombie_child, some_child, wait_answer, lowest_free as lowest_free_slot}
+use Rattle.proc_table.specs.Calls.{fds_set, forked, newborn, reaped, zombie_child, some_child, lowest_free as lowest_free_slot}
 use Rattle.proc_table.proofs.Changes.{kept, was_free, child_is, reaped_is_free, reaped_others, was_zombie_child}
 use Rattle.mem_files.specs.Files.{files}
 use Rattle.kernel_model.specs.declared.events.Full.TheVariants.{Procs, Fds as FullFds'}
 use Rattle.kernel_model.specs.KernelState.{KernelState, fds_at}
-use Rattle.kernel_model.specs.Replies.{answered, refused_for, sleeps}
+use Rattle.kernel_model.specs.Replies.{answered, sleeps}
 use Rattle.kernel_model.specs.Descriptors.{copied, dup, dup_by}
 use Rattle.kernel_model.specs.Processes.{fork_into, exec, wait, wait_by}
 use Rattle.kernel_model.specs.Events.{counted}

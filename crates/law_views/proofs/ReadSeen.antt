@@ -1,5 +1,5 @@
 -- read, as it is seen.
-use Rattle.std.proofs.Common.{◌≡◌, ◌≢◌, ◌⊎◌, ℕ, zero, suc, ◌+◌, ◌<◌, ◌≤◌, Bool, true, false, List, [], ◌∷◌, Option, Some, None, length, take, drop, refl, sym, ap, ◌∙◌, subst, inl, inr, arith}
+use Rattle.std.proofs.Common.{◌≡◌, ◌≢◌, ◌⊎◌, ℕ, zero, suc, ◌+◌, ◌<◌, ◌≤◌, Bool, true, false, List, [], Option, Some, None, length, take, drop, refl, sym, ap, ◌∙◌, subst, inl, inr, arith}
 use Rattle.std.specs.Prelude.{◌==◌, min, if◌then◌else◌, option_map, slice_set}
 use Rattle.std.specs.Option.{is_some}
 use Rattle.std.proofs.lemmas.Bool.{cases_eq, eqb-true, eqb-false}
@@ -32,7 +32,7 @@ use Rattle.kernel_model.specs.Events.{counted}
 use Rattle.sh_machine.specs.State.{User}
 use Rattle.process_model.specs.Seen.{Entry, out, diag, reader, writer, file, fds_seen, Names, view}
 use Rattle.process_model.specs.Shows.{IsFile, IsNamed, GoesOnAt, Shows, ShowsIn}
-use Rattle.process_model.specs.Effect.{NoHolder, Sets, Rest, Answers, PipeChanges, PlaceChanges, ReadsPipe, gets, meets_end, finds_none, ReadsBytes, ReadsFile, ReadsAt, further, answered as answered_seen}
+use Rattle.process_model.specs.Effect.{NoHolder, Sets, Rest, Answers, PlaceChanges, ReadsPipe, gets, meets_end, finds_none, ReadsBytes, ReadsFile, ReadsAt, further, answered as answered_seen}
 use Rattle.law_views.proofs.Tables.{At, others_then, at_ready, ready_others, at_slept, slept_others, at_woken, woken_others, others_refl, slept_sleeps}
 use Rattle.law_views.proofs.Fds.{seen_fd}
 use Rattle.law_views.proofs.Showing.{with_bytes, bytes_here, bytes_elsewhere, shows_bytes}

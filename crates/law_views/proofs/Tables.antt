@@ -6,13 +6,13 @@ use Rattle.fd_table.specs.Descriptors.{Descriptors}
 use Rattle.proc_table.specs.declared.states.Channel.{Channel}
 use Rattle.proc_table.specs.declared.states.Channel.TheVariants.{PipeBytes, PipeRoom}
 use Rattle.proc_table.specs.declared.states.Status.{Status}
-use Rattle.proc_table.specs.declared.states.Status.TheVariants.{Runnable, Running, Asleep, Zombie}
-use Rattle.proc_table.specs.Slots.{Process, Slot, Table, at, is_zombie_status, is_asleep_on_status, is_asleep, parent_or_init}
+use Rattle.proc_table.specs.declared.states.Status.TheVariants.{Runnable, Running, Asleep}
+use Rattle.proc_table.specs.Slots.{Process, Slot, Table, at, is_zombie_status, is_asleep, parent_or_init}
 use Rattle.proc_table.specs.Calls.{readied, made_ready, slept, put_to_sleep, fds_set, with_fds, all_woken, woken, woken_status, with_status, dispatched}
 use Rattle.proc_table.proofs.Changes.{written, kept, mapped}
-use Rattle.law_kernel.proofs.Slots.{woken_or_not}
 use Rattle.sh_machine.specs.State.{User}
 use Rattle.process_model.specs.Seen.{Entry, act_of, fds_seen, zombie, live, seen_by, seen_slot, seen}
+use Rattle.law_kernel.proofs.Exits.{zombie_by}
 
 -- the process of p, but for its status, which isn't Zombie
 pub record At (t : Table User) (p : ℕ) (parent : Option ℕ) (machine : User) (reply : Reply) (d : Descriptors) (put : ℕ) : Type 0 where
@@ -65,13 +65,6 @@ at_slept t p parent m r d put now c a = record { status = Asleep c; alive = refl
 pub slept_others : (name : ℕ → Entry) (t : Table User) (p now : ℕ) (c : Channel) → Others name t (slept t p c now) p
 slept_others name t p now c = set_others name t p (put_to_sleep c now (at t p))
 
--- a wake-up is not seen
-woken_zombie : (c : Channel) (s : Status) → is_zombie_status (woken_status c s) ≡ is_zombie_status s
-woken_zombie c Runnable = refl
-woken_zombie c (Running h) = refl
-woken_zombie c (Asleep d) = woken_or_not (is_asleep_on_status c (Asleep d)) d
-woken_zombie c Zombie = refl
-
 same_but_status : (name : ℕ → Entry) (p q : Process User) (b : Bool) → q.parent ≡ p.parent → q.machine ≡ p.machine → q.reply ≡ p.reply → q.fds ≡ p.fds → q.put ≡ p.put → seen_by b name q ≡ seen_by b name p
 same_but_status name p q true pa ma re fd pu = ap (λ x. zombie (parent_or_init x)) pa
 same_but_status name p q false pa ma re fd pu = cc
@@ -79,11 +72,11 @@ same_but_status name p q false pa ma re fd pu = cc
 pub woken_seen : (name : ℕ → Entry) (c : Channel) (x : Slot User) → seen_slot name (woken c x) ≡ seen_slot name x
 woken_seen name c None = refl
 woken_seen name c (Some p) =
-    ap (λ b. seen_by b name (record { status = woken_status c p.status; parent = p.parent; machine = p.machine; reply = p.reply; fds = p.fds; put = p.put })) (woken_zombie c p.status)
+    ap (λ b. seen_by b name (record { status = woken_status c p.status; parent = p.parent; machine = p.machine; reply = p.reply; fds = p.fds; put = p.put })) (zombie_by c p.status)
     ∙ same_but_status name p (record { status = woken_status c p.status; parent = p.parent; machine = p.machine; reply = p.reply; fds = p.fds; put = p.put }) (is_zombie_status p.status) refl refl refl refl refl
 
 pub at_woken : (t : Table User) (p : ℕ) (parent : Option ℕ) (m : User) (r : Reply) (d : Descriptors) (put : ℕ) (c : Channel) → At t p parent m r d put → At (all_woken c t) p parent m r d put
-at_woken t p parent m r d put c a = record { status = woken_status c a.status; alive = woken_zombie c a.status ∙ a.alive; is = mapped (woken c) refl t p ∙ ap (woken c) a.is }
+at_woken t p parent m r d put c a = record { status = woken_status c a.status; alive = zombie_by c a.status ∙ a.alive; is = mapped (woken c) refl t p ∙ ap (woken c) a.is }
 
 pub woken_others : (name : ℕ → Entry) (t : Table User) (p : ℕ) (c : Channel) → Others name t (all_woken c t) p
 woken_others name t p c q ne = ap (seen_slot name) (mapped (woken c) refl t q) ∙ woken_seen name c (at t q)

@@ -1,5 +1,5 @@
 -- write, as it is seen.
-use Rattle.std.proofs.Common.{◌≡◌, ◌≢◌, ◌⊎◌, ℕ, zero, suc, ◌+◌, ◌-◌, ◌<◌, ◌≤◌, Bool, true, false, List, [], ◌∷◌, ◌++◌, Option, Some, None, length, take, drop, refl, sym, ap, ◌∙◌, subst, inl, inr, arith}
+use Rattle.std.proofs.Common.{◌≡◌, ◌≢◌, ◌⊎◌, ℕ, ◌+◌, ◌-◌, ◌<◌, ◌≤◌, Bool, true, false, List, [], ◌++◌, Option, Some, None, length, take, drop, refl, sym, ap, ◌∙◌, subst, inl, inr, arith}
 use Rattle.std.specs.Prelude.{◌==◌, min, not, nat_le, nat_lt, if◌then◌else◌, option_map, slice_set}
 use Rattle.std.specs.Option.{is_some}
 use Rattle.std.proofs.lemmas.Bool.{cases_eq, eqb-true, eqb-false, ne_eqb, eq-eqb, leb-true, leb-false}
@@ -37,7 +37,7 @@ use Rattle.kernel_model.specs.Replies.{answered, refused_for, sleeps, wakes}
 use Rattle.kernel_model.specs.Writing.{write_file, append_file, write_mode, write_by, write_pipe, write_object, write_entry, write_held, write}
 use Rattle.kernel_model.specs.Events.{counted}
 use Rattle.sh_machine.specs.State.{User}
-use Rattle.process_model.specs.Seen.{Entry, input, out, diag, reader, writer, file, Place, Seen, act_of, fds_seen, live, seen, Names, view}
+use Rattle.process_model.specs.Seen.{Entry, input, out, diag, reader, file, Place, Seen, fds_seen, live, Names, view}
 use Rattle.process_model.specs.Shows.{IsFile, IsNamed, GoesOnAt, Shows, ShowsIn}
 use Rattle.process_model.specs.Effect.{NoHolder, Sets, Rest, Answers, PipeChanges, PlaceChanges, WritesPipe, puts_all, puts_some, has_no_reader, finds_it_full, WritesHere, WritesOver, WritesBehind, WritesFile, WritesAt, further, answered as answered_seen}
 use Rattle.law_views.proofs.Tables.{At, others_then, at_ready, ready_others, at_slept, slept_others, at_woken, woken_others, others_refl, sleeps_for_room}
