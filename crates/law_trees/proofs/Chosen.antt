@@ -15,6 +15,7 @@ use Rattle.tree_model.specs.Answers.{Kind, leaves, reads_input, writes_output, a
 use Rattle.tree_model.specs.Rules.{Label, silent, takes, meets_end, puts, refused, patch, patched, is_gap, Steps, IsMet, taken, put_out, is_refused}
 use Rattle.tree_model.specs.Rules.Steps.{begins, opens, exits, calls, reads, reads_end, writes_all, writes_some, write_refused, seq_ends, pipe_ends, from_ends, into_ends, seq_steps, left_silent, left_takes, left_meets_end, left_puts, left_refused, right_silent, right_takes, right_meets_end, right_puts, right_refused, from_silent, from_takes, from_meets_end, from_puts, from_refused, into_silent, into_takes, into_meets_end, into_puts, into_refused}
 use Rattle.tree_model.specs.Step.{Move, Choice, here, on_left, on_right, quiet, read_input, put_some, write_output, act, run_move, seq_move, left_move, right_move, from_move, into_move, step}
+use mathlib.Core.Bool.{or-false}
 
 abbrev pub move_by : Label → Residual → FileMap → Move Residual
 move_by label X F = record { wrote = put_out label; refused = is_refused label; took = taken label; next = X; files = F }
@@ -58,10 +59,6 @@ patched_none F f at = fun_ext (λ n. go (bytes_eq n f) (F n))
     go : (b : Bool) (o : Option Bytes) → (if b then patch o at [] else o) ≡ o
     go true o = same o
     go false o = refl
-
-or_end : (b : Bool) → (b || false) ≡ b
-or_end true = refl
-or_end false = refl
 
 module _ (profile : Profile) where
   -- a call of a known kind
@@ -117,16 +114,16 @@ module _ (profile : Profile) where
   chosen cl en i (seq_steps {later = T} s) met = let a = chosen cl en i s met in (on_left a.0, ap (seq_move T) a.1)
   chosen cl en i (left_silent {G = G} {X' = X'} {Y = Y} {lost = lost} {q = q} s) met =
       let a = chosen (not (keeps_0 Y)) en i s tt in
-      (on_left a.0, ap (left_move lost q Y) a.1 ∙ (λ t. move_by silent (piped (or_end lost t) X' (append-nil q t) Y) G))
+      (on_left a.0, ap (left_move lost q Y) a.1 ∙ (λ t. move_by silent (piped (or-false lost t) X' (append-nil q t) Y) G))
   chosen cl en i (left_takes {G = G} {X' = X'} {Y = Y} {lost = lost} {q = q} {bytes = b} s) met =
       let a = chosen (not (keeps_0 Y)) en i s met in
-      (on_left a.0, ap (left_move lost q Y) a.1 ∙ (λ t. move_by (takes b) (piped (or_end lost t) X' (append-nil q t) Y) G))
+      (on_left a.0, ap (left_move lost q Y) a.1 ∙ (λ t. move_by (takes b) (piped (or-false lost t) X' (append-nil q t) Y) G))
   chosen cl en i (left_meets_end {G = G} {X' = X'} {Y = Y} {lost = lost} {q = q} s) met =
       let a = chosen (not (keeps_0 Y)) en i s met in
-      (on_left a.0, ap (left_move lost q Y) a.1 ∙ (λ t. move_by meets_end (piped (or_end lost t) X' (append-nil q t) Y) G))
+      (on_left a.0, ap (left_move lost q Y) a.1 ∙ (λ t. move_by meets_end (piped (or-false lost t) X' (append-nil q t) Y) G))
   chosen cl en i (left_puts {G = G} {X' = X'} {Y = Y} {lost = lost} {q = q} s e room) met =
       let a = chosen (not (keeps_0 Y)) en i s tt in
-      (on_left a.0, ap (left_move lost q Y) a.1 ∙ (λ t. move_by silent (piped (or_end lost t) X' (sym e t) Y) G))
+      (on_left a.0, ap (left_move lost q Y) a.1 ∙ (λ t. move_by silent (piped (or-false lost t) X' (sym e t) Y) G))
   chosen cl en i (left_refused {G = G} {X' = X'} {Y = Y} {lost = lost} {q = q} s closed) met =
       let a = chosen (not (keeps_0 Y)) en i s (ap not closed) in
       (on_left a.0, ap (left_move lost q Y) a.1 ∙ (λ t. move_by silent (piped (or_right lost true refl t) X' (append-nil q t) Y) G))
