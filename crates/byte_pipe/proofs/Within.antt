@@ -6,7 +6,7 @@ use Rattle.byte_pipe.specs.declared.TheConstants.{PIPE_SIZE}
 use Rattle.byte_pipe.specs.PipeState.{PipeState, room, appended}
 use Rattle.byte_pipe.specs.PipeCall.{PipeCall, puts, takes, closes_read, closes_write, after_call, after_calls}
 
-few_appended : (reader : Bool) (r : ℕ) (xs : List ℕ) → length (if reader then take r xs else []) ≤ r
+pub few_appended : (reader : Bool) (r : ℕ) (xs : List ℕ) → length (if reader then take r xs else []) ≤ r
 few_appended true r xs = omega (arith, length-take r xs)
 few_appended false r xs = omega arith
 

@@ -60,7 +60,7 @@ holders-among before after fds e =
 holders_in-set : (fds : Descriptors) (fd : ℕ) (place : Option ℕ) (e : ℕ) → fd < length fds → holders_in (set fds fd place) e + cond (is_entry e (get_or fds fd None)) 1 0 ≡ holders_in fds e + cond (is_entry e place) 1 0
 holders_in-set fds fd place e within = sum_by-set (λ x. cond {A = ℕ} (is_entry e x) 1 0) fds fd place None within
 
-free_is_none : {X : Type 0} (x : Option X) → is_free x ≡ true → x ≡ None
+pub free_is_none : {X : Type 0} (x : Option X) → is_free x ≡ true → x ≡ None
 free_is_none None free = refl
 free_is_none (Some x) free = absurd (let no : ⊥ = cc in no)
 

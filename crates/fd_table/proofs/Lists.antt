@@ -2,7 +2,7 @@
 use Rattle.std.proofs.Common.{◌≡◌, ℕ, zero, suc, ◌<◌, List, [], ◌∷◌, Bool, true, false, Option, Some, None, length, get_or, refl, sym, ap, ◌∙◌, arith}
 use Rattle.std.proofs.lemmas.List.Sums.{passes_at_first}
 use Rattle.std.proofs.lemmas.Bool.{ltb-true}
-use Rattle.std.specs.Prelude.{replicate, position, nat_lt, cond}
+use Rattle.std.specs.Prelude.{replicate, position, nat_lt, cond, IsSome}
 use Rattle.std.specs.List.{position_or_len}
 
 -- a list of n equal elements
@@ -35,3 +35,8 @@ pub within_list : {X : Type 0} (xs : List (Option X)) (i : ℕ) (x : X) → get_
 within_list [] i x is = absurd (let no : ⊥ = cc in no)
 within_list (y ∷ xs) zero x is = omega arith
 within_list (y ∷ xs) (suc i) x is = omega (arith, within_list xs i x is)
+
+-- what is there
+pub some_is : {X : Type 0} (o : Option X) → IsSome o → (x : X) × (o ≡ Some x)
+some_is None some = absurd (let z : ⊥ = cc in z)
+some_is (Some x) some = (x, refl)

@@ -21,7 +21,7 @@ use Rattle.mem_files.specs.Listing.{max_files}
 use Rattle.kernel_model.proofs.Keeps.{ready_keeps, fds_mid}
 use Rattle.kernel_model.proofs.Offsets.{added_small}
 
-some_by : {X : Type 0} (o : Option X) → is_none o ≡ false → IsSome o
+pub some_by : {X : Type 0} (o : Option X) → is_none o ≡ false → IsSome o
 some_by None is = absurd (let z : ⊥ = cc in z)
 some_by (Some x) is = refl
 

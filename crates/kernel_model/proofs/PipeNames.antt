@@ -6,7 +6,7 @@ use Rattle.byte_pipe.specs.PipeState.{PipeState, new_pipe}
 use Rattle.kernel_model.specs.Pipes.{Pipes, pipe_of, with_pipe, without_pipe, with_new, kept_while_open}
 
 -- the name of the pipe at the front isn't one that has no pipe
-not_front : (p : ℕ × PipeState) (rest : Pipes) (other : ℕ) → pipe_of (p ∷ rest) other ≡ None → ((other == p.0) ≡ false) × (pipe_of rest other ≡ None)
+pub not_front : (p : ℕ × PipeState) (rest : Pipes) (other : ℕ) → pipe_of (p ∷ rest) other ≡ None → ((other == p.0) ≡ false) × (pipe_of rest other ≡ None)
 not_front p rest other none = by (other == p.0) refl none where
   by : (b : Bool) → (other == p.0) ≡ b → (if b then Some p.1 else pipe_of rest other) ≡ None → ((other == p.0) ≡ false) × (pipe_of rest other ≡ None)
   by true is some = absurd (let z : ⊥ = cc in z)
@@ -22,7 +22,7 @@ changed_names (p ∷ rest) id now other none = by (id == p.0) (not_front p rest 
   by true at later = behind (p.0, now) rest other at.0 at.1
   by false at later = behind p (with_pipe rest id now) other at.0 (later at.1)
 
-given_up_names : (pipes : Pipes) (id other : ℕ) → pipe_of pipes other ≡ None → pipe_of (without_pipe pipes id) other ≡ None
+pub given_up_names : (pipes : Pipes) (id other : ℕ) → pipe_of pipes other ≡ None → pipe_of (without_pipe pipes id) other ≡ None
 given_up_names [] id other none = refl
 given_up_names (p ∷ rest) id other none = by (id == p.0) (not_front p rest other none) (given_up_names rest id other) where
   by : (b : Bool) → ((other == p.0) ≡ false) × (pipe_of rest other ≡ None) → (pipe_of rest other ≡ None → pipe_of (without_pipe rest id) other ≡ None) → pipe_of (if b then rest else p ∷ without_pipe rest id) other ≡ None

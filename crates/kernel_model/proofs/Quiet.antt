@@ -32,7 +32,7 @@ use Rattle.kernel_model.specs.Lasting.{IsLater}
 use Rattle.kernel_model.specs.Quiet.{no_refusals}
 use Rattle.kernel_model.proofs.Lasting.{run_later, no_run}
 
-is_marked : (o : Option Full) (full : Full) → marked o full ≡ None → ⊥
+pub is_marked : (o : Option Full) (full : Full) → marked o full ≡ None → ⊥
 is_marked None full is = cc
 is_marked (Some first) full is = cc
 

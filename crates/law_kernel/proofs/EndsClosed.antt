@@ -16,6 +16,7 @@ use Rattle.law_kernel.specs.Ends.{reads_pipe, writes_pipe, has_object, read_end_
 use Rattle.law_kernel.proofs.OnePipe.{found_now, others_found, others_stay}
 use Rattle.law_kernel.proofs.PipeNames.{apart_with, apart_without, apart_closed, given_up_is_gone}
 use Rattle.law_kernel.proofs.EntryCounts.{unchanged, freed}
+use mathlib.Core.Bool.{or-false}
 
 -- entries that have the same objects open
 pub entries_agree : (E now : Entries) (pipes : Pipes) → ((test : Object → Bool) → count_by (has_object test) now ≡ count_by (has_object test) E) → EndsAgree E pipes → EndsAgree now pipes
@@ -99,11 +100,7 @@ module _ (E : Entries) (pipes : Pipes) (e id : ℕ) (f : OpenFile) (a : EndsAgre
   writer_agrees : f.object ≡ PipeWrite id → (o : Option PipeState) → pipe_of pipes id ≡ o → EndsAgree (set E e None) (writer_gone pipes id o)
   writer_agrees object None found =
       absurd (omega (arith, freed (writes_pipe id) E e f is, ap (λ (x : Object). tally (writes_pipe id x)) object, ap tally (eq-eqb id id refl), a.writers id, ap (λ (x : Option PipeState). tally (write_end_open x)) found))
-  writer_agrees object (Some p) found = by (p.reader || false) (or_none p.reader) where
-    or_none : (b : Bool) → (b || false) ≡ b
-    or_none true = refl
-    or_none false = refl
-
+  writer_agrees object (Some p) found = by (p.reader || false) (or-false p.reader) where
     now : PipeState
     now = after_close_write p
 

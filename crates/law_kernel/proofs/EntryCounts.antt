@@ -11,14 +11,11 @@ use Rattle.fd_table.specs.Descriptors.{Descriptors, holders_in, all_held, all_he
 use Rattle.fd_table.proofs.Lists.{position_found, within_list}
 use Rattle.proc_table.specs.Slots.{tally}
 use Rattle.law_kernel.specs.Ends.{has_object}
+use Rattle.fd_table.proofs.Counting.{free_is_none}
 
 tally_is : (b : Bool) → cond {A = ℕ} b 1 0 ≡ tally b
 tally_is true = refl
 tally_is false = refl
-
-pub free_is : {X : Type 0} (x : Option X) → is_free x ≡ true → x ≡ None
-free_is None is = refl
-free_is (Some y) is = absurd (let z : ⊥ = cc in z)
 
 module _ (test : Object → Bool) where
   abbrev p : Option OpenFile → Bool
@@ -44,7 +41,7 @@ module _ (test : Object → Bool) where
   pub opened_count : (E : Entries) (e : ℕ) (object : Object) → lowest_free_entry E ≡ Some e → count_by p (added_at E (Some e) object) ≡ count_by p E + tally (test object)
   opened_count E e object found =
       let at = position_found is_free E None e found in
-      omega (arith, changed E e (Some (opened object)) at.0, ap (λ (x : Option OpenFile). tally (p x)) (free_is (entry_at E e) at.1))
+      omega (arith, changed E e (Some (opened object)) at.0, ap (λ (x : Option OpenFile). tally (p x)) (free_is_none (entry_at E e) at.1))
 
   more_same : (n : ℕ) (x : Option OpenFile) → p (more_held n x) ≡ p x
   more_same n None = refl

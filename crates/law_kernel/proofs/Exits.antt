@@ -14,6 +14,7 @@ use Rattle.law_kernel.specs.Sleeping.{Waits, WaitsForChild, SleepsOn, Lives, Res
 use Rattle.law_kernel.specs.Busy.{IsBusy}
 use Rattle.law_kernel.proofs.Slots.{woken_or_not, sleeps_on}
 use Rattle.law_kernel.proofs.Children.{none_at}
+use Rattle.proc_table.proofs.Counts.{woken_free, given_free}
 
 -- ---- one slot
 
@@ -31,17 +32,9 @@ zombie_woken : {S : Type 0} (c : Channel) (x : Slot S) → is_zombie (woken c x)
 zombie_woken c None = refl
 zombie_woken c (Some p) = zombie_by c p.status
 
-free_woken : {S : Type 0} (c : Channel) (x : Slot S) → is_free (woken c x) ≡ is_free x
-free_woken c None = refl
-free_woken c (Some p) = refl
-
 zombie_given : {S : Type 0} (pid : ℕ) (x : Slot S) → is_zombie (given pid x) ≡ is_zombie x
 zombie_given pid None = refl
 zombie_given pid (Some p) = refl
-
-free_given : {S : Type 0} (pid : ℕ) (x : Slot S) → is_free (given pid x) ≡ is_free x
-free_given pid None = refl
-free_given pid (Some p) = refl
 
 asleep_given : {S : Type 0} (pid : ℕ) (x : Slot S) (c : Channel) → SleepsOn (given pid x) c → SleepsOn x c
 asleep_given pid None c sleeps = sleeps
@@ -78,8 +71,8 @@ module _ {S : Type 0} (t : Table S) (pid : ℕ) where
   free_after : (x : Slot S) → is_free (woken_by_exit t pid x) ≡ is_free x
   free_after x =
       let once = woken (Children parent) x in
-      let first : is_free once ≡ is_free x = free_woken (Children parent) x in
-      of_if is_free (is_some (zombie_child t pid)) (woken (Children 0) once) once (is_free x) (free_woken (Children 0) once ∙ first) first
+      let first : is_free once ≡ is_free x = woken_free (Children parent) x in
+      of_if is_free (is_some (zombie_child t pid)) (woken (Children 0) once) once (is_free x) (woken_free (Children 0) once ∙ first) first
 
   -- who sleeps on slept before, and on no channel that was woken
   slept_on : (b : Bool) (x : Slot S) (c : Channel) → SleepsOn (if b then woken (Children 0) (woken (Children parent) x) else woken (Children parent) x) c → SleepsOn x c × (same_channel (Children parent) c ≡ false) × (b ≡ true → same_channel (Children 0) c ≡ false)
@@ -160,7 +153,7 @@ module _ {S : Type 0} (t : Table S) (pid : ℕ) where
 
     lives_after : (q : ℕ) → q ≢ pid → Lives (at t q) → Lives (at u q)
     lives_after q ne lives =
-        record { used = ap is_free (exit_other t pid q ne) ∙ free_after (given pid (at t q)) ∙ free_given pid (at t q) ∙ lives.used; alive = zombie_other q ne ∙ lives.alive }
+        record { used = ap is_free (exit_other t pid q ne) ∙ free_after (given pid (at t q)) ∙ given_free pid (at t q) ∙ lives.used; alive = zombie_other q ne ∙ lives.alive }
 
     parents_after : (i q : ℕ) → (q ≡ pid) ⊎ (q ≢ pid) → (q ≡ 0) ⊎ (q ≢ 0) → is_child_of q (at u i) ≡ true → Lives (at u q)
     parents_after i q (inl is) z c =

@@ -4,15 +4,8 @@ use Rattle.std.proofs.lemmas.Bool.{eq-eqb, eqb-true, ne_eqb}
 use Rattle.std.specs.Prelude.{if◌then◌else◌, ◌==◌, ◌||◌}
 use Rattle.byte_pipe.specs.PipeState.{PipeState, new_pipe}
 use Rattle.kernel_model.specs.Pipes.{Pipes, pipe_of, with_pipe, without_pipe, with_new, kept_while_open}
-use Rattle.kernel_model.proofs.PipeNames.{changed_names, closed_names}
+use Rattle.kernel_model.proofs.PipeNames.{changed_names, not_front, given_up_names}
 use Rattle.law_kernel.specs.Ends.{AreApart}
-
--- the name of the pipe at the front isn't one that has no pipe
-front : (p : ℕ × PipeState) (rest : Pipes) (other : ℕ) → pipe_of (p ∷ rest) other ≡ None → ((other == p.0) ≡ false) × (pipe_of rest other ≡ None)
-front p rest other none = by (other == p.0) refl none where
-  by : (b : Bool) → (other == p.0) ≡ b → (if b then Some p.1 else pipe_of rest other) ≡ None → ((other == p.0) ≡ false) × (pipe_of rest other ≡ None)
-  by true is some = absurd (let z : ⊥ = cc in z)
-  by false is later = (is, later)
 
 pub apart_with : (pipes : Pipes) (id : ℕ) (now : PipeState) → AreApart pipes → AreApart (with_pipe pipes id now)
 apart_with [] id now a = tt
@@ -21,15 +14,12 @@ apart_with (p ∷ rest) id now a = by (id == p.0) (apart_with rest id now a.1) w
   by true later = (a.0, a.1)
   by false later = (changed_names rest id now p.0 a.0, later)
 
-given_up_name : (pipes : Pipes) (id other : ℕ) → pipe_of pipes other ≡ None → pipe_of (without_pipe pipes id) other ≡ None
-given_up_name pipes id other none = closed_names pipes id (record { bytes = []; reader = false; writer = false }) other none
-
 pub apart_without : (pipes : Pipes) (id : ℕ) → AreApart pipes → AreApart (without_pipe pipes id)
 apart_without [] id a = tt
 apart_without (p ∷ rest) id a = by (id == p.0) (apart_without rest id a.1) where
   by : (b : Bool) → AreApart (without_pipe rest id) → AreApart (if b then rest else p ∷ without_pipe rest id)
   by true later = a.1
-  by false later = (given_up_name rest id p.0 a.0, later)
+  by false later = (given_up_names rest id p.0 a.0, later)
 
 pub apart_closed : (pipes : Pipes) (id : ℕ) (now : PipeState) → AreApart pipes → AreApart (kept_while_open pipes id now)
 apart_closed pipes id now a = by (now.reader || now.writer) where
@@ -57,11 +47,11 @@ new_other (p ∷ rest) new other ne = by (other == p.0) (new_other rest new othe
 pub new_self : (pipes : Pipes) (new : ℕ) → pipe_of pipes new ≡ None → pipe_of (with_new pipes new) new ≡ Some new_pipe
 new_self [] new none = ap (λ (b : Bool). if b then Some new_pipe else None) (eq-eqb new new refl)
 new_self (p ∷ rest) new none =
-    let at = front p rest new none in
+    let at = not_front p rest new none in
     ap (λ (b : Bool). if b then Some p.1 else pipe_of (with_new rest new) new) at.0 ∙ new_self rest new at.1
 
 pub apart_new : (pipes : Pipes) (new : ℕ) → pipe_of pipes new ≡ None → AreApart pipes → AreApart (with_new pipes new)
 apart_new [] new none a = (refl, tt)
 apart_new (p ∷ rest) new none a =
-    let at = front p rest new none in
+    let at = not_front p rest new none in
     (new_other rest new p.0 (λ same. let no : true ≡ false = sym (eq-eqb new p.0 (sym same)) ∙ at.0 in let z : ⊥ = cc in z) ∙ a.0, apart_new rest new at.1 a.1)

@@ -1,5 +1,5 @@
 -- A write to a pipe loses no wake-up: it wakes the readers, and has to sleep where the pipe is full before all is put.
-use Rattle.std.proofs.Common.{◌≡◌, ℕ, ◌+◌, ◌<◌, ◌≤◌, List, [], ◌++◌, Bool, true, false, Some, length, take, refl, ap, subst, ◌∙◌, arith, length-append}
+use Rattle.std.proofs.Common.{◌≡◌, ℕ, ◌+◌, ◌<◌, ◌≤◌, List, [], ◌++◌, Bool, true, Some, length, take, refl, ap, subst, ◌∙◌, arith, length-append}
 use Rattle.std.proofs.lemmas.List.{length-take}
 use Rattle.std.proofs.lemmas.Bool.{both_ways, eq-eqb}
 use Rattle.std.specs.Prelude.{if◌then◌else◌, min}
@@ -17,25 +17,22 @@ use Rattle.law_kernel.specs.Sleeping.{Waits, AreSmall, Rests}
 use Rattle.law_kernel.specs.Busy.{IsBusy, IsFair}
 use Rattle.law_kernel.proofs.OnePipe.{pipe_still, found_now, small_found, small_with}
 use Rattle.law_kernel.proofs.Slots.{rests, ready_busy, sleep_busy, wake_busy, awake, asleep_where, slept_before}
+use Rattle.byte_pipe.proofs.Within.{few_appended}
 
 pub same_bytes : (id : ℕ) → same_channel (PipeBytes id) (PipeBytes id) ≡ true
 same_bytes id = eq-eqb id id refl
 
 -- ---- how many bytes a pipe holds after a put
 
-put_within : (reader : Bool) (r : ℕ) (xs : List ℕ) → length (if reader then take r xs else []) ≤ r
-put_within true r xs = omega (arith, length-take r xs)
-put_within false r xs = omega arith
-
 no_more_than_fits : (p : PipeState) (xs : List ℕ) → length p.bytes ≤ PIPE_SIZE → length (after_put p xs).bytes ≤ PIPE_SIZE
-no_more_than_fits p xs fits = omega (arith, length-append p.bytes (appended p xs), put_within p.reader (room p) xs, fits)
+no_more_than_fits p xs fits = omega (arith, length-append p.bytes (appended p xs), few_appended p.reader (room p) xs, fits)
 
 held_after : (p : PipeState) (xs : List ℕ) → p.reader ≡ true → length (after_put p xs).bytes ≡ length p.bytes + min (room p) (length xs)
 held_after p xs reads =
     ap (λ (b : Bool). length (p.bytes ++ (if b then take (room p) xs else []))) reads ∙ omega (arith, length-append p.bytes (take (room p) xs), length-take (room p) xs)
 
 still_full : (p : PipeState) (xs : List ℕ) → length p.bytes ≡ PIPE_SIZE → length (after_put p xs).bytes ≡ PIPE_SIZE
-still_full p xs full = omega (arith, length-append p.bytes (appended p xs), put_within p.reader (room p) xs, full)
+still_full p xs full = omega (arith, length-append p.bytes (appended p xs), few_appended p.reader (room p) xs, full)
 
 -- ---- the write
 

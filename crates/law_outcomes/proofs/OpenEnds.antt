@@ -27,6 +27,8 @@ use Rattle.kernel_model.specs.Descriptors.{closed_by, close, copied, dup_by, dup
 use Rattle.kernel_model.specs.Opening.{open_reply, emptied_if, with_bytes, open_here, open_for_reading, open_for_writing, open_named, open_file}
 use Rattle.law_outcomes.specs.Outcome.{Outcome, refused, lacks, opens, opens_empty, closes, dups, pipes}
 use Rattle.law_outcomes.proofs.Ways.{denied, no_room, either}
+use Rattle.kernel_model.proofs.Opening.{some_by}
+use Rattle.fd_table.proofs.Lists.{some_is}
 
 -- ---- a table that a call leaves as it was
 
@@ -43,14 +45,6 @@ fds_back : {S : Type 0} (t : Table S) (pid : ℕ) → fds_set t pid (fds_of (at 
 fds_back t pid = ap (set t pid) (own_fds (at t pid)) ∙ set_back t pid
 
 -- ---- free places
-
-some_is : {X : Type 0} (o : Option X) → IsSome o → (x : X) × (o ≡ Some x)
-some_is None is = absurd (let z : ⊥ = cc in z)
-some_is (Some x) is = (x, refl)
-
-not_none : {X : Type 0} (o : Option X) → is_none o ≡ false → IsSome o
-not_none None is = absurd (let z : ⊥ = cc in z)
-not_none (Some x) is = refl
 
 -- a process whose descriptors were set has a free place where these have
 free_still : {S : Type 0} (fds : Descriptors) (x : Slot S) → IsSome (lowest_free fds) → IsSome (lowest_free (fds_of (with_fds fds x)))
@@ -97,7 +91,7 @@ module _ {S : Type 0} (k : KernelState S) (pid : ℕ) (after : S) (call : Call) 
       either (free_count k.entries == 0) (refused_for k pid after Open) roomy (λ _. no_room Open)
       (λ _. either (is_none (lowest_free (fds_at k pid))) (refused_for k pid after Fds) good (λ _. no_room Fds)
       (λ free. either (is_openable name) named (answered k pid after Refused)
-      (λ _. let place = some_is (lowest_free (fds_at k pid)) (not_none (lowest_free (fds_at k pid)) free) in named_ends name mode is place.0 place.1 memory)
+      (λ _. let place = some_is (lowest_free (fds_at k pid)) (some_by (lowest_free (fds_at k pid)) free) in named_ends name mode is place.0 place.1 memory)
       (λ _. denied)))
 
   -- ---- close and dup

@@ -1,6 +1,6 @@
 -- Descriptors as they are seen: what each is open on, changes of one, and the lowest that is free.
 use Rattle.std.proofs.Common.{◌≡◌, ℕ, zero, suc, ◌+◌, [], ◌∷◌, Option, Some, None, length, refl, sym, ap, ◌∙◌, arith}
-use Rattle.std.specs.Prelude.{replicate, option_map, slice_set, cond, nat_lt, IsSome}
+use Rattle.std.specs.Prelude.{replicate, option_map, slice_set, cond, nat_lt}
 use Rattle.std.specs.List.{position_or_len}
 use Rattle.fd_table.specs.Entries.{OpenFile, entry_at, is_free}
 use Rattle.fd_table.specs.Descriptors.{Descriptors, entry_of, lowest_free, HoldsInUse}
@@ -13,6 +13,7 @@ use Rattle.kernel_model.proofs.Held.{held_in_use}
 use Rattle.sh_machine.specs.State.{User}
 use Rattle.process_model.specs.Seen.{Entry, fd_at, fds_seen}
 use Rattle.process_model.specs.Effect.{lowest}
+use Rattle.fd_table.proofs.Lists.{some_is}
 
 pub seen_fd : (name : ℕ → Entry) (d : Descriptors) (fd : ℕ) → fd_at (fds_seen name d) fd ≡ option_map name (entry_of d fd)
 seen_fd name [] fd = refl
@@ -44,10 +45,6 @@ pub none_open : (n fd e : ℕ) → entry_of (replicate n None) fd ≡ Some e →
 none_open zero fd e is = let z : ⊥ = cc in z
 none_open (suc n) zero e is = let z : ⊥ = cc in z
 none_open (suc n) (suc fd) e is = none_open n fd e is
-
-pub some_is : {X : Type 0} (o : Option X) → IsSome o → (x : X) × (o ≡ Some x)
-some_is None some = absurd (let z : ⊥ = cc in z)
-some_is (Some x) some = (x, refl)
 
 pub held_is_used : (k : KernelState User) → IsSound k.table k.entries → (r fd e : ℕ) → entry_of (fds_at k r) fd ≡ Some e → (f : OpenFile) × (entry_at k.entries e ≡ Some f)
 held_is_used k sound r fd e is = by (at k.table r) refl

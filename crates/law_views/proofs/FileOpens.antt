@@ -33,12 +33,14 @@ use Rattle.process_model.specs.Seen.{file, Place, fds_seen, seen_slot, Names, vi
 use Rattle.process_model.specs.Shows.{IsNamed, GoesOnAt, Shows, ShowsIn}
 use Rattle.process_model.specs.Effect.{OpensNamed, OpensBy, Opens, files_read, files_kept, files_opened, first_byte}
 use Rattle.law_views.proofs.Tables.{At}
-use Rattle.law_views.proofs.Fds.{seen_lowest, some_is}
+use Rattle.law_views.proofs.Fds.{seen_lowest}
 use Rattle.law_views.proofs.Showing.{Stay, kept_all, kept_pipes, shows_on}
 use Rattle.law_views.proofs.Opened.{with_name, shows_opened, with_place, place_here, place_elsewhere, shows_new_place}
 use Rattle.law_views.proofs.Mid as during
 use Rattle.law_views.proofs.Installs.{entry_free, NotIn, opened_own, opened_others, opened_fds, no_file}
 use Rattle.law_views.proofs.Installs as installs
+use Rattle.kernel_model.proofs.Quiet.{is_marked}
+use Rattle.fd_table.proofs.Lists.{some_is}
 
 module _ (g : Names) (k : KernelState User) (p : ℕ) (q : Process User) (up : p ≢ 0) (is : at k.table p ≡ Some q) (alive : is_zombie_status q.status ≡ false) (shows : ShowsIn g k) (used : (r fd e : ℕ) → entry_of (fds_at k r) fd ≡ Some e → (f : OpenFile) × (entry_at k.entries e ≡ Some f)) where
   abbrev Called : KernelState User → Call → Type 0
@@ -186,11 +188,11 @@ module _ (g : Names) (k : KernelState User) (p : ℕ) (q : Process User) (up : p
     made mode found full = by_files (nat_le max_files (length k.files)) full
       where
         by_memory : (b : Bool) → (if b then refused_for (counted k) p next Memory else open_here (with_file_bytes (counted k) name []) p next name mode).full ≡ None → Called (if b then refused_for (counted k) p next Memory else open_here (with_file_bytes (counted k) name []) p next name mode) (OpenCall name mode)
-        by_memory true full = absurd (during.marks k.full Memory full)
+        by_memory true full = absurd (is_marked k.full Memory full)
         by_memory false full = empty_opened mode found
 
         by_files : (b : Bool) → (if b then refused_for (counted k) p next Files else (if refused then refused_for (counted k) p next Memory else open_here (with_file_bytes (counted k) name []) p next name mode)).full ≡ None → Called (if b then refused_for (counted k) p next Files else (if refused then refused_for (counted k) p next Memory else open_here (with_file_bytes (counted k) name []) p next name mode)) (OpenCall name mode)
-        by_files true full = absurd (during.marks k.full Files full)
+        by_files true full = absurd (is_marked k.full Files full)
         by_files false full = by_memory refused full
 
     opens_by_mode : (mode : Mode) → (open_named (counted k) p next name mode refused).full ≡ None → Called (open_named (counted k) p next name mode refused) (OpenCall name mode)
@@ -232,7 +234,7 @@ module _ (g : Names) (k : KernelState User) (p : ℕ) (q : Process User) (up : p
       by_places : 1 ≤ free_count k.entries → (b : Bool) → is_none (lowest_free (fds_at k p)) ≡ b
           → (if b then refused_for (counted k) p next NoFds else (if is_openable name then open_named (counted k) p next name mode refused else answered (counted k) p next Refused)).full ≡ None
           → Called (if b then refused_for (counted k) p next NoFds else (if is_openable name then open_named (counted k) p next name mode refused else answered (counted k) p next Refused)) (OpenCall name mode)
-      by_places e true test full = absurd (during.marks k.full NoFds full)
+      by_places e true test full = absurd (is_marked k.full NoFds full)
       by_places e false test full = by_name e (a_place (lowest_free (fds_at k p)) refl test) (is_openable name) refl full
 
       some : (n : ℕ) → n ≢ 0 → 1 ≤ n
@@ -242,5 +244,5 @@ module _ (g : Names) (k : KernelState User) (p : ℕ) (q : Process User) (up : p
       by_entries : (b : Bool) → (free_count k.entries == 0) ≡ b
           → (if b then refused_for (counted k) p next Open else (if is_none (lowest_free (fds_at k p)) then refused_for (counted k) p next NoFds else (if is_openable name then open_named (counted k) p next name mode refused else answered (counted k) p next Refused))).full ≡ None
           → Called (if b then refused_for (counted k) p next Open else (if is_none (lowest_free (fds_at k p)) then refused_for (counted k) p next NoFds else (if is_openable name then open_named (counted k) p next name mode refused else answered (counted k) p next Refused))) (OpenCall name mode)
-      by_entries true test full = absurd (during.marks k.full Open full)
+      by_entries true test full = absurd (is_marked k.full Open full)
       by_entries false test full = by_places (some (free_count k.entries) (eqb-false (free_count k.entries) 0 test)) (is_none (lowest_free (fds_at k p))) refl full

@@ -23,11 +23,11 @@ use Rattle.law_views.proofs.Tables.{At, at_fds, at_ready, ready_others, seen_at,
 use Rattle.law_views.proofs.Fds.{seen_set}
 use Rattle.law_views.proofs.Opened.{renamed, fds_renamed, slot_renamed}
 use Rattle.law_views.proofs.Mid as during
-use Rattle.law_kernel.proofs.EntryCounts.{free_is}
+use Rattle.fd_table.proofs.Counting.{free_is_none}
 
 -- the lowest free entry is free
 pub entry_free : (E : Entries) (e : ℕ) → lowest_free_entry E ≡ Some e → (e < length E) × (entry_at E e ≡ None)
-entry_free E e low = let z = position_found is_free E None e low in (z.0, free_is (entry_at E e) z.1)
+entry_free E e low = let z = position_found is_free E None e low in (z.0, free_is_none (entry_at E e) z.1)
 
 -- no descriptor of the table holds the entry
 abbrev pub NotIn : Descriptors → ℕ → Type 0

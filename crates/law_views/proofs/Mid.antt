@@ -1,14 +1,13 @@
 -- While a call of a process is under way, and once it is answered.
-use Rattle.std.proofs.Common.{◌≡◌, ◌≢◌, ℕ, ◌+◌, false, Option, Some, None, refl, ap, ◌∙◌}
+use Rattle.std.proofs.Common.{◌≡◌, ◌≢◌, ℕ, ◌+◌, false, Some, refl, ap, ◌∙◌}
 use Rattle.user_calls.specs.declared.calls.Call.{Call}
 use Rattle.user_calls.specs.declared.calls.Reply.{Reply}
 use Rattle.fd_table.specs.Descriptors.{Descriptors}
 use Rattle.proc_table.specs.Slots.{Process, at, is_zombie_status, parent_or_init}
 use Rattle.proc_table.specs.Calls.{readied}
 use Rattle.mem_files.specs.Files.{files}
-use Rattle.kernel_model.specs.declared.events.Full.{Full}
 use Rattle.kernel_model.specs.KernelState.{KernelState, fds_of, fds_at}
-use Rattle.kernel_model.specs.Replies.{answered, marked}
+use Rattle.kernel_model.specs.Replies.{answered}
 use Rattle.kernel_model.specs.Events.{counted}
 use Rattle.law_kernel.specs.Ends.{AreApart}
 use Rattle.sh_machine.specs.State.{User}
@@ -17,11 +16,6 @@ use Rattle.process_model.specs.Shows.{Shows, ShowsIn}
 use Rattle.process_model.specs.Effect.{Sets, Rest, Answers, EffectBy, answered as answered_seen}
 use Rattle.law_views.proofs.Tables.{At, Others, seen_at, seen_up, seen_alike, others_refl, others_then, at_ready, ready_others}
 use Rattle.law_views.proofs.Showing.{shows_later}
-
--- what is refused for want of room leaves a mark
-pub marks : (o : Option Full) (full : Full) → marked o full ≡ None → ⊥
-marks None full is = let z : ⊥ = cc in z
-marks (Some first) full is = let z : ⊥ = cc in z
 
 module _ (g : Names) (k : KernelState User) (p : ℕ) (q : Process User) where
   -- what is seen of p before its call

@@ -24,12 +24,14 @@ use Rattle.process_model.specs.Seen.{reader, writer, fds_seen, seen_slot, Names}
 use Rattle.process_model.specs.Shows.{Shows, ShowsIn}
 use Rattle.process_model.specs.Effect.{lowest}
 use Rattle.law_views.proofs.Tables.{At}
-use Rattle.law_views.proofs.Fds.{seen_lowest, some_is}
+use Rattle.law_views.proofs.Fds.{seen_lowest}
 use Rattle.law_views.proofs.Showing.{shows_later, with_bytes, bytes_here, bytes_elsewhere, shows_new_pipe}
 use Rattle.law_views.proofs.Opened.{with_name, shows_opened}
 use Rattle.law_views.proofs.Mid as during
 use Rattle.law_views.proofs.Installs.{entry_free, NotIn, more_held, opened_own, opened_others, opened_fds, no_reader, no_writer}
 use Rattle.law_views.proofs.Installs as installs
+use Rattle.kernel_model.proofs.Quiet.{is_marked}
+use Rattle.fd_table.proofs.Lists.{some_is}
 
 module _ (g : Names) (k : KernelState User) (p : ℕ) (q : Process User) (up : p ≢ 0) (is : at k.table p ≡ Some q) (alive : is_zombie_status q.status ≡ false) (shows : ShowsIn g k) (used : (r fd e : ℕ) → entry_of (fds_at k r) fd ≡ Some e → (f : OpenFile) × (entry_at k.entries e ≡ Some f)) where
   abbrev Called : KernelState User → Call → Type 0
@@ -183,16 +185,16 @@ module _ (g : Names) (k : KernelState User) (p : ℕ) (q : Process User) (up : p
         made = answered (with_ends (counted k) p id) p next (ends_reply (lowest_free (fds_at k p)) (lowest_free (fds_at (with_reader (counted k) p id) p)))
 
         no_memory : 2 ≤ free_count k.entries → 2 ≤ free_count q.fds → (b : Bool) → (if b then refused_for (counted k) p next Memory else made).full ≡ None → Called (if b then refused_for (counted k) p next Memory else made) MakePipe
-        no_memory e f true full = absurd (during.marks k.full Memory full)
+        no_memory e f true full = absurd (is_marked k.full Memory full)
         no_memory e f false full = both_opened e f
 
         no_fds : 2 ≤ free_count k.entries → (b : Bool) → nat_lt (free_count (fds_at k p)) 2 ≡ b → (if b then refused_for (counted k) p next NoFds else (if refused then refused_for (counted k) p next Memory else made)).full ≡ None
             → Called (if b then refused_for (counted k) p next NoFds else (if refused then refused_for (counted k) p next Memory else made)) MakePipe
-        no_fds e true test full = absurd (during.marks k.full NoFds full)
+        no_fds e true test full = absurd (is_marked k.full NoFds full)
         no_fds e false test full = no_memory e (subst (λ d. 2 ≤ free_count d) (during.fds_are g k p q up is alive shows) (ltb-false (free_count (fds_at k p)) 2 test)) refused full
 
         no_entries : (b : Bool) → nat_lt (free_count k.entries) 2 ≡ b
             → (if b then refused_for (counted k) p next Open else (if nat_lt (free_count (fds_at k p)) 2 then refused_for (counted k) p next NoFds else (if refused then refused_for (counted k) p next Memory else made))).full ≡ None
             → Called (if b then refused_for (counted k) p next Open else (if nat_lt (free_count (fds_at k p)) 2 then refused_for (counted k) p next NoFds else (if refused then refused_for (counted k) p next Memory else made))) MakePipe
-        no_entries true test full = absurd (during.marks k.full Open full)
+        no_entries true test full = absurd (is_marked k.full Open full)
         no_entries false test full = no_fds (ltb-false (free_count k.entries) 2 test) (nat_lt (free_count (fds_at k p)) 2) refl full

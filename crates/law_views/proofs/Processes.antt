@@ -32,6 +32,7 @@ use Rattle.law_views.proofs.Tables.{At, at_fds, fds_others, at_ready, ready_othe
 use Rattle.law_views.proofs.Fds.{seen_fd, seen_set, seen_lowest}
 use Rattle.law_views.proofs.Showing.{Kept, kept_pipes, shows_on}
 use Rattle.law_views.proofs.Mid as during
+use Rattle.kernel_model.proofs.Quiet.{is_marked}
 
 -- ---- entries that are held more
 
@@ -129,7 +130,7 @@ module _ (g : Names) (k : KernelState User) (p : ℕ) (q : Process User) (up : p
       let at_it : At m.table p q.parent q.machine q.reply q.fds q.put = subst (λ x. At (fds_set k.table p x) p q.parent q.machine q.reply q.fds q.put) (sym same) (at_fds k.table p q.parent q.machine q.reply q.fds q.fds q.put own) in
       let others = fds_others g.name k.table p (fds_at k p) in
       (record { slots = during.answer_sets g k p q up is alive shows g m q.fds Refused refl at_it others; rest = during.rest g k p q up is alive shows (answered m p next Refused) refl refl refl }, during.later_shows g k p q up is alive shows)
-  dups_by (Some e) None low full = absurd (during.marks k.full FullFds' full)
+  dups_by (Some e) None low full = absurd (is_marked k.full FullFds' full)
   dups_by (Some e) (Some place) low full =
       let m = copied (counted k) p (Some e) (Some place) in
       let same = during.fds_are g k p q up is alive shows in
@@ -193,7 +194,7 @@ module _ (g : Names) (k : KernelState User) (p : ℕ) (q : Process User) (up : p
         }
 
     pub forks : (place : Option ℕ) → lowest_free_slot k.table ≡ place → (fork_into (counted k) p next place).full ≡ None → Called (fork_into (counted k) p next place) Fork
-    forks None low full = absurd (during.marks k.full Procs full)
+    forks None low full = absurd (is_marked k.full Procs full)
     forks (Some child) low full = fork_by child low
 
     -- ---- wait

@@ -45,6 +45,7 @@ use Rattle.law_views.proofs.Fds.{seen_fd}
 use Rattle.law_views.proofs.Showing.{Stay, with_bytes, bytes_here, bytes_elsewhere, shows_bytes}
 use Rattle.law_views.proofs.Opened.{with_place, place_here, place_elsewhere, shows_moved}
 use Rattle.law_views.proofs.Mid as during
+use Rattle.kernel_model.proofs.Quiet.{is_marked}
 
 module _ (g : Names) (k : KernelState User) (p : ℕ) (q : Process User) (up : p ≢ 0) (is : at k.table p ≡ Some q) (alive : is_zombie_status q.status ≡ false) (shows : ShowsIn g k) where
   abbrev Called : KernelState User → Call → Type 0
@@ -280,13 +281,13 @@ module _ (g : Names) (k : KernelState User) (p : ℕ) (q : Process User) (up : p
           by_memory : nat_lt (length held) f.offset ≡ false → (c : Bool)
               → (if c then refused_for (counted k) p next Memory else answered (record (counted k) { files = with_entry k.files name (written held f.offset b); entries = advanced k.entries e (length b) }) p next Done).full ≡ None
               → Over' (if c then refused_for (counted k) p next Memory else answered (record (counted k) { files = with_entry k.files name (written held f.offset b); entries = advanced k.entries e (length b) }) p next Done)
-          by_memory inside true full = absurd (during.marks k.full Memory full)
+          by_memory inside true full = absurd (is_marked k.full Memory full)
           by_memory inside false full = written_over inside
 
           by_size : nat_lt (length held) f.offset ≡ false → (c : Bool)
               → (if c then refused_for (counted k) p next Size else (if refused then refused_for (counted k) p next Memory else answered (record (counted k) { files = with_entry k.files name (written held f.offset b); entries = advanced k.entries e (length b) }) p next Done)).full ≡ None
               → Over' (if c then refused_for (counted k) p next Size else (if refused then refused_for (counted k) p next Memory else answered (record (counted k) { files = with_entry k.files name (written held f.offset b); entries = advanced k.entries e (length b) }) p next Done))
-          by_size inside true full = absurd (during.marks k.full Size full)
+          by_size inside true full = absurd (is_marked k.full Size full)
           by_size inside false full = by_memory inside refused full
 
           by_gap : (c : Bool) → nat_lt (length held) f.offset ≡ c
@@ -314,12 +315,12 @@ module _ (g : Names) (k : KernelState User) (p : ℕ) (q : Process User) (up : p
         where
           by_memory : (c : Bool) → (if c then refused_for (counted k) p next Memory else answered (record (counted k) { files = with_entry k.files name (held ++ b); entries = moved_to k.entries e (length held + length b) }) p next Done).full ≡ None
               → Behind' (if c then refused_for (counted k) p next Memory else answered (record (counted k) { files = with_entry k.files name (held ++ b); entries = moved_to k.entries e (length held + length b) }) p next Done)
-          by_memory true full = absurd (during.marks k.full Memory full)
+          by_memory true full = absurd (is_marked k.full Memory full)
           by_memory false full = written_behind
 
           by_size : (c : Bool) → (if c then refused_for (counted k) p next Size else (if refused then refused_for (counted k) p next Memory else answered (record (counted k) { files = with_entry k.files name (held ++ b); entries = moved_to k.entries e (length held + length b) }) p next Done)).full ≡ None
               → Behind' (if c then refused_for (counted k) p next Size else (if refused then refused_for (counted k) p next Memory else answered (record (counted k) { files = with_entry k.files name (held ++ b); entries = moved_to k.entries e (length held + length b) }) p next Done))
-          by_size true full = absurd (during.marks k.full Size full)
+          by_size true full = absurd (is_marked k.full Size full)
           by_size false full = by_memory refused full
 
     -- the file is there
@@ -375,7 +376,7 @@ module _ (g : Names) (k : KernelState User) (p : ℕ) (q : Process User) (up : p
     by_object b e f Out entry ob n full = subst (λ x. Writes' (write_object (counted k) p next e f.offset b refused Out) b (Some x)) (sym n) (by refused full)
       where
         by : (c : Bool) → (if c then refused_for (counted k) p next Memory else answered (record (counted k) { out = k.out ++ b }) p next Done).full ≡ None → Writes' (if c then refused_for (counted k) p next Memory else answered (record (counted k) { out = k.out ++ b }) p next Done) b (Some out)
-        by true full = absurd (during.marks k.full Memory full)
+        by true full = absurd (is_marked k.full Memory full)
         by false full = record {
           names = g;
           shown = during.later_shows g k p q up is alive shows;
@@ -384,7 +385,7 @@ module _ (g : Names) (k : KernelState User) (p : ℕ) (q : Process User) (up : p
     by_object b e f Diag entry ob n full = subst (λ x. Writes' (write_object (counted k) p next e f.offset b refused Diag) b (Some x)) (sym n) (by refused full)
       where
         by : (c : Bool) → (if c then refused_for (counted k) p next Memory else answered (record (counted k) { diag = k.diag ++ b }) p next Done).full ≡ None → Writes' (if c then refused_for (counted k) p next Memory else answered (record (counted k) { diag = k.diag ++ b }) p next Done) b (Some diag)
-        by true full = absurd (during.marks k.full Memory full)
+        by true full = absurd (is_marked k.full Memory full)
         by false full = record {
           names = g;
           shown = during.later_shows g k p q up is alive shows;

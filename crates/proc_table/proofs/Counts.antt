@@ -95,7 +95,7 @@ woken_same test same channel (Some p) = woken_status_same test same channel p.st
 pub all_woken_same : {S : Type 0} (test : Status → Bool) → ((c : Channel) → test Runnable ≡ test (Asleep c)) → (channel : Channel) (t : Table S) → count_by (has_status test) (all_woken channel t) ≡ count_by (has_status test) t
 all_woken_same test same channel t = map_counts (has_status test) (woken channel) (woken_same test same channel) t
 
-woken_free : {S : Type 0} (channel : Channel) (x : Slot S) → is_free (woken channel x) ≡ is_free x
+pub woken_free : {S : Type 0} (channel : Channel) (x : Slot S) → is_free (woken channel x) ≡ is_free x
 woken_free channel None = refl
 woken_free channel (Some p) = refl
 
@@ -160,7 +160,7 @@ given_status : {S : Type 0} (test : Status → Bool) (pid : ℕ) (x : Slot S) �
 given_status test pid None = refl
 given_status test pid (Some p) = refl
 
-given_free : {S : Type 0} (pid : ℕ) (x : Slot S) → is_free (given pid x) ≡ is_free x
+pub given_free : {S : Type 0} (pid : ℕ) (x : Slot S) → is_free (given pid x) ≡ is_free x
 given_free pid None = refl
 given_free pid (Some p) = refl
 

@@ -2,7 +2,7 @@
 use Rattle.std.proofs.Common.{◌≡◌, ◌≢◌, ◌≤◌, ℕ, zero, suc, ◌+◌, ◌<◌, List, [], ◌∷◌, Bool, true, false, Option, Some, None, length, get_or, refl, sym, ap, subst, ◌∙◌, arith}
 use Rattle.std.proofs.Math.ListN.{set, length-set}
 use Rattle.std.proofs.Math.Seq.{map-set_same}
-use Rattle.std.proofs.lemmas.List.{map-set}
+use Rattle.std.proofs.lemmas.List.{map-set, get_or_default}
 use Rattle.std.proofs.lemmas.List.Sums.{sum_by-cons}
 use Rattle.std.proofs.lemmas.Bool.{ltb-false, ne_eqb}
 use Rattle.std.specs.List.{position_or_len}
@@ -43,11 +43,6 @@ given_kept t heads index parent x now kept is n parent_is now_is =
     let same : head_of (Some now) ≡ with_parent parent (head_at heads index) = ap (λ (p : Process _). head_of (Some p)) now_is ∙ (λ i. with_parent (sym parent_is i) (sym there i)) in
     subst (λ (head : Option Head). AreHeads (set t index (Some now)) (set heads index head)) same (set_kept t heads index (Some now) kept)
 
-any_default : {X : Type 0} (xs : List X) (k : ℕ) (d e : X) → k < length xs → get_or xs k d ≡ get_or xs k e
-any_default [] k d e lt = absurd (omega arith)
-any_default (x ∷ xs) zero d e lt = refl
-any_default (x ∷ xs) (suc k) d e lt = any_default xs k d e (omega arith)
-
 fds_head : {S : Type 0} (fds : Descriptors) (x : Slot S) → head_of (with_fds fds x) ≡ head_of x
 fds_head fds None = refl
 fds_head fds (Some p) = refl
@@ -56,7 +51,7 @@ fds_head fds (Some p) = refl
 pub fds_kept : {S : Type 0} (t : Table S) (heads : List (Option Head)) (index : ℕ) (x : Slot S) (fds : Descriptors)
     → AreHeads t heads → index < 64 → x ≡ get_or t index x → AreHeads (set t index (with_fds fds x)) heads
 fds_kept t heads index x fds kept lt is =
-    let same : head_of (with_fds fds x) ≡ head_of (at t index) = fds_head fds x ∙ ap head_of (is ∙ any_default t index x None (omega (arith, kept.all))) in
+    let same : head_of (with_fds fds x) ≡ head_of (at t index) = fds_head fds x ∙ ap head_of (is ∙ get_or_default t index x None (omega (arith, kept.all))) in
     record {
       all = length-set t index (with_fds fds x) ∙ kept.all;
       theirs = kept.theirs ∙ sym (map-set_same head_of t index (with_fds fds x) None same);
@@ -70,7 +65,7 @@ none_there test t heads kept none pid =
 
 pub none_of_all : {S : Type 0} (test : Status → Bool) (t : Table S) → ((pid : ℕ) → has_status test (at t pid) ≡ false)
     → (k : ℕ) (d : Slot S) → k < length t → has_status test (get_or t k d) ≡ false
-none_of_all test t none k d lt = ap (has_status test) (any_default t k d None lt) ∙ none k
+none_of_all test t none k d lt = ap (has_status test) (get_or_default t k d None lt) ∙ none k
 
 -- ---- wake-ups, one by one
 

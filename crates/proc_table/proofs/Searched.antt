@@ -1,6 +1,6 @@
 -- What is searched in a table says what is in its slots.
-use Rattle.std.proofs.Common.{◌≡◌, ℕ, zero, suc, ◌<◌, List, [], ◌∷◌, Bool, false, Some, None, length, get_or, refl, sym, ap, ◌∙◌, arith}
-use Rattle.std.proofs.lemmas.List.{length-map}
+use Rattle.std.proofs.Common.{◌≡◌, ℕ, zero, suc, [], ◌∷◌, Bool, false, Some, None, length, get_or, refl, sym, ap, ◌∙◌, arith}
+use Rattle.std.proofs.lemmas.List.{length-map, get_or_default}
 use Rattle.std.specs.Prelude.{All, ◌↔◌, map, count_by, position}
 use Rattle.slot_lists.proofs.Found.{counted_by, found_by}
 use Rattle.proc_table.specs.declared.states.Status.{Status}
@@ -59,11 +59,6 @@ got [] k d = refl
 got (x ∷ t) zero d = refl
 got (x ∷ t) (suc k) d = got t k d
 
-any_default : {X : Type 0} (xs : List X) (k : ℕ) (d e : X) → k < length xs → get_or xs k d ≡ get_or xs k e
-any_default [] k d e lt = absurd (omega arith)
-any_default (x ∷ xs) zero d e lt = refl
-any_default (x ∷ xs) (suc k) d e lt = any_default xs k d e (omega arith)
-
 pub none_with : {S : Type 0} (test : Status → Bool) (t : Table S) → All (λ head. head_has test head ≡ false) (map head_of t) ↔ All (λ slot. has_status test slot ≡ false) t
 none_with test t = (forth, back) where
   forth : All (λ head. head_has test head ≡ false) (map head_of t) → All (λ slot. has_status test slot ≡ false) t
@@ -72,4 +67,4 @@ none_with test t = (forth, back) where
   back : All (λ slot. has_status test slot ≡ false) t → All (λ head. head_has test head ≡ false) (map head_of t)
   back all k d lt =
       let long : length (map head_of t) ≡ length t = length-map t head_of in
-      ap (head_has test) (any_default (map head_of t) k d None lt ∙ got t k None) ∙ has test (get_or t k None) ∙ all k None (omega arith)
+      ap (head_has test) (get_or_default (map head_of t) k d None lt ∙ got t k None) ∙ has test (get_or t k None) ∙ all k None (omega arith)
