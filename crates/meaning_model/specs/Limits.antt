@@ -1,6 +1,5 @@
 -- Where a command's meaning goes past the limits on files.
 use Rattle.std.specs.Prelude.{◌≡◌, ◌≢◌, ◌<◌, ◌≤◌, Bool, true, false, List, [], ◌∷◌, length, All, AllPairs, Option, Some, None, ◌⊎◌}
-use Rattle.sh_tree.specs.declared.tree.Mode.{Mode}
 use Rattle.sh_tree.specs.declared.tree.Mode.TheVariants.{Input, Fresh, Over}
 use Rattle.sh_tree.specs.Tree.{Tree, exec, redir, pipe, list, back}
 use Rattle.mem_files.specs.Name.{Name, Bytes, is_openable}
@@ -12,8 +11,7 @@ use Rattle.prog_parts.specs.Program.{program_of}
 use Rattle.script_load.specs.declared.profile.Profile.{Profile}
 use Rattle.meaning_model.specs.Inputs.{found}
 use Rattle.meaning_model.specs.Tee.{tee_bytes}
-use Rattle.meaning_model.specs.Meaning.{opened, at_end, meaning}
-use Rattle.meaning_model.specs.Value.{Value}
+use Rattle.meaning_model.specs.Meaning.{over_end, meaning}
 
 -- as many different names have files as there can be files
 pub record AreAllFiles (F : FileMap) : Type 0 where
@@ -56,16 +54,16 @@ abbrev pub WordsOutgrow : List Bytes → Bytes → FileMap → Type 0
 WordsOutgrow [] input F = ⊥
 WordsOutgrow (word ∷ arguments) input F = ProgramOutgrows (program_of word) arguments input F
 
-abbrev pub RedirOutgrows : Profile → Mode → Name → FileMap → Value → (Bytes → Type 0) → Type 0 → Type 0
-RedirOutgrows profile Input name F value read wrote = OnFound (found F name) read
-RedirOutgrows profile Fresh name F value read wrote = OnOpened (is_openable name) (HasNoRoom F name) wrote (max_size < length (at_end profile Fresh (bytes_of (F name)) value.out))
-RedirOutgrows profile Over name F value read wrote = OnOpened (is_openable name) (HasNoRoom F name) wrote (max_size < length (at_end profile Over (bytes_of (F name)) value.out))
-
 -- on the way of its meaning, the command would make one file too many, or one that is too large
 abbrev pub Outgrows : Profile → Tree → Bytes → FileMap → Type 0
 Outgrows profile (exec words) input F = WordsOutgrow words input F
-Outgrows profile (redir mode name body) input F =
-    RedirOutgrows profile mode name F (meaning profile body input (opened mode name F)) (λ bytes. Outgrows profile body bytes F) (Outgrows profile body input (opened mode name F))
+Outgrows profile (redir Input name body) input F = OnFound (found F name) (λ bytes. Outgrows profile body bytes F)
+Outgrows profile (redir Fresh name body) input F =
+    OnOpened (is_openable name) (HasNoRoom F name) (Outgrows profile body input (with_file F name []))
+    (max_size < length (meaning profile body input (with_file F name [])).out)
+Outgrows profile (redir Over name body) input F =
+    OnOpened (is_openable name) (HasNoRoom F name) (Outgrows profile body input (with_file F name (bytes_of (F name))))
+    (max_size < length (over_end profile (bytes_of (F name)) (meaning profile body input (with_file F name (bytes_of (F name)))).out))
 Outgrows profile (pipe left right) input F =
     Outgrows profile left input F ⊎ Outgrows profile right (meaning profile left input F).out (meaning profile left input F).files
 Outgrows profile (list left right) input F =

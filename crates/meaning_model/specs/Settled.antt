@@ -1,18 +1,17 @@
 -- When the order in which processes run changes nothing that a script gives, but for soft names.
-use Rattle.std.specs.Prelude.{◌≡◌, true, false, ◌||◌, List, IfSome}
+use Rattle.std.specs.Prelude.{◌≡◌, true, false, ◌||◌, List, [], IfSome}
 use Rattle.std.specs.Str.{bytes_eq}
-use Rattle.sh_tree.specs.declared.tree.Mode.{Mode}
 use Rattle.sh_tree.specs.declared.tree.Mode.TheVariants.{Input, Fresh, Over}
 use Rattle.sh_tree.specs.Tree.{Tree, exec, redir, pipe, list, back}
 use Rattle.mem_files.specs.Name.{Name, Bytes, is_openable}
-use Rattle.mem_files.specs.Files.{FileMap}
+use Rattle.mem_files.specs.Files.{FileMap, with_file, bytes_of}
 use Rattle.conflict_check.specs.Clear.{has_back, IsClear}
 use Rattle.prog_parts.specs.NameSets.{Names, no_names, both}
 use Rattle.conflict_check.specs.Names.{names, writes, uses_input}
 use Rattle.script_load.specs.declared.profile.Profile.{Profile}
 use Rattle.meaning_model.specs.Inputs.{found}
 use Rattle.script_load.specs.Line.{ScriptLine}
-use Rattle.meaning_model.specs.Meaning.{meaning, opened, script_tree}
+use Rattle.meaning_model.specs.Meaning.{meaning, script_tree}
 use Rattle.meaning_model.specs.Value.{is_cut}
 
 -- no name of the one set is in the other
@@ -23,20 +22,15 @@ AreNoneOf these those = (name : Name) → these name ≡ true → those name ≡
 abbrev pub with_name : Name → Names → Names
 with_name name others other = bytes_eq other name || others other
 
--- a body under < runs on the bytes of the file if that is found, and one under > or >> if the file can be opened
-abbrev pub IfRun : Mode → Name → FileMap → (Bytes → Type 0) → Type 0 → Type 0
-IfRun Input name F read wrote = IfSome (found F name) read
-IfRun Fresh name F read wrote = is_openable name ≡ true → wrote
-IfRun Over name F read wrote = is_openable name ≡ true → wrote
-
--- a settled tree of a script that has these names outside it: at each pipe that is cut, what the left
+-- a settled tree of a script that has these names outside it. The body of a redirection is settled where its file can be
+-- opened; at each pipe that is cut, what the left
 -- side writes is named nowhere else, and after a command that is loose none uses the input
 abbrev pub IsSettled : Profile → Tree → Names → Bytes → FileMap → Type 0
 IsSettled profile (exec words) outside input F = Unit {0}
-IsSettled profile (redir mode name body) outside input F =
-    IfRun mode name F
-    (λ bytes. IsSettled profile body (with_name name outside) bytes F)
-    (IsSettled profile body (with_name name outside) input (opened mode name F))
+IsSettled profile (redir Input name body) outside input F = IfSome (found F name) (λ bytes. IsSettled profile body (with_name name outside) bytes F)
+IsSettled profile (redir Fresh name body) outside input F = is_openable name ≡ true → IsSettled profile body (with_name name outside) input (with_file F name [])
+IsSettled profile (redir Over name body) outside input F =
+    is_openable name ≡ true → IsSettled profile body (with_name name outside) input (with_file F name (bytes_of (F name)))
 IsSettled profile (pipe left right) outside input F =
     IsSettled profile left (both (names right) outside) input F ×
     IsSettled profile right (both (names left) outside) (meaning profile left input F).out (meaning profile left input F).files ×

@@ -1,20 +1,23 @@
 -- The plain case: each right side of a pipe reads its input to the end, so that no pipe is cut.
-use Rattle.std.specs.Prelude.{◌≡◌, Bool, false, ◌||◌, List}
+use Rattle.std.specs.Prelude.{◌≡◌, Bool, true, false, ◌||◌, List, [], IfSome}
+use Rattle.sh_tree.specs.declared.tree.Mode.TheVariants.{Input, Fresh, Over}
 use Rattle.sh_tree.specs.Tree.{Tree, exec, redir, pipe, list, back}
-use Rattle.mem_files.specs.Name.{Name, Bytes}
-use Rattle.mem_files.specs.Files.{FileMap}
+use Rattle.mem_files.specs.Name.{Name, Bytes, is_openable}
+use Rattle.mem_files.specs.Files.{FileMap, with_file, bytes_of}
 use Rattle.conflict_check.specs.Clear.{has_back, IsClear}
 use Rattle.script_load.specs.declared.profile.Profile.{Profile}
 use Rattle.script_load.specs.Line.{ScriptLine}
-use Rattle.meaning_model.specs.Meaning.{meaning, opened, script_tree}
-use Rattle.meaning_model.specs.Settled.{IfRun}
+use Rattle.meaning_model.specs.Inputs.{found}
+use Rattle.meaning_model.specs.Meaning.{meaning, script_tree}
 use Rattle.meaning_model.specs.Value.{Value, is_cut}
 use Rattle.tree_model.specs.Residual.{Residual, done, todo, running, seq, piped, unopened, from, into}
 use Rattle.tree_model.specs.Runs.{Stage}
 
 abbrev pub IsUncut : Profile → Tree → Bytes → FileMap → Type 0
 IsUncut profile (exec words) input F = Unit {0}
-IsUncut profile (redir mode name body) input F = IfRun mode name F (λ bytes. IsUncut profile body bytes F) (IsUncut profile body input (opened mode name F))
+IsUncut profile (redir Input name body) input F = IfSome (found F name) (λ bytes. IsUncut profile body bytes F)
+IsUncut profile (redir Fresh name body) input F = is_openable name ≡ true → IsUncut profile body input (with_file F name [])
+IsUncut profile (redir Over name body) input F = is_openable name ≡ true → IsUncut profile body input (with_file F name (bytes_of (F name)))
 IsUncut profile (pipe left right) input F =
     IsUncut profile left input F ×
     IsUncut profile right (meaning profile left input F).out (meaning profile left input F).files ×
