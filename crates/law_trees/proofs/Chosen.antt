@@ -1,6 +1,6 @@
 -- Each step by the rules is the step of a choice.
 use Rattle.std.proofs.Common.{◌≡◌, ◌∙◌, ℕ, suc, ◌≤◌, Bool, true, false, [], ◌∷◌, ◌++◌, length, take, drop, Option, Some, None, refl, sym, ap, arith, append-nil, add-zero}
-use Rattle.std.specs.Prelude.{◌||◌, ◌-◌, min, not, if◌then◌else◌}
+use Rattle.std.specs.Prelude.{◌-◌, min, not, if◌then◌else◌}
 use Rattle.std.specs.Str.{bytes_eq}
 use Rattle.std.proofs.Math.Seq.{drop-append_seam, take-append_seam}
 use mathlib.Core.Path.{fun_ext}
