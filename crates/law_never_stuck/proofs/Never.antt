@@ -24,7 +24,7 @@ use Rattle.process_model.specs.Shows.{ShowsIn}
 use Rattle.process_model.specs.Effect.{Holds}
 use Rattle.process_model.specs.Shape.{Node, reaped, gone, Has, IsShape, occurs, is_up, is_used}
 use Rattle.process_model.proofs.Counts.{same_yes}
-use Rattle.law_views.specs.Settled.{IsSettled}
+use Rattle.law_views.specs.Consistent.{IsConsistent}
 use Rattle.law_views.specs.Seen.{IsInit}
 use Rattle.law_views.proofs.Tables.{seen_up}
 use Rattle.law_views.proofs.Runs as runs
@@ -56,7 +56,7 @@ dead_slot : (name : ℕ → Entry) (s : Slot User) → seen_slot name s ≡ zomb
 dead_slot name None is = absurd (let z : ⊥ = cc in z)
 dead_slot name (Some y) is = dead_by name (is_zombie_status y.status) y is
 
-module _ (profile : Profile) (g : Names) (k : KernelState User) (t : Node) (shows : ShowsIn g k) (shape : IsShape profile (view g k) t) (has_init : IsInit k) (settled : IsSettled k) where
+module _ (profile : Profile) (g : Names) (k : KernelState User) (t : Node) (shows : ShowsIn g k) (shape : IsShape profile (view g k) t) (has_init : IsInit k) (settled : IsConsistent k) where
   -- init has a child that lives, so the tree isn't over
   over_not : (s : Node) → Has profile (view g k) input out out 0 s → ((q : ℕ) → occurs q s ≡ is_used ((view g k).slots q)) → is_up s ≡ 0 → WaitsForChild k.table 0 → ⊥
   over_not s has all down waits = by s has all down

@@ -28,7 +28,7 @@ use Rattle.sh_machine.specs.Turn.{call_of}
 use Rattle.process_model.specs.Seen.{Entry, reader, writer, Fds, fd_at, Act, act_of, free, zombie, live, fds_seen, seen_by, seen_slot, Names, view}
 use Rattle.process_model.specs.Shows.{IsNamed, ShowsIn}
 use Rattle.process_model.specs.Effect.{Holds}
-use Rattle.law_views.specs.Settled.{IsSettled}
+use Rattle.law_views.specs.Consistent.{IsConsistent}
 use Rattle.law_views.specs.Seen.{IsInit}
 use Rattle.law_views.proofs.Fds.{seen_fd, none_open}
 use Rattle.law_never_stuck.proofs.Blocked.{IsHeld, Blocked, AllBlocked}
@@ -50,7 +50,7 @@ writes_that id (File name mode) is = absurd (let z : ⊥ = cc in z)
 writes_that id (PipeRead other) is = absurd (let z : ⊥ = cc in z)
 writes_that id (PipeWrite other) is = ap PipeWrite (sym (eqb-true id other is))
 
-module _ (g : Names) (k : KernelState User) (settled : IsSettled k) (shows : ShowsIn g k) where
+module _ (g : Names) (k : KernelState User) (settled : IsConsistent k) (shows : ShowsIn g k) where
   -- an entry that has an end of a pipe open has its name
   names_by : (o : Object) (x : Entry) → ((e at : ℕ) → IsNamed g (files k.files) (k.events + 1) (g.name e) o at → g.name e ≡ x) → (e : ℕ) (f : OpenFile) → entry_at k.entries e ≡ Some f → f.object ≡ o → g.name e ≡ x
   names_by o x tells e f is ob = tells e f.offset (subst (λ (p : Object). IsNamed g (files k.files) (k.events + 1) (g.name e) p f.offset) ob (shows.named e f is))

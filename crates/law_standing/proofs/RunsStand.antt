@@ -26,7 +26,7 @@ use Rattle.process_model.specs.Shape.{Node, IsShape, stands_for}
 use Rattle.process_model.specs.Standing.{Stands}
 use Rattle.process_model.proofs.Start.{start_stands}
 use Rattle.process_model.specs.Part.{calls_left, called}
-use Rattle.law_views.specs.Settled.{IsSettled}
+use Rattle.law_views.specs.Consistent.{IsConsistent}
 use Rattle.law_views.specs.Seen.{IsInit, InitWaits, takes_away, waits_on}
 use Rattle.law_views.proofs.Named.{event_keeps_init, start_init}
 use Rattle.law_views.proofs.Events.{trap_seen, dispatch_quiet}
@@ -61,7 +61,7 @@ seen_called : (names : Names) (l : KernelState User) (h p : ℕ) → p ≢ 0 →
 unfolding called
 seen_called names l h p up = ap (λ (b : Bool). if b then 0 else (if is_asleep (at l.table p) then 0 else 1)) (ne_eqb p 0 up)
 
-module _ (profile : Profile) (first : Stage) (plain : Rattle.tree_model.specs.Moving.IsPlain first.left) (k l : KernelState User) (settled : IsSettled k) (full : l.full ≡ None) (s : IsOnWay profile first k) where
+module _ (profile : Profile) (first : Stage) (plain : Rattle.tree_model.specs.Moving.IsPlain first.left) (k l : KernelState User) (settled : IsConsistent k) (full : l.full ≡ None) (s : IsOnWay profile first k) where
   goes_with : (names : Names) → ShowsIn names l → IsInit l → (e : Event) (calls : ℕ) → calls_in e l ≡ calls → Goes profile (view s.names k) (view names l) calls s.tree → IsFurther profile first k l s e
   goes_with names shows has_init e calls are g =
       let w = walks_then profile s.way g.walks in

@@ -20,7 +20,7 @@ use Rattle.sh_machine.specs.State.{User}
 use Rattle.process_model.specs.Seen.{Entry, input, out, diag, reader, writer, file, seen_by, seen_slot, Names, view}
 use Rattle.process_model.specs.Shows.{IsNamed, ShowsIn}
 use Rattle.process_model.specs.Effect.{Holds, NoHolder}
-use Rattle.law_views.specs.Settled.{IsSettled}
+use Rattle.law_views.specs.Consistent.{IsConsistent}
 use Rattle.law_views.proofs.Fds.{seen_fd, held_is_used}
 
 module _ (g : Names) (F : FileMap) (n : ℕ) where
@@ -41,7 +41,7 @@ module _ (g : Names) (F : FileMap) (n : ℕ) where
   names_writer id x (PipeRead k) at i is = absurd (let e : writer id ≡ reader k = sym i ∙ is.0 in let z : ⊥ = cc in z)
   names_writer id x (PipeWrite k) at i is = let e : writer k ≡ writer id = sym is.0 ∙ i in let z : k ≡ id = cc in ap PipeWrite z
 
-module _ (g : Names) (k : KernelState User) (settled : IsSettled k) (shows : ShowsIn g k) where
+module _ (g : Names) (k : KernelState User) (settled : IsConsistent k) (shows : ShowsIn g k) where
   pub used : (r fd e : ℕ) → entry_of (fds_at k r) fd ≡ Some e → (f : OpenFile) × (entry_at k.entries e ≡ Some f)
   used = held_is_used k settled.sound
 

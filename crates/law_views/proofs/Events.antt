@@ -19,7 +19,7 @@ use Rattle.sh_machine.specs.Turn.{call_of, next_of}
 use Rattle.process_model.specs.Seen.{Names, view}
 use Rattle.process_model.specs.Shows.{Shows, ShowsIn}
 use Rattle.process_model.specs.Effect.{Quiet}
-use Rattle.law_views.specs.Settled.{IsSettled}
+use Rattle.law_views.specs.Consistent.{IsConsistent}
 use Rattle.law_views.specs.Seen.{IsSeen}
 use Rattle.law_views.proofs.Tables.{seen_alike, dispatch_seen}
 use Rattle.law_views.proofs.Showing.{shows_later}
@@ -33,7 +33,7 @@ use Rattle.law_views.proofs.ReadSeen.{reads_call}
 use Rattle.law_views.proofs.WriteSeen.{writes_call}
 use Rattle.law_kernel.proofs.Runs.{runs_alive}
 
-module _ (g : Names) (k : KernelState User) (p : ℕ) (q : Process User) (up : p ≢ 0) (is : at k.table p ≡ Some q) (alive : is_zombie_status q.status ≡ false) (settled : IsSettled k) (shows : ShowsIn g k) where
+module _ (g : Names) (k : KernelState User) (p : ℕ) (q : Process User) (up : p ≢ 0) (is : at k.table p ≡ Some q) (alive : is_zombie_status q.status ≡ false) (settled : IsConsistent k) (shows : ShowsIn g k) where
   abbrev next : User
   next = next_of q.machine q.reply
 
@@ -76,7 +76,7 @@ runnable_alive (Asleep c) on = refl
 runnable_alive Zombie on = absurd (let z : ⊥ = cc in z)
 
 -- a trap
-pub trap_seen : (g : Names) (k l : KernelState User) (h p : ℕ) (refused : Bool) → p ≢ 0 → IsSettled k → ShowsIn g k → happens call_of next_of k (Trap h p) refused ≡ Some l → l.full ≡ None → IsSeen g k l p
+pub trap_seen : (g : Names) (k l : KernelState User) (h p : ℕ) (refused : Bool) → p ≢ 0 → IsConsistent k → ShowsIn g k → happens call_of next_of k (Trap h p) refused ≡ Some l → l.full ≡ None → IsSeen g k l p
 trap_seen g k l h p refused up settled shows happened full = by (is_running_on h (at k.table p)) refl happened
   where
     go : (x : Slot User) → at k.table p ≡ x → is_running_on h x ≡ true → trapped call_of next_of k p x refused ≡ Some l → IsSeen g k l p

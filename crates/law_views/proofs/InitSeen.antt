@@ -18,7 +18,7 @@ use Rattle.sh_machine.specs.Turn.{call_of, next_of}
 use Rattle.process_model.specs.Seen.{Entry, zombie, seen_by, seen_slot, seen, Names, view}
 use Rattle.process_model.specs.Shows.{Shows, ShowsIn}
 use Rattle.process_model.specs.Effect.{Quiet}
-use Rattle.law_views.specs.Settled.{IsSettled}
+use Rattle.law_views.specs.Consistent.{IsConsistent}
 use Rattle.law_views.specs.Seen.{IsInit, InitWaits, takes_away, waits_on}
 use Rattle.law_views.proofs.Tables.{seen_up}
 use Rattle.law_views.proofs.Showing.{shows_later}
@@ -31,7 +31,7 @@ pub zombie_seen : (name : ℕ → Entry) (x : Slot User) → is_child_of 0 x ≡
 zombie_seen name None is dead = absurd (let z : ⊥ = cc in z)
 zombie_seen name (Some x) is dead = ap (λ b. seen_by b name x) dead ∙ ap zombie (its_parent x.parent is)
 
-module _ (g : Names) (k : KernelState User) (settled : IsSettled k) (shows : ShowsIn g k) where
+module _ (g : Names) (k : KernelState User) (settled : IsConsistent k) (shows : ShowsIn g k) where
   -- of the slots only init's changes
   own_slot : (x : Slot User) (q : ℕ) → seen g.name (Rattle.std.proofs.Math.ListN.set k.table 0 x) q ≡ seen g.name k.table q
   own_slot x zero = refl

@@ -19,7 +19,7 @@ use Rattle.proc_table.proofs.Changes.{kept, written}
 use Rattle.kernel_model.specs.declared.events.Event.{Event}
 use Rattle.kernel_model.specs.declared.events.Event.TheVariants.{Dispatch, Trap}
 use Rattle.kernel_model.specs.KernelState.{KernelState}
-use Rattle.kernel_model.specs.Boot.{boot_kernel}
+use Rattle.run_model.specs.ScriptRun.{script_kernel}
 use Rattle.kernel_model.specs.Processes.{wait_by}
 use Rattle.kernel_model.specs.Events.{acted, counted, trapped, can_dispatch, happens, run}
 use Rattle.law_kernel.specs.Sleeping.{IsFamily}
@@ -29,7 +29,7 @@ use Rattle.sh_machine.specs.declared.state.Phase.TheVariants.{Starts}
 use Rattle.process_model.specs.Seen.{Names}
 use Rattle.process_model.specs.Shows.{ShowsIn}
 use Rattle.process_model.proofs.Start.{start_stands}
-use Rattle.law_views.specs.Settled.{IsSettled}
+use Rattle.law_views.specs.Consistent.{IsConsistent}
 use Rattle.law_views.specs.Seen.{IsInit}
 use Rattle.law_views.proofs.InitStays.{own_of, reap_stays, call_same}
 use Rattle.law_views.proofs.InitSeen.{init_seen}
@@ -97,7 +97,7 @@ init_goes_on k l h n family was happened = by (is_running_on h (at k.table 0)) h
     by true e = go (at k.table 0) refl e
     by false e = absurd (let z : ⊥ = cc in z)
 
-other_goes_on : (k l : KernelState User) (h p : ℕ) (n : Bool) → p ≢ 0 → IsSettled k → IsInit k → happens call_of next_of k (Trap h p) n ≡ Some l → IsInit l
+other_goes_on : (k l : KernelState User) (h p : ℕ) (n : Bool) → p ≢ 0 → IsConsistent k → IsInit k → happens call_of next_of k (Trap h p) n ≡ Some l → IsInit l
 other_goes_on k l h p n up settled was happened = by (is_running_on h (at k.table p)) happened
   where
     go : (x : Slot User) → trapped call_of next_of k p x n ≡ Some l → IsInit l
@@ -122,7 +122,7 @@ dispatch_goes_on k l h p n was happened = by (can_dispatch k.table h p) happened
         subst IsInit same (init_by k.table (dispatched k.table p h) (dispatch_same k.table p h (cases_eq p 0)) was)
 
 -- every event keeps init where it is
-pub event_keeps_init : (k l : KernelState User) (e : Event) (n : Bool) → IsSettled k → IsInit k → happens call_of next_of k e n ≡ Some l → IsInit l
+pub event_keeps_init : (k l : KernelState User) (e : Event) (n : Bool) → IsConsistent k → IsInit k → happens call_of next_of k e n ≡ Some l → IsInit l
 event_keeps_init k l (Dispatch h p) n settled was happened = dispatch_goes_on k l h p n was happened
 event_keeps_init k l (Trap h p) n settled was happened = by (cases_eq p 0)
   where
@@ -136,7 +136,7 @@ event_keeps_init k l (Trap h p) n settled was happened = by (cases_eq p 0)
 abbrev pub IsNamed : KernelState User → Type 0
 IsNamed k = ((g : Names) × ShowsIn g k) × IsInit k
 
-event_keeps : (k l : KernelState User) (e : Event) (n : Bool) → IsSettled k → happens call_of next_of k e n ≡ Some l → l.full ≡ None → IsNamed k → IsNamed l
+event_keeps : (k l : KernelState User) (e : Event) (n : Bool) → IsConsistent k → happens call_of next_of k e n ≡ Some l → l.full ≡ None → IsNamed k → IsNamed l
 event_keeps k l (Dispatch h p) n settled happened full named = ((named.0.0, (dispatch_quiet named.0.0 k l h p n named.0.1 happened).0), event_keeps_init k l (Dispatch h p) n settled named.1 happened)
 event_keeps k l (Trap h p) n settled happened full named = (by (cases_eq p 0), event_keeps_init k l (Trap h p) n settled named.1 happened)
   where
@@ -146,13 +146,13 @@ event_keeps k l (Trap h p) n settled happened full named = (by (cases_eq p 0), e
         let w = init_seen named.0.0 k settled named.0.1 h l n named.1 (subst (λ q. happens call_of next_of k (Trap h q) n ≡ Some l) same happened) in
         (named.0.0, w.0)
 
-pub start_init : (profile : Profile) (lines : List ScriptLine) (input : Bytes) (list : List (Name × Bytes)) → IsInit (boot_kernel init (shell profile (top Starts lines)) input list)
+pub start_init : (profile : Profile) (lines : List ScriptLine) (input : Bytes) (list : List (Name × Bytes)) → IsInit (script_kernel profile lines input list)
 start_init profile lines input list p at_it =
     let z : ◌≡◌ {A = Option (User × Descriptors)} (Some (p.machine, p.fds)) (Some (init, replicate DESCRIPTORS None)) = sym (ap own_of at_it) in
     let both : ◌≡◌ {A = User × Descriptors} (p.machine, p.fds) (init, replicate DESCRIPTORS None) = cc in
     (ap (λ (o : User × Descriptors). o.0) both, ap (λ (o : User × Descriptors). o.1) both)
 
-pub every_run_is_named : (profile : Profile) (lines : List ScriptLine) (input : Bytes) (list : List (Name × Bytes)) (events : List Event) (notes : List Bool) (m : KernelState User) → AreFiles list → run call_of next_of (Some (boot_kernel init (shell profile (top Starts lines)) input list)) events notes ≡ Some m → m.full ≡ None → IsNamed m
+pub every_run_is_named : (profile : Profile) (lines : List ScriptLine) (input : Bytes) (list : List (Name × Bytes)) (events : List Event) (notes : List Bool) (m : KernelState User) → AreFiles list → run call_of next_of (Some (script_kernel profile lines input list)) events notes ≡ Some m → m.full ≡ None → IsNamed m
 every_run_is_named profile lines input list events notes m are is full =
     let first = shell profile (top Starts lines) in
     runs.every_run_keeps init first input list IsNamed (λ k l e n r happened was now named. event_keeps k l e n (runs.settled init first input list are k r) happened now named)

@@ -15,7 +15,7 @@ use Rattle.law_kernel.proofs.EndsRuns.{every_run_in_step}
 use Rattle.law_kernel.proofs.SoundRuns.{every_run_is_sound}
 use Rattle.sh_machine.specs.State.{User}
 use Rattle.sh_machine.specs.Turn.{call_of, next_of}
-use Rattle.law_views.specs.Settled.{IsSettled}
+use Rattle.law_views.specs.Consistent.{IsConsistent}
 
 pub no_run : (es : List Event) (ns : List Bool) (m : KernelState User) → run call_of next_of None es ns ≡ Some m → ⊥
 no_run = none_runs call_of next_of
@@ -34,7 +34,7 @@ module _ (first shell : User) (input : Bytes) (list : List (Name × Bytes)) wher
     pub notes : List Bool
     pub runs : run call_of next_of (Some start) events notes ≡ Some k
 
-  pub settled : AreFiles list → (k : KernelState User) → IsReached k → IsSettled k
+  pub settled : AreFiles list → (k : KernelState User) → IsReached k → IsConsistent k
   settled are k r = record {
     sound = every_run_is_sound call_of next_of first shell input list r.events r.notes k are r.runs;
     rests = every_run_rests call_of next_of first shell input list r.events r.notes k r.runs;

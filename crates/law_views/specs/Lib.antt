@@ -1,2 +1,2 @@
-pub mod Settled
+pub mod Consistent
 pub mod Seen

@@ -9,10 +9,9 @@ use Rattle.meaning_model.specs.Meaning.{script_tree}
 use Rattle.fd_table.specs.declared.names.Object.TheVariants.{Input, Out, Diag}
 use Rattle.fd_table.specs.Entries.{Entries, OpenFile, entry_at, opened}
 use Rattle.proc_table.specs.Slots.{at}
-use Rattle.kernel_model.specs.Boot.{boot_kernel}
+use Rattle.run_model.specs.ScriptRun.{script_kernel}
 use Rattle.tree_model.specs.Runs.{first_stage}
-use Rattle.sh_machine.specs.State.{User, init, shell, top}
-use Rattle.sh_machine.specs.declared.state.Phase.TheVariants.{Starts}
+use Rattle.sh_machine.specs.State.{User, shell, top}
 use Rattle.process_model.specs.Seen.{input, out, diag, free, seen_slot, view}
 use Rattle.process_model.specs.Shows.{IsNamed, first_name, first_names}
 use Rattle.process_model.specs.Shape.{reads_lines, same, is_used}
@@ -53,7 +52,7 @@ none_seen zero q = refl
 none_seen (suc n) zero = refl
 none_seen (suc n) (suc q) = none_seen n q
 
-pub start_stands : (profile : Profile) (lines : List ScriptLine) (bytes : Bytes) (list : List (Name × Bytes)) → Stands profile (boot_kernel init (shell profile (top Starts lines)) bytes list) (first_stage (script_tree lines) bytes (files list))
+pub start_stands : (profile : Profile) (lines : List ScriptLine) (bytes : Bytes) (list : List (Name × Bytes)) → Stands profile (script_kernel profile lines bytes list) (first_stage (script_tree lines) bytes (files list))
 start_stands profile lines bytes list = record {
   names = first_names;
   tree = reads_lines 1 lines;
@@ -74,7 +73,7 @@ start_stands profile lines bytes list = record {
   out = refl;
 }
   where
-    used : (q : ℕ) → same q 1 ≡ is_used ((view first_names (boot_kernel init (shell profile (top Starts lines)) bytes list)).slots q)
+    used : (q : ℕ) → same q 1 ≡ is_used ((view first_names (script_kernel profile lines bytes list)).slots q)
     used zero = same_other 0 1 (λ e. absurd (omega (arith, e)))
     used (suc zero) = same_self 1
     used (suc (suc q)) = same_other (suc (suc q)) 1 (λ e. absurd (omega (arith, e))) ∙ sym (ap is_used (none_seen 62 q))

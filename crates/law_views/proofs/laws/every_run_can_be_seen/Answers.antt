@@ -5,10 +5,10 @@ use Rattle.law_views.proofs.Runs as runs
 use Rattle.law_views.proofs.laws.every_run_can_be_seen.Goals as goal
 
 pub returns-clause-names : goal.returns-clause-names
-returns-clause-names c = λ profile lines input list events notes m are is full. (every_run_is_named profile lines input list events notes m are is full).0
+returns-clause-names c = λ r roomy. (every_run_is_named r.profile r.lines r.input r.files r.schedule r.notes r.last r.are r.runs roomy).0
 
 pub returns-clause-init : goal.returns-clause-init
-returns-clause-init c = λ profile lines input list events notes m are is full. (every_run_is_named profile lines input list events notes m are is full).1
+returns-clause-init c = λ r roomy. (every_run_is_named r.profile r.lines r.input r.files r.schedule r.notes r.last r.are r.runs roomy).1
 
-pub returns-clause-settled : goal.returns-clause-settled
-returns-clause-settled c = λ profile lines input list events notes m are is. runs.settled init (shell profile (top Starts lines)) input list are m (record { events = events; notes = notes; runs = is })
+pub returns-clause-consistent : goal.returns-clause-consistent
+returns-clause-consistent c = λ r. runs.settled init (shell r.profile (top Starts r.lines)) r.input r.files r.are r.last (record { events = r.schedule; notes = r.notes; runs = r.runs })

@@ -9,7 +9,7 @@ use Rattle.sh_machine.specs.State.{User}
 
 -- counts are right, a process sleeps only where it has to, the ends of pipes and their entries are in step, and no pipe has
 -- the name of an event to come
-pub record IsSettled (k : KernelState User) : Type 0 where
+pub record IsConsistent (k : KernelState User) : Type 0 where
   pub sound : IsSound k.table k.entries
   pub rests : Rests k.table k.pipes
   pub ends : EndsAgree k.entries k.pipes
