@@ -202,7 +202,10 @@ impl<'a> Reader<'a> {
         if self.table.line != 0 && self.rows == 0 {
             self.tell(self.table.line, "this table has no rows")
         } else if !self.unused.is_empty() {
-            self.tell(self.table.line, "a field of this table holds for none of its rows")
+            self.tell(
+                self.table.line,
+                "a field of this table holds for none of its rows",
+            )
         } else {
             Ok(())
         }
