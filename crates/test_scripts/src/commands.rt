@@ -148,6 +148,9 @@ fn wanted_of(alloc: Global, texts: &Texts<'_>, row: &Row<'_>) -> Result<Wanted> 
 }
 
 fn others_of(alloc: Global, texts: &Texts<'_>, row: &Row<'_>) -> Result<Vec<Pattern>> {
+    if row.has("or") && !row.has("out") {
+        bail!("another output is right too, and no first one is given");
+    }
     let mut others = Vec::new(alloc);
     for field in row.fields() {
         if field.name == "or" {

@@ -33,10 +33,7 @@ pub(crate) fn expect_meaning(means: &Plain<Global>, wanted: &Wanted<'_>) -> Resu
 fn expect_left(means: &Plain<Global>, wanted: &Wanted<'_>) -> Result<()> {
     expect_bytes("output", means.out.as_slice(), wanted.out.as_slice())?;
     expect_files(&means.files, &wanted.files)?;
-    match &wanted.rest {
-        Some(rest) => expect_bytes("rest", means.rest.as_slice(), rest.as_slice()),
-        None => Ok(()),
-    }
+    expect_bytes("rest", means.rest.as_slice(), wanted.rest.as_slice())
 }
 
 fn expect_verdict(means: &Plain<Global>, wanted: &Wanted<'_>) -> Result<()> {

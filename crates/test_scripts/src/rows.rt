@@ -127,9 +127,10 @@ struct Reader<'a> {
     sheet: Sheet<'a>,
     // The row of which the lines are read.
     row: Row<'a>,
-    // The table that the row stands in, and how many rows stand in it.
+    // The table that the row stands in, how many rows stand in it, and its fields that none of them has taken.
     table: Row<'a>,
     rows: usize,
+    unused: Vec<Field<'a>>,
 }
 
 impl<'a> Reader<'a> {
@@ -144,6 +145,7 @@ impl<'a> Reader<'a> {
             row: Row::new(alloc),
             table: Row::new(alloc),
             rows: 0,
+            unused: Vec::new(alloc),
         }
     }
 
@@ -171,6 +173,8 @@ impl<'a> Reader<'a> {
     }
 
     fn take_row(&mut self, mut row: Row<'a>) -> Result<(), AllocError> {
+        let own = row.fields.len();
+        self.unused.retain(|field| row.hides(own, field));
         row.complete(self.table.fields())?;
         self.rows = self.rows.saturating_add(1);
         self.sheet.rows.push(row)?;
@@ -182,11 +186,13 @@ impl<'a> Reader<'a> {
         self.rows = 0;
         self.table = Row::new(self.alloc);
         self.table.line = row.line;
+        self.unused.clear();
         for field in row.fields().iter().skip(1) {
             if field.name == "text" {
                 self.sheet.texts.push((row.line, field.value))?;
             } else {
                 self.table.fields.push(*field)?;
+                self.unused.push(*field)?;
             }
         }
         Ok(())
@@ -194,9 +200,15 @@ impl<'a> Reader<'a> {
 
     fn end_table(&mut self) -> Result<(), AllocError> {
         if self.table.line != 0 && self.rows == 0 {
-            self.tell(self.table.line, "this table has no rows")?;
+            self.tell(self.table.line, "this table has no rows")
+        } else if !self.unused.is_empty() {
+            self.tell(
+                self.table.line,
+                "a field of this table holds for none of its rows",
+            )
+        } else {
+            Ok(())
         }
-        Ok(())
     }
 
     fn take_texts(&mut self, row: &Row<'a>) -> Result<(), AllocError> {

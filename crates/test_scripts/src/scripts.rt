@@ -98,8 +98,8 @@ pub(crate) struct Wanted<'a> {
     pub(crate) out: Vec<u8>,
     /// The diagnostics of a run by processes, unless they may be any.
     pub(crate) err: Option<Vec<u8>>,
-    /// What of the input is left unread, unless that may be anything.
-    pub(crate) rest: Option<Vec<u8>>,
+    /// What of the input is left unread.
+    pub(crate) rest: Vec<u8>,
     pub(crate) files: Files<Global>,
 }
 
@@ -115,14 +115,6 @@ fn has(row: &Row<'_>, name: &str) -> Result<bool> {
 // The bytes of a field; none where the row hasn't got it.
 fn bytes_of(texts: &Texts<'_>, row: &Row<'_>, name: &str) -> Result<Vec<u8>> {
     texts.bytes_of(row.value(name).unwrap_or(""))
-}
-
-// The bytes of a field, if the row has got it.
-fn some_bytes(texts: &Texts<'_>, row: &Row<'_>, name: &str) -> Result<Option<Vec<u8>>> {
-    match row.value(name) {
-        Some(field) => Ok(Some(texts.bytes_of(field)?)),
-        None => Ok(None),
-    }
 }
 
 // What a row says in words of its own.
@@ -215,7 +207,7 @@ fn wanted_of<'a>(
     let marks = marks_of(row)?;
     let out = bytes_of(texts, row, "out")?;
     let err = err_of(texts, row)?;
-    let rest = some_bytes(texts, row, "rest")?;
+    let rest = bytes_of(texts, row, "rest")?;
     let files = left_of(alloc, texts, row, given)?;
     Ok(Wanted {
         marks,
