@@ -11,6 +11,8 @@ use Rattle.conflict_check.specs.Clash.{IsFirstClash}
 use Rattle.conflict_check.specs.Clear.{IsClear, has_back}
 use Rattle.mem_files.specs.Name.{Bytes}
 use Rattle.script_load.specs.Line.{ScriptLine, command, bad, cd}
+use Rattle.xvsh_read.specs.Console.{Known}
+use Rattle.xvsh_checks.specs.declared.request.CheckRequest.{CheckRequest}
 use Rattle.xvsh_read.specs.declared.fault.Fault.{Fault}
 use Rattle.xvsh_read.specs.Path.{Path}
 use Rattle.xvsh_read.specs.Starting.{AreLinesAt, IsScriptAtFault}
@@ -84,3 +86,11 @@ pub record RanCheck (input : Option Bytes) (file : Path → Option Bytes) (scrip
 pub data IsCheckFault (input : Option Bytes) (file : Path → Option Bytes) (script : Path) : Fault → Type 0 where
   no_script_told : {fault : Fault} → IsScriptAtFault input file script fault → IsCheckFault input file script fault
   not_told : {fault : Fault} → IsTellFault fault → IsCheckFault input file script fault
+
+-- a request was carried out, by what is known of the console before and after, and whether the lines are harmless
+abbrev pub DidCheck : Known → Known → CheckRequest → Bool → Type 0
+DidCheck old new request is_harmless = RanCheck old.input old.file request.script.now is_harmless old.out new.out
+
+-- why it wasn't
+abbrev pub IsCheckRefusal : Known → CheckRequest → Fault → Type 0
+IsCheckRefusal old request = IsCheckFault old.input old.file request.script.now

@@ -8,6 +8,8 @@ use Rattle.mem_files.specs.Files.{FileMap, files}
 use Rattle.script_load.specs.Line.{ScriptLine}
 use Rattle.script_load.specs.declared.limits.TheConstants.{MAX_TURNS}
 use Rattle.step_bounds.specs.Most.{most_events}
+use Rattle.xvsh_read.specs.Console.{Known}
+use Rattle.xvsh_checks.specs.declared.request.CheckRequest.{CheckRequest}
 use Rattle.xvsh_read.specs.declared.fault.Fault.{Fault}
 use Rattle.xvsh_read.specs.Path.{Path}
 use Rattle.xvsh_read.specs.Starting.{Starts, IsStartFault}
@@ -47,3 +49,11 @@ module _ (input : Option Bytes) (file : Path → Option Bytes) where
   pub data IsTurnsFault (script : Path) (paths : List (Bor Path)) : Fault → Type 0 where
     no_start : {fault : Fault} → IsStartFault input file false script paths fault → IsTurnsFault script paths fault
     turns_not_told : {fault : Fault} → IsTellFault fault → IsTurnsFault script paths fault
+
+-- a request was carried out, by what is known of the console before and after, and whether the lines are harmless
+abbrev pub DidTurns : Known → Known → CheckRequest → Bool → Type 0
+DidTurns old new request is_harmless = RanTurns old.input old.file request.script.now request.files.now is_harmless old.out new.out
+
+-- why it wasn't
+abbrev pub IsTurnsRefusal : Known → CheckRequest → Fault → Type 0
+IsTurnsRefusal old request = IsTurnsFault old.input old.file request.script.now request.files.now

@@ -3,8 +3,10 @@
 
 mod checking;
 mod explaining;
+mod request;
 mod turns;
 
 pub use checking::run_check;
 pub use explaining::run_explain;
+pub use request::{CheckRequest, ExplainRequest};
 pub use turns::run_turns;

@@ -7,7 +7,7 @@ ghost use Rattle.xvsh_ends.specs.Ends.{Tells, TellsFull, TellsRan, TellsStrict, 
 use kernel_model::Full;
 use std::io::Write;
 use xvsh_read::Fault;
-use xvsh_runs::{RunFault, word_of};
+use xvsh_runs::{ProcessFault, full_word};
 use xvsh_strict::StrictRun;
 
 /// Writes a text, and gives this status, or that of a failed write.
@@ -34,7 +34,7 @@ pub fn tell<E: Write>(fault: Fault<'_>, err: &mut E) -> u8
 }
 
 // Tells a fault of a run by processes, as `tell` does.
-fn tell_fault<E: Write>(fault: RunFault<'_>, err: &mut E) -> u8
+fn tell_fault<E: Write>(fault: ProcessFault<'_>, err: &mut E) -> u8
     ensures { Tells (run_fault_told fault.entry) (run_status fault.entry) result (E.contents err.old) (E.contents err.new) }
 {
     if fault.is_unwritten() {
@@ -60,7 +60,7 @@ fn tell_full<E: Write>(full: Option<Full>, status: u8, err: &mut E) -> u8
     let Some(full) = full else {
         return status;
     };
-    let word = word_of(full);
+    let word = full_word(full);
     match writeln!(err, "xvsh: full {word}") {
         Ok(()) => 4,
         Err(_) => Fault::Unwritten.status(),
@@ -68,7 +68,7 @@ fn tell_full<E: Write>(full: Option<Full>, status: u8, err: &mut E) -> u8
 }
 
 /// Tells what a run by processes came to, if that is more than what it wrote, and gives its status.
-pub fn tell_ran<E: Write>(ran: Result<Option<Full>, RunFault<'_>>, err: &mut E) -> u8
+pub fn tell_ran<E: Write>(ran: Result<Option<Full>, ProcessFault<'_>>, err: &mut E) -> u8
     ensures { TellsRan ran.entry result (E.contents err.old) (E.contents err.new) }
 {
     match ran {
@@ -78,7 +78,7 @@ pub fn tell_ran<E: Write>(ran: Result<Option<Full>, RunFault<'_>>, err: &mut E) 
 }
 
 /// The same of a strict run, whose status also tells whether its script is settled.
-pub fn tell_strict<E: Write>(ran: Result<StrictRun, RunFault<'_>>, err: &mut E) -> u8
+pub fn tell_strict<E: Write>(ran: Result<StrictRun, ProcessFault<'_>>, err: &mut E) -> u8
     ensures { TellsStrict ran.entry result (E.contents err.old) (E.contents err.new) }
 {
     match ran {

@@ -23,7 +23,7 @@ pub struct Lists {
 }
 
 /// The word for what was full.
-pub fn word_of(full: Full) -> &'static str
+pub fn full_word(full: Full) -> &'static str
     ensures { result.now ≡ full_word full }
 {
     match full {
