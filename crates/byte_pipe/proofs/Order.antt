@@ -9,7 +9,7 @@ use Rattle.byte_pipe.specs.declared.Take.TheVariants.{Got, Empty, End}
 use Rattle.byte_pipe.specs.PipeState.{PipeState, room, put_answer, appended, take_answer, filled}
 use Rattle.byte_pipe.specs.PipeCall.{PipeCall, puts, takes, closes_read, closes_write, after_call, told_put, told_taken, put_by, taken_by, after_calls, all_put, all_taken}
 
--- an open reader: the answer tells what was appended
+-- an open reader: the result says what was appended
 told_by_room : (r : ℕ) (xs : List ℕ) (full : Bool) → (r == 0) ≡ full → told_put (if full then Full else Took (min r (length xs))) xs ≡ take r xs
 told_by_room r xs true e = let none : r ≡ 0 = eqb-true r 0 e in ap (λ (n : ℕ). take n xs) (sym none)
 told_by_room r xs false e = take_min r xs
@@ -27,7 +27,7 @@ told_by_length reader r xs true e =
     sym (ap (λ (ys : List ℕ). if reader then take r ys else []) (nil_from_length xs (eqb-true (length xs) 0 e)) ∙ none_appended reader r)
 told_by_length reader r xs false e = told_by_reader reader r xs
 
--- the answer to a put tells what was appended
+-- the result of a put says what was appended
 told_is_appended : (p : PipeState) (xs : List ℕ) → told_put (put_answer p xs) xs ≡ appended p xs
 told_is_appended p xs = told_by_length p.reader (room p) xs (length xs == 0) refl
 
@@ -51,7 +51,7 @@ told_by_held writer held buffer true e =
 told_by_held writer held buffer false e =
     ap (λ (ys : List ℕ). ys ++ drop (length buffer) held) (first_filled held buffer) ∙ take-append-drop (length buffer) held
 
--- what a take tells and leaves is what was held
+-- what a take returns and what it leaves are what was held
 told_and_left : (p : PipeState) (buffer : List ℕ) → told_taken (take_answer p (length buffer)) (filled p buffer) ++ drop (length buffer) p.bytes ≡ p.bytes
 told_and_left p buffer = told_by_held p.writer p.bytes buffer (length p.bytes == 0) refl
 

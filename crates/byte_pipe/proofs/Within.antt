@@ -1,4 +1,4 @@
--- No calls bring a pipe past what it can hold.
+-- No calls make a pipe hold more than it can.
 use Rattle.std.proofs.Common.{ℕ, ◌≤◌, List, [], ◌∷◌, Bool, true, false, length, take, arith, length-append, length-drop}
 use Rattle.std.proofs.lemmas.List.{length-take}
 use Rattle.std.specs.Prelude.{if◌then◌else◌}

@@ -1,4 +1,4 @@
--- Any list of calls on one pipe: what the answers say was put and taken, and the pipe after them.
+-- Any list of calls on one pipe: what their results say was put and taken, and the pipe after them.
 use Rattle.std.specs.Prelude.{ℕ, List, [], ◌∷◌, ◌++◌, length, take}
 use Rattle.byte_pipe.specs.declared.Put.{Put}
 use Rattle.byte_pipe.specs.declared.Put.TheVariants.{Took, Full, Closed}
@@ -20,26 +20,26 @@ after_call p (takes buffer) = after_take p (length buffer)
 after_call p closes_read = after_close_read p
 after_call p closes_write = after_close_write p
 
--- the bytes of xs that the answer to their put says the pipe took
+-- the bytes of xs that the pipe took, by the result of their put
 abbrev pub told_put : Put → List ℕ → List ℕ
 told_put (Took n) xs = take n xs
 told_put Full xs = []
 told_put Closed xs = []
 
--- the bytes of the buffer that the answer to a take says it got
+-- the bytes of the buffer that a take got, by its result
 abbrev pub told_taken : Take → List ℕ → List ℕ
 told_taken (Got n) buffer = take n buffer
 told_taken Empty buffer = []
 told_taken End buffer = []
 
--- what a call put, by its answer
+-- what a call put, by its result
 abbrev pub put_by : PipeState → PipeCall → List ℕ
 put_by p (puts xs) = told_put (put_answer p xs) xs
 put_by p (takes buffer) = []
 put_by p closes_read = []
 put_by p closes_write = []
 
--- what a call took, by its answer and the buffer after it
+-- what a call took, by its result and the buffer after it
 abbrev pub taken_by : PipeState → PipeCall → List ℕ
 taken_by p (puts xs) = []
 taken_by p (takes buffer) = told_taken (take_answer p (length buffer)) (filled p buffer)

@@ -20,7 +20,7 @@ new_pipe = record { bytes = []; reader = true; writer = true }
 abbrev pub room : PipeState → ℕ
 room p = PIPE_SIZE - length p.bytes
 
--- what a put of xs is answered
+-- the result of a put of xs
 abbrev pub put_answer : PipeState → List ℕ → Put
 put_answer p xs =
     if length xs == 0 then Took 0
@@ -36,7 +36,7 @@ appended p xs = if p.reader then take (room p) xs else []
 abbrev pub after_put : PipeState → List ℕ → PipeState
 after_put p xs = record { bytes = p.bytes ++ appended p xs; reader = p.reader; writer = p.writer }
 
--- what a take into a buffer of n bytes is answered
+-- the result of a take into a buffer of n bytes
 abbrev pub take_answer : PipeState → ℕ → Take
 take_answer p n =
     if length p.bytes == 0 then (if p.writer then Empty else End)

@@ -6,14 +6,14 @@ ghost use Rattle.byte_pipe.specs.declared.TheConstants.{PIPE_SIZE};
 ghost use Rattle.byte_pipe.specs.PipeState.{PipeState, new_pipe};
 ghost use Rattle.byte_pipe.specs.PipeCall.{PipeCall, after_calls, all_put, all_taken};
 
-/// Nothing is lost, doubled or put out of order: after any calls on any pipe, what was taken and then what is held
-/// is what was held at first and then what was put.
+/// Nothing is lost, doubled or out of order: after any calls on any pipe, the bytes that were taken, followed by those
+/// that are held, are the bytes that were held at first, followed by those that were put.
 pub fn bytes_come_out_once_and_in_order()
     ensures any_pipe { (p : PipeState) (calls : List PipeCall) → all_taken p calls ++ (after_calls p calls).bytes ≡ p.bytes ++ all_put p calls }
     ensures new_pipe { (calls : List PipeCall) → all_taken new_pipe calls ++ (after_calls new_pipe calls).bytes ≡ all_put new_pipe calls }
 {}
 
-/// No calls bring a pipe past what it can hold.
+/// No calls make a pipe hold more than 512 bytes.
 pub fn a_pipe_stays_within_its_size()
     ensures { (p : PipeState) (calls : List PipeCall) → length p.bytes ≤ PIPE_SIZE → length (after_calls p calls).bytes ≤ PIPE_SIZE }
 {}

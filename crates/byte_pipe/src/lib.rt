@@ -1,7 +1,7 @@
 //! One pipe: at most 512 bytes on their way from a writer to a reader, and which of the two ends are open.
 //!
 //! The behaviour is that of xv6's `kernel/pipe.c`, whose `pipewrite` and `piperead` sleep in the middle of a call.
-//! Here a call never waits: it moves what it can and says so, and the caller decides when to try again (own).
+//! Here a call never waits: it moves what it can, returns how much, and the caller decides when to try again (own).
 #![tactic(auto)]
 
 ghost use Rattle.std.specs.Prelude.{◌≡◌, ◌≤◌, length, IfOk};
@@ -16,18 +16,18 @@ use std::marker::Model;
 /// How many bytes a pipe can hold (xv6's `PIPESIZE`).
 pub const PIPE_SIZE: usize = 512;
 
-/// What a put is answered.
+/// The result of a put (own: xv6 sleeps in place of `Full`).
 #[derive(Clone, Copy, Debug, PartialEq, Eq)]
 pub enum Put {
     /// The pipe took this many bytes, the first ones of those offered.
     Took(usize),
-    /// Bytes were offered to an open reader and there was room for none.
+    /// There were bytes to put and the reader is open, but there was room for none of them.
     Full,
-    /// Bytes were offered and the reader is closed.
+    /// There were bytes to put, and the reader is closed.
     Closed,
 }
 
-/// What a take is answered.
+/// The result of a take (own: xv6 sleeps in place of `Empty`).
 #[derive(Clone, Copy, Debug, PartialEq, Eq)]
 pub enum Take {
     /// This many bytes, the oldest ones, moved to the front of the buffer.
@@ -40,7 +40,7 @@ pub enum Take {
 
 /// A pipe (xv6's `struct pipe`).
 ///
-/// Contracts see its bytes, the oldest first, and whether its reader and its writer are open. Only `new` can want
+/// Contracts see its bytes, the oldest first, and whether its reader and its writer are open. Only `new` takes
 /// memory.
 #[derive(Drop)]
 pub struct Pipe<A: Allocator> {
@@ -66,7 +66,7 @@ impl<A: Allocator> Pipe<A> {
 
     /// An empty pipe with both ends open, and with room for all the bytes that it can ever hold (`pipealloc`).
     ///
-    /// The one error is that this room was refused.
+    /// `AllocError` where the allocator refuses that room.
     pub fn new(alloc: A) -> Result<Self, AllocError>
         ensures { IfOk result (λ p. p ≡ new_pipe) }
     {
@@ -80,8 +80,8 @@ impl<A: Allocator> Pipe<A> {
 
     /// Appends the first of `bytes`, as many as there is room for (`pipewrite`).
     ///
-    /// No bytes are always taken, also by a full pipe and after the reader is closed. Otherwise a closed reader is
-    /// told before a full pipe.
+    /// Returns how many; `Closed` where the reader is closed, and else `Full` where there is room for none. A put of no
+    /// bytes returns `Took(0)`, also on a full pipe and after the reader is closed.
     pub fn put(&mut self, bytes: &[u8]) -> Put
         ensures answer { result ≡ put_answer self.old bytes.now }
         ensures after { self.new ≡ after_put self.old bytes.now }
@@ -102,7 +102,8 @@ impl<A: Allocator> Pipe<A> {
 
     /// Moves the oldest bytes to the front of `buffer`, as many as it can hold (`piperead`).
     ///
-    /// The rest of `buffer` stays as it was, and all of it where the answer isn't `Got`.
+    /// Returns how many; of an empty pipe `Empty` where the writer is open, and else `End`. The rest of `buffer` stays as
+    /// it was, and all of it where the result isn't `Got`.
     pub fn take(&mut self, buffer: &mut [u8]) -> Take
         ensures answer { result ≡ take_answer self.old (length buffer.old) }
         ensures moved { buffer.new ≡ filled self.old buffer.old }
@@ -115,21 +116,21 @@ impl<A: Allocator> Pipe<A> {
         Take::Got(self.ring.read_into(buffer))
     }
 
-    /// Closes the read end: from now on bytes that are put are refused (`pipeclose`).
+    /// Closes the read end: from now on a put of bytes returns `Closed` (`pipeclose`).
     pub fn close_read(&mut self)
         ensures { self.new ≡ after_close_read self.old }
     {
         self.reader = false;
     }
 
-    /// Closes the write end: once the pipe is empty, a take is answered `End` (`pipeclose`).
+    /// Closes the write end: once the pipe is empty, a take returns `End` (`pipeclose`).
     pub fn close_write(&mut self)
         ensures { self.new ≡ after_close_write self.old }
     {
         self.writer = false;
     }
 
-    /// How many bytes the pipe holds.
+    /// How many bytes the pipe holds (`nwrite` less `nread`).
     pub fn held(&self) -> usize
         ensures count { result ≡ length self.now.bytes }
         ensures within { result ≤ PIPE_SIZE }
@@ -137,14 +138,14 @@ impl<A: Allocator> Pipe<A> {
         self.ring.len()
     }
 
-    /// Whether the read end is open.
+    /// Whether the read end is open (`readopen`).
     pub fn reader_open(&self) -> bool
         ensures { result ≡ self.now.reader }
     {
         self.reader
     }
 
-    /// Whether the write end is open.
+    /// Whether the write end is open (`writeopen`).
     pub fn writer_open(&self) -> bool
         ensures { result ≡ self.now.writer }
     {

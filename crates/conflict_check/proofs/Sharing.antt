@@ -167,7 +167,7 @@ found_early test xs ys name e = ap (λ o. option_or o (find test ys)) e ∙ sym 
 pub found_late : (test : List ℕ → Bool) (xs ys : List (List ℕ)) (answer : Option (List ℕ)) → None ≡ find test xs → answer ≡ find test ys → answer ≡ find test (xs ++ ys)
 found_late test xs ys answer none e = e ∙ ap (λ o. option_or o (find test ys)) none ∙ sym (find-append test xs ys)
 
--- what a search for the first shared name tells
+-- what a search for the first shared name finds
 pub told_none : (left right : Tree) (answer : Option (Bor (List ℕ))) → option_copied answer ≡ find (shared left right) (occurrences left) → share_a_name left right ≡ true → IfNone answer (AreApart left right)
 told_none left right None e some = absurd (pair_found left right some (sym e))
 told_none left right (Some name) e some = tt

@@ -1,4 +1,4 @@
--- When the commands of a tree can't come upon each other at a file, and whether some of them runs behind `&`.
+-- When the commands of a tree can't meet at a file, and whether some of them runs behind `&`.
 use Rattle.std.specs.Prelude.{◌≡◌, ℕ, Bool, true, false, ◌||◌, List}
 use Rattle.sh_tree.specs.declared.tree.Mode.{Mode}
 use Rattle.sh_tree.specs.declared.tree.Mode.TheVariants.{Input, Fresh, Over}

@@ -1,4 +1,4 @@
-//! Clashes: files at which commands of one tree may come upon each other.
+//! Clashes: files at which commands of one tree may meet.
 ghost use Rattle.std.specs.Prelude.{◌≡◌, ◌↔◌, IsNone, IfNone, IfSome, option_copied};
 ghost use Rattle.std.specs.List.{find, list_any};
 ghost use Rattle.sh_tree.specs.Tree.{tree_of};
@@ -112,8 +112,7 @@ fn first_shared<'t, A: Allocator>(
 }
 
 // The first name of the left side that clashes between the sides of a pipe. Where there is none, that
-// is found out by pairs of names, one of each side: so a whole tree without a clash is judged in
-// quadratic time.
+// is found by pairs of names, one of each side: so a whole tree without a clash takes quadratic time.
 fn pipe_clash<'t, A: Allocator>(left: &'t Cmd<A>, right: &Cmd<A>) -> Option<&'t [u8]>
     ensures none { IfNone result (AreApart (tree_of left.now) (tree_of right.now)) }
     ensures some { IfSome result (λ name. IsFirstShared (tree_of left.now) (tree_of right.now) name.now) }
@@ -132,8 +131,8 @@ fn pipe_clash<'t, A: Allocator>(left: &'t Cmd<A>, right: &Cmd<A>) -> Option<&'t 
 /// body writes it. All is judged by the text, so a name that can't be opened counts too.
 ///
 /// A node's clash comes before those of its body, or of its left side, and these before those of its
-/// right side. Of several names that clash at one pipe the first in the left side is told, whichever
-/// of its places there clashes: `(cat n m; echo a > n) | (cat n > m)` tells `n`. A redirection's own
+/// right side. Of several names that clash at one pipe the first in the left side is returned,
+/// whichever of its places there clashes: `n` for `(cat n m; echo a > n) | (cat n > m)`. A redirection's own
 /// name comes before its body's, and the words of a simple command stand in the text's order.
 ///
 /// Takes no memory, and time at most quadratic in the size of the tree: two places that name a file

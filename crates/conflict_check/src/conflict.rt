@@ -1,4 +1,4 @@
-/// How commands of a tree may come upon each other at a file.
+/// How commands of a tree may meet at a file (own).
 #[derive(Clone, Copy, Debug, PartialEq, Eq)]
 pub enum ClashKind {
     /// One side of a pipe writes the file, and the other reads or writes it.
@@ -8,11 +8,11 @@ pub enum ClashKind {
     Enclosing,
 }
 
-/// A file at which commands of a tree may come upon each other.
+/// A file at which commands of a tree may meet (own).
 #[derive(Clone, Copy, Debug, PartialEq, Eq)]
 pub struct Clash<'t> {
     /// The file's name, as the tree has it.
     pub name: &'t [u8],
-    /// How they may.
+    /// How they may meet there.
     pub kind: ClashKind,
 }

@@ -1,5 +1,5 @@
-//! The names that trees of commands read and write, and where commands of one tree may come upon each
-//! other at a file.
+//! The names that trees of commands read and write, and the files at which commands of one tree may
+//! meet: one of them writes the file, and another reads or writes it.
 #![tactic(auto)]
 
 mod clashes;

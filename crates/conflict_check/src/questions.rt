@@ -91,7 +91,7 @@ pub fn writes_it<A: Allocator>(tree: &Cmd<A>, name: &[u8]) -> bool
     }
 }
 
-/// Whether the tree names a file of this name by its text: whether it reads or writes one (own).
+/// Whether the tree names this file by its text, to read it or to write it (own).
 ///
 /// Takes no memory, and time linear in the tree. It recurses as deep as the tree is high.
 pub fn names_it<A: Allocator>(tree: &Cmd<A>, name: &[u8]) -> bool

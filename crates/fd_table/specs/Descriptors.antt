@@ -30,7 +30,7 @@ installed fds e = installed_at fds (lowest_free fds) e
 abbrev pub without : Descriptors → ℕ → Descriptors
 without fds fd = slice_set fds fd None
 
--- what a dup is answered, by the entry of its descriptor and the lowest free place
+-- the result of a dup, by the entry of its descriptor and the lowest free place
 abbrev pub dup_answer : Option ℕ → Option ℕ → Result ℕ FdFault
 dup_answer None place = Err BadFd
 dup_answer (Some e) place = ok_or place FullFds
@@ -46,7 +46,7 @@ held_by_dup t None place = t
 held_by_dup t (Some e) None = t
 held_by_dup t (Some e) (Some place) = held t e
 
--- what a close is answered, by the entry of its descriptor
+-- the result of a close, by the entry of its descriptor
 abbrev pub close_answer : Entries → Option ℕ → Result (Option Object) FdFault
 close_answer t None = Err BadFd
 close_answer t (Some e) = Ok (last_object (entry_at t e))

@@ -36,7 +36,7 @@ impl Fds {
     ghost use Rattle.fd_table.specs.Entries.{free_count};
     ghost use Rattle.fd_table.specs.Descriptors.{entry_of, lowest_free, installed, dup_answer, after_dup, held_by_dup, close_answer, after_close, released_by_close, all_held, HoldsInUse, CanCountMore, CountsFit};
 
-    /// No descriptor is open.
+    /// A table in which no descriptor is open (own).
     pub fn new() -> Self
         ensures { result ≡ replicate DESCRIPTORS None }
     {
@@ -45,7 +45,7 @@ impl Fds {
         }
     }
 
-    /// The lowest descriptor that isn't open, if there is one (`fdalloc`).
+    /// The lowest descriptor that isn't open, counted from 0; `None` where all are open (`fdalloc`).
     pub fn lowest_free(&self) -> Option<usize>
         ensures value { result ≡ lowest_free self.now }
         ensures within { IfSome result (λ fd. fd < DESCRIPTORS) }
@@ -73,7 +73,8 @@ impl Fds {
         }
     }
 
-    /// The lowest free descriptor holds `entry` from now on (`fdalloc`). The entry's count stays as it is.
+    /// Makes the lowest free descriptor hold `entry`, and returns its number (`fdalloc`). The entry's count doesn't
+    /// change.
     ///
     /// `FullFds` where no descriptor is free.
     pub fn install(&mut self, entry: Entry) -> Result<usize, FdFault>
@@ -87,7 +88,7 @@ impl Fds {
         Ok(fd)
     }
 
-    /// The lowest free descriptor shares the entry of `fd`, and so its offset (`sys_dup`).
+    /// Makes the lowest free descriptor share the entry of `fd`, and so its offset, and returns its number (`sys_dup`).
     ///
     /// `BadFd` where `fd` isn't open, and then `FullFds` where no descriptor is free.
     pub fn dup(&mut self, files: &mut OpenFiles, fd: usize) -> Result<usize, FdFault>
@@ -103,7 +104,7 @@ impl Fds {
         Ok(fd)
     }
 
-    /// Closes the descriptor `fd`, and gives back what its entry had open where no other descriptor holds it
+    /// Closes the descriptor `fd`, and returns what its entry had open where no other descriptor holds that entry
     /// (`sys_close`).
     ///
     /// `BadFd` where `fd` isn't open.
@@ -119,7 +120,7 @@ impl Fds {
     }
 
     /// The descriptors of a child: they share the entries, and each entry is held once more for each descriptor that
-    /// holds it (`fork`).
+    /// holds it (`kfork`).
     pub fn fork_copy(&self, files: &mut OpenFiles) -> Fds
         requires in_use { All (HoldsInUse files.old) self.now }
         requires fits { CountsFit (all_held files.old self.now) }

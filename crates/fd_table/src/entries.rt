@@ -10,7 +10,7 @@ use std::marker::Model;
 /// How many open-file entries there are (xv6's `NFILE`).
 pub const ENTRIES: usize = 100;
 
-/// The number of an open-file entry, 0 to 99.
+/// The number of an open-file entry, 0 to 99 (own: xv6 has a pointer).
 #[derive(Clone, Copy, Debug, PartialEq, Eq)]
 pub struct Entry {
     index: usize,
@@ -30,7 +30,7 @@ impl Model for Entry {
 }
 
 impl Entry {
-    /// The number, from 0.
+    /// The number, from 0 (own).
     pub fn index(self) -> usize
         ensures value { result ≡ self }
         ensures within { result < ENTRIES }
@@ -81,7 +81,7 @@ impl OpenFiles {
     ghost use Rattle.fd_table.specs.declared.faults.FdFault.TheVariants.{FullOpen};
     ghost use Rattle.fd_table.specs.Entries.{entry_at, IsInUse, count_of, offset_of, lowest_free_entry, added, held, last_object, released, advanced, moved_to, free_count};
 
-    /// All entries are free.
+    /// A table in which all entries are free (own).
     pub fn new() -> Self
         ensures { result ≡ replicate ENTRIES None }
     {
@@ -90,7 +90,8 @@ impl OpenFiles {
         }
     }
 
-    /// Opens `object` at the lowest free entry, held by one descriptor and with offset 0 (`filealloc`).
+    /// Opens `object` at the lowest free entry, held by one descriptor and with offset 0, and returns the entry
+    /// (`filealloc`).
     ///
     /// `FullOpen` where no entry is free; `object` is dropped then.
     pub fn add(&mut self, object: Object) -> Result<Entry, FdFault>
@@ -115,7 +116,7 @@ impl OpenFiles {
         self.slots.iter().position(|slot| slot.is_none())
     }
 
-    /// One descriptor more holds the entry (`filedup`).
+    /// Counts one descriptor more that holds the entry (`filedup`).
     pub fn hold(&mut self, entry: Entry)
         requires in_use { IsInUse self.old entry }
         requires fits { count_of (entry_at self.old entry) + 1 < 2 ^ 32 }
@@ -126,8 +127,8 @@ impl OpenFiles {
         }
     }
 
-    /// One descriptor less holds the entry. With the last one the entry becomes free, and what it had open is given
-    /// back (`fileclose`).
+    /// Counts one descriptor less that holds the entry. With the last one the entry becomes free, and what it had open is
+    /// returned (`fileclose`).
     pub fn release(&mut self, entry: Entry) -> Option<Object>
         requires { IsInUse self.old entry }
         ensures object { result ≡ last_object (entry_at self.old entry) }
@@ -147,7 +148,7 @@ impl OpenFiles {
         }
     }
 
-    /// The byte, counted from 0, at which the entry goes on (`off`).
+    /// The offset of the entry: the byte of its file, counted from 0, at which the next read or write begins (`off`).
     pub fn offset(&self, entry: Entry) -> u64
         requires { IsInUse self.now entry }
         ensures { result ≡ offset_of (entry_at self.now entry) }
@@ -158,7 +159,7 @@ impl OpenFiles {
         }
     }
 
-    /// The entry goes on `count` bytes further (`fileread` and `filewrite`).
+    /// Moves the offset of the entry `count` bytes on (`fileread` and `filewrite`).
     pub fn advance(&mut self, entry: Entry, count: u64)
         requires in_use { IsInUse self.old entry }
         requires fits { offset_of (entry_at self.old entry) + count < 2 ^ 64 }
@@ -169,8 +170,7 @@ impl OpenFiles {
         }
     }
 
-    /// The entry goes on at this byte, counted from 0, wherever it was before (own: after a write that went to the end
-    /// of its file).
+    /// Moves the offset of the entry to this byte, counted from 0 (own: after a write that went to the end of its file).
     pub fn move_to(&mut self, entry: Entry, offset: u64)
         requires { IsInUse self.old entry }
         ensures { self.new ≡ moved_to self.old entry offset }

@@ -2,7 +2,7 @@
 
 use thiserror::Error;
 
-/// Why a call on descriptors or on open-file entries was refused, numbered from 1.
+/// Why a call on descriptors or on open-file entries was refused, numbered from 1 (own: xv6 returns -1).
 #[derive(Clone, Copy, Debug, PartialEq, Eq, Error)]
 pub enum FdFault {
     /// The descriptor isn't open, or there is none of that number.

@@ -29,7 +29,7 @@ pub fn an_add_takes_one_free_entry()
     ensures two { (t : Entries) (object : Object) → 2 ≤ free_count t → IsSome (lowest_free_entry t) × IsSome (lowest_free_entry (added t object)) }
 {}
 
-/// New entries count right: nobody holds them. A table with no open descriptor changes no count, and neither does the
+/// New entries count right: no descriptor holds them. A table with no open descriptor changes no count, and neither does the
 /// order of the tables.
 pub fn counts_begin_right()
     ensures new { CountHolders (replicate ENTRIES None) [] }
@@ -92,7 +92,7 @@ pub fn right_counts_meet_what_calls_require()
     ensures fit { (t : Entries) (fds : Descriptors) (most : ℕ) → ((e : ℕ) → count_of (entry_at t e) ≤ most) → most + length fds < 2 ^ 32 → CountsFit (all_held t fds) }
 {}
 
-/// Where the counts are right, a release gives the object back exactly where no other descriptor holds it.
+/// Where the counts are right, a release returns the object exactly where no other descriptor holds it.
 pub fn the_last_holder_gets_the_object()
     ensures { (t : Entries) (fd e : ℕ) (fds : Descriptors) (before after : List Descriptors) → entry_of fds fd ≡ Some e
         → CountHolders t (before ++ fds ∷ after) → IsSome (last_object (entry_at t e)) ↔ (holders (before ++ without fds fd ∷ after) e ≡ 0) }

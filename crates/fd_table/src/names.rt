@@ -9,7 +9,7 @@ use std::marker::Model;
 /// How many bytes a file name has at most (xv6's `DIRSIZ`).
 pub const NAME_SIZE: usize = 14;
 
-/// A file name: at most 14 bytes, which is all that contracts see of it.
+/// A file name of at most 14 bytes (xv6's `kernel/fs.h`). Contracts see the list of the bytes.
 #[derive(Debug, Drop)]
 pub struct Name {
     bytes: ArrayVec<u8, NAME_SIZE>,
@@ -29,7 +29,7 @@ impl Model for Name {
 impl Name {
     /// The name of these bytes, or `None` where there are more than 14 (own: xv6 cuts a longer name off).
     ///
-    /// Any bytes are taken: which names a file can have is for the file system to say.
+    /// Any bytes are accepted: which names a file can have, the set of files checks.
     pub fn new(bytes: &[u8]) -> Option<Self>
         ensures fits { IsSome result ↔ (length bytes.now ≤ NAME_SIZE) }
         ensures value { IfSome result (λ name. name ≡ bytes.now) }
@@ -38,7 +38,7 @@ impl Name {
         Some(Name { bytes })
     }
 
-    /// The bytes of the name.
+    /// The bytes of the name, borrowed (own).
     pub fn as_slice(&self) -> &[u8]
         ensures bytes { result.now ≡ self.now }
         ensures fits { length self.now ≤ NAME_SIZE }
@@ -57,7 +57,7 @@ pub enum Mode {
     Fresh,
     /// For writing, over the bytes that are there.
     Over,
-    /// For writing, where each write goes to the end of the file as it is then.
+    /// For writing, where each write goes to the end of the file at that time.
     Append,
 }
 

@@ -27,7 +27,7 @@ lets_follow (One c) rest = true
 lets_follow (Star c) rest = true
 lets_follow End rest = fits End rest
 
--- the items fit pieces that stand in a row from the text's begin on: some cut gives the first its piece
+-- the items fit pieces that stand in a row from the text's beginning on: some cut gives the first its piece
 abbrev pub can_fit : List Item → List ℕ → Bool
 can_fit [] text = true
 can_fit (item ∷ items) text = list_any (λ cut. fits item cut.0 && (lets_follow item cut.1 && can_fit items cut.1)) (cuts text)

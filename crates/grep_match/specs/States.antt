@@ -1,5 +1,5 @@
--- Which items a search over the text's bytes has come to: state n is at item n, and the one that follows those is behind
--- the last item. States behind that one count for nothing. No public clause cites this module.
+-- Which items a search over the text's bytes has reached: state n stands for item n, and the state after those for the
+-- end of the items. States behind that one count for nothing. No public clause cites this module.
 use Rattle.std.specs.Prelude.{ℕ, Bool, true, false, ◌&&◌, ◌||◌, List, [], ◌∷◌, Option, Some, None}
 use Rattle.grep_match.specs.declared.item.Item.{Item}
 use Rattle.grep_match.specs.declared.item.Item.TheVariants.{One, Star, End}

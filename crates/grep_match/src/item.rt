@@ -1,7 +1,7 @@
 ghost use Rattle.std.specs.Prelude.{◌≡◌, ◌<◌, ◌≤◌, ℕ, [], ◌∷◌, length, IfSome, IfNone};
 ghost use Rattle.grep_match.specs.Pattern.{items_of, is_anchored, pattern_items, stands_for};
 
-/// What a pattern is made of.
+/// An item of a pattern, by the text that fits it.
 #[derive(Clone, Copy, Debug, PartialEq, Eq)]
 pub enum Item {
     /// One byte: the given one, or any if it is `.`.

@@ -1,4 +1,4 @@
-//! Tells whether a text matches a pattern, as `user/grep.c`'s `match` does.
+//! Decides whether a text matches a pattern, as `user/grep.c`'s `match` does.
 #![tactic(auto)]
 
 mod item;

@@ -6,7 +6,7 @@ ghost use Rattle.grep_match.specs.Literal.{is_literal, ones};
 use crate::item::{Item, next_item, split_anchor};
 use memchr::memchr;
 
-// How many bytes the items begin with that are items by themselves and stand for themselves alone.
+// How many bytes at the beginning of the items are each an item that fits this byte alone.
 fn literal_len(items: &[u8]) -> usize
     ensures within { result ≤ length items.now }
     ensures split { items_of items.now ≡ ones (take result items.now) ++ items_of (drop result items.now) }
@@ -43,8 +43,8 @@ fn occurs(literal: &[u8], text: &[u8]) -> bool
     false
 }
 
-// Whether the text matches, where a search for the literal beginning of the items tells: none does that lacks this
-// beginning, and where it is all of the items any other does.
+// Whether the text matches, where a search for the literal beginning of the items decides it: a text that lacks this
+// beginning does not match, and where it is all of the items any other text does. Else `None`.
 pub fn is_match_by_literal(pattern: &[u8], text: &[u8]) -> Option<bool>
     ensures { IfSome result (λ answer. answer ≡ matches pattern.now text.now) }
 {

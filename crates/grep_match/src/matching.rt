@@ -6,7 +6,7 @@ use crate::marks::is_match_by_marks;
 use crate::search::is_match_by_cuts;
 use crate::states::is_match_by_states;
 
-// The bytes of the stack that marks or states take. A text that grep tests, and a pattern of a script, are shorter.
+// How many marks or states stand on the stack. A line that grep tests, and a pattern of a script, are shorter.
 const ROOM: usize = 1024;
 
 // By marks, in a function of its own, so that only a call that takes marks clears them.
@@ -43,9 +43,9 @@ fn is_match_in_states(pattern: &[u8], text: &[u8]) -> bool
 /// Without an anchor, the text is first searched for the bytes before the first special one: a text that lacks them
 /// does not match, and one that has them does where they are the whole pattern.
 ///
-/// Where the pattern or the text has fewer than 1,024 bytes this takes time by the one's length times the other's at
-/// most, where `user/grep.c`'s recursion takes exponential time on many stars. Where both are longer this goes as
-/// that does: it may take as long, and it takes stack by the number of stars.
+/// Where the pattern or the text has fewer than 1,024 bytes, the time is at most proportional to the product of their
+/// lengths, where `user/grep.c`'s recursion takes exponential time on many stars. Where both are longer this recurses
+/// as `user/grep.c` does: it may take as long, and its stack grows with the number of stars.
 pub fn is_match(pattern: &[u8], text: &[u8]) -> bool
     ensures pieces { IsTrue result ↔ IsMatch pattern.now text.now }
     ensures test { result ≡ matches pattern.now text.now }

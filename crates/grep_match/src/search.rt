@@ -4,7 +4,7 @@ ghost use Rattle.grep_match.specs.Match.{can_fit, can_fit_somewhere, matches};
 
 use crate::item::{Item, next_item, split_anchor, stands_for};
 
-// Whether the items can fit from the text's begin on: cut after cut is tried (user/grep.c's `matchhere`).
+// Whether the items can fit from the text's beginning on: cut after cut is tried (user/grep.c's `matchhere`).
 #[cycle(search)]
 fn fits(items: &[u8], text: &[u8]) -> bool
     ensures { result ≡ can_fit (items_of items.now) text.now }

@@ -15,7 +15,7 @@ fn stands_next(byte: u8, next: Option<u8>) -> bool
     }
 }
 
-// Moves the states behind the next byte of the text, and tells whether the last one was reached before it.
+// Moves the states behind the next byte of the text, and returns whether the last one was reached before it.
 fn step(states: &mut [bool], starts: bool, items: &[u8], next: Option<u8>) -> bool
     requires { length items.now < length states.old }
     ensures through { result ≡ comes_through next starts states.old (items_of items.now) }

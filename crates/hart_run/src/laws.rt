@@ -17,8 +17,8 @@ use kernel_events::Report;
 use script_load::Script;
 use std::alloc::{Allocator, Global};
 
-/// What `close` tells of a finished run (clause `finished`) of a kernel that was booted with a script's machines, whoever took
-/// the turns: if the script is settled and nothing was full, the report tells the output and the files of its recursive
+/// The answer of `close`. Where its clause `finished` holds of a kernel that was booted with a script's machines, on whatever
+/// harts: if the script is settled and nothing was full, the report has the output and the files of the script's recursive
 /// meaning, soft files left out.
 pub fn a_closed_run_of_a_settled_script_is_its_meaning<A: Allocator>(
     _script: &Script<A>,

@@ -6,10 +6,11 @@ ghost use Rattle.mem_files.specs.Name.{is_openable};
 ghost use Rattle.mem_files.specs.Files.{files};
 ghost use Rattle.kernel_model.specs.Modes.{empties, entry_mode, reads};
 ghost use Rattle.kernel_model.specs.Opening.{emptied_if, open_file, open_for_reading, open_for_writing, open_here, open_reply};
+ghost use Rattle.kernel_model.specs.Notes.{is_refused};
 
 use crate::descriptors::{free_fd, open_object};
 use fd_table::{Mode as EntryMode, Name, Object};
-use kernel_model::Full;
+use kernel_model::{Full, Memory};
 use kernel_state::State;
 use mem_files::{FilesFault, is_openable};
 use proc_table::Pid;
@@ -50,69 +51,69 @@ pub(crate) fn open_for_reading<M: Machine, A: Allocator>(
     }
 }
 
-// An entry and a descriptor are looked for first. It says whether memory was refused.
+// Looks for an entry and a descriptor first. Returns whether memory was refused.
 pub(crate) fn open_file<M: Machine, A: Allocator + Copy>(
     state: &mut State<M, A>,
     pid: Pid,
     after: M,
     name: &Block,
     mode: Mode,
-) -> bool
+) -> Memory
     requires runs { is_running (at state.old.table pid) ≡ true }
-    ensures { state.new ≡ open_file state.old pid (M.view after) name.now mode result }
+    ensures { state.new ≡ open_file state.old pid (M.view after) name.now mode (is_refused result) }
 {
     if state.entries.free_count() == 0 {
         state.refuse(pid, after, Full::Open);
-        return false;
+        return Memory::Found;
     }
     if free_fd(state, pid).is_none() {
         state.refuse(pid, after, Full::Fds);
-        return false;
+        return Memory::Found;
     }
     if !is_openable(name.as_slice()) {
         state.answer(pid, after, Reply::Refused);
-        return false;
+        return Memory::Found;
     }
     let Some(name) = Name::new(name.as_slice()) else {
         unreachable!()
     };
     if reads(mode) {
         open_for_reading(state, pid, after, name, mode);
-        false
+        Memory::Found
     } else {
         open_for_writing(state, pid, after, name, mode)
     }
 }
 
-// A missing file is made. It says whether memory was refused.
+// A missing file is made. Returns whether memory was refused.
 pub(crate) fn open_for_writing<M: Machine, A: Allocator + Copy>(
     state: &mut State<M, A>,
     pid: Pid,
     after: M,
     name: Name,
     mode: Mode,
-) -> bool
+) -> Memory
     requires runs { is_running (at state.old.table pid) ≡ true }
     requires openable { is_openable name ≡ true }
-    ensures { state.new ≡ open_for_writing state.old pid (M.view after) name mode result (files state.old.files name) }
+    ensures { state.new ≡ open_for_writing state.old pid (M.view after) name mode (is_refused result) (files state.old.files name) }
 {
     if state.files.get(name.as_slice()).is_some() {
         empty_if(state, empties(mode), name.as_slice());
         open_here(state, pid, after, name, mode);
-        return false;
+        return Memory::Found;
     }
     match state.files.create(name.as_slice()) {
         Ok(()) => {
             open_here(state, pid, after, name, mode);
-            false
+            Memory::Found
         }
         Err(FilesFault::FullFiles) => {
             state.refuse(pid, after, Full::Files);
-            false
+            Memory::Found
         }
         Err(FilesFault::Memory) => {
             state.refuse(pid, after, Full::Memory);
-            true
+            Memory::Refused
         }
         Err(_) => unreachable!(),
     }
@@ -134,7 +135,7 @@ pub(crate) fn empty_if<M: Machine, A: Allocator + Copy>(
     }
 }
 
-// What an open is answered, by its descriptor.
+// The reply to an open, by its descriptor.
 fn open_reply(fd: Option<usize>) -> Reply
     ensures { result ≡ open_reply fd }
 {

@@ -3,46 +3,47 @@
 ghost use Rattle.std.specs.Prelude.{◌≡◌, true};
 ghost use Rattle.proc_table.specs.Slots.{at, is_running};
 ghost use Rattle.kernel_model.specs.Descriptors.{ends_reply, make_pipe};
+ghost use Rattle.kernel_model.specs.Notes.{is_refused};
 
 use crate::descriptors::{free_fd, free_fds, open_object};
 use fd_table::Object;
-use kernel_model::Full;
+use kernel_model::{Full, Memory};
 use kernel_state::State;
 use proc_table::Pid;
 use std::alloc::Allocator;
 use user_calls::{Machine, Reply};
 
-// A new pipe is named by this event. It says whether memory was refused.
+// A new pipe is named by the number of this event. Returns whether memory was refused.
 pub(crate) fn make_pipe<M: Machine, A: Allocator + Copy>(
     state: &mut State<M, A>,
     pid: Pid,
     after: M,
-) -> bool
+) -> Memory
     requires runs { is_running (at state.old.table pid) ≡ true }
-    ensures { state.new ≡ make_pipe state.old pid (M.view after) result }
+    ensures { state.new ≡ make_pipe state.old pid (M.view after) (is_refused result) }
 {
     if state.entries.free_count() < 2 {
         state.refuse(pid, after, Full::Open);
-        return false;
+        return Memory::Found;
     }
     if free_fds(state, pid) < 2 {
         state.refuse(pid, after, Full::Fds);
-        return false;
+        return Memory::Found;
     }
     let name = state.events;
     if state.pipes.add(name).is_err() {
         state.refuse(pid, after, Full::Memory);
-        return true;
+        return Memory::Refused;
     }
     let reader = free_fd(state, pid);
     open_object(state, pid, Object::PipeRead(name));
     let writer = free_fd(state, pid);
     open_object(state, pid, Object::PipeWrite(name));
     state.answer(pid, after, ends_reply(reader, writer));
-    false
+    Memory::Found
 }
 
-// What a pipe is answered, by its two descriptors.
+// The reply to a pipe call, by its two descriptors.
 fn ends_reply(reader: Option<usize>, writer: Option<usize>) -> Reply
     ensures { result ≡ ends_reply reader writer }
 {

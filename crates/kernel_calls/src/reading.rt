@@ -20,7 +20,7 @@ use proc_table::{Channel, Pid};
 use std::alloc::Allocator;
 use user_calls::{BLOCK_SIZE, Block, Machine, Reply};
 
-// `sys_read`; more bytes than a block are asked for as a block.
+// `sys_read`; a call for more bytes than a block reads a block at most.
 pub(crate) fn read<M: Machine, A: Allocator>(
     state: &mut State<M, A>,
     pid: Pid,

@@ -5,73 +5,76 @@ ghost use Rattle.fd_table.specs.Entries.{IsInUse, entry_at, offset_of};
 ghost use Rattle.mem_files.specs.Files.{files};
 ghost use Rattle.mem_files.specs.Listing.{max_size};
 ghost use Rattle.proc_table.specs.Slots.{at, is_running, put_of};
-ghost use Rattle.kernel_calls.specs.FileOf.{IfFile};
+ghost use Rattle.kernel_calls.specs.FileOf.{IfFile, IsFile};
 ghost use Rattle.kernel_model.specs.Sound.{IsSound};
+ghost use Rattle.kernel_model.specs.Notes.{is_refused};
 ghost use Rattle.kernel_model.specs.Pipes.{pipe_of};
 ghost use Rattle.kernel_model.specs.Writing.{append_file, write, write_file, write_object, write_pipe};
 
 use crate::descriptors::entry;
 use byte_pipe::Put;
 use fd_table::{Entry, Mode as EntryMode, Object};
-use kernel_model::Full;
+use kernel_model::{Full, Memory};
 use kernel_state::State;
 use mem_files::FilesFault;
 use proc_table::{Channel, Pid};
 use std::alloc::Allocator;
 use user_calls::{Machine, Reply};
 
-// `sys_write`. It says whether memory was refused.
+// `sys_write`. Returns whether memory was refused.
 pub(crate) fn write<M: Machine, A: Allocator>(
     state: &mut State<M, A>,
     pid: Pid,
     after: M,
     fd: usize,
     bytes: &[u8],
-) -> bool
+) -> Memory
     requires runs { is_running (at state.old.table pid) ≡ true }
     requires sound { IsSound state.old.table state.old.entries }
     requires few { length bytes.now ≤ 1024 }
-    ensures { state.new ≡ write state.old pid (M.view after) fd bytes.now result }
+    ensures { state.new ≡ write state.old pid (M.view after) fd bytes.now (is_refused result) }
 {
     match entry(state, pid, fd) {
         Some(entry) => write_held(state, pid, after, entry, bytes),
         None => {
             state.answer(pid, after, Reply::Refused);
-            false
+            Memory::Found
         }
     }
 }
 
-// A write to what the entry has open. It says whether memory was refused.
+// A write to what the entry has open. Returns whether memory was refused.
 pub(crate) fn write_held<M: Machine, A: Allocator>(
     state: &mut State<M, A>,
     pid: Pid,
     after: M,
     entry: Entry,
     bytes: &[u8],
-) -> bool
+) -> Memory
     requires runs { is_running (at state.old.table pid) ≡ true }
     requires in_use { IsInUse state.old.entries entry }
     requires small { offset_of (entry_at state.old.entries entry) ≤ max_size }
     requires few { length bytes.now ≤ 1024 }
-    ensures { IfSome (entry_at state.old.entries entry) (λ f. state.new ≡ write_object state.old pid (M.view after) entry f.offset bytes.now result f.object) }
+    ensures { IfSome (entry_at state.old.entries entry) (λ f. state.new ≡ write_object state.old pid (M.view after) entry f.offset bytes.now (is_refused result) f.object) }
 {
     match state.entries.object(entry) {
         Object::Out => {
-            if state.out.extend_from_slice(bytes).is_err() {
+            if state.out.extend_from_slice(bytes).is_ok() {
+                state.procs.ready(pid, after, Reply::Done);
+                Memory::Found
+            } else {
                 state.refuse(pid, after, Full::Memory);
-                return true;
+                Memory::Refused
             }
-            state.procs.ready(pid, after, Reply::Done);
-            false
         }
         Object::Diag => {
-            if state.diag.extend_from_slice(bytes).is_err() {
+            if state.diag.extend_from_slice(bytes).is_ok() {
+                state.procs.ready(pid, after, Reply::Done);
+                Memory::Found
+            } else {
                 state.refuse(pid, after, Full::Memory);
-                return true;
+                Memory::Refused
             }
-            state.procs.ready(pid, after, Reply::Done);
-            false
         }
         Object::File(_, EntryMode::Fresh) => write_file(state, pid, after, entry, bytes),
         Object::File(_, EntryMode::Over) => write_file(state, pid, after, entry, bytes),
@@ -81,25 +84,25 @@ pub(crate) fn write_held<M: Machine, A: Allocator>(
             let put = state.procs.put(pid);
             let from = put.min(bytes.len());
             write_pipe(state, pid, after, name, put, &bytes[from..]);
-            false
+            Memory::Found
         }
         Object::File(_, EntryMode::Input) => {
             state.procs.ready(pid, after, Reply::Refused);
-            false
+            Memory::Found
         }
         Object::PipeRead(_) => {
             state.procs.ready(pid, after, Reply::Refused);
-            false
+            Memory::Found
         }
         Object::Input => {
             state.procs.ready(pid, after, Reply::Refused);
-            false
+            Memory::Found
         }
     }
 }
 
-// A write to the pipe of that name of the bytes that are left after so many were put. What sleeps has put less
-// than a block.
+// A write to the pipe of that name of the bytes that are left after `put` of them were put. A write that sleeps has put
+// less than a block.
 pub(crate) fn write_pipe<M: Machine, A: Allocator>(
     state: &mut State<M, A>,
     pid: Pid,
@@ -130,23 +133,24 @@ pub(crate) fn write_pipe<M: Machine, A: Allocator>(
     }
 }
 
-// A write to the file that the entry has open for writing. It says whether memory was refused.
+// A write to the file that the entry has open for writing. Returns whether memory was refused.
 pub(crate) fn write_file<M: Machine, A: Allocator>(
     state: &mut State<M, A>,
     pid: Pid,
     after: M,
     entry: Entry,
     bytes: &[u8],
-) -> bool
+) -> Memory
     requires runs { is_running (at state.old.table pid) ≡ true }
     requires in_use { IsInUse state.old.entries entry }
     requires small { offset_of (entry_at state.old.entries entry) ≤ max_size }
     requires few { length bytes.now ≤ 1024 }
-    ensures { IfFile (entry_at state.old.entries entry) (λ name offset. state.new ≡ write_file state.old pid (M.view after) entry name offset bytes.now result (files state.old.files name)) }
+    requires file { IsFile (entry_at state.old.entries entry) }
+    ensures { IfFile (entry_at state.old.entries entry) (λ name offset. state.new ≡ write_file state.old pid (M.view after) entry name offset bytes.now (is_refused result) (files state.old.files name)) }
 {
     let offset = state.entries.offset(entry);
     let Object::File(name, _) = state.entries.object(entry) else {
-        return false;
+        unreachable!()
     };
     match state
         .files
@@ -155,55 +159,56 @@ pub(crate) fn write_file<M: Machine, A: Allocator>(
         Ok(()) => {
             state.entries.advance(entry, bytes.len() as u64);
             state.procs.ready(pid, after, Reply::Done);
-            false
+            Memory::Found
         }
         Err(FilesFault::FullSize) => {
             state.refuse(pid, after, Full::Size);
-            false
+            Memory::Found
         }
         Err(FilesFault::Memory) => {
             state.refuse(pid, after, Full::Memory);
-            true
+            Memory::Refused
         }
         Err(_) => {
             state.procs.ready(pid, after, Reply::Refused);
-            false
+            Memory::Found
         }
     }
 }
 
-// A write to the end of the file that the entry has open. It says whether memory was refused.
+// A write to the end of the file that the entry has open. Returns whether memory was refused.
 pub(crate) fn append_file<M: Machine, A: Allocator>(
     state: &mut State<M, A>,
     pid: Pid,
     after: M,
     entry: Entry,
     bytes: &[u8],
-) -> bool
+) -> Memory
     requires runs { is_running (at state.old.table pid) ≡ true }
     requires in_use { IsInUse state.old.entries entry }
-    ensures { IfFile (entry_at state.old.entries entry) (λ name offset. state.new ≡ append_file state.old pid (M.view after) entry name bytes.now result (files state.old.files name)) }
+    requires file { IsFile (entry_at state.old.entries entry) }
+    ensures { IfFile (entry_at state.old.entries entry) (λ name offset. state.new ≡ append_file state.old pid (M.view after) entry name bytes.now (is_refused result) (files state.old.files name)) }
 {
     let Object::File(name, _) = state.entries.object(entry) else {
-        return false;
+        unreachable!()
     };
     match state.files.append(name.as_slice(), bytes) {
         Ok(size) => {
             state.entries.move_to(entry, size as u64);
             state.procs.ready(pid, after, Reply::Done);
-            false
+            Memory::Found
         }
         Err(FilesFault::FullSize) => {
             state.refuse(pid, after, Full::Size);
-            false
+            Memory::Found
         }
         Err(FilesFault::Memory) => {
             state.refuse(pid, after, Full::Memory);
-            true
+            Memory::Refused
         }
         Err(_) => {
             state.procs.ready(pid, after, Reply::Refused);
-            false
+            Memory::Found
         }
     }
 }

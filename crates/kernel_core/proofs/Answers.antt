@@ -1,4 +1,4 @@
--- A finished run of the kernel gives the meaning of a settled script, and a report tells what the run left.
+-- A finished run of the kernel gives the meaning of a settled script, and a report has what the run left.
 use Rattle.std.proofs.Common.{◌≡◌, ◌∙◌, List, true, sym, ap}
 use Rattle.std.specs.Prelude.{IfOk, Result}
 use Rattle.std.proofs.lemmas.Result.{IfOk-weaker}

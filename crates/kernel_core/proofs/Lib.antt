@@ -1,3 +1,4 @@
+mod Alike
 pub mod Answers
 mod Spending
 mod Told

@@ -1,8 +1,15 @@
-//! Laws of every run, of the state that a kernel is in: each function's contract is the law, and it changes nothing.
+//! The laws of every run, of the state that a kernel is in: each function's contract is the law, and it changes nothing.
 //!
-//! A kernel's type knows that it was booted, and that its schedule leads to its state; so they ask nothing.
+//! A kernel's type keeps that it was booted, and that its schedule leads to its state; so these functions require nothing.
 
-ghost use Rattle.std.specs.Prelude.{◌≡◌, ◌++◌, ◌↔◌, ℕ, List, Some, true, false};
+ghost use Rattle.std.specs.Prelude.{◌≡◌, ◌++◌, ◌↔◌, ◌<◌, ℕ, List, Some, true, false, All, count_by, length};
+ghost use Rattle.mem_files.specs.Files.{files};
+ghost use Rattle.tree_model.specs.Tidy.{IsClearScript};
+ghost use Rattle.proc_table.specs.Slots.{is_runnable, is_running};
+ghost use Rattle.kernel_model.specs.Events.{IsFinished};
+ghost use Rattle.run_model.specs.Plain.{IsPlainRun};
+ghost use Rattle.step_bounds.specs.Most.{most_events};
+ghost use Rattle.law_never_stuck.specs.Awake.{IsAwake};
 ghost use Rattle.mem_files.specs.Name.{Bytes};
 ghost use Rattle.mem_files.specs.Listing.{AreFiles};
 ghost use Rattle.byte_pipe.specs.PipeState.{PipeState};
@@ -16,11 +23,13 @@ ghost use Rattle.law_kernel.specs.Asking.{AllAsk};
 ghost use Rattle.law_kernel.specs.Limits.{IsWithin};
 
 use kernel_events::Kernel;
+use sh_machine::{Naming, User};
 use std::alloc::Allocator;
 use user_calls::Machine;
 
-/// No wake-up is lost: whoever sleeps has to. For bytes of a pipe: it is empty, and its write end is open. For room in
-/// a pipe: it holds 512 bytes, and its read end is open. For its children: it has one, and none that is a zombie.
+/// No wake-up is lost: a process sleeps only while what it waits for is not there. One that waits for bytes of a pipe: the pipe
+/// is empty, and its write end is open. For room in a pipe: it holds 512 bytes, and its read end is open. For children: it has
+/// one, and none that is a zombie.
 pub fn no_wake_up_is_lost<M: Machine, A: Allocator>(kernel: &Kernel<M, A>)
     ensures { AllWait kernel.now.now.table kernel.now.now.pipes }
 {
@@ -28,7 +37,7 @@ pub fn no_wake_up_is_lost<M: Machine, A: Allocator>(kernel: &Kernel<M, A>)
     kernel.replays();
 }
 
-/// Whoever sleeps makes a call that may sleep there: a read from that very pipe, a write to that very pipe of which some
+/// A process that sleeps makes a call that may sleep there: a read from that very pipe, a write to that very pipe of which some
 /// bytes are left, or a wait.
 pub fn whoever_sleeps_asks_for_it<M: Machine, A: Allocator>(kernel: &Kernel<M, A>)
     ensures { AllAsk M.call_of kernel.now.now }
@@ -37,7 +46,7 @@ pub fn whoever_sleeps_asks_for_it<M: Machine, A: Allocator>(kernel: &Kernel<M, A
     kernel.replays();
 }
 
-/// Init lives and is nobody's child, nobody is its own child, and every parent lives.
+/// Init lives and has no parent, no process is its own child, and every parent lives.
 pub fn every_parent_lives<M: Machine, A: Allocator>(kernel: &Kernel<M, A>)
     ensures { IsFamily kernel.now.now.table }
 {
@@ -67,6 +76,36 @@ pub fn a_pipe_loses_nothing<M: Machine, A: Allocator>(kernel: &Kernel<M, A>)
 /// bytes.
 pub fn it_is_within_its_limits<M: Machine, A: Allocator>(kernel: &Kernel<M, A>)
     ensures { IsWithin kernel.now.now }
+{
+    kernel.is_booted();
+    kernel.replays();
+}
+
+/// In a run of a script without `&` in which nothing was full, some process is Runnable or Running.
+pub fn it_is_never_stuck<'t, B: Allocator, N: Naming, A: Allocator>(
+    kernel: &Kernel<User<'t, B, N>, A>,
+)
+    ensures { IsPlainRun kernel.now → IsAwake kernel.now.now.table }
+{
+    kernel.is_booted();
+    kernel.replays();
+}
+
+/// So where nothing is Runnable, some process is Running.
+pub fn nothing_is_runnable_only_while_one_runs_elsewhere<'t, B: Allocator, N: Naming, A: Allocator>(
+    kernel: &Kernel<User<'t, B, N>, A>,
+)
+    ensures { IsPlainRun kernel.now → All (λ slot. is_runnable slot ≡ false) kernel.now.now.table → 0 < count_by is_running kernel.now.now.table }
+{
+    it_is_never_stuck(kernel);
+}
+
+/// In a run of a clear script in which nothing was full, more events than `most_events` have happened only once no process
+/// but init is there.
+pub fn it_is_finished_after_so_many_events<'t, B: Allocator, N: Naming, A: Allocator>(
+    kernel: &Kernel<User<'t, B, N>, A>,
+)
+    ensures { (plain : IsPlainRun kernel.now) → IsClearScript plain.lines → most_events plain.lines plain.input (files plain.files) < length kernel.now.schedule → IsFinished kernel.now.now }
 {
     kernel.is_booted();
     kernel.replays();

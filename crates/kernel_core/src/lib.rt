@@ -5,12 +5,13 @@
 //! keeps that its state is the one that its schedule leads to.
 #![tactic(auto)]
 
-pub mod awake;
-pub mod ending;
+mod dispatching;
 pub mod facts;
+pub mod laws;
 mod run;
 mod whole;
 
+pub use dispatching::dispatch;
 pub use kernel_events::{Event, Full, Kernel, PipeStatus, Report, Schedule, Stranger, Task};
 pub use kernel_runs::RunOneFault;
 pub use run::run_one;

@@ -1,4 +1,4 @@
--- What a report tells of a run.
+-- What a report states of a run.
 use Rattle.std.specs.Prelude.{◌≡◌, ◌↔◌, IsTrue, Bool, List, Some}
 use Rattle.user_calls.specs.declared.calls.Call.{Call}
 use Rattle.user_calls.specs.declared.calls.Reply.{Reply}
@@ -9,7 +9,7 @@ use Rattle.kernel_model.specs.Events.{run, IsFinished}
 use Rattle.kernel_events.specs.declared.report.Report.{Report}
 use Rattle.kernel_events.specs.Harts.{AreCounts}
 
--- the report tells of this kernel, to which its schedule led
+-- the report is of this kernel, to which its schedule led
 pub record Tells {A : _} {S : Type 0} (k : KernelState S) (report : Report A) : Type 0 where
   pub out : report.out.items ≡ k.out
   pub diag : report.diag.items ≡ k.diag

@@ -14,6 +14,6 @@ EndedTheSame left right = (left.full ≡ right.full) × (left.finished ≡ right
 abbrev pub WentTheSame : {A B : _} → Report A → Report B → Type 0
 WentTheSame left right = (left.schedule ≡ right.schedule) × (left.by_hart ≡ right.by_hart)
 
--- the two reports tell the same
+-- the two reports are equal
 abbrev pub AreSame : {A B : _} → Report A → Report B → Type 0
 AreSame left right = LeftTheSame left right × EndedTheSame left right × WentTheSame left right

@@ -13,7 +13,7 @@ use std::alloc::{AllocError, Allocator};
 use user_calls::Machine;
 
 impl<M: Machine, A: Allocator + Copy> Kernel<M, A> {
-    /// The event takes place, which is told by `true`, if it is one that can: nothing is handed out, and the call of a
+    /// The event takes place, and the result is `true`, if it is one that can: nothing is handed out, and the call of a
     /// trap is the one that the process's own machine makes. Where it can't, nothing changes.
     ///
     /// `AllocError`, with nothing changed, where the schedule gets no room, and only where the event could take place.

@@ -12,7 +12,7 @@ ghost use Rattle.kernel_events.specs.Harts.{AreCounts};
 use crate::log::Log;
 use crate::report::{Report, Schedule, count_of_hart};
 use kernel_calls::trap;
-use kernel_model::{Event, Full};
+use kernel_model::{Event, Full, Memory};
 use kernel_state::{State, Task};
 use mem_files::Files;
 use mem_files::laws::are_files;
@@ -29,7 +29,7 @@ pub struct Stranger;
 /// A kernel, which knows that its state is the one that its schedule leads to.
 ///
 /// Contracts see the state that it was booted with, the one that it is in, and the schedule between the two, with a note
-/// beside each event that tells whether memory was refused.
+/// beside each event: whether memory was refused.
 #[derive(Drop)]
 pub struct Kernel<M: Machine, A: Allocator> {
     pub(crate) state: State<M, A>,
@@ -56,7 +56,7 @@ impl<M: Machine, A: Allocator> Kernel<M, A> {
     /// Some Runnable process begins to run on the hart, which runs nothing; `None` where none is Runnable.
     ///
     /// First the schedule gets room for this event and for the trap of each running process. `AllocError` where that is
-    /// refused, which is told only where a process is Runnable; nothing changes then.
+    /// refused, and only where a process is Runnable; nothing changes then.
     pub fn dispatch(&mut self, hart: u8) -> Result<Option<Task<M>>, AllocError>
         requires hart { hart < HARTS }
         requires idle { All (λ slot. is_running_on hart slot ≡ false) self.old.now.table }
@@ -73,7 +73,7 @@ impl<M: Machine, A: Allocator> Kernel<M, A> {
         }
     }
 
-    /// `dispatch` that tells the process alone: what its hart needs is what `task` gives.
+    /// `dispatch` that returns the process alone; `task` returns what its hart needs.
     pub fn dispatch_next(&mut self, hart: u8) -> Result<Option<Pid>, AllocError>
         requires hart { hart < HARTS }
         requires idle { All (λ slot. is_running_on hart slot ≡ false) self.old.now.table }
@@ -94,7 +94,7 @@ impl<M: Machine, A: Allocator> Kernel<M, A> {
         let Some(pid) = self.state.dispatch(hart) else {
             return Ok(None);
         };
-        self.log.write(Event::Dispatch(hart, pid.index()), false);
+        self.log.write(Event::Dispatch(hart, pid.index()), Memory::Found);
         Ok(Some(pid))
     }
 
@@ -143,7 +143,7 @@ impl<M: Machine, A: Allocator> Kernel<M, A> {
         let (true, Some(slot)) = (self.state.dispatch_pid(hart, pid), Pid::new(pid)) else {
             return Ok(None);
         };
-        self.log.write(Event::Dispatch(hart, pid), false);
+        self.log.write(Event::Dispatch(hart, pid), Memory::Found);
         Ok(Some(slot))
     }
 
@@ -323,12 +323,12 @@ impl<M: Machine, A: Allocator + Copy> Kernel<M, A> {
         ensures running { count_by is_running self.new.now.table + 1 ≡ count_by is_running self.old.now.table }
     {
         self.log.fits();
-        let refused = trap(&mut self.state, pid, call, after);
-        self.log.write(Event::Trap(hart, pid.index()), refused);
+        let memory = trap(&mut self.state, pid, call, after);
+        self.log.write(Event::Trap(hart, pid.index()), memory);
     }
 
     /// A dispatch on the hart, which runs nothing, and the trap that follows it, at once: nothing is handed out, and no
-    /// machine is compared. It tells whether a process was Runnable.
+    /// machine is compared. It returns whether a process was Runnable.
     ///
     /// `AllocError` as with `dispatch`.
     pub fn step(&mut self, hart: u8) -> Result<bool, AllocError>

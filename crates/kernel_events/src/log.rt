@@ -2,8 +2,9 @@
 
 ghost use Rattle.std.specs.Prelude.{◌≡◌, ◌<◌, ◌≤◌, ◌+◌, ◌^◌, ◌++◌, [], ◌∷◌, OnErr, OnOk, length, vec_len, vec_capacity};
 ghost use Rattle.proc_table.specs.declared.pid.TheConstants.{PROCS};
+ghost use Rattle.kernel_model.specs.Notes.{is_refused};
 
-use kernel_model::Event;
+use kernel_model::{Event, Memory};
 use proc_table::PROCS;
 use std::alloc::{AllocError, Allocator};
 use std::marker::Model;
@@ -61,14 +62,14 @@ impl<A: Allocator> Log<A> {
         let _ = self.events.len();
     }
 
-    pub(crate) fn write(&mut self, event: Event, refused: bool)
+    pub(crate) fn write(&mut self, event: Event, memory: Memory)
         requires { 0 < self.old.room }
         ensures events { self.new.events ≡ self.old.events ++ event ∷ [] }
-        ensures notes { self.new.notes ≡ self.old.notes ++ refused ∷ [] }
+        ensures notes { self.new.notes ≡ self.old.notes ++ is_refused memory ∷ [] }
         ensures room { self.old.room ≤ self.new.room + 1 }
     {
         push_in_room(&mut self.events, event);
-        push_in_room(&mut self.notes, refused);
+        push_in_room(&mut self.notes, is_refused(memory));
     }
 
     pub(crate) fn into_events(self) -> Vec<Event, A>
@@ -76,6 +77,13 @@ impl<A: Allocator> Log<A> {
     {
         self.events
     }
+}
+
+// Whether memory was refused.
+fn is_refused(memory: Memory) -> bool
+    ensures { result ≡ is_refused memory }
+{
+    matches!(memory, Memory::Refused)
 }
 
 fn push_in_room<T: Copy, A: Allocator>(list: &mut Vec<T, A>, item: T)

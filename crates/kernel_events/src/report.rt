@@ -58,7 +58,7 @@ pub struct Report<A: Allocator> {
 }
 
 impl<A: Allocator> Report<A> {
-    /// Whether both reports tell the same, by whatever allocators they are kept.
+    /// Whether both reports are equal, whatever their allocators.
     pub fn same<B: Allocator>(&self, other: &Report<B>) -> bool
         ensures { IsTrue result ↔ AreSame self.now other.now }
     {

@@ -1,4 +1,4 @@
--- The kernel at its start is sound, and nobody runs in it.
+-- The kernel at its start is sound, and no process runs in it.
 use Rattle.std.proofs.Common.{◌≡◌, ℕ, zero, suc, ◌<◌, List, [], ◌∷◌, ◌++◌, false, Some, None, length, refl, sym, ap, subst, ◌∙◌, arith}
 use Rattle.std.specs.Prelude.{replicate, IsSome, count_by}
 use Rattle.fd_table.specs.declared.entries.TheConstants.{ENTRIES}

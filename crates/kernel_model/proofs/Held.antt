@@ -41,7 +41,7 @@ pub not_zombie : {S : Type 0} (x : Slot S) → is_running x ≡ true → is_zomb
 not_zombie None runs = refl
 not_zombie (Some p) runs = not_zombie_status p.status runs
 
--- what is told of the process is told of the slot
+-- what holds of the process holds of the slot
 pub told : {S : Type 0} (x : Slot S) (fds : Descriptors) → is_running x ≡ true → IfSome x (λ p. fds ≡ p.fds) → fds ≡ fds_of x
 told None fds runs is = absurd (let z : ⊥ = cc in z)
 told (Some p) fds runs is = is

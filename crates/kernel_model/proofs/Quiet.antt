@@ -1,4 +1,4 @@
--- Where nothing was marked, no note tells of a refusal that mattered: the schedule alone determines the run.
+-- Where nothing was marked, no note is of a refusal that mattered: the schedule alone determines the run.
 use Rattle.std.proofs.Common.{◌≡◌, ℕ, ◌+◌, List, [], ◌∷◌, ◌++◌, Bool, true, false, Option, Some, None, length, refl, sym, ap, ◌∙◌}
 use Rattle.std.specs.Prelude.{if◌then◌else◌, nat_lt, nat_le, ◌==◌, is_none}
 use Rattle.user_calls.specs.declared.calls.Call.{Call}

@@ -7,7 +7,7 @@ use Rattle.mem_files.specs.Name.{Name, Bytes}
 use Rattle.kernel_model.specs.KernelState.{KernelState}
 use Rattle.kernel_model.specs.Descriptors.{with_open}
 
--- init and the top shell on this input and these files, of whom nobody has anything open
+-- init and the top shell on this input and these files, with no descriptor open
 abbrev pub closed_kernel : {S : Type 0} → S → S → Bytes → List (Name × Bytes) → KernelState S
 closed_kernel init shell input files =
     record {

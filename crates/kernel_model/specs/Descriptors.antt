@@ -15,7 +15,7 @@ use Rattle.kernel_model.specs.KernelState.{KernelState, fds_at}
 use Rattle.kernel_model.specs.Pipes.{pipe_of, with_new, reader_gone, writer_gone}
 use Rattle.kernel_model.specs.Replies.{answered, refused_for, wakes}
 
--- the kernel after nobody holds the object any more: a pipe's end is closed, and the sleepers of the other are woken (`pipeclose`)
+-- the kernel after no descriptor holds the object any more: a pipe's end is closed, and the sleepers of the other are woken (`pipeclose`)
 abbrev pub let_go : {S : Type 0} → KernelState S → Object → KernelState S
 let_go k Input = k
 let_go k Out = k
@@ -24,7 +24,7 @@ let_go k (File name mode) = k
 let_go k (PipeRead id) = wakes (PipeRoom id) (record k { pipes = reader_gone k.pipes id (pipe_of k.pipes id) })
 let_go k (PipeWrite id) = wakes (PipeBytes id) (record k { pipes = writer_gone k.pipes id (pipe_of k.pipes id) })
 
--- the kernel after what a close gave back, if anything, was let go (`fileclose`)
+-- the kernel after the object that a close returned, if any, was let go (`fileclose`)
 abbrev pub let_go_of : {S : Type 0} → KernelState S → Result (Option Object) FdFault → KernelState S
 let_go_of k (Err fault) = k
 let_go_of k (Ok None) = k
@@ -48,7 +48,7 @@ unfoldable pub closed_below : {S : Type 0} → KernelState S → ℕ → ℕ →
 closed_below k pid zero = k
 closed_below k pid (suc n) = closed (closed_below k pid n) pid n
 
--- what a close is answered
+-- the reply to a close
 abbrev pub close_reply : Result (Option Object) FdFault → Reply
 close_reply (Ok object) = Done
 close_reply (Err fault) = Refused
@@ -57,7 +57,7 @@ close_reply (Err fault) = Refused
 abbrev pub close : {S : Type 0} → KernelState S → ℕ → S → ℕ → KernelState S
 close k pid after fd = answered (closed k pid fd) pid after (close_reply (close_answer k.entries (entry_of (fds_at k pid) fd)))
 
--- a dup, by what it comes to
+-- a dup, by its result
 abbrev pub dup_by : {S : Type 0} → KernelState S → ℕ → S → Result ℕ FdFault → KernelState S
 dup_by k pid after (Ok fd) = answered k pid after (Fd fd)
 dup_by k pid after (Err BadFd) = answered k pid after Refused
@@ -85,7 +85,7 @@ opened_at k pid object (Some e) =
 abbrev pub with_open : {S : Type 0} → KernelState S → ℕ → Object → KernelState S
 with_open k pid object = opened_at k pid object (lowest_free_entry k.entries)
 
--- what a pipe call is answered, by its two descriptors
+-- the reply to a pipe call, by its two descriptors
 abbrev pub ends_reply : Option ℕ → Option ℕ → Reply
 ends_reply (Some reader) (Some writer) = Ends reader writer
 ends_reply (Some reader) None = Refused

@@ -54,7 +54,7 @@ module _ {S : Type 0} (call : S → Reply → Call) (next : S → Reply → S) w
   happens k (Trap h pid) refused =
       if is_running_on h (at k.table pid) then trapped k pid (at k.table pid) refused else None
 
-  -- the same, of a kernel that may not be
+  -- the same, where there may be no kernel
   abbrev pub then_happens : Option (KernelState S) → Event → Bool → Option (KernelState S)
   then_happens None e refused = None
   then_happens (Some k) e refused = happens k e refused

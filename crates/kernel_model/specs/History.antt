@@ -22,7 +22,7 @@ pub record History (S : Type 0) : Type 0 where
 abbrev pub booted : {S : Type 0} → KernelState S → History S
 booted k = record { boot = k; now = k; schedule = []; notes = [] }
 
--- the events with the note beside each, and for how many more there is room
+-- the events with the note beside each, and how many more there is room for
 pub record Written : Type 0 where
   pub events : List Event
   pub notes : List Bool

@@ -24,7 +24,7 @@ pub record KernelState (S : Type 0) : Type 0 where
   pub diag : Bytes
   -- how many events have happened
   pub events : ℕ
-  -- what the first refusal for want of room was for
+  -- what had no room at the first call that was refused because something was full
   pub full : Option Full
 
 -- the descriptors of a slot's process (`ofile`); a free slot has none open

@@ -15,3 +15,5 @@ pub mod Along
 pub mod Lasting
 pub mod Quiet
 pub mod Booted
+pub mod KernelRun
+pub mod Notes

@@ -1,4 +1,4 @@
--- The call open (`sys_open` of `kernel/sysfile.c`). That an entry and a descriptor are asked for first is own: xv6 finds or makes the file before.
+-- The call open (`sys_open` of `kernel/sysfile.c`). That an entry and a descriptor are looked for first is own: xv6 finds or makes the file before.
 use Rattle.std.specs.Prelude.{ℕ, Bool, true, false, nat_le, ◌==◌, if◌then◌else◌, Option, Some, None, is_none, length, []}
 use Rattle.user_calls.specs.declared.calls.Mode.{Mode}
 use Rattle.user_calls.specs.declared.calls.Reply.{Reply}
@@ -15,7 +15,7 @@ use Rattle.kernel_model.specs.Modes.{entry_mode, reads, empties}
 use Rattle.kernel_model.specs.Replies.{answered, refused_for}
 use Rattle.kernel_model.specs.Descriptors.{with_open}
 
--- what an open is answered, by the lowest free descriptor
+-- the reply to an open, by the lowest free descriptor
 abbrev pub open_reply : Option ℕ → Reply
 open_reply (Some fd) = Fd fd
 open_reply None = Refused

@@ -34,7 +34,7 @@ ended pid k = record k { table = exited k.table pid }
 abbrev pub exit : {S : Type 0} → KernelState S → ℕ → S → KernelState S
 exit k pid after = if pid == 0 then answered k pid after Refused else ended pid (closed_below k pid DESCRIPTORS)
 
--- a wait of pid, by what it comes to
+-- a wait of pid, by its result
 abbrev pub wait_by : {S : Type 0} → KernelState S → ℕ → S → Waited → KernelState S
 wait_by k pid after (Reaped child) = answered (record k { table = reaped k.table pid }) pid after Done
 wait_by k pid after NoChildren = answered k pid after Refused

@@ -31,7 +31,7 @@ read_mode k pid after e offset n file Fresh = answered k pid after Refused
 read_mode k pid after e offset n file Over = answered k pid after Refused
 read_mode k pid after e offset n file Append = answered k pid after Refused
 
--- a read of a pipe that gives these bytes, by what the take is answered
+-- a read of a pipe that gives these bytes, by the result of the take
 abbrev pub read_by : {S : Type 0} → KernelState S → ℕ → S → ℕ → List ℕ → Take → KernelState S
 read_by k pid after id got (Got n) = wakes (PipeRoom id) (answered k pid after (Bytes got))
 read_by k pid after id got Empty = sleeps k pid (PipeBytes id) 0
@@ -62,6 +62,6 @@ abbrev pub read_held : {S : Type 0} → KernelState S → ℕ → S → ℕ → 
 read_held k pid after n None = answered k pid after Refused
 read_held k pid after n (Some e) = read_entry k pid after e n (file_at k.entries (Some e))
 
--- read; more bytes than a block are asked for as a block (own)
+-- read; a call for more bytes than a block reads a block at most (own)
 abbrev pub read : {S : Type 0} → KernelState S → ℕ → S → ℕ → ℕ → KernelState S
 read k pid after fd n = read_held k pid after (min n BLOCK_SIZE) (entry_of (fds_at k pid) fd)

@@ -1,4 +1,4 @@
--- How a call ends: the process goes on with a reply, is refused for want of room, or sleeps.
+-- How a call ends: the process goes on with a reply, is refused because something is full, or sleeps.
 use Rattle.std.specs.Prelude.{ℕ, Option, Some, None}
 use Rattle.user_calls.specs.declared.calls.Reply.{Reply}
 use Rattle.user_calls.specs.declared.calls.Reply.TheVariants.{Refused}
@@ -16,7 +16,7 @@ abbrev pub marked : Option Full → Full → Option Full
 marked None full = Some full
 marked (Some first) full = Some first
 
--- the call is refused for want of room, and marked so
+-- the call is refused because something is full, and marked so
 abbrev pub refused_for : {S : Type 0} → KernelState S → ℕ → S → Full → KernelState S
 refused_for k pid after full = record (answered k pid after Refused) { full = marked k.full full }
 

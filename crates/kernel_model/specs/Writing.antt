@@ -45,7 +45,7 @@ write_mode k pid after e name offset b refused Fresh = write_file k pid after e 
 write_mode k pid after e name offset b refused Over = write_file k pid after e name offset b refused (files k.files name)
 write_mode k pid after e name offset b refused Append = append_file k pid after e name b refused (files k.files name)
 
--- a write to a pipe of which `put` bytes went before and `left` are left, by what the put of these is answered
+-- a write to a pipe of which `put` bytes went before and `left` are left, by the result of the put of these
 abbrev pub write_by : {S : Type 0} → KernelState S → ℕ → S → ℕ → ℕ → ℕ → Put → KernelState S
 write_by k pid after id put left (Took n) =
     if n == left then wakes (PipeBytes id) (answered k pid after Done) else wakes (PipeBytes id) (sleeps k pid (PipeRoom id) (put + n))

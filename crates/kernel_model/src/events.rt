@@ -1,6 +1,7 @@
 //! What happens in a kernel, and what it can be full of.
 
-/// What happens in one critical section of a kernel: the first number is a hart, the second a process.
+/// What happens in one critical section of a kernel: the first number is a hart, the second the slot of a process, both
+/// counted from 0 (own).
 #[derive(Clone, Copy, Debug, PartialEq, Eq)]
 pub enum Event {
     /// The Runnable process begins to run on the hart (xv6's `scheduler`).
@@ -10,19 +11,28 @@ pub enum Event {
     Trap(u8, usize),
 }
 
-/// What the first refusal of a run for want of room was for.
+/// What had no room at the first call of a run that was refused because something was full (own).
 #[derive(Clone, Copy, Debug, PartialEq, Eq)]
 pub enum Full {
-    /// A slot for a process.
+    /// No slot for a process is free.
     Procs,
-    /// An open-file entry.
+    /// Too few open-file entries are free: one is needed, and two for a pipe.
     Open,
-    /// A descriptor.
+    /// Too few descriptors of the process are free: one is needed, and two for a pipe.
     Fds,
-    /// A file.
+    /// There are 200 files.
     Files,
-    /// The size of a file.
+    /// A file would have more than 274,432 bytes.
     Size,
-    /// Memory.
+    /// The allocator refused memory.
     Memory,
+}
+
+/// Whether memory was refused to a call that wanted some.
+#[derive(Clone, Copy, Debug, PartialEq, Eq)]
+pub enum Memory {
+    /// There was enough, or the call wanted none.
+    Found,
+    /// Some was refused.
+    Refused,
 }

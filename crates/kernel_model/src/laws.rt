@@ -21,7 +21,7 @@ ghost use Rattle.kernel_model.specs.Quiet.{no_refusals};
 use user_calls::Machine;
 
 /// A kernel is sound at its start: each entry counts the descriptors that hold it, and there are 64 slots, each with 16
-/// descriptors. Nobody runs.
+/// descriptors. No process runs.
 pub fn a_kernel_is_sound_at_its_start<M: Machine>()
     ensures sound { (init shell : M.State) (input : Bytes) (list : List (Name × Bytes)) → IsSound (boot_kernel init shell input list).table (boot_kernel init shell input list).entries }
     ensures nobody_runs { (init shell : M.State) (input : Bytes) (list : List (Name × Bytes)) → count_by is_running (boot_kernel init shell input list).table ≡ 0 }
@@ -45,8 +45,8 @@ pub fn a_run_counts_its_events<M: Machine>()
     ensures { (k m : KernelState M.State) (events : List Event) (notes : List Bool) → run M.call_of M.next_of (Some k) events notes ≡ Some m → IsLater k (length events) m }
 {}
 
-/// No pipe is ever made under a name that another one has: in a run from the start, a name past the events so far is
-/// nobody's.
+/// No pipe is ever made under a name that another one has: in a run from the start, no pipe has the number of an event to
+/// come as its name.
 pub fn a_pipe_gets_a_new_name<M: Machine>()
     ensures { (init shell : M.State) (input : Bytes) (list : List (Name × Bytes)) (m : KernelState M.State) (events : List Event) (notes : List Bool) (id : ℕ)
         → run M.call_of M.next_of (Some (boot_kernel init shell input list)) events notes ≡ Some m → length events < id → pipe_of m.pipes id ≡ None }

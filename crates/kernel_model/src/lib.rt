@@ -7,4 +7,4 @@
 mod events;
 pub mod laws;
 
-pub use events::{Event, Full};
+pub use events::{Event, Full, Memory};

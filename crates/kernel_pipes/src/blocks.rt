@@ -8,7 +8,7 @@ use byte_pipe::{Pipe, Take};
 use std::alloc::Allocator;
 use user_calls::{BLOCK_SIZE, Block};
 
-/// A block of the first `count` bytes, or of all of them where there are fewer.
+/// A block of the first `count` bytes, or of all of them where there are fewer; 1,024 at most (own).
 pub fn first_block(bytes: &[u8], count: usize) -> Block
     requires { count ≤ BLOCK_SIZE }
     ensures { result ≡ take count bytes.now }
@@ -17,7 +17,7 @@ pub fn first_block(bytes: &[u8], count: usize) -> Block
     Block::from_slice(&bytes[..held])
 }
 
-// Takes at most `count` bytes: what the pipe answers, and the bytes.
+// Takes at most `count` bytes: the result of the take, and the bytes.
 pub(crate) fn take_block<A: Allocator>(pipe: &mut Pipe<A>, count: usize) -> (Take, Block)
     requires { count ≤ BLOCK_SIZE }
     ensures answer { result.0 ≡ take_answer pipe.old count }

@@ -1,4 +1,4 @@
-//! The pipes of a kernel, each under the name that its maker gives it, and the blocks of bytes that reads give.
+//! The pipes of a kernel, each under the name that the caller gives it, and the blocks of bytes that reads return.
 //!
 //! The behaviour is that of xv6's `kernel/pipe.c`; that a pipe has a name, and is found by it, is own.
 #![tactic(auto)]

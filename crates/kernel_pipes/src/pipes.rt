@@ -20,11 +20,11 @@ use std::alloc::{AllocError, Allocator};
 use std::marker::Model;
 use user_calls::Block;
 
-/// The pipes of which an end is open, each under its name.
+/// The pipes of which an end is open, each under its name (own).
 ///
-/// A pipe stands in a slab, under a key that nobody else sees, and stays there as long as it is open; what is searched
-/// is an index of names and keys. Contracts see the list of names and pipes in the order in which they were made, which
-/// is that of the index.
+/// A pipe stands in a slab, under a key that only this type sees, as long as an end of it is open; a pipe is found by an
+/// index of names and keys. Contracts see the list of names and pipes in the order in which they were made, which is that
+/// of the index.
 #[derive(Drop)]
 pub struct Pipes<A: Allocator> {
     live: Slab<Pipe<A>, A>,
@@ -44,8 +44,8 @@ impl<A: Allocator> Model for Pipes<A> {
 }
 
 impl<A: Allocator> Pipes<A> {
-    /// Puts the first of the bytes into the pipe of that name (`pipewrite`): what the pipe answers; `None` where there
-    /// is no such pipe.
+    /// Puts the first of the bytes into the pipe of that name, as many as there is room for (`pipewrite`): the result of
+    /// `Pipe::put`; `None` where there is no such pipe.
     pub fn put(&mut self, name: u64, bytes: &[u8]) -> Option<Put>
         ensures answer { result ≡ option_map (λ p. put_answer p bytes.now) (pipe_of self.old name) }
         ensures after { self.new ≡ put_into self.old name bytes.now (pipe_of self.old name) }
@@ -56,8 +56,8 @@ impl<A: Allocator> Pipes<A> {
         Some(self.pipe_mut(at).put(bytes))
     }
 
-    /// Takes at most `count` bytes from the pipe of that name (`piperead`): what the pipe answers, and the bytes; `None`
-    /// where there is no such pipe.
+    /// Takes at most `count` bytes from the pipe of that name (`piperead`): the result of `Pipe::take`, and the bytes;
+    /// `None` where there is no such pipe.
     pub fn take(&mut self, name: u64, count: usize) -> Option<(Take, Block)>
         requires { count ≤ BLOCK_SIZE }
         ensures answer { result ≡ option_map (λ p. (take_answer p count, take count p.bytes)) (pipe_of self.old name) }
@@ -69,7 +69,7 @@ impl<A: Allocator> Pipes<A> {
         Some(take_block(self.pipe_mut(at), count))
     }
 
-    /// How full the pipe of that name is, and which of its ends are open; `None` where there is no such pipe.
+    /// How full the pipe of that name is, and which of its ends are open; `None` where there is no such pipe (own).
     pub fn status(&self, name: u64) -> Option<PipeStatus>
         ensures { result ≡ option_map status_of (pipe_of self.now name) }
     {
@@ -79,7 +79,7 @@ impl<A: Allocator> Pipes<A> {
         Some(status_of(self.pipe(at)))
     }
 
-    /// Closes the read end of the pipe of that name, if there is one; with the second end the pipe is given up
+    /// Closes the read end of the pipe of that name, if there is one; with the second end the pipe is freed
     /// (`pipeclose`).
     pub fn close_read(&mut self, name: u64)
         ensures { self.new ≡ reader_gone self.old name (pipe_of self.old name) }
@@ -153,7 +153,7 @@ impl<A: Allocator> Pipes<A> {
 }
 
 impl<A: Allocator + Copy> Pipes<A> {
-    /// No pipes. Takes no memory.
+    /// A table without pipes. Takes no memory (own).
     pub fn new(alloc: A) -> Self
         ensures { result ≡ [] }
     {

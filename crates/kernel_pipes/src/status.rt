@@ -1,4 +1,4 @@
-//! What a pipe shows of itself.
+//! How full a pipe is, and which of its ends are open.
 
 ghost use Rattle.std.specs.Prelude.{◌≡◌};
 ghost use Rattle.kernel_pipes.specs.Status.{status_of};
@@ -6,7 +6,7 @@ ghost use Rattle.kernel_pipes.specs.Status.{status_of};
 use byte_pipe::Pipe;
 use std::alloc::Allocator;
 
-/// How full a pipe is, and which of its ends are open.
+/// How full a pipe is, and which of its ends are open (own).
 #[derive(Clone, Copy, Debug, PartialEq, Eq)]
 pub struct PipeStatus {
     /// How many bytes it holds.

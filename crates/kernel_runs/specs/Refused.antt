@@ -17,7 +17,7 @@ abbrev pub refused_at : Event → ℕ → ReplayFault
 refused_at (Dispatch h pid) number = NotRunnable number
 refused_at (Trap h pid) number = NotRunning number
 
--- of the events these took place and led to this kernel, in which the next one, for which this fault is told, can't
+-- these first events took place and led to this kernel, in which the next one can't take place; this is its fault
 pub record Stops {S : Type 0} (k : KernelState S) (before events : List Event) (fault : ReplayFault) : Type 0 where
   pub event : Event
   pub after : List Event
@@ -33,7 +33,7 @@ StopsAt k before events Unfinished = ⊥
 StopsAt k before events Memory = Unit {0}
 
 module _ {S : Type 0} (call : S → Reply → Call) (next : S → Reply → S) where
-  -- a run by the first of the events leads to a kernel in which the next one, for which this fault is told, can't take place
+  -- a run by the first of the events leads to a kernel in which the next one can't take place; this is its fault
   pub record StopsFrom (start : KernelState S) (events : List Event) (fault : ReplayFault) : Type 0 where
     pub before : List Event
     pub notes : List Bool

@@ -29,7 +29,7 @@ pub enum ReplayFault {
     /// Fault 3: all events took place, and the run isn't finished.
     #[error("the run isn't finished")]
     Unfinished,
-    /// Fault 4: memory was refused where that can't be told to a process.
+    /// Fault 4: memory was refused outside of a system call, so no process can be answered `Refused`.
     #[error("no memory")]
     Memory,
 }

@@ -29,7 +29,7 @@ pub enum RunOneFault {
     /// Fault 2: the run isn't finished, and fewer than two turns are left or nothing is Runnable.
     #[error("the turns are spent")]
     Spent,
-    /// Fault 3: memory was refused where that can't be told to a process.
+    /// Fault 3: memory was refused outside of a system call, so no process can be answered `Refused`.
     #[error("no memory")]
     Memory,
 }

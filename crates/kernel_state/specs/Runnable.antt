@@ -1,4 +1,4 @@
--- A slot's state tells whether its process is Runnable. No public clause cites this module.
+-- Whether a slot's process is Runnable, by its state. No public clause cites this module.
 use Rattle.std.specs.Prelude.{Bool, true, false}
 use Rattle.proc_table.specs.declared.states.State.{State}
 use Rattle.proc_table.specs.declared.states.State.TheVariants.{Free, Runnable, Running, Asleep, Zombie}

@@ -30,7 +30,8 @@ impl<M: Machine, A: Allocator> State<M, A> {
 }
 
 impl<M: Machine, A: Allocator + Copy> State<M, A> {
-    /// The state at the start: init and the top shell, with this standard input and these files.
+    /// The state at the start: init and the top shell, with this standard input and these files (`userinit`; that there is a
+    /// shell, with its three descriptors, is own).
     ///
     /// `AllocError` where memory for the table, the input or the files is refused.
     pub fn boot<B: Allocator>(

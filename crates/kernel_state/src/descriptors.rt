@@ -1,4 +1,4 @@
-//! Closing descriptors, and what nobody holds any more (xv6's `fileclose` and `pipeclose`).
+//! Closing descriptors, and what no descriptor holds any more (xv6's `fileclose` and `pipeclose`).
 
 ghost use Rattle.std.specs.Prelude.{◌≡◌, is_ok, true};
 ghost use Rattle.fd_table.specs.Descriptors.{close_answer, entry_of};
@@ -14,7 +14,8 @@ use std::alloc::Allocator;
 use user_calls::Machine;
 
 impl<M: Machine, A: Allocator> State<M, A> {
-    /// The descriptor of the process is closed, and what nobody holds any more is let go. It says whether it was open.
+    /// Closes the descriptor of the process, and returns whether it was open. What no descriptor holds any more is let go: a
+    /// pipe's end is closed, and the sleepers of the other are woken (`sys_close`, `fileclose` and `pipeclose`).
     pub fn close_one(&mut self, pid: Pid, fd: usize) -> bool
         requires runs { is_running (at self.old.table pid) ≡ true }
         requires sound { IsSound self.old.table self.old.entries }

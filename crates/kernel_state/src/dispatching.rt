@@ -1,4 +1,4 @@
-//! Dispatches, and what a kernel asks of its state (xv6's `scheduler` and `myproc`).
+//! Dispatches, and what a kernel reads of its state (xv6's `scheduler` and `myproc`).
 
 ghost use Rattle.std.specs.Prelude.{◌≡◌, ◌<◌, ◌≤◌, ◌+◌, ◌^◌, IsTrue, ◌↔◌, true, false, IfSome, None, All, position, count_by};
 ghost use Rattle.std.specs.Bool.{OnFalse, OnTrue};
@@ -18,7 +18,7 @@ use proc_table::{HARTS, Pid, State as SlotState};
 use std::alloc::Allocator;
 use user_calls::{Call, Machine, Ran, Reply};
 
-/// A process to run on a hart: a twin of its machine, and the reply that waits for it.
+/// A process to run on a hart: its slot, a copy of its machine, and the reply that the machine takes next (own).
 #[derive(Drop)]
 pub struct Task<M: Machine> {
     pub pid: Pid,
@@ -27,8 +27,8 @@ pub struct Task<M: Machine> {
 }
 
 impl<M: Machine, A: Allocator> State<M, A> {
-    /// Some Runnable process begins to run on the hart, which runs nothing, as one more event; `None` where none is
-    /// Runnable (`scheduler`).
+    /// Makes some Runnable process run on the hart, which runs nothing, as one more event, and returns it; `None` where
+    /// none is Runnable, and then there is no event (`scheduler`).
     pub fn dispatch(&mut self, hart: u8) -> Option<Pid>
         requires hart { hart < HARTS }
         requires idle { All (λ slot. is_running_on hart slot ≡ false) self.old.table }
@@ -45,8 +45,8 @@ impl<M: Machine, A: Allocator> State<M, A> {
         Some(pid)
     }
 
-    /// The process in slot `pid` begins to run on the hart, as one more event, which is told by `true`; where it can't,
-    /// nothing changes.
+    /// Makes the process in slot `pid` run on the hart, as one more event, and returns `true`; `false` where that can't be,
+    /// and then nothing changes (own).
     pub fn dispatch_pid(&mut self, hart: u8, pid: usize) -> bool
         requires fits { self.old.events + 1 < 2 ^ 64 }
         ensures can { IsTrue result ↔ CanDispatch self.old.table hart pid }
@@ -60,7 +60,8 @@ impl<M: Machine, A: Allocator> State<M, A> {
         true
     }
 
-    /// Whether the process in slot `pid` can be given to the hart.
+    /// Whether `dispatch_pid` can make the process in slot `pid` run on the hart: there is such a hart, it runs nothing, and
+    /// the process is Runnable (own).
     pub fn can_dispatch(&self, hart: u8, pid: usize) -> bool
         requires { IsSound self.now.table self.now.entries }
         ensures { IsTrue result ↔ CanDispatch self.now.table hart pid }
@@ -79,7 +80,7 @@ impl<M: Machine, A: Allocator> State<M, A> {
         }
     }
 
-    /// What a hart needs to run the process.
+    /// The task of a process: what a hart needs to run it (own).
     pub fn task(&self, pid: Pid) -> Task<M>
         requires { is_running (at self.now.table pid) ≡ true }
         ensures pid { result.pid ≡ pid }
@@ -92,7 +93,7 @@ impl<M: Machine, A: Allocator> State<M, A> {
         }
     }
 
-    /// A machine in the state of the process's.
+    /// A copy of the process's machine (own).
     pub fn twin(&self, pid: Pid) -> M
         requires { is_running (at self.now.table pid) ≡ true }
         ensures { IfSome (at self.now.table pid) (λ p. M.view result ≡ p.machine) }
@@ -100,7 +101,7 @@ impl<M: Machine, A: Allocator> State<M, A> {
         self.procs.machine(pid).twin()
     }
 
-    /// The call that the process makes; its twin runs in its place.
+    /// The call that the process makes, found by running `twin`, a copy of its machine (own).
     pub fn run(&self, pid: Pid, twin: &mut M) -> Call
         requires runs { is_running (at self.now.table pid) ≡ true }
         requires twin { IfSome (at self.now.table pid) (λ p. M.view twin.old ≡ p.machine) }
@@ -110,7 +111,7 @@ impl<M: Machine, A: Allocator> State<M, A> {
         twin.run(self.procs.reply(pid))
     }
 
-    /// Whether the process runs on the hart, with this machine and this reply.
+    /// Whether the process runs on the hart, with this machine and this reply (own).
     pub fn has_given(&self, hart: u8, pid: Pid, machine: &M, reply: &Reply) -> bool
         ensures { IsTrue result ↔ IsOwed hart (at self.now.table pid) (record { before = M.view machine.now; reply = reply.now }) }
     {
@@ -119,22 +120,22 @@ impl<M: Machine, A: Allocator> State<M, A> {
             && self.procs.reply(pid).same(reply)
     }
 
-    /// Whether the run is one that the kernel waits for: of the machine of a process that runs on the hart, with the
-    /// reply that waits for it.
+    /// Whether the run is one that the kernel waits for: of the machine of a process that runs on the hart, with the reply
+    /// to its last call (own).
     pub fn is_owed(&self, hart: u8, pid: Pid, ran: &Ran<M>) -> bool
         ensures { IsTrue result ↔ IsOwed hart (at self.now.table pid) ran.now }
     {
         self.has_given(hart, pid, ran.before(), ran.reply())
     }
 
-    /// The process that runs on the hart, if any (`myproc`).
+    /// The process that runs on the hart; `None` where none does (`myproc`).
     pub fn running_on(&self, hart: u8) -> Option<Pid>
         ensures { result ≡ position (is_running_on hart) self.now.table }
     {
         self.procs.running_on(hart)
     }
 
-    /// The process in the slot of this number, if it runs on the hart.
+    /// The process in the slot of this number, if it runs on the hart (own).
     pub fn found_on(&self, hart: u8, pid: usize) -> Option<Pid>
         requires { IsSound self.now.table self.now.entries }
         ensures some { IfSome result (λ found. (found ≡ pid) × (is_running_on hart (at self.now.table pid) ≡ true)) }
@@ -148,14 +149,14 @@ impl<M: Machine, A: Allocator> State<M, A> {
         }
     }
 
-    /// Whether the hart runs nothing.
+    /// Whether the hart runs nothing (own).
     pub fn is_idle(&self, hart: u8) -> bool
         ensures { IsTrue result ↔ All (λ slot. is_running_on hart slot ≡ false) self.now.table }
     {
         self.procs.is_idle(hart)
     }
 
-    /// How many processes are running.
+    /// How many processes are running (own).
     pub fn running(&self) -> usize
         ensures count { result ≡ count_by is_running self.now.table }
         ensures within { result ≤ PROCS }
@@ -163,7 +164,7 @@ impl<M: Machine, A: Allocator> State<M, A> {
         self.procs.running()
     }
 
-    /// How many processes are Runnable.
+    /// How many processes are Runnable (own).
     pub fn runnable(&self) -> usize
         ensures count { result ≡ count_by is_runnable self.now.table }
         ensures within { result ≤ PROCS }
@@ -171,21 +172,21 @@ impl<M: Machine, A: Allocator> State<M, A> {
         self.procs.runnable()
     }
 
-    /// Whether every slot but init's is free.
+    /// Whether every slot but init's is free (own).
     pub fn is_finished(&self) -> bool
         ensures { IsTrue result ↔ IsFinished self.now }
     {
         self.procs.is_alone()
     }
 
-    /// What the first refusal for want of room was for.
+    /// What had no room at the first call that was refused because something was full; `None` where none was (own).
     pub fn full(&self) -> Option<Full>
         ensures { result ≡ self.now.full }
     {
         self.full
     }
 
-    /// The output, the diagnostics and the files.
+    /// The bytes of the standard output, those of the diagnostics, and the files (own).
     pub fn into_parts(self) -> (Vec<u8, A>, Vec<u8, A>, Files<A>)
         ensures out { result.0.items ≡ self.out }
         ensures diag { result.1.items ≡ self.diag }

@@ -15,7 +15,8 @@ use std::alloc::Allocator;
 use user_calls::{Machine, Reply};
 
 impl<M: Machine, A: Allocator> State<M, A> {
-    /// A child shares the entries of its parent (`kfork`).
+    /// Carries out a fork: the child has a copy of `after`, the machine after the call, and shares the open-file entries
+    /// (`kfork`). The replies are `Child` and `Done`, or `Refused` where no slot is free.
     pub fn fork(&mut self, pid: Pid, after: M)
         requires runs { is_running (at self.old.table pid) ≡ true }
         requires sound { IsSound self.old.table self.old.entries }
@@ -32,7 +33,7 @@ impl<M: Machine, A: Allocator> State<M, A> {
         }
     }
 
-    /// `kexec` of a program that was found, or not.
+    /// Carries out an exec: the reply is `Done` where the program was found, else `Refused` (`kexec`).
     pub fn exec(&mut self, pid: Pid, after: M, found: bool)
         requires { is_running (at self.old.table pid) ≡ true }
         ensures { self.new ≡ exec self.old pid (M.view after) found }
@@ -41,7 +42,8 @@ impl<M: Machine, A: Allocator> State<M, A> {
         self.answer(pid, after, reply);
     }
 
-    /// Init is refused; any other process closes its descriptors and becomes a zombie (`kexit`).
+    /// Carries out an exit: the process closes its descriptors, the lowest first, and becomes a zombie (`kexit`). The reply
+    /// to init is `Refused` (own: xv6 panics).
     pub fn exit(&mut self, pid: Pid, after: M)
         requires runs { is_running (at self.old.table pid) ≡ true }
         requires sound { IsSound self.old.table self.old.entries }
@@ -66,7 +68,8 @@ impl<M: Machine, A: Allocator> State<M, A> {
         }
     }
 
-    /// The lowest child that is a zombie is reaped; where none is, the process sleeps (`kwait`).
+    /// Carries out a wait: reaps the lowest child that is a zombie, with the reply `Done`; where no child is, the process
+    /// sleeps, and where it has no children the reply is `Refused` (`kwait`).
     pub fn wait(&mut self, pid: Pid, after: M)
         requires { is_running (at self.old.table pid) ≡ true }
         ensures { self.new ≡ wait self.old pid (M.view after) }

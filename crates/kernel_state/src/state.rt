@@ -15,8 +15,8 @@ use user_calls::{Machine, Reply};
 
 /// The state of a kernel whose programs are machines `M`.
 ///
-/// Contracts see it as plain data. Its fields are open to the calls, and nothing is asked of it between them but what
-/// each says.
+/// Contracts see it as plain data. Its fields are public, so that the crate of the calls may change them; the type has no
+/// invariant, and each call requires what it needs (own).
 #[derive(Drop)]
 pub struct State<M: Machine, A: Allocator> {
     pub procs: Procs<M, A>,
@@ -51,7 +51,7 @@ impl<M: Machine, A: Allocator> Model for State<M, A> {
 impl<M: Machine, A: Allocator> State<M, A> {
     ghost use Rattle.kernel_model.specs.Replies.{answered, refused_for};
 
-    /// The process goes on with its machine after the call and this reply (`yield`).
+    /// Ends a call of the running process with this reply: it is Runnable, with `after` as its machine (`yield`).
     pub fn answer(&mut self, pid: Pid, after: M, reply: Reply)
         requires { is_running (at self.old.table pid) ≡ true }
         ensures { self.new ≡ answered self.old pid (M.view after) reply }
@@ -59,7 +59,7 @@ impl<M: Machine, A: Allocator> State<M, A> {
         self.procs.ready(pid, after, reply);
     }
 
-    /// The call is refused for want of room; the first such refusal is kept.
+    /// Ends a call with `Refused`, because `full` has no room; it is kept if this is the first such refusal (own).
     pub fn refuse(&mut self, pid: Pid, after: M, full: Full)
         requires { is_running (at self.old.table pid) ≡ true }
         ensures { self.new ≡ refused_for self.old pid (M.view after) full }

@@ -1,4 +1,4 @@
-//! The standard input that wasn't read yet.
+//! The standard input that hasn't been read yet.
 
 ghost use Rattle.std.specs.Prelude.{◌≡◌, ◌≤◌, drop, take};
 ghost use Rattle.user_calls.specs.declared.block.TheConstants.{BLOCK_SIZE};
@@ -8,7 +8,7 @@ use std::alloc::Allocator;
 use std::marker::Model;
 use user_calls::Block;
 
-/// Standard input of which the first bytes were read. Contracts see the others.
+/// The standard input, of which the first bytes may have been read (own). Contracts see the others.
 #[derive(Drop)]
 pub struct Unread<A: Allocator> {
     bytes: Vec<u8, A>,
@@ -33,7 +33,7 @@ impl<A: Allocator> Unread<A> {
         Unread { bytes, read: 0 }
     }
 
-    /// Reads the next n bytes, or all where there are fewer.
+    /// Reads the next `n` bytes, or all where there are fewer (`consoleread`).
     pub fn read(&mut self, n: usize) -> Block
         requires { n ≤ BLOCK_SIZE }
         ensures block { result ≡ take n self.old }

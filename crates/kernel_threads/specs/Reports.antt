@@ -1,4 +1,4 @@
--- Reports of runs that may not be finished, from a start that is told by its number.
+-- Reports of runs that may not be finished, from a start that is named by its number.
 use Rattle.std.specs.Prelude.{◌≡◌, ℕ, Bool, List, Some}
 use Rattle.std.specs.Coded.{Coded}
 use base.Stored.{Gv}

@@ -1,5 +1,5 @@
 -- What contracts see of a seat, and how many events turns make.
-use Rattle.std.specs.Prelude.{ℕ, List, sum_by}
+use Rattle.std.specs.Prelude.{ℕ, zero, suc, List, [], ◌∷◌, ◌++◌, sum_by}
 use Rattle.kernel_threads.specs.declared.sharing.Turn.{Turn}
 use Rattle.kernel_threads.specs.declared.sharing.Turn.TheVariants.{Finished, Spent, Idle, Stepped, Lost}
 
@@ -19,3 +19,8 @@ events_of Lost = 1
 -- how many events the turns of all these seats have made
 abbrev pub all_events : List SeatView → ℕ
 all_events seats = sum_by (λ seat. seat.events) seats
+
+-- the seats of a run at its start: the i-th is that of hart i, and its turns have made no event
+abbrev pub first_seats : ℕ → List SeatView
+first_seats zero = []
+first_seats (suc n) = first_seats n ++ record { hart = n; events = 0 } ∷ []

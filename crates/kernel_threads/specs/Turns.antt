@@ -1,4 +1,4 @@
--- What a turn that makes no event tells of its run.
+-- What a turn that makes no event states of its run.
 use Rattle.std.specs.Prelude.{◌≡◌, ◌<◌, ◌+◌, ℕ, Bool, false, List, Some, All, ⊤, count_by, length}
 use Rattle.std.specs.Coded.{Coded}
 use base.Stored.{Gv}
@@ -20,7 +20,7 @@ Says turns h Idle k events = (IsFinished k → ⊥) × (All (λ slot. is_running
 Says turns h Stepped k events = ⊤
 Says turns h Lost k events = ⊤
 
--- what the turn tells is so at some moment of a run from the kernel with this number
+-- what the turn states is so at some moment of a run from the kernel with this number
 pub record IsSaid {S : Type 0} (code : Coded S) (call : S → Reply → Call) (next : S → Reply → S) (boot : Gv) (turns h : ℕ) (turn : Turn) : Type 0 where
   pub start : KernelState S
   pub booted : number_of code start ≡ boot

@@ -19,10 +19,10 @@ pub enum RunFault {
     /// Fault 2: no turns, or more than 1,000,000,000.
     #[error("the number of turns is out of range")]
     BadTurns,
-    /// Fault 3: the run isn't finished, nobody runs, and fewer than two turns are left.
+    /// Fault 3: the run isn't finished, no process runs, and fewer than two turns are left.
     #[error("the turns are spent")]
     Spent,
-    /// Fault 4: memory was refused where that can't be told to a process.
+    /// Fault 4: memory was refused outside of a system call, so no process can be answered `Refused`.
     #[error("no memory")]
     Memory,
 }

@@ -10,7 +10,7 @@ pub trait Gate {
     fn enter<R: Wait>(&self, rt: &R, hart: u8, pid: Pid);
 }
 
-/// Holds nobody.
+/// Lets every process pass at once.
 #[derive(Clone, Copy, Debug)]
 pub struct OpenGate;
 

@@ -49,12 +49,12 @@ impl<N: Run, M: Machine> Model for Locked<N, M> {
         × (length l.kernel.schedule ≡ l.counts.total) × (l.rest.parts ≡ 0) × (l.rest.amount ≡ 0) };
 }
 
-// What a run comes to when no hart takes a turn.
+// How a run stands when no hart takes a turn.
 #[derive(Clone, Copy)]
 pub(crate) enum Verdict {
     // Only init is left.
     Finished,
-    // The run isn't finished, nobody runs, and fewer than two turns are left.
+    // The run isn't finished, no process runs, and fewer than two turns are left.
     Spent,
     // Memory was refused to a hart.
     Starved,
@@ -167,7 +167,7 @@ impl<N: Run, M: Machine> Locked<N, M> {
         self.kernel.task(pid)
     }
 
-    // The call that the machine of a task made, and the machine after it, come back to the kernel. It says whether the call
+    // The call that the machine of a task made, and the machine after it, come back to the kernel. It returns whether the call
     // was carried out; where the process doesn't run on the hart of the seat, or the task isn't its own, nothing changes.
     pub(crate) fn trap(&mut self, seat: &mut Seat<N>, task: &Task<M>, call: &Call, after: M) -> bool
         requires call { call.now ≡ M.call_of (M.view task.now.machine) task.now.reply }
@@ -202,7 +202,7 @@ impl<N: Run, M: Machine> Locked<N, M> {
         self.counts.audit(&mut all);
     }
 
-    // What the run comes to now that no hart takes a turn; memory was refused to one of them if `starved`.
+    // How the run stands now that no hart takes a turn; memory was refused to one of them if `starved`.
     pub(crate) fn verdict(&self, starved: bool) -> Verdict
         ensures finished { result ≡ Verdict.Finished → IsFinished self.now.now }
         ensures spent { result ≡ Verdict.Spent → IsSpent N.turns self.now.now self.now.schedule }

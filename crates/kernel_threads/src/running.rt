@@ -34,7 +34,7 @@ use std::thread::Threads;
 use std::time::Clock;
 use user_calls::Machine;
 
-// The hart of the seat runs a task after the other while it finds one, and tells why it finds none.
+// The hart of the seat runs a task after the other while it finds one, and returns why it finds none.
 fn run_tasks<N: Run, M: Machine, R: Wait, G: Gate>(
     rt: &R,
     shared: &Shared<N, M>,
@@ -90,7 +90,7 @@ fn work<N: Run, M: Machine, R: Wait + Clock, G: Gate>(
 }
 
 // The harts of all seats take turns until there are none to take, the first on this thread and each other on a thread of
-// its own; one whose thread can't be made takes none. It says whether memory was refused to one of them.
+// its own; one whose thread can't be made takes none. It returns whether memory was refused to one of them.
 fn take_all_turns<
     N: Run + Send + Sync,
     M: Machine + Send,

@@ -2,7 +2,7 @@
 
 ghost use Rattle.std.specs.Prelude.{◌≡◌, ◌<◌, ◌≤◌, ◌+◌, IfOk, OnOk, vec_len};
 ghost use Rattle.proc_table.specs.declared.table.TheConstants.{HARTS};
-ghost use Rattle.kernel_threads.specs.Seats.{SeatView, all_events};
+ghost use Rattle.kernel_threads.specs.Seats.{SeatView, all_events, first_seats};
 
 use crate::naming::Run;
 use std::alloc::{AllocError, Global};
@@ -53,7 +53,8 @@ impl<N: Run> Seat<N> {
         requires parts { all.old.parts ≡ harts }
         requires amount { all.old.amount ≡ 0 }
         requires harts { (harts ≤ HARTS) × (harts ≤ N.harts) }
-        ensures seats { IfOk result (λ seats. vec_len seats ≡ harts) }
+        ensures seats { IfOk result (λ seats. seats.items ≡ first_seats harts) }
+        ensures count { IfOk result (λ seats. vec_len seats ≡ harts) }
         ensures events { IfOk result (λ seats. all_events seats.items ≡ 0) }
         ensures left { OnOk result ((all.new.parts ≡ 0) × (all.new.amount ≡ 0)) }
     {

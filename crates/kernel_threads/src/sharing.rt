@@ -4,7 +4,7 @@ ghost use Rattle.std.specs.Prelude.{◌≡◌, ◌≤◌, ◌+◌, ◌↔◌, Is
 ghost use Rattle.kernel_threads.specs.Boots.{number_of};
 ghost use Rattle.kernel_threads.specs.Events.{AreOfHarts};
 ghost use Rattle.kernel_threads.specs.Reports.{IsFinishedFrom, IsSoFarFrom};
-ghost use Rattle.kernel_threads.specs.Seats.{all_events, events_of};
+ghost use Rattle.kernel_threads.specs.Seats.{all_events, events_of, first_seats};
 ghost use Rattle.kernel_threads.specs.Turns.{IsSaid};
 
 use crate::faults::{RunFault, range_fault};
@@ -61,7 +61,8 @@ impl<N: Run, M: Machine> Shared<N, M> {
         requires turns { turns ≡ N.turns }
         requires boot { number_of M.code kernel.boot ≡ N.boot }
         requires fresh { kernel.schedule ≡ [] }
-        ensures seats { IfOk result (λ started. vec_len started.1 ≡ harts) }
+        ensures seats { IfOk result (λ started. started.1.items ≡ first_seats harts) }
+        ensures count { IfOk result (λ started. vec_len started.1 ≡ harts) }
         ensures events { IfOk result (λ started. all_events started.1.items ≡ 0) }
         ensures bad_harts { (result ≡ Err BadHarts) ↔ AreBadHarts harts }
         ensures bad_turns { (result ≡ Err BadTurns) ↔ ((AreBadHarts harts → ⊥) × AreBadTurns turns) }
@@ -141,7 +142,9 @@ impl<N: Run, M: Machine> Shared<N, M> {
         ensures { seat.new.hart ≡ seat.old.hart }
     {
         let mut guard = self.lock.lock(rt);
-        guard.trap(seat, task, call, after);
+        if !guard.trap(seat, task, call, after) {
+            return Ok(Some(Turn::Lost));
+        }
         match guard.begin(seat)? {
             Ok(pid) => {
                 *task = guard.task(seat, pid);
@@ -151,7 +154,7 @@ impl<N: Run, M: Machine> Shared<N, M> {
         }
     }
 
-    /// What the run leaves, when all seats come back. Takes no memory, and waits for nobody.
+    /// What the run leaves, when all seats come back. Takes no memory, and never waits.
     pub fn close(self, seats: Vec<Seat<N>>) -> Report<Global>
         requires { vec_len seats ≡ N.parts }
         ensures run { IsSoFarFrom M.code M.call_of M.next_of N.boot result }

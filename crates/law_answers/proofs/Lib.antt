@@ -1,4 +1,3 @@
-mod Alike
 mod Names
 mod Puts
 mod Readings

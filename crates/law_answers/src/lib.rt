@@ -2,4 +2,3 @@
 #![tactic(auto)]
 
 pub mod laws;
-pub mod reports;

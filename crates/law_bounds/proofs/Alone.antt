@@ -15,6 +15,7 @@ use Rattle.kernel_model.specs.declared.events.Event.{Event}
 use Rattle.kernel_model.specs.declared.events.Event.TheVariants.{Dispatch, Trap}
 use Rattle.kernel_model.specs.KernelState.{KernelState}
 use Rattle.kernel_model.specs.Boot.{boot_kernel}
+use Rattle.run_model.specs.ScriptRun.{script_kernel}
 use Rattle.kernel_model.specs.Processes.{wait, wait_by}
 use Rattle.kernel_model.specs.Events.{acted, can_dispatch, counted, happens, run, trapped}
 use Rattle.kernel_model.proofs.Runs.{run_more}
@@ -121,7 +122,7 @@ module _ (first shell : User) (input : Bytes) (list : List (Name × Bytes)) (are
 
 -- so from a finished run of a script on
 pub goes_on_finished : (profile : Profile) (lines : List ScriptLine) (input : Bytes) (list : List (Name × Bytes)) (events more : List Event) (notes later : List Bool) (k m : KernelState User) → AreFiles list
-    → run call_of next_of (Some (boot_kernel init (shell profile (top Starts lines)) input list)) events notes ≡ Some k → IsAlone k.table → run call_of next_of (Some k) more later ≡ Some m → StaysFinished k m
+    → run call_of next_of (Some (script_kernel profile lines input list)) events notes ≡ Some k → IsAlone k.table → run call_of next_of (Some k) more later ≡ Some m → StaysFinished k m
 goes_on_finished profile lines input list events more notes later k m are is alone on =
     let first = shell profile (top Starts lines) in
     let start = boot_kernel init first input list in

@@ -8,7 +8,7 @@ use Rattle.script_load.specs.declared.profile.Profile.{Profile}
 use Rattle.tree_model.specs.Tidy.{IsClearScript}
 use Rattle.kernel_model.specs.declared.events.Event.{Event}
 use Rattle.kernel_model.specs.KernelState.{KernelState}
-use Rattle.kernel_model.specs.Boot.{boot_kernel}
+use Rattle.run_model.specs.ScriptRun.{script_kernel}
 use Rattle.kernel_model.specs.Events.{run, IsFinished}
 use Rattle.sh_machine.specs.State.{User, init, shell, top}
 use Rattle.sh_machine.specs.Turn.{call_of, next_of}
@@ -25,7 +25,7 @@ use Rattle.law_bounds.proofs.GoingOn.{goes_on}
 
 module _ (profile : Profile) (lines : List ScriptLine) (input : Bytes) (list : List (Name × Bytes)) (are : AreFiles list) (clear : IsClearScript lines) where
   abbrev start : KernelState User
-  start = boot_kernel init (shell profile (top Starts lines)) input list
+  start = script_kernel profile lines input list
 
   module _ (events : List Event) (notes : List Bool) (m : KernelState User) (is : run call_of next_of (Some start) events notes ≡ Some m) (full : m.full ≡ None) where
     abbrev pub IsShort : Type 0

@@ -11,7 +11,7 @@ use Rattle.tree_model.specs.Runs.{Stage, first_stage, Reaches, reached, goes_on}
 use Rattle.tree_model.specs.Ends.{steps_of}
 use Rattle.kernel_model.specs.declared.events.Event.{Event}
 use Rattle.kernel_model.specs.KernelState.{KernelState}
-use Rattle.kernel_model.specs.Boot.{boot_kernel}
+use Rattle.run_model.specs.ScriptRun.{script_kernel}
 use Rattle.kernel_model.specs.Events.{happens, run}
 use Rattle.kernel_model.proofs.Runs.{run_more}
 use Rattle.kernel_model.proofs.Lasting.{run_later}
@@ -58,14 +58,14 @@ module _ (profile : Profile) (lines : List ScriptLine) (stdin : Bytes) (list : L
       by (Some l) happened on rest =
           let now : l.full ≡ None = runs.unmarked l.full (λ f marked. let z : Some f ≡ None = sym ((run_later call_of next_of l m es ns rest).mark f marked) ∙ full in let w : ⊥ = cc in w) in
           let one = event_goes profile first plain k l (runs.settled init (shell profile (top Starts lines)) stdin list are k r) now s e n happened in
-          let later = on l (record { events = r.events ++ e ∷ []; notes = r.notes ++ n ∷ []; runs = run_more call_of next_of (Some (boot_kernel init (shell profile (top Starts lines)) stdin list)) r.events r.notes k l e n r.runs happened }) rest full one.to in
+          let later = on l (record { events = r.events ++ e ∷ []; notes = r.notes ++ n ∷ []; runs = run_more call_of next_of (Some (script_kernel profile lines stdin list)) r.events r.notes k l e n r.runs happened }) rest full one.to in
           record { to = later.to; more = one.more + later.more; steps = omega (arith, one.steps, later.steps); pays = omega (arith, one.pays, later.pays) }
 
   -- so the whole run: at most fifteen calls a step
-  pub run_pays : (events : List Event) (notes : List Bool) (m : KernelState User) → run call_of next_of (Some (boot_kernel init (shell profile (top Starts lines)) stdin list)) events notes ≡ Some m → m.full ≡ None
-      → (stage : Stage) × ((way : Reaches profile first stage) × (Stands profile m stage × (calls_made call_of next_of (Some (boot_kernel init (shell profile (top Starts lines)) stdin list)) events notes ≤ 15 * steps_of way)))
+  pub run_pays : (events : List Event) (notes : List Bool) (m : KernelState User) → run call_of next_of (Some (script_kernel profile lines stdin list)) events notes ≡ Some m → m.full ≡ None
+      → (stage : Stage) × ((way : Reaches profile first stage) × (Stands profile m stage × (calls_made call_of next_of (Some (script_kernel profile lines stdin list)) events notes ≤ 15 * steps_of way)))
   run_pays events notes m is full =
-      let start = boot_kernel init (shell profile (top Starts lines)) stdin list in
+      let start = script_kernel profile lines stdin list in
       let s = start_stands profile lines stdin list in
       let begun : IsOnWay profile first start = record { names = s.names; tree = s.tree; shows = s.shows; shape = s.shape; has_init = start_init profile lines stdin list; steps = 0; way = at_first profile first start s } in
       let p = pays_on events notes start m (record { events = []; notes = []; runs = refl }) is full begun in

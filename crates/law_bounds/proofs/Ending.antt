@@ -12,11 +12,9 @@ use Rattle.tree_model.specs.Runs.{Agrees}
 use Rattle.tree_model.specs.Tidy.{HasShortCommands, IsClearScript}
 use Rattle.kernel_model.specs.declared.events.Event.{Event}
 use Rattle.kernel_model.specs.KernelState.{KernelState}
-use Rattle.kernel_model.specs.Boot.{boot_kernel}
 use Rattle.kernel_model.specs.Events.{run, IsFinished}
-use Rattle.sh_machine.specs.State.{User, init, shell, top}
+use Rattle.sh_machine.specs.State.{User}
 use Rattle.sh_machine.specs.Turn.{call_of, next_of}
-use Rattle.sh_machine.specs.declared.state.Phase.TheVariants.{Starts}
 use Rattle.law_standing.proofs.RunsEnd.{finished_means}
 use Rattle.run_model.specs.ScriptRun.{IsSpentFrom, script_kernel}
 use Rattle.run_model.proofs.Scripts.{whole}
@@ -27,7 +25,7 @@ use Rattle.law_bounds.proofs.Bounded.{finished_or_goes, finished_or_short}
 
 module _ (profile : Profile) (lines : List ScriptLine) (input : Bytes) (list : List (Name × Bytes)) (are : AreFiles list) where
   abbrev start : KernelState User
-  start = boot_kernel init (shell profile (top Starts lines)) input list
+  start = script_kernel profile lines input list
 
   -- the run is finished, and has left what the script means
   abbrev pub Ends : KernelState User → Type 0

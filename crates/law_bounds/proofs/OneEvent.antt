@@ -9,7 +9,7 @@ use Rattle.script_load.specs.declared.profile.Profile.{Profile}
 use Rattle.meaning_model.specs.Meaning.{script_tree}
 use Rattle.kernel_model.specs.declared.events.Event.{Event}
 use Rattle.kernel_model.specs.KernelState.{KernelState}
-use Rattle.kernel_model.specs.Boot.{boot_kernel}
+use Rattle.run_model.specs.ScriptRun.{script_kernel}
 use Rattle.kernel_model.specs.Events.{happens, run}
 use Rattle.sh_machine.specs.State.{User, init, shell, top}
 use Rattle.sh_machine.specs.Turn.{call_of, next_of}
@@ -23,7 +23,7 @@ use Rattle.law_standing.proofs.OneFurther.{none_full}
 use Rattle.law_bounds.specs.Paid.{IsPaidFor}
 
 pub paid_for : (profile : Profile) (lines : List ScriptLine) (input : Bytes) (list : List (Name × Bytes)) (events : List Event) (notes : List Bool) (k : KernelState User) (e : Event) (n : Bool) (l : KernelState User) → AreFiles list → has_back (script_tree lines) ≡ false
-    → run call_of next_of (Some (boot_kernel init (shell profile (top Starts lines)) input list)) events notes ≡ Some k → happens call_of next_of k e n ≡ Some l → l.full ≡ None → IsPaidFor profile k e l
+    → run call_of next_of (Some (script_kernel profile lines input list)) events notes ≡ Some k → happens call_of next_of k e n ≡ Some l → l.full ≡ None → IsPaidFor profile k e l
 paid_for profile lines input list events notes k e n l are plain is happened full =
     let s = every_run_stands profile lines input list events notes k are plain is (none_full k l e n happened full) in
     let before = stage_with (stands_for s.tree) k.input k.out (files k.files) in

@@ -6,58 +6,39 @@ ghost use Rattle.mem_files.specs.Listing.{AreFiles};
 ghost use Rattle.mem_files.specs.Name.{Bytes, Name};
 ghost use Rattle.script_load.specs.Line.{ScriptLine};
 ghost use Rattle.script_load.specs.declared.profile.Profile.{Profile};
-ghost use Rattle.meaning_model.specs.Meaning.{script_meaning, script_tree};
-ghost use Rattle.meaning_model.specs.Settled.{IsSettledScript};
-ghost use Rattle.tree_model.specs.Residual.{done};
-ghost use Rattle.tree_model.specs.Runs.{Agrees};
+ghost use Rattle.meaning_model.specs.Meaning.{script_tree};
 ghost use Rattle.tree_model.specs.Tidy.{HasShortCommands, IsClearScript};
-ghost use Rattle.sh_machine.specs.State.{User, init, shell, top};
+ghost use Rattle.sh_machine.specs.State.{User};
 ghost use Rattle.sh_machine.specs.Turn.{call_of, next_of};
-ghost use Rattle.sh_machine.specs.declared.state.Phase.TheVariants.{Starts};
 ghost use Rattle.kernel_model.specs.declared.events.Event.{Event};
-ghost use Rattle.kernel_model.specs.Boot.{boot_kernel};
 ghost use Rattle.kernel_model.specs.Events.{run, IsFinished};
 ghost use Rattle.kernel_model.specs.KernelState.{KernelState};
-ghost use Rattle.run_model.specs.ScriptRun.{IsSpentFrom, script_kernel};
-ghost use Rattle.law_bounds.specs.GoingOn.{CanGoOn, StaysFinished};
+ghost use Rattle.run_model.specs.ScriptRun.{IsRoomy, IsSettledRun, IsSpentFrom, ScriptRun, script_kernel};
 ghost use Rattle.step_bounds.specs.Most.{most_events};
+ghost use Rattle.law_standing.specs.Leaving.{HasMeaning};
+ghost use Rattle.law_bounds.specs.GoingOn.{CanGoOn, StaysFinished, most_of};
 
 /// A run of a clear script in which nothing was full, whatever its schedule, is finished once it has more events than
 /// `most_events`, a number that is computed from the script, the length of the input and the sizes of the files. And as long as
 /// it isn't finished some event can happen.
 pub fn every_run_is_finished_after_so_many_events()
-    ensures finished { (profile : Profile) (lines : List ScriptLine) (input : Bytes) (list : List (Name × Bytes)) (events : List Event) (notes : List Bool) (m : KernelState User)
-        → AreFiles list → IsClearScript lines
-        → run call_of next_of (Some (boot_kernel init (shell profile (top Starts lines)) input list)) events notes ≡ Some m → m.full ≡ None
-        → most_events lines input (files list) < length events → IsFinished m }
-    ensures goes_on { (profile : Profile) (lines : List ScriptLine) (input : Bytes) (list : List (Name × Bytes)) (events : List Event) (notes : List Bool) (m : KernelState User)
-        → AreFiles list → IsClearScript lines
-        → run call_of next_of (Some (boot_kernel init (shell profile (top Starts lines)) input list)) events notes ≡ Some m → m.full ≡ None
-        → IsFinished m ⊎ ((length events ≤ most_events lines input (files list)) × CanGoOn m) }
+    ensures finished { (r : ScriptRun) → IsClearScript r.lines → IsRoomy r → most_of r < length r.schedule → IsFinished r.last }
+    ensures goes_on { (r : ScriptRun) → IsClearScript r.lines → IsRoomy r → IsFinished r.last ⊎ ((length r.schedule ≤ most_of r) × CanGoOn r.last) }
 {}
 
 /// So every run of a settled script that goes on, and in which nothing was full, is finished after at most one event more than
 /// `most_events`, and has then left what the script means: its output, its files but for soft names, and what it leaves of the
 /// input unless that is loose.
 pub fn every_run_ends_with_the_meaning()
-    ensures finished { (profile : Profile) (lines : List ScriptLine) (input : Bytes) (list : List (Name × Bytes)) (events : List Event) (notes : List Bool) (m : KernelState User)
-        → AreFiles list → IsSettledScript profile lines input (files list) → HasShortCommands (script_tree lines)
-        → run call_of next_of (Some (boot_kernel init (shell profile (top Starts lines)) input list)) events notes ≡ Some m → m.full ≡ None
-        → most_events lines input (files list) < length events
-        → IsFinished m × Agrees (record { left = done; input = m.input; out = m.out; files = files m.files }) (script_meaning profile lines input (files list)) }
-    ensures goes_on { (profile : Profile) (lines : List ScriptLine) (input : Bytes) (list : List (Name × Bytes)) (events : List Event) (notes : List Bool) (m : KernelState User)
-        → AreFiles list → IsSettledScript profile lines input (files list) → HasShortCommands (script_tree lines)
-        → run call_of next_of (Some (boot_kernel init (shell profile (top Starts lines)) input list)) events notes ≡ Some m → m.full ≡ None
-        → (IsFinished m × Agrees (record { left = done; input = m.input; out = m.out; files = files m.files }) (script_meaning profile lines input (files list))) ⊎ ((length events ≤ most_events lines input (files list)) × CanGoOn m) }
+    ensures finished { (r : ScriptRun) → IsSettledRun r → HasShortCommands (script_tree r.lines) → IsRoomy r → most_of r < length r.schedule → IsFinished r.last × HasMeaning r }
+    ensures goes_on { (r : ScriptRun) → IsSettledRun r → HasShortCommands (script_tree r.lines) → IsRoomy r
+        → (IsFinished r.last × HasMeaning r) ⊎ ((length r.schedule ≤ most_of r) × CanGoOn r.last) }
 {}
 
 /// A finished run stays so, whatever events follow, which are init's alone: they change nothing that it left. Of any script, and
 /// whatever was full.
 pub fn a_finished_run_stays_as_it_is()
-    ensures { (profile : Profile) (lines : List ScriptLine) (input : Bytes) (list : List (Name × Bytes)) (events more : List Event) (notes later : List Bool) (k m : KernelState User)
-        → AreFiles list
-        → run call_of next_of (Some (boot_kernel init (shell profile (top Starts lines)) input list)) events notes ≡ Some k → IsFinished k
-        → run call_of next_of (Some k) more later ≡ Some m → StaysFinished k m }
+    ensures { (r : ScriptRun) (more : List Event) (later : List Bool) (m : KernelState User) → IsFinished r.last → run call_of next_of (Some r.last) more later ≡ Some m → StaysFinished r.last m }
 {}
 
 /// Where a run of a clear script is given up, as by `run_one` with its fault `Spent`, and nothing was full, it had fewer turns

@@ -11,6 +11,7 @@ use Rattle.kernel_model.specs.declared.events.Event.{Event}
 use Rattle.kernel_model.specs.declared.events.Event.TheVariants.{Dispatch, Trap}
 use Rattle.kernel_model.specs.KernelState.{KernelState}
 use Rattle.kernel_model.specs.Events.{happens}
+use Rattle.kernel_model.specs.KernelRun.{KernelRun, start_of}
 use Rattle.law_kernel.specs.Ends.{reads_pipe, writes_pipe}
 use Rattle.law_outcomes.specs.Outcome.{object_at, left_of}
 
@@ -99,3 +100,7 @@ module _ {S : Type 0} (call : S → Reply → Call) (next : S → Reply → S) (
   all_moved (Some k) (e ∷ es) [] = []
   all_moved (Some k) (e ∷ es) (refused ∷ notes) =
       moved_at k e (happens call next k e refused) ++ all_moved (happens call next k e refused) es notes
+
+  -- what the events of a run from the start move
+  abbrev pub moved_in : KernelRun call next → Bytes
+  moved_in r = all_moved (Some (start_of r)) r.schedule r.notes

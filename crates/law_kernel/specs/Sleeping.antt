@@ -54,7 +54,7 @@ pub record Lives {S : Type 0} (x : Slot S) : Type 0 where
   pub used : is_free x ≡ false
   pub alive : is_zombie x ≡ false
 
--- who descends from whom: init lives and is nobody's child, nobody is its own child, and every parent lives
+-- who descends from whom: init lives and has no parent, no process is its own child, and every parent lives
 pub record IsFamily {S : Type 0} (t : Table S) : Type 0 where
   pub init : Lives (at t 0)
   pub eldest : (r : ℕ) → is_child_of r (at t 0) ≡ false

@@ -7,6 +7,7 @@ use Rattle.kernel_model.specs.declared.events.Event.{Event}
 use Rattle.kernel_model.specs.declared.events.Event.TheVariants.{Dispatch, Trap}
 use Rattle.kernel_model.specs.KernelState.{KernelState}
 use Rattle.kernel_model.specs.Events.{happens}
+use Rattle.kernel_model.specs.KernelRun.{KernelRun, start_of}
 
 -- after its call pid sleeps, and the call put no byte into a pipe: a read of an empty pipe, a write to a full one, or a wait
 abbrev pub fell_asleep : {S : Type 0} → KernelState S → ℕ → KernelState S → Bool
@@ -39,3 +40,7 @@ module _ {S : Type 0} (call : S → Reply → Call) (next : S → Reply → S) (
   count_events (Some k) [] notes = 0
   count_events (Some k) (e ∷ es) [] = 0
   count_events (Some k) (e ∷ es) (refused ∷ notes) = count_event k e (happens call next k e refused) + count_events (happens call next k e refused) es notes
+
+  -- how many events of a run from the start pass the test
+  abbrev pub count_in : KernelRun call next → ℕ
+  count_in r = count_events (Some (start_of r)) r.schedule r.notes

@@ -11,7 +11,7 @@ use Rattle.meaning_model.specs.Meaning.{script_tree}
 use Rattle.proc_table.specs.Slots.{Slot, Process, at, is_child_of, is_zombie, is_zombie_child_of, is_zombie_status}
 use Rattle.kernel_model.specs.declared.events.Event.{Event}
 use Rattle.kernel_model.specs.KernelState.{KernelState}
-use Rattle.kernel_model.specs.Boot.{boot_kernel}
+use Rattle.run_model.specs.ScriptRun.{script_kernel}
 use Rattle.kernel_model.specs.Events.{run}
 use Rattle.law_kernel.specs.Asking.{AllAsk}
 use Rattle.law_kernel.specs.Sleeping.{WaitsForChild}
@@ -94,7 +94,7 @@ module _ (profile : Profile) (g : Names) (k : KernelState User) (t : Node) (show
       by (on_output it) = it
 
 -- so in every run from the start of a script without & in which nothing was full, somebody is awake
-pub somebody_is_awake : (profile : Profile) (lines : List ScriptLine) (stdin : Bytes) (list : List (Name × Bytes)) (events : List Event) (notes : List Bool) (m : KernelState User) → AreFiles list → has_back (script_tree lines) ≡ false → run call_of next_of (Some (boot_kernel init (shell profile (top Starts lines)) stdin list)) events notes ≡ Some m → m.full ≡ None → IsAwake m.table
+pub somebody_is_awake : (profile : Profile) (lines : List ScriptLine) (stdin : Bytes) (list : List (Name × Bytes)) (events : List Event) (notes : List Bool) (m : KernelState User) → AreFiles list → has_back (script_tree lines) ≡ false → run call_of next_of (Some (script_kernel profile lines stdin list)) events notes ≡ Some m → m.full ≡ None → IsAwake m.table
 somebody_is_awake profile lines stdin list events notes m are plain is full = by (awake_or_asleep m.table)
   where
     by : IsAwake m.table ⊎ AllAsleep m.table → IsAwake m.table

@@ -12,14 +12,12 @@ use Rattle.meaning_model.specs.Meaning.{script_tree}
 use Rattle.proc_table.specs.Slots.{Table, Slot, at, is_runnable, is_running}
 use Rattle.proc_table.proofs.Counts.{used_within}
 use Rattle.kernel_model.specs.KernelState.{KernelState}
-use Rattle.kernel_model.specs.Boot.{boot_kernel}
 use Rattle.kernel_model.specs.Booted.{IsBooted}
 use Rattle.kernel_model.specs.Events.{run}
 use Rattle.kernel_model.specs.History.{History}
 use Rattle.law_kernel.proofs.Held.{there_is_counted}
-use Rattle.sh_machine.specs.State.{User, init, shell, top}
+use Rattle.sh_machine.specs.State.{User}
 use Rattle.sh_machine.specs.Turn.{call_of, next_of}
-use Rattle.sh_machine.specs.declared.state.Phase.TheVariants.{Starts}
 use Rattle.run_model.specs.ScriptRun.{IsSpentFrom, script_kernel}
 use Rattle.law_never_stuck.specs.Awake.{IsAwake}
 use Rattle.run_model.specs.Plain.{IsPlainRun}
@@ -54,7 +52,7 @@ spends_turns profile lines input list turns are plain s full = by s.spent.over
 -- of the kernel that a history comes to
 pub awake_then : (h : History User) → IsBooted h.boot → run call_of next_of (Some h.boot) h.schedule h.notes ≡ Some h.now → IsPlainRun h → IsAwake h.now.table
 awake_then h booted replays p =
-    let start : h.boot ≡ boot_kernel init (shell p.profile (top Starts p.lines)) p.input p.files = p.begun in
+    let start : h.boot ≡ script_kernel p.profile p.lines p.input p.files = p.begun in
     let same : booted.files ≡ p.files = ap (λ (k : KernelState User). k.files) (sym booted.start ∙ start) in
     somebody_is_awake p.profile p.lines p.input p.files h.schedule h.notes h.now (subst AreFiles same booted.are) p.plain
     (ap (λ (k : KernelState User). run call_of next_of (Some k) h.schedule h.notes) (sym start) ∙ replays) p.roomy

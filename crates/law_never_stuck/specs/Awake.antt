@@ -1,4 +1,4 @@
--- When somebody is awake.
+-- When some process is awake.
 use Rattle.std.specs.Prelude.{◌≡◌, ◌⊎◌, ℕ, true}
 use Rattle.proc_table.specs.Slots.{Table, at, is_runnable, is_running}
 

@@ -11,7 +11,7 @@ use Rattle.tree_model.specs.Runs.{Stage, first_stage, Reaches}
 use Rattle.kernel_model.specs.declared.events.Event.{Event}
 use Rattle.kernel_model.specs.declared.events.Full.{Full}
 use Rattle.kernel_model.specs.KernelState.{KernelState}
-use Rattle.kernel_model.specs.Boot.{boot_kernel}
+use Rattle.run_model.specs.ScriptRun.{script_kernel}
 use Rattle.kernel_model.specs.Events.{happens, run}
 use Rattle.kernel_model.proofs.Lasting.{run_later}
 use Rattle.sh_machine.specs.State.{User, init, shell, top}
@@ -37,7 +37,7 @@ stands_so : (profile : Profile) (first : Stage) (k : KernelState User) (s : IsOn
 stands_so profile first k s = record { names = s.names; tree = s.tree; shows = s.shows; shape = s.shape; left = refl; files = refl; input = refl; out = refl }
 
 pub goes_further : (profile : Profile) (lines : List ScriptLine) (input : Bytes) (list : List (Name × Bytes)) (events : List Event) (notes : List Bool) (k : KernelState User) (e : Event) (n : Bool) (l : KernelState User) → AreFiles list → has_back (script_tree lines) ≡ false
-    → run call_of next_of (Some (boot_kernel init (shell profile (top Starts lines)) input list)) events notes ≡ Some k → happens call_of next_of k e n ≡ Some l → l.full ≡ None
+    → run call_of next_of (Some (script_kernel profile lines input list)) events notes ≡ Some k → happens call_of next_of k e n ≡ Some l → l.full ≡ None
     → (before : Stage) × ((after : Stage) × (Reaches profile (first_stage (script_tree lines) input (files list)) before × Stands profile k before × Reaches profile before after × Stands profile l after))
 goes_further profile lines input list events notes k e n l are plain is happened full =
     let s = every_run_stands profile lines input list events notes k are plain is (none_full k l e n happened full) in

@@ -15,11 +15,10 @@ use Rattle.law_trees.proofs.OneAnswer.{reaches_way, first_way, done_agrees}
 use Rattle.proc_table.specs.Slots.{IsAlone}
 use Rattle.kernel_model.specs.declared.events.Event.{Event}
 use Rattle.kernel_model.specs.KernelState.{KernelState}
-use Rattle.kernel_model.specs.Boot.{boot_kernel}
+use Rattle.run_model.specs.ScriptRun.{script_kernel}
 use Rattle.kernel_model.specs.Events.{run}
-use Rattle.sh_machine.specs.State.{User, init, shell, top}
+use Rattle.sh_machine.specs.State.{User}
 use Rattle.sh_machine.specs.Turn.{call_of, next_of}
-use Rattle.sh_machine.specs.declared.state.Phase.TheVariants.{Starts}
 use Rattle.process_model.specs.Standing.{Stands}
 use Rattle.process_model.proofs.Finished.{finished}
 use Rattle.law_standing.proofs.RunsStand.{stands_then}
@@ -36,7 +35,7 @@ seen_agrees profile value m stage s a = record {
 }
 
 pub finished_means : (profile : Profile) (lines : List ScriptLine) (input : Bytes) (list : List (Name × Bytes)) (events : List Event) (notes : List Bool) (m : KernelState User) → AreFiles list → IsSettledScript profile lines input (files list) → HasShortCommands (script_tree lines)
-    → run call_of next_of (Some (boot_kernel init (shell profile (top Starts lines)) input list)) events notes ≡ Some m → m.full ≡ None → IsAlone m.table → Agrees (ended m) (script_meaning profile lines input (files list))
+    → run call_of next_of (Some (script_kernel profile lines input list)) events notes ≡ Some m → m.full ≡ None → IsAlone m.table → Agrees (ended m) (script_meaning profile lines input (files list))
 finished_means profile lines input list events notes m are settled short is full alone =
     let s = stands_then profile lines input list events notes m are settled.0 is full in
     let value = script_meaning profile lines input (files list) in

@@ -15,6 +15,7 @@ use Rattle.kernel_model.specs.declared.events.Event.{Event}
 use Rattle.kernel_model.specs.declared.events.Event.TheVariants.{Dispatch, Trap}
 use Rattle.kernel_model.specs.KernelState.{KernelState}
 use Rattle.kernel_model.specs.Boot.{boot_kernel}
+use Rattle.run_model.specs.ScriptRun.{script_kernel}
 use Rattle.kernel_model.specs.Events.{happens, run}
 use Rattle.sh_machine.specs.State.{User, init, shell, top}
 use Rattle.sh_machine.specs.Turn.{call_of, next_of}
@@ -102,7 +103,7 @@ at_first profile stage k s =
 
 -- ---- the law
 
-pub every_run_stands : (profile : Profile) (lines : List ScriptLine) (input : Bytes) (list : List (Name × Bytes)) (events : List Event) (notes : List Bool) (m : KernelState User) → AreFiles list → has_back (script_tree lines) ≡ false → run call_of next_of (Some (boot_kernel init (shell profile (top Starts lines)) input list)) events notes ≡ Some m → m.full ≡ None → IsOnWay profile (first_stage (script_tree lines) input (files list)) m
+pub every_run_stands : (profile : Profile) (lines : List ScriptLine) (input : Bytes) (list : List (Name × Bytes)) (events : List Event) (notes : List Bool) (m : KernelState User) → AreFiles list → has_back (script_tree lines) ≡ false → run call_of next_of (Some (script_kernel profile lines input list)) events notes ≡ Some m → m.full ≡ None → IsOnWay profile (first_stage (script_tree lines) input (files list)) m
 every_run_stands profile lines input list events notes m are plain is full =
     let first = shell profile (top Starts lines) in
     let stage = first_stage (script_tree lines) input (files list) in
@@ -110,7 +111,7 @@ every_run_stands profile lines input list events notes m are plain is full =
     runs.every_run_keeps init first input list (IsOnWay profile stage) (λ k l e n r happened was now on. (event_goes profile stage plain k l (runs.settled init first input list are k r) now on e n happened).to)
     (record { names = s.names; tree = s.tree; shows = s.shows; shape = s.shape; has_init = start_init profile lines input list; steps = 0; way = at_first profile stage (boot_kernel init first input list) s }) events notes m is full
 
-pub stands_then : (profile : Profile) (lines : List ScriptLine) (input : Bytes) (list : List (Name × Bytes)) (events : List Event) (notes : List Bool) (m : KernelState User) → AreFiles list → has_back (script_tree lines) ≡ false → run call_of next_of (Some (boot_kernel init (shell profile (top Starts lines)) input list)) events notes ≡ Some m → m.full ≡ None → (stage : Stage) × Reaches profile (first_stage (script_tree lines) input (files list)) stage × Stands profile m stage
+pub stands_then : (profile : Profile) (lines : List ScriptLine) (input : Bytes) (list : List (Name × Bytes)) (events : List Event) (notes : List Bool) (m : KernelState User) → AreFiles list → has_back (script_tree lines) ≡ false → run call_of next_of (Some (script_kernel profile lines input list)) events notes ≡ Some m → m.full ≡ None → (stage : Stage) × Reaches profile (first_stage (script_tree lines) input (files list)) stage × Stands profile m stage
 stands_then profile lines input list events notes m are plain is full =
     let s = every_run_stands profile lines input list events notes m are plain is full in
     (stage_with (stands_for s.tree) m.input m.out (files m.files), reach profile s.way, record { names = s.names; tree = s.tree; shows = s.shows; shape = s.shape; left = refl; files = refl; input = refl; out = refl })

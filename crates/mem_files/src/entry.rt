@@ -47,7 +47,7 @@ impl<A: Allocator> Entry<A> {
         self.bytes.as_slice()
     }
 
-    // The old bytes are given up, with the room that they had.
+    // The old bytes are dropped, with the room that they had.
     pub fn replace(&mut self, bytes: Vec<u8, A>)
         ensures { self.new ≡ (self.old.0, bytes.items) }
     {
@@ -80,7 +80,7 @@ impl<A: Allocator> Entry<A> {
         self.name() == other.name() && self.bytes() == other.bytes()
     }
 
-    // Copies bytes from `at` on into the buffer, and tells how many.
+    // Copies bytes from `at` on into the buffer, and returns how many.
     pub fn read(&self, at: usize, buf: &mut [u8]) -> usize
         ensures count { result ≡ min (length buf.old) (length self.now.1 - at) }
         ensures bytes { buf.new ≡ overlay (take (length buf.old) (drop at self.now.1)) buf.old }

@@ -16,7 +16,7 @@ pub enum FilesFault {
     /// The file would have more than 274,432 bytes.
     #[error("file too large")]
     FullSize,
-    /// The allocator gave no memory.
+    /// The allocator refused memory.
     #[error("no memory")]
     Memory,
     /// The write begins past the end of the file.

@@ -1,4 +1,4 @@
-//! What holds of all files, so that no caller cites how a set of files is kept.
+//! What holds of every set of files, so that no caller cites how it is kept.
 //!
 //! Each law is a function that does nothing, and its contract is the law.
 ghost use Rattle.std.specs.Prelude.{◌≡◌, ◌≢◌, ℕ, ◌+◌, ◌<◌, ◌≤◌, ◌++◌, [], List, Some, None, false, true, length, max, slice_get, IfSome};
@@ -92,13 +92,13 @@ pub fn names_ascend()
         → slice_get list i ≡ Some low → slice_get list j ≡ Some high → name_cmp low.0 high.0 ≡ Less }
 {}
 
-/// Nothing laid over bytes leaves them, and bytes laid over nothing are all that there is.
+/// Nothing written over bytes leaves them, and bytes written over nothing are all that there is.
 pub fn overlay_of_none()
     ensures over { (b : Bytes) → overlay [] b ≡ b }
     ensures under { (w : Bytes) → overlay w [] ≡ w }
 {}
 
-/// A write at the front lays the bytes over it.
+/// A write at the front replaces the bytes there.
 pub fn write_at_front()
     ensures { (b w : Bytes) → written b 0 w ≡ overlay w b }
 {}

@@ -17,7 +17,7 @@ fn are_name_bytes(bytes: &[u8]) -> bool
 }
 
 /// Whether a file can have this name: 1 to 14 bytes, none of them `/` or 0. 14 is `kernel/fs.h`'s
-/// `DIRSIZ`; that longer names are refused, and not cut, is own.
+/// `DIRSIZ`; that longer names are refused, and not cut off, is own.
 pub fn is_openable(name: &[u8]) -> bool
     ensures { result ≡ is_openable name.now }
 {

@@ -40,7 +40,7 @@ impl<A: Allocator> Model for Files<A> {
 }
 
 impl<A: Allocator> Files<A> {
-    /// A set with no files, whose later calls take their memory from `alloc`. Takes none itself.
+    /// A set with no files, whose later calls take their memory from `alloc`. Takes none itself (own).
     pub fn new(alloc: A) -> Self
         ensures { result ≡ [] }
     {
@@ -49,7 +49,7 @@ impl<A: Allocator> Files<A> {
         }
     }
 
-    /// How many files there are. Takes no memory.
+    /// How many files there are. Takes no memory (own).
     pub fn count(&self) -> usize
         ensures value { result ≡ length self.now }
         ensures files { AreFiles self.now }
@@ -57,8 +57,8 @@ impl<A: Allocator> Files<A> {
         self.entries.len()
     }
 
-    /// The name that stands at `i`, from 0, where all names stand in byte order; None from `count` on.
-    /// Takes no memory.
+    /// The name at place `i`, counted from 0, of all names in byte order; `None` from `count` on.
+    /// Takes no memory (own).
     pub fn name_at(&self, i: usize) -> Option<&[u8]>
         ensures { option_copied result ≡ option_map (λ entry. entry.0) (slice_get self.now i) }
     {
@@ -69,7 +69,7 @@ impl<A: Allocator> Files<A> {
         }
     }
 
-    /// The bytes of the file `name`; None where there is no file of that name. Takes no memory.
+    /// The bytes of the file `name`; `None` where there is no file of that name. Takes no memory (own).
     pub fn get(&self, name: &[u8]) -> Option<&[u8]>
         ensures { option_copied result ≡ files self.now name.now }
     {
@@ -80,8 +80,8 @@ impl<A: Allocator> Files<A> {
     }
 
     /// Copies the bytes of the file `name` from `at` on, counted from 0, to the front of the buffer, as
-    /// many as there are and as fit, and tells how many: 0 where `at` is the end of the file or past it,
-    /// as in `kernel/fs.c`'s `readi`. The rest of the buffer stays. Takes no memory.
+    /// many as there are and as fit, and returns how many: 0 where `at` is the end of the file or past it
+    /// (`kernel/fs.c`'s `readi`). The rest of the buffer stays. Takes no memory.
     ///
     /// `Missing` where there is no file of that name; the buffer then stays as it was.
     pub fn read_at(&self, name: &[u8], at: usize, buf: &mut [u8]) -> Result<usize, FilesFault>
@@ -103,9 +103,9 @@ impl<A: Allocator> Files<A> {
     /// they go past its end. Its room grows by doubling, so that many writes at the end are linear work.
     ///
     /// In this order, each with nothing changed: `Missing` where there is no file of that name; `Gap`
-    /// where `at` is past the end of the file; `FullSize` where `at` and the number of bytes come to
-    /// more than 274,432; `Memory`. `kernel/fs.c`'s `writei` refuses the second and third too. That all
-    /// the bytes are refused, and not those alone that don't fit, is own.
+    /// where `at` is past the end of the file; `FullSize` where `at` plus the number of bytes is
+    /// more than 274,432; `Memory`. `kernel/fs.c`'s `writei` refuses the second and third too. That
+    /// all the bytes are refused, and not only those that don't fit, is own.
     pub fn write_at(&mut self, name: &[u8], at: usize, bytes: &[u8]) -> Result<(), FilesFault>
         ensures holds { OnOk result (Holds self.old self.new name.now
             (written (bytes_of (files self.old name.now)) at bytes.now)) }
@@ -131,8 +131,8 @@ impl<A: Allocator> Files<A> {
         Ok(())
     }
 
-    /// Appends the bytes to those of the file `name`, and tells how many it then has. Its room grows by doubling, so that
-    /// many appends are linear work (own: xv6 has no call that appends).
+    /// Appends the bytes to those of the file `name`, and returns how many it then has. Its room grows by doubling, so
+    /// that many appends are linear work (own: xv6 has no call that appends).
     ///
     /// In this order, each with nothing changed: `Missing` where there is no file of that name; `FullSize` where the
     /// file would have more than 274,432 bytes; `Memory`.
@@ -157,7 +157,7 @@ impl<A: Allocator> Files<A> {
         Ok(size + bytes.len())
     }
 
-    /// Whether the two sets have the same files with the same bytes, by whatever allocators they are kept (own).
+    /// Whether the two sets have the same files with the same bytes, whatever allocators hold them (own).
     pub fn same<B: Allocator>(&self, other: &Files<B>) -> bool
         ensures { IsTrue result ↔ (self.now ≡ other.now) }
     {
@@ -174,7 +174,7 @@ impl<A: Allocator> Files<A> {
 
     /// An equal set of files, with memory from `alloc` (own). No file of it has room to spare.
     ///
-    /// `Memory` where there is none; what was taken is given back.
+    /// `Memory` where memory is refused; what was taken is then freed.
     pub fn copy<B: Allocator + Copy>(&self, alloc: B) -> Result<Files<B>, FilesFault>
         ensures equal { IfOk result (λ copy. copy ≡ self.now) }
         ensures only { IsOkUnless result FilesFault.Memory }
@@ -188,7 +188,7 @@ impl<A: Allocator> Files<A> {
 }
 
 impl<A: Allocator + Copy> Files<A> {
-    /// The file `name` then holds these bytes and no others, also where it was there before (own).
+    /// Makes the file `name` hold these bytes and no others, whether it was there or not (own).
     ///
     /// In this order, each with nothing changed: `BadName` where the name can't be opened; `FullSize`
     /// where there are more than 274,432 bytes; `FullFiles` where the name is new and there are 200
@@ -218,8 +218,8 @@ impl<A: Allocator + Copy> Files<A> {
         }
     }
 
-    /// The file `name` is then there: empty where it was missing, and as it was otherwise, as after
-    /// `kernel/sysfile.c`'s `create`. A file that is there takes no memory, so it isn't refused.
+    /// Makes an empty file `name` where there is none; a file that is there stays as it was
+    /// (`kernel/sysfile.c`'s `create`). A file that is there takes no memory, so it isn't refused.
     ///
     /// In this order, each with nothing changed: `BadName` where the name can't be opened; `FullFiles`
     /// where the name is new and there are 200 files; `Memory`.
@@ -238,8 +238,8 @@ impl<A: Allocator + Copy> Files<A> {
         }
     }
 
-    /// The file `name` is then empty, as after `kernel/fs.c`'s `itrunc`. Takes no memory, and gives up
-    /// that of the old bytes.
+    /// Empties the file `name` (`kernel/fs.c`'s `itrunc`). Takes no memory, and frees that of the old
+    /// bytes.
     ///
     /// `Missing` where there is no file of that name, and then nothing changes.
     pub fn truncate(&mut self, name: &[u8]) -> Result<(), FilesFault>

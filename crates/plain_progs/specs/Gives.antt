@@ -13,7 +13,7 @@ pub record Gives (value : Value) (old new left : Bytes) (F : FileMap) : Type 0 w
   pub rest : left ≡ value.rest
   pub files : F ≡ value.files
 
--- it is told that a limit was passed only where this says so
+-- `TooLarge` is returned only where this says that a limit was passed
 abbrev pub IsDue : Type 0 → PlainFault → Type 0
 IsDue Large TooLarge = Large
 IsDue Large Memory = Unit {0}

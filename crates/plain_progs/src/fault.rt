@@ -1,10 +1,10 @@
 use std::alloc::{AllocError, AllocFailed};
 use thiserror::Error;
 
-/// Why a script has no outcome, numbered from 1.
+/// Why a script or a command has no outcome, numbered from 1 (own).
 #[derive(Clone, Copy, Debug, PartialEq, Eq, Error)]
 pub enum PlainFault {
-    /// On the way of the meaning a file would have more than 274,432 bytes, or a 201st would be made.
+    /// On the way a file would have more than 274,432 bytes, or a 201st file would be made.
     #[error("too large")]
     TooLarge = 1,
     /// An allocation was refused.

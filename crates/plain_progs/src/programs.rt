@@ -67,12 +67,14 @@ fn head<'i, A: Allocator + Copy, B: Allocator>(
     }
 }
 
-/// Does what a simple command of these words does: adds what it writes to `out`, changes the files as it
-/// does, and gives what it leaves of its input. The first word names the program, one of `cat echo grep
+/// Runs a simple command of these words on whole byte strings: adds what it writes to `out`, changes the
+/// files, and returns what it leaves of its input. The first word names the program, one of `cat echo grep
 /// head tee wc`; without words, and under any other name, nothing is done (own: the meaning of a command
-/// as a function of whole inputs). `TooLarge` where a file would have more than 274,432 bytes, or a
-/// 201st would be made; `Memory` where an allocation was refused. After a fault the output is still there,
-/// with some of what the command writes behind it or nothing, and the files that no word names are as they were.
+/// as a function of whole inputs).
+///
+/// `TooLarge` where a file would have more than 274,432 bytes, or a 201st file would be made; `Memory`
+/// where an allocation was refused. After an error `out` still begins with what it held, and may have
+/// more bytes behind that; files that no word names are unchanged.
 pub fn run_program<'i, A: Allocator + Copy, B: Allocator>(
     alloc: A,
     words: &[Bytes<B>],

@@ -12,7 +12,7 @@ use mem_files::laws::{are_files, only_openable_names};
 use mem_files::{Files, FilesFault};
 use std::alloc::Allocator;
 
-/// The bytes of the file that opening this name for reading finds; none where the name can't be opened
+/// The bytes of the file that opening this name for reading finds; `None` where the name can't be opened
 /// or there is no such file (`kernel/sysfile.c`'s `sys_open`).
 pub fn find<'s, A: Allocator>(store: &'s Files<A>, name: &[u8]) -> Option<&'s [u8]>
     ensures { option_copied result ≡ found (files store.now) name.now }
@@ -21,9 +21,10 @@ pub fn find<'s, A: Allocator>(store: &'s Files<A>, name: &[u8]) -> Option<&'s [u
     store.get(name)
 }
 
-/// Makes the file of this name hold exactly these bytes, whether it was there or not; false where the
-/// name can't be opened, and then nothing changes. `TooLarge` where there are more than 274,432 bytes,
-/// or it would be the 201st file; `Memory` where an allocation was refused (own). A fault changes nothing.
+/// Makes the file of this name hold exactly these bytes, whether it was there or not, and returns `true`;
+/// `false` where the name can't be opened, and then nothing changes. `TooLarge` where there are more than
+/// 274,432 bytes, or it would be the 201st file; `Memory` where an allocation was refused. An error changes
+/// nothing (own).
 pub fn give<A: Allocator + Copy>(
     store: &mut Files<A>,
     name: &[u8],

@@ -49,7 +49,7 @@ next_line lines i d inside = ap (map line_of) (drop-cons lines i d inside) ∙ a
 pub no_line : {A : _} (lines : List (Line A)) (i : ℕ) → length lines ≤ i → map line_of (drop i lines) ≡ []
 no_line lines i over = ap (map line_of) (drop_all i lines over)
 
--- what was told of the lines so far, and what the lines that are left are, is what the whole script is
+-- the verdict of the lines so far, and the lines that are left, make the verdict of the whole script
 pub record IsToldTo (profile : Profile) (whole : List ScriptLine) (input : Bytes) (F : FileMap) (lines : List ScriptLine) (rest : Bytes) (G : FileMap) (is_loose : Bool) (names : List Name) : Type 0 where
   pub loose : (meaning profile (script_tree whole) input F).loose ≡ (is_loose || (meaning profile (script_tree lines) rest G).loose)
   pub soft : (name : Name) → (meaning profile (script_tree whole) input F).soft name ≡ (among names name || (meaning profile (script_tree lines) rest G).soft name)

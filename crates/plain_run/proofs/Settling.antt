@@ -249,7 +249,7 @@ into_settled profile Over file T input F F1 soft inner all writes good is same b
       λ settled. e ∙ whole.1 (subst (λ G. IsSettled profile T (with_name file no_names) input G) (sym is) (settled good)),
     )
 
--- the same, from what the parts gave and what was told of them
+-- the same, from what the parts gave and their verdicts
 pub list_is_settled : (profile : Profile) (L R : Tree) (input old mid rest : Bytes) (F F1 : FileMap) (first second all one other : Bool) (soft then : List Name) → Gives (meaning profile L input F) old mid rest F1 → Tells (meaning profile L input F) one soft → Tells (meaning profile R rest F1) other then → IsTrue first ↔ IsSettled profile L no_names input F → IsTrue second ↔ IsSettled profile R no_names rest F1 → all ≡ ListHolds L R soft then first second one → IsTrue all ↔ IsSettled profile (list L R) no_names input F
 list_is_settled profile L R input old mid rest F F1 first second all one other soft then gives told later left right e =
     let V = meaning profile L input F in

@@ -1,4 +1,4 @@
--- Spans of names: what one line more changes, and that they tell of the lines before and after a place.
+-- Spans of names: what one line more changes, and what they say of the lines before and after a place.
 use Rattle.std.proofs.Common.{◌≡◌, ℕ, zero, suc, ◌+◌, ◌<◌, ◌≤◌, Bool, true, false, ◌||◌, cond, List, [], ◌∷◌, length, take, drop, get_or, Option, Some, None, refl, sym, ap, subst, ◌∙◌, arith}
 use Rattle.std.specs.Prelude.{map, nat_lt}
 use Rattle.std.specs.declared.cmp.Ordering.TheVariants.{Less, Equal, Greater}
@@ -162,7 +162,7 @@ nowhere lines name n long none k =
       | false ↦ λ e. beyond lines name k (let high : n ≤ k = grind (arith, nat_tests) in omega arith)
     ] refl
 
--- the span of all lines tells whether a line before or after has the name
+-- the span of all lines says whether a line before or after has the name
 pub beside_told : {B : _} (lines : List (Line B)) (name : Name) (n line : ℕ) (span : Option Span) → length lines ≤ n → Reaches (has_at lines name) n span → is_beside line span ≡ (all_names (take line lines) name || all_names (drop (line + 1) lines) name)
 beside_told lines name n line None long none =
     let never = nowhere lines name n long none in

@@ -35,6 +35,6 @@ abbrev pub is_beside : ℕ → Option Span → Bool
 is_beside line None = false
 is_beside line (Some span) = nat_lt span.first line || nat_lt line span.last
 
--- of each name and each place it is told whether a line after it or before it has the name
+-- the spans say of each name and each line whether a line after it or before it has the name
 abbrev pub AreSpans : {A B : _} → List (Line B) → NameLines A → Type 0
 AreSpans lines index = (name : Name) (line : ℕ) → is_beside line (span_of index name) ≡ both (all_names (drop (line + 1) lines)) (all_names (take line lines)) name

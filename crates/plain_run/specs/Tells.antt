@@ -1,4 +1,4 @@
--- What a verdict says of a value, and how verdicts come together.
+-- What a verdict says of a value, and how verdicts are combined.
 use Rattle.std.specs.Prelude.{◌≡◌, Bool, not, ◌&&◌, List, ◌++◌, if◌then◌else◌}
 use Rattle.std.specs.List.{list_any}
 use Rattle.sh_tree.specs.Tree.{Tree}

@@ -11,7 +11,7 @@ use conflict_check::{clash, has_back, uses_input};
 use script_load::Line;
 use std::alloc::{AllocError, Allocator};
 
-// Whether no command of the line runs behind `&`, and its commands can't come upon each other at a file.
+// Whether no command of the line runs behind `&`, and its commands can't meet at a file.
 fn is_clear<B: Allocator>(line: &Line<B>) -> bool
     ensures { IsTrue result ↔ ((has_back (line_tree (line_of line.now)) ≡ false) × IsClear (line_tree (line_of line.now))) }
 {

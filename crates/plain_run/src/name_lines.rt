@@ -30,7 +30,7 @@ pub struct NameLines<A: Allocator> {
 }
 
 impl<A: Allocator + Copy> NameLines<A> {
-    // Lets the span of a name reach to this line, which is not before any so far.
+    // Extends the span of a name to this line, which is not before any so far.
     fn reach(&mut self, alloc: A, name: &[u8], line: usize) -> Result<(), AllocError>
         ensures { OnOk result ((other : List ℕ) → span_of self.new other ≡ reached (bytes_eq other name.now) line (span_of self.old other)) }
     {
@@ -129,7 +129,7 @@ impl<A: Allocator + Copy> NameLines<A> {
     }
 }
 
-// Whether another line than the one at this place has one of the names. The spans are found out where
+// Whether another line than the one at this place has one of the names. The spans are computed where
 // they are needed for the first time.
 pub fn is_met_beside<A: Allocator + Copy, B: Allocator>(
     alloc: A,

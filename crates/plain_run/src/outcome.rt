@@ -3,7 +3,7 @@ use sh_lexer::Bytes;
 use sh_tree::Words;
 use std::alloc::Allocator;
 
-/// What a script gives.
+/// The outcome of a script (own).
 #[derive(Drop)]
 pub struct Plain<A: Allocator> {
     /// Standard output.
@@ -12,9 +12,9 @@ pub struct Plain<A: Allocator> {
     pub files: Files<A>,
     /// What is left unread of standard input.
     pub rest: Bytes<A>,
-    /// Whether the script is settled: no command runs behind `&`, its commands can't come upon each
-    /// other at a file, what the left side of a cut pipe writes is named nowhere else in the script, and
-    /// no command uses an input of which an unknown part is left.
+    /// Whether the script is settled: no command runs behind `&`, its commands can't meet at a file, what
+    /// the left side of a cut pipe writes is named nowhere else in the script, and no command uses an
+    /// input of which an unknown part is left.
     pub settled: bool,
     /// The names of the files whose bytes may differ by the schedule: what the left sides of cut pipes
     /// write, in byte order, each name once. A pipe is cut if its right side leaves some of its input

@@ -315,18 +315,18 @@ fn run_lines<'i, A: Allocator + Copy, B: Allocator>(
     Ok(Ran { rest, verdict })
 }
 
-/// Runs a script on this standard input and these files by its recursive meaning under its profile (own): each command
-/// on whole byte strings, a pipe's left side to its end before its right side, line after line. A
-/// command under `&` is run to its end in its place.
+/// Runs a script on this standard input and these files by its recursive meaning under its profile (own): each
+/// command on whole byte strings, a pipe's left side to its end before its right side, line after line. A
+/// command under `&` is run to its end in its place. The input and the files stay as they were.
 ///
-/// The programs are the six, `cat echo grep head tee wc`; every other name does nothing. `TooLarge`
-/// comes as soon as a file of the meaning would have more than 274,432 bytes, or a 201st would be made; `Memory`
-/// where an allocation was refused.
+/// The programs are the six, `cat echo grep head tee wc`; every other name does nothing. `TooLarge` as soon
+/// as a file would have more than 274,432 bytes, or a 201st file would be made; `Memory` where an allocation
+/// was refused.
 ///
 /// The soft names are those that left sides of cut pipes write, also of a script that isn't settled.
-/// They cost nothing where no pipe is cut: only then the names that its left side writes are copied.
+/// Where no pipe is cut, no name is copied.
 ///
-/// The verdict evaluates no command twice, and each line is asked once for `&` and clashes. At the
+/// No command is evaluated twice for the verdict, and each line is searched once for `&` and clashes. At the
 /// first line that has soft names the names of all lines are put in order, once, so that no line is
 /// searched for the names of another.
 pub fn plain<A: Allocator + Copy, B: Allocator, C: Allocator>(

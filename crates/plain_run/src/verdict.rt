@@ -133,7 +133,7 @@ impl<A: Allocator + Copy> Verdict<A> {
         }
     }
 
-    // With this file as its input: what it leaves of it concerns nobody.
+    // With this file as its input: what it leaves of the file is read by no other command.
     pub fn from_file(self, name: &[u8]) -> Self
         ensures settled { result.is_settled ≡ (self.is_settled && not (among self.soft.items name.now)) }
         ensures loose { result.is_loose ≡ false }

@@ -81,7 +81,7 @@ by_channel : (test : Status → Bool) (b : Bool) (s : Status) → (b ≡ true �
 by_channel test true s same = same refl
 by_channel test false s same = refl
 
--- a test that tells Runnable from Asleep nowhere
+-- a test that nowhere distinguishes Runnable from Asleep
 woken_status_same : (test : Status → Bool) → ((c : Channel) → test Runnable ≡ test (Asleep c)) → (channel : Channel) (s : Status) → test (woken_status channel s) ≡ test s
 woken_status_same test same channel Runnable = refl
 woken_status_same test same channel (Running h) = refl

@@ -1,5 +1,5 @@
 -- Each slot stands in the list that its process belongs in, whatever process is put there; so what is first in a queue
--- is Runnable, and whoever sleeps stands in its channel's list.
+-- is Runnable, and each process that sleeps stands in its channel's list.
 use Rattle.std.proofs.Common.{◌≡◌, ◌≢◌, ◌⊎◌, inl, inr, ℕ, zero, suc, ◌+◌, ◌-◌, ◌%◌, ◌<◌, ◌≤◌, List, [], ◌∷◌, ◌++◌, Bool, true, false, Option, Some, None, length, get_or, refl, sym, ap, ◌∙◌, arith, get_or-set_other, get_or-set_same}
 use Rattle.std.proofs.Math.ListN.{set, length-set}
 use Rattle.std.proofs.lemmas.Bool.{cases_eq, cases_lt, eq-eqb, ne_eqb, eqb-true}
@@ -169,7 +169,7 @@ sleeps_there (Some head) channel hart is = by head.status is where
   by (Asleep other) is = eq-eqb (8 + bucket_of channel) (8 + bucket_of other) (ap (λ (n : ℕ). 8 + n) (one_bucket channel other is))
   by Zombie is = absurd (let no : ⊥ = cc in no)
 
--- where nobody in the channel's list sleeps on it, nobody does
+-- where no process in the channel's list sleeps on it, none does
 pub none_sleeps : (heads : List (Option Head)) (queues : Queues) → AreQueued heads queues → (channel : Channel) → bucket_of channel < 64
     → ((slot : ℕ) → has (slots_of queues.lists (8 + bucket_of channel)) slot ≡ true → head_has (is_asleep_on_status channel) (head_at heads slot) ≡ false)
     → (slot : ℕ) → head_has (is_asleep_on_status channel) (head_at heads slot) ≡ false

@@ -13,7 +13,7 @@ use Rattle.proc_table.specs.declared.table.Waited.{Waited}
 use Rattle.proc_table.specs.declared.table.Waited.TheVariants.{Reaped, NoChildren, MustSleep}
 use Rattle.proc_table.specs.Slots.{Table, Slot, Process, at, is_free, is_number, is_runnable, is_running_on, is_asleep_on_status, is_child_of, is_zombie_child_of, parent_of}
 
--- a process from which no descriptor is open and that nothing was answered yet
+-- a process that has no descriptor open and whose first reply is `Start`
 abbrev pub booted : {S : Type 0} → Option ℕ → S → Process S
 booted parent machine = record { status = Runnable; parent = parent; machine = machine; reply = Start; fds = replicate DESCRIPTORS None; put = 0 }
 
@@ -127,13 +127,13 @@ woken_by_exit t pid x =
 abbrev pub wakes_at_exit : {S : Type 0} → Table S → ℕ → Status → Bool
 wakes_at_exit t pid s = is_asleep_on_status (Children (parent_of (at t pid))) s || (is_some (zombie_child t pid) && is_asleep_on_status (Children 0) s)
 
--- what a wait is answered, by the lowest child that is a zombie and the lowest child
+-- the result of a wait, by the lowest child that is a zombie and the lowest child
 abbrev pub wait_by : Option ℕ → Option ℕ → Waited
 wait_by (Some child) any = Reaped child
 wait_by None (Some child) = MustSleep
 wait_by None None = NoChildren
 
--- what a wait of pid is answered
+-- the result of a wait of pid
 abbrev pub wait_answer : {S : Type 0} → Table S → ℕ → Waited
 wait_answer t pid = wait_by (zombie_child t pid) (some_child t pid)
 

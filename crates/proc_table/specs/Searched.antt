@@ -6,7 +6,7 @@ use Rattle.proc_table.specs.Heads.{IsOnHart, hart_key, head_at, parent_key, stat
 use Rattle.proc_table.specs.Queues.{AreQueued, Queues}
 
 -- the slots are grouped by their states, by their harts and by their parents, each that waits stands in its list, and
--- whoever runs, runs on one of the eight harts
+-- each process that runs does so on one of the eight harts
 pub record AreSearched (heads : List (Option Head)) (states harts children : List ℕ) (queues : Queues) : Type 0 where
   pub by_state : AreGrouped 5 (map state_key heads) states
   pub by_hart : AreGrouped 8 (map hart_key heads) harts

@@ -9,7 +9,7 @@ use Rattle.proc_table.specs.declared.states.Status.TheVariants.{Runnable, Runnin
 use Rattle.proc_table.specs.declared.states.State.{State}
 use Rattle.proc_table.specs.declared.states.State.TheVariants.{Free, Runnable as SlotRunnable, Running as SlotRunning, Asleep as SlotAsleep, Zombie as SlotZombie}
 
--- a process whose machine has states S: None is the parent of init, which nobody has as a child; `put` is how many bytes a sleeping write has put so far
+-- a process whose machine has states S: the parent of init is None; `put` is how many bytes a sleeping write has put so far
 pub record Process (S : Type 0) : Type 0 where
   pub status : Status
   pub parent : Option ℕ

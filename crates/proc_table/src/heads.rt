@@ -9,7 +9,7 @@ use std::marker::Model;
 #[derive(Clone, Copy)]
 pub struct Head {
     pub(crate) status: Status,
-    // Nobody's child is init alone.
+    // `None` for init alone.
     pub(crate) parent: Option<Pid>,
 }
 
@@ -91,7 +91,7 @@ impl Heads {
         }
     }
 
-    // The slot has this head then, or is free.
+    // Gives the slot this head, or makes it free.
     pub(crate) fn put(&mut self, index: usize, head: Option<Head>)
         requires within { index < PROCS }
         requires on_hart { IsOnHart head }
@@ -106,7 +106,7 @@ impl Heads {
         self.heads[index] = head;
     }
 
-    // The slot's process, if there is one, has this parent then.
+    // Gives the slot's process, if there is one, this parent.
     pub(crate) fn give(&mut self, index: usize, parent: Pid)
         requires { index < PROCS }
         ensures { self.new ≡ slice_set self.old index (with_parent parent (head_at self.old index)) }

@@ -60,7 +60,7 @@ pub fn exit_changes_each_slot<M: Machine>()
     ensures others { (t : Table M.State) (pid other : ℕ) → other ≢ pid → at (exited t pid) other ≡ woken_by_exit t pid (given pid (at t other)) }
 {}
 
-/// A wait makes the slot of the child free that it reaps, and changes no other slot; where it reaps none it changes
+/// A wait makes the slot of the child that it reaps free, and changes no other slot; where it reaps none it changes
 /// nothing. A process that is no zombie, as one that runs, is not reaped by its own wait.
 pub fn wait_changes_one_slot<M: Machine>()
     ensures was_zombie { (t : Table M.State) (pid child : ℕ) → zombie_child t pid ≡ Some child → is_zombie_child_of pid (at t child) ≡ true }
@@ -70,7 +70,7 @@ pub fn wait_changes_one_slot<M: Machine>()
     ensures caller { (t : Table M.State) (pid : ℕ) → is_zombie (at t pid) ≡ false → at (reaped t pid) pid ≡ at t pid }
 {}
 
-/// After a fork the child is its parent's alone; who the other processes' parents are stays as it was.
+/// After a fork the child has its parent, and every other process has the parent that it had.
 pub fn fork_adds_one_child<M: Machine>()
     ensures child { (t : Table M.State) (child parent p : ℕ) (machine : M.State) (fds : Descriptors) → lowest_free t ≡ Some child
         → is_child_of p (at (forked t child parent machine fds) child) ≡ (p == parent) }
@@ -78,21 +78,23 @@ pub fn fork_adds_one_child<M: Machine>()
         → is_child_of p (at (forked t child parent machine fds) other) ≡ is_child_of p (at t other) }
 {}
 
-/// After an exit the process has no children, init has its own and those, and every other process has its own.
+/// After an exit the process has no children, init has its own and those of the process, and every other process has its
+/// own.
 pub fn exit_gives_the_children_to_init<M: Machine>()
     ensures gone { (t : Table M.State) (pid slot : ℕ) → pid ≢ 0 → is_child_of pid (at (exited t pid) slot) ≡ false }
     ensures init { (t : Table M.State) (pid slot : ℕ) → is_child_of 0 (at (exited t pid) slot) ≡ (is_child_of pid (at t slot) || is_child_of 0 (at t slot)) }
     ensures others { (t : Table M.State) (pid p slot : ℕ) → p ≢ pid → p ≢ 0 → is_child_of p (at (exited t pid) slot) ≡ is_child_of p (at t slot) }
 {}
 
-/// After a wait the child that was reaped is nobody's, and the others have the parents that they had.
+/// After a wait the child that was reaped has no parent, and the others have the parents that they had.
 pub fn wait_takes_one_child<M: Machine>()
     ensures child { (t : Table M.State) (pid child p : ℕ) → zombie_child t pid ≡ Some child → is_child_of p (at (reaped t pid) child) ≡ false }
     ensures others { (t : Table M.State) (pid child p other : ℕ) → zombie_child t pid ≡ Some child → other ≢ child
         → is_child_of p (at (reaped t pid) other) ≡ is_child_of p (at t other) }
 {}
 
-/// A fork makes one free slot Runnable: of a test of states, one more process passes it where Runnable does.
+/// A fork makes one free slot Runnable: one more process passes a test of states where Runnable passes it, and else as
+/// many as before.
 pub fn fork_counts<M: Machine>()
     ensures free { (t : Table M.State) (child parent : ℕ) (machine : M.State) (fds : Descriptors) → lowest_free t ≡ Some child
         → count_by is_free (forked t child parent machine fds) + 1 ≡ count_by is_free t }
@@ -100,8 +102,8 @@ pub fn fork_counts<M: Machine>()
         → count_by (has_status test) (forked t child parent machine fds) ≡ count_by (has_status test) t + tally (test Runnable) }
 {}
 
-/// A dispatch, a ready and a sleep take one process from the state that it is in to another: of any test of states,
-/// so many pass it.
+/// A dispatch, a ready and a sleep take one process from the state that it is in to another; how many processes pass any
+/// test of states changes by that one.
 pub fn one_process_changes_state<M: Machine>()
     ensures dispatched { (test : Status → Bool) (t : Table M.State) (pid hart : ℕ) (p : Process M.State) → at t pid ≡ Some p
         → count_by (has_status test) (dispatched t pid hart) + tally (test p.status) ≡ count_by (has_status test) t + tally (test (Running hart)) }
@@ -121,9 +123,9 @@ pub fn wakeup_counts<M: Machine>()
         → (count_by is_free (all_woken channel t) ≡ count_by is_free t) × (count_by is_running (all_woken channel t) ≡ count_by is_running t) × (count_by is_zombie (all_woken channel t) ≡ count_by is_zombie t) }
 {}
 
-/// An exit takes its process from the state that it is in to Zombie, and wakes sleepers: so many pass any test of
-/// states that doesn't tell Runnable from asleep. An exit of a running process makes the sleepers that it wakes
-/// Runnable, and no other.
+/// An exit takes its process from the state that it is in to Zombie, and wakes sleepers: how many processes pass a test of
+/// states that doesn't distinguish Runnable from Asleep changes by that one process. An exit of a running process makes
+/// the sleepers that it wakes Runnable, and no other.
 pub fn exit_counts<M: Machine>()
     ensures states { (test : Status → Bool) (t : Table M.State) (pid : ℕ) (p : Process M.State) → ((c : Channel) → test Runnable ≡ test (Asleep c)) → at t pid ≡ Some p
         → count_by (has_status test) (exited t pid) + tally (test p.status) ≡ count_by (has_status test) t + tally (test Zombie) }

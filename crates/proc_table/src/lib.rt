@@ -1,9 +1,9 @@
 //! The table of processes.
 //!
 //! The behaviour is that of xv6's `kernel/proc.c`: a process is a slot of a table of 64. Where xv6
-//! scans the slots, here the states and the parents stand apart from the machines, grouped by what is looked for, and
-//! those that wait stand in the queues of the harts and in the lists of what they sleep on, as numbers of slots. There are no locks and no
-//! contexts: a call is one step of the whole table. Only making the table takes memory.
+//! scans the slots, here the states and the parents stand apart from the machines, grouped by what is searched for; the
+//! numbers of Runnable slots stand in the queues of the harts, and those of sleepers in the lists of their channels.
+//! There are no locks and no contexts: a call is one step of the whole table. Only `Procs::new` takes memory.
 #![tactic(auto)]
 
 mod heads;

@@ -29,7 +29,7 @@ impl Model for Pid {
 }
 
 impl Pid {
-    /// The slot of this number, or `None` for a number past 63.
+    /// The slot of this number, counted from 0; `None` for a number past 63 (own).
     pub fn new(index: usize) -> Option<Self>
         ensures within { IsSome result ↔ (index < PROCS) }
         ensures value { IfSome result (λ pid. pid ≡ index) }
@@ -60,21 +60,21 @@ impl Pid {
         }
     }
 
-    /// The slot of init, 0.
+    /// The slot of init, 0 (own).
     pub fn init() -> Self
         ensures { result ≡ 0 }
     {
         Pid { index: 0 }
     }
 
-    /// The slot of the top shell, 1.
+    /// The slot of the top shell, 1 (own).
     pub fn shell() -> Self
         ensures { result ≡ 1 }
     {
         Pid { index: 1 }
     }
 
-    /// The number, from 0.
+    /// The number, from 0 (own).
     pub fn index(self) -> usize
         ensures value { result ≡ self }
         ensures within { result < PROCS }

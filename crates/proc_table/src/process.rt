@@ -19,7 +19,7 @@ use user_calls::{Machine, Reply};
 #[derive(Drop)]
 pub struct Process<M: Machine> {
     pub(crate) status: Status,
-    // Nobody's child is init alone.
+    // `None` for init alone.
     pub(crate) parent: Option<Pid>,
     pub(crate) machine: M,
     pub(crate) reply: Reply,

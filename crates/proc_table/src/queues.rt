@@ -49,8 +49,8 @@ impl Queues {
         }
     }
 
-    // The slot's process, which was that one before, is this one then. It goes to the end of another list, or stays
-    // where it stands.
+    // The slot's process changes from `was` to `head`: the slot moves to the end of another list, or stays where it
+    // stands.
     pub(crate) fn put(&mut self, slot: usize, was: &Option<Head>, head: &Option<Head>)
         requires within { slot < PROCS }
         requires on_hart { IsOnHart head.now }

@@ -5,7 +5,7 @@ ghost use Rattle.proc_table.specs.Slots.{same_channel, state_by};
 
 use crate::Pid;
 
-/// What a process sleeps on (xv6's `chan`). A pipe is named by a number that its maker gives it.
+/// What a process sleeps on (xv6's `chan`). A pipe is named by a number that the caller who makes it chooses.
 #[derive(Clone, Copy, Debug, PartialEq, Eq)]
 pub enum Channel {
     /// That a pipe has bytes, or no writer any more.
@@ -47,7 +47,7 @@ pub enum State {
     Zombie,
 }
 
-/// The state of a process, that is of a slot that isn't free.
+/// The state of a process, that is of a slot that isn't free (xv6's `enum procstate`).
 #[derive(Clone, Copy, Debug, PartialEq, Eq)]
 pub enum Status {
     /// It waits for a hart.

@@ -12,12 +12,12 @@ use user_calls::{Machine, Reply};
 /// How many harts there are at most (xv6's `NCPU`).
 pub const HARTS: u8 = 8;
 
-/// No slot is free.
+/// No slot is free (xv6's `allocproc` returns 0).
 #[derive(Clone, Copy, Debug, PartialEq, Eq, Error)]
 #[error("no free slot")]
 pub struct FullProcs;
 
-/// What a wait comes to.
+/// The result of a wait (`kwait`).
 #[derive(Clone, Copy, Debug, PartialEq, Eq)]
 pub enum Waited {
     /// The slot of this child, which was a zombie, is free now.
@@ -88,9 +88,9 @@ impl<M: Machine, A: Allocator> Procs<M, A> {
     }
 
     /// Puts a child of `parent` into the lowest free slot, Runnable with reply `Child`, with this machine and these
-    /// descriptors, and tells the slot (`fork`).
+    /// descriptors, and returns the slot (`kfork`).
     ///
-    /// `FullProcs` where no slot is free; nothing changes then, and what was handed in is dropped.
+    /// `FullProcs` where no slot is free; nothing changes then, and the machine and the descriptors are dropped.
     pub fn fork(&mut self, parent: Pid, child_machine: M, fds: Fds) -> Result<Pid, FullProcs>
         requires { IsSome (at self.old parent) }
         ensures slot { IfOk result (λ child. lowest_free self.old ≡ Some child) }
@@ -106,8 +106,8 @@ impl<M: Machine, A: Allocator> Procs<M, A> {
     }
 
     /// The running process `pid` exits: its children go to init, it becomes a zombie, and its parent is woken where it
-    /// sleeps for its children; init, too, where it got a zombie (`kexit`; that init isn't woken for each child that
-    /// it gets is own). Its descriptors stay as they are: its kernel has closed them.
+    /// sleeps for its children, and init where it got a zombie (`kexit`; that init isn't woken for each child that
+    /// it gets is own). Its descriptors don't change: the kernel closes them first.
     pub fn exit(&mut self, pid: Pid)
         requires runs { is_running (at self.old pid) ≡ true }
         requires not_init { pid ≢ 0 }
@@ -145,7 +145,7 @@ impl<M: Machine, A: Allocator> Procs<M, A> {
         }
     }
 
-    /// The state of a slot.
+    /// The state of a slot (`state`).
     pub fn state(&self, pid: Pid) -> State
         ensures { result ≡ state_of (at self.now pid) }
     {
@@ -155,36 +155,36 @@ impl<M: Machine, A: Allocator> Procs<M, A> {
         }
     }
 
-    /// Whether there is a process in the slot: what `fork`, `parent`, `machine`, `reply`, `fds`,
-    /// `fds_mut` and `put` ask.
+    /// Whether there is a process in the slot, as `fork`, `parent`, `machine`, `reply`, `fds`, `fds_mut` and `put`
+    /// require (own).
     pub fn is_used(&self, pid: Pid) -> bool
         ensures { IsTrue result ↔ IsSome (at self.now pid) }
     {
         self.slots[pid.index()].is_some()
     }
 
-    /// Whether the process in the slot is running, on whatever hart: what `exit`, `wait`, `ready` and `sleep` ask.
+    /// Whether the process in the slot runs on any hart, as `exit`, `wait`, `ready` and `sleep` require (own).
     pub fn is_running(&self, pid: Pid) -> bool
         ensures { result ≡ is_running (at self.now pid) }
     {
         is_running(&self.slots[pid.index()])
     }
 
-    /// Whether the process in the slot runs on this hart.
+    /// Whether the process in the slot runs on this hart (own).
     pub fn runs_on(&self, hart: u8, pid: Pid) -> bool
         ensures { result ≡ is_running_on hart (at self.now pid) }
     {
         is_running_on(&self.slots[pid.index()], hart)
     }
 
-    /// Whether the hart runs nothing: what `dispatch` asks.
+    /// Whether the hart runs nothing, as `dispatch` requires (own).
     pub fn is_idle(&self, hart: u8) -> bool
         ensures { IsTrue result ↔ All (λ slot. is_running_on hart slot ≡ false) self.now }
     {
         self.heads.is_idle(hart)
     }
 
-    /// The parent of a process. Init is its own, but not its own child.
+    /// The parent of a process (`parent`). For init this is init itself, which is not its own child (own).
     pub fn parent(&self, pid: Pid) -> Pid
         requires { IsSome (at self.now pid) }
         ensures { result ≡ parent_of (at self.now pid) }
@@ -195,7 +195,7 @@ impl<M: Machine, A: Allocator> Procs<M, A> {
         }
     }
 
-    /// The machine of a process: before the call that it makes, where it sleeps.
+    /// The machine of a process; where it sleeps, the one before the call in which it sleeps (own).
     pub fn machine(&self, pid: Pid) -> &M
         requires { IsSome (at self.now pid) }
         ensures { IfSome (at self.now pid) (λ process. M.view result.now ≡ process.machine) }
@@ -206,7 +206,7 @@ impl<M: Machine, A: Allocator> Procs<M, A> {
         }
     }
 
-    /// The reply that waits for a process.
+    /// The reply that a process takes when it runs next (own).
     pub fn reply(&self, pid: Pid) -> &Reply
         requires { IsSome (at self.now pid) }
         ensures { IfSome (at self.now pid) (λ process. result.now ≡ process.reply) }
@@ -217,7 +217,7 @@ impl<M: Machine, A: Allocator> Procs<M, A> {
         }
     }
 
-    /// The descriptors of a process.
+    /// The descriptors of a process (`ofile`).
     pub fn fds(&self, pid: Pid) -> &Fds
         requires { IsSome (at self.now pid) }
         ensures { IfSome (at self.now pid) (λ process. result.now ≡ process.fds) }
@@ -228,7 +228,7 @@ impl<M: Machine, A: Allocator> Procs<M, A> {
         }
     }
 
-    /// The descriptors of a process, to be changed: what they end as is what the process has.
+    /// The descriptors of a process, to be changed (`ofile`).
     pub fn fds_mut(&mut self, pid: Pid) -> &mut Fds
         requires { IsSome (at self.old pid) }
         ensures* lends { sem 𝓛 (Lends (procs_row M.row A.row M.State.row M.Machine A.Allocator) fds_row self.entry result (fds_set self.old pid)) }
@@ -237,8 +237,8 @@ impl<M: Machine, A: Allocator> Procs<M, A> {
         fds_of(&mut self.slots[pid.index()])
     }
 
-    /// How many bytes the write that a process makes has put so far, while it sleeps or until it is tried again; 0
-    /// for any other process.
+    /// How many bytes the write of a process has put so far, while it sleeps or until it is tried again; 0 for any other
+    /// process (`i` of `pipewrite`).
     pub fn put(&self, pid: Pid) -> usize
         requires { IsSome (at self.now pid) }
         ensures { result ≡ put_of (at self.now pid) }
@@ -265,7 +265,7 @@ impl<M: Machine, A: Allocator> Procs<M, A> {
         }
     }
 
-    /// The running process `pid` sleeps on the channel, and has put so many bytes so far (`sleep`).
+    /// The running process `pid` sleeps on the channel, and has put this many bytes so far (`sleep`).
     pub fn sleep(&mut self, pid: Pid, channel: Channel, put: usize)
         requires { is_running (at self.old pid) ≡ true }
         ensures { self.new ≡ slept self.old pid channel put }
@@ -278,7 +278,7 @@ impl<M: Machine, A: Allocator> Procs<M, A> {
         }
     }
 
-    /// All that sleep on the channel become Runnable; their number (`wakeup`; that it is told is own).
+    /// Makes all that sleep on the channel Runnable, and returns how many (`wakeup`; that it returns the number is own).
     pub fn wakeup(&mut self, channel: Channel) -> usize
         ensures woken { self.new ≡ all_woken channel self.old }
         ensures count { result ≡ count_by (is_asleep_on channel) self.old }
@@ -286,8 +286,8 @@ impl<M: Machine, A: Allocator> Procs<M, A> {
         self.wake_all(&channel)
     }
 
-    /// Some Runnable process becomes Running on the hart, which runs nothing; `None` where none is Runnable
-    /// (`scheduler`). Which one it is is left open.
+    /// Makes some Runnable process Running on the hart, which runs nothing, and returns it; `None` where none is
+    /// Runnable (`scheduler`). The contract leaves open which one.
     pub fn dispatch(&mut self, hart: u8) -> Option<Pid>
         requires within { hart < HARTS }
         requires idle { All (λ slot. is_running_on hart slot ≡ false) self.old }
@@ -304,8 +304,8 @@ impl<M: Machine, A: Allocator> Procs<M, A> {
         Some(pid)
     }
 
-    /// The process in slot `pid` becomes Running on the hart, which is told by `true`. Where there is no such hart, where
-    /// it runs something, or where `pid` isn't the number of a Runnable process's slot, nothing changes (own).
+    /// Makes the process in slot `pid` Running on the hart, and returns `true`; `false` where there is no such hart, where
+    /// it runs something, or where `pid` isn't the number of a Runnable process's slot, and then nothing changes (own).
     pub fn dispatch_pid(&mut self, hart: u8, pid: usize) -> bool
         ensures can { IsTrue result ↔ CanDispatch self.old hart pid }
         ensures after { OnTrue result (self.new ≡ dispatched self.old pid hart) }
@@ -318,7 +318,7 @@ impl<M: Machine, A: Allocator> Procs<M, A> {
         true
     }
 
-    /// The process that runs on the hart, if any: the lowest one (`myproc`).
+    /// The process that runs on the hart, the lowest if there are several; `None` where none runs there (`myproc`).
     pub fn running_on(&self, hart: u8) -> Option<Pid>
         ensures { result ≡ position (is_running_on hart) self.now }
     {
@@ -403,7 +403,7 @@ impl<M: Machine, A: Allocator> Procs<M, A> {
         }
     }
 
-    // Wakes all that sleep on the channel, and tells how many did.
+    // Wakes all that sleep on the channel, and returns how many did.
     fn wake_all(&mut self, channel: &Channel) -> usize
         ensures woken { self.new ≡ all_woken channel.now self.old }
         ensures count { result ≡ count_by (is_asleep_on channel.now) self.old }

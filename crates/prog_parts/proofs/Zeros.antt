@@ -1,4 +1,4 @@
--- A search for a byte 0 tells whether there is one.
+-- A search for a byte 0 finds whether there is one.
 use Rattle.std.proofs.Common.{◌≡◌, ℕ, ◌==◌, true, false, Bool, Option, Some, None, refl, sym, ◌∙◌, ap, arith}
 use Rattle.std.specs.Prelude.{slice_index}
 use Rattle.std.specs.List.{list_any}

@@ -31,7 +31,7 @@ abbrev pub head_files : List (List ℕ) → List (List ℕ)
 head_files [] = []
 head_files (argument ∷ later) = if is_count argument then later else (if is_option argument then [] else argument ∷ later)
 
--- `-` and digits ask for so many lines; without it they are ten
+-- how many lines: as many as the digits after `-` say, or ten without a count
 abbrev pub line_count : List Bytes → ℕ
 line_count [] = 10
 line_count (argument ∷ later) = if is_count argument then digits_value 10 (drop 1 argument) else 10

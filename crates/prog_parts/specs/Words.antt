@@ -14,12 +14,12 @@ abbrev pub files_written : Program → List (List ℕ) → List (List ℕ)
 files_written Tee arguments = arguments
 files_written program arguments = []
 
--- what a command says whose first word names this program, if it names one
+-- the value of a command whose first word names this program, if it names one
 abbrev pub by_program : {X : Type 0} → (Program → List (List ℕ) → X) → X → Option Program → List (List ℕ) → X
 by_program said otherwise None arguments = otherwise
 by_program said otherwise (Some program) arguments = said program arguments
 
--- what a simple command says by its program; without words it has none
+-- the value of a simple command by its program; a command without words has no program
 abbrev pub by_words : {X : Type 0} → (Program → List (List ℕ) → X) → X → List (List ℕ) → X
 by_words said otherwise [] = otherwise
 by_words said otherwise (word ∷ arguments) = by_program said otherwise (program_of word) arguments

@@ -4,7 +4,7 @@ ghost use Rattle.prog_parts.specs.Wc.{line_ends, words_after, ends_inside};
 
 use sh_lexer::is_white;
 
-/// What `wc` counts in some bytes.
+/// What `wc` counts in some bytes (`user/wc.c`).
 #[derive(Clone, Copy, Debug, PartialEq, Eq)]
 pub struct Counted {
     /// How many LFs there are.
@@ -18,7 +18,7 @@ pub struct Counted {
 // So few bytes that a byte holds each of their counts.
 const FEW: usize = 128;
 
-// The counts of few bytes, in bytes: so the compiler takes many bytes at a time.
+// The counts of few bytes, as numbers of 8 bits: so the compiler can count many bytes at a time.
 fn count_few(bytes: &[u8], is_inside: bool) -> (u8, u8, bool)
     requires { length bytes.now ≤ FEW }
     ensures lines { result.0 ≡ line_ends bytes.now }
@@ -40,7 +40,7 @@ fn count_few(bytes: &[u8], is_inside: bool) -> (u8, u8, bool)
 }
 
 /// How many LFs the bytes have, how many words begin in them, and whether they end inside a word;
-/// `is_inside` tells whether the byte before them is one of a word. White space is space, tab, LF,
+/// `is_inside` says whether the byte before them belongs to a word. White space is space, tab, LF,
 /// vertical tab and CR (`user/wc.c`'s `wc`).
 pub fn count(bytes: &[u8], is_inside: bool) -> Counted
     ensures lines { result.lines ≡ line_ends bytes.now }

@@ -55,9 +55,9 @@ fn number_of(bytes: &[u8]) -> u32
     number
 }
 
-/// How many lines of which files `head` is asked for by its arguments (without its own name): as many
-/// as a count `-N` of one to nine digits says, or 10 where there is none. None where the first argument
-/// begins with `-` and is no count (own).
+/// How many lines `head` writes of each input, and the words that name its files, by its arguments (without
+/// its own name): as many lines as a count `-N` of one to nine digits says, or 10 where there is none. `None`
+/// where the first argument begins with `-` and is no count (own).
 pub fn head_request<A: Allocator>(arguments: &[Bytes<A>]) -> Option<(u32, &[Bytes<A>])>
     ensures wrong { IsNone result ↔ (has_wrong_option arguments.now ≡ true) }
     ensures count { IfSome result (λ asked. asked.0 ≡ line_count arguments.now) }

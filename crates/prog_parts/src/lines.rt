@@ -24,7 +24,7 @@ pub fn is_whole(line: &[u8]) -> bool
     line.len() < BUFFER && !has_zero(line)
 }
 
-/// The first line that ends in LF, without it, and what follows the LF; none where there is no LF
+/// The first line that ends in LF, without it, and what follows the LF; `None` where there is no LF
 /// (the search of `user/grep.c` in its buffer).
 pub fn split_line(bytes: &[u8]) -> Option<(&[u8], &[u8])>
     ensures none { IfNone result (HasNoLf bytes.now) }

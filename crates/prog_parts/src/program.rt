@@ -1,6 +1,6 @@
 ghost use Rattle.std.specs.Prelude.{◌≡◌};
 
-/// One of the six programs that a command may run.
+/// One of the six programs that a command may run, with the xv6 file that it follows.
 #[derive(Clone, Copy, Debug, PartialEq, Eq)]
 pub enum Program {
     /// `user/cat.c`

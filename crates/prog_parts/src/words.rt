@@ -98,7 +98,7 @@ pub fn words_use_input<A: Allocator>(words: &[Bytes<A>]) -> bool
     }
 }
 
-/// Whether this name is one of these words.
+/// Whether this name is one of these words (own).
 pub fn is_among<A: Allocator>(words: &[Bytes<A>], name: &[u8]) -> bool
     ensures { result ≡ among words.now name.now }
 {

@@ -1,9 +1,14 @@
 -- The runs of a script.
-use Rattle.std.specs.Prelude.{◌≡◌, ℕ, Bool, List, Some}
+use Rattle.std.specs.Prelude.{◌≡◌, ℕ, Bool, false, List, Some, None}
 use Rattle.mem_files.specs.Name.{Name, Bytes}
+use Rattle.mem_files.specs.Files.{files}
 use Rattle.mem_files.specs.Listing.{AreFiles}
+use Rattle.conflict_check.specs.Clear.{has_back}
 use Rattle.script_load.specs.declared.profile.Profile.{Profile}
 use Rattle.script_load.specs.Line.{ScriptLine}
+use Rattle.meaning_model.specs.Meaning.{script_meaning, script_tree}
+use Rattle.meaning_model.specs.Settled.{IsSettledScript}
+use Rattle.meaning_model.specs.Value.{Value}
 use Rattle.sh_machine.specs.declared.state.Phase.TheVariants.{Starts}
 use Rattle.sh_machine.specs.State.{User, init, shell, top}
 use Rattle.sh_machine.specs.Turn.{call_of, next_of}
@@ -29,6 +34,22 @@ pub record ScriptRun : Type 0 where
   pub notes : List Bool
   pub last : KernelState User
   pub runs : run call_of next_of (Some (script_kernel profile lines input files)) schedule notes ≡ Some last
+
+-- the script has no `&`
+abbrev pub HasNoBack : ScriptRun → Type 0
+HasNoBack r = has_back (script_tree r.lines) ≡ false
+
+-- no call was refused because something was full
+abbrev pub IsRoomy : ScriptRun → Type 0
+IsRoomy r = r.last.full ≡ None
+
+-- the script is settled on the input and the files
+abbrev pub IsSettledRun : ScriptRun → Type 0
+IsSettledRun r = IsSettledScript r.profile r.lines r.input (files r.files)
+
+-- what the script means on them
+abbrev pub meaning_of : ScriptRun → Value
+meaning_of r = script_meaning r.profile r.lines r.input (files r.files)
 
 -- some run from this kernel spends so many turns
 abbrev pub IsSpentFrom : KernelState User → ℕ → Type 0

@@ -7,7 +7,7 @@ use Rattle.kernel_model.specs.declared.events.Event.{Event}
 use Rattle.kernel_model.specs.KernelState.{KernelState}
 use Rattle.kernel_model.specs.Events.{run, IsFinished}
 
--- of so many turns these events took theirs; the run isn't finished, nobody runs, and fewer than two turns are left, or nothing is Runnable
+-- these events took some of so many turns; the run isn't finished, no process runs, and fewer than two turns are left, or nothing is Runnable
 pub record IsSpent {S : Type 0} (turns : ℕ) (k : KernelState S) (events : List Event) : Type 0 where
   pub within : length events ≤ turns
   pub unfinished : IsFinished k → ⊥

@@ -4,7 +4,7 @@ ghost use Rattle.std.specs.Prelude.{◌≡◌, ℕ, All, List};
 ghost use Rattle.kernel_model.specs.declared.events.Event.{Event};
 ghost use Rattle.schedule_lines.specs.EventLines.{schedule_text, AreLinesOf, IsHeld, IsNoEventAt};
 
-/// What is written of a schedule is read as that schedule: its lines are those of its events and of no others, and none of
+/// The text of a schedule is read back as that schedule: its lines are those of its events and of no others, and none of
 /// them is no event.
 pub fn a_schedule_is_read_back()
     ensures lines { (events : List Event) → All IsHeld events → AreLinesOf (schedule_text events) events }

@@ -14,13 +14,13 @@ use std::alloc::{AllocError, Global};
 use std::str;
 use thiserror::Error;
 
-/// Why a text is no schedule.
+/// Why a text is no schedule (own).
 #[derive(Clone, Copy, Debug, PartialEq, Eq, Error)]
 pub enum ScheduleFault {
-    /// Fault 1: this line, counted from 1, is no event; those before it are.
+    /// Fault 1: this line, counted from 1, is the first that is no event.
     #[error("line {0} is no event")]
     NoEvent(usize),
-    /// Fault 2: no memory.
+    /// Fault 2: the allocator refused memory.
     #[error("no memory")]
     Memory,
 }
@@ -116,8 +116,10 @@ fn add_event(events: &mut Vec<Event>, event: Event) -> Result<(), AllocError>
 }
 
 /// The events of a text, which has a line for each: `D h pid` for a dispatch of the process to the hart, and `T h pid` for
-/// a trap of the process on the hart (own). The numbers are in decimal, a hart's at most 255, without zeros before them;
-/// one space stands before each, and nothing else on the line. The last line may lack its LF.
+/// a trap of the process on the hart (own). The numbers are in decimal without leading zeros, a hart's at most 255; one
+/// space stands before each, and nothing else on the line. The last line may lack its LF.
+///
+/// `NoEvent` names the first line that is no event, counted from 1; `Memory` where the allocator refused memory.
 pub fn read_schedule(alloc: Global, bytes: &[u8]) -> Result<Vec<Event>, ScheduleFault>
     ensures lines { IfOk result (λ events. AreLinesOf bytes.now events.items) }
     ensures held { IfOk result (λ events. All IsHeld events.items) }

@@ -34,7 +34,7 @@ fn add_event(alloc: Global, event: Event, text: &mut Vec<u8>) -> Result<(), Allo
 }
 
 /// The events in order, a line each: `D h pid` for a dispatch of the process to the hart, and `T h pid` for a trap of the
-/// process on the hart (own).
+/// process on the hart, both counted from 0 (own). `AllocError` where the allocator refused memory.
 pub fn schedule_text(alloc: Global, events: &[Event]) -> Result<Vec<u8>, AllocError>
     ensures text { IfOk result (λ text. text.items ≡ schedule_text events.now) }
     ensures held { OnOk result (All IsHeld events.now) }

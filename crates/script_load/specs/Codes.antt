@@ -1,4 +1,4 @@
--- A code for lines, which tells them apart: a ghost field that speaks of a script needs one.
+-- A code for lines, different for different lines: a ghost field that speaks of a script needs one.
 use Rattle.std.specs.Prelude.{◌≡◌, refl, ℕ, zero, suc, List}
 use Rattle.std.specs.Coded.{Coded, Coded-set, code_by, coded⊎, coded×, coded_list, coded_ℕ}
 use mathlib.Core.Logic.{◌⊎◌, inl, inr}

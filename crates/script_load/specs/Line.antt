@@ -1,4 +1,4 @@
--- What a line of a script says, whatever allocator it lies in.
+-- A line of a script as plain data, whatever allocator holds it.
 use Rattle.std.specs.Prelude.{ℕ, List, map}
 use Rattle.sh_tree.specs.declared.fault.ParseFault.{ParseFault}
 use Rattle.sh_tree.specs.Tree.{Tree, tree_of}

@@ -43,7 +43,7 @@ pub record IsFirstFaulty (bytes : List ℕ) (n : ℕ) (Reason : List ℕ → Typ
   pub number : n ≡ length before + 1
   pub reason : Reason line
 
--- the bytes are refused for this reason; want of memory is told only where every line is fine
+-- the bytes are refused for this reason; `Memory` is returned only where every line is fine
 abbrev pub HasLoadFault : List ℕ → LoadFault → Type 0
 HasLoadFault bytes (LineTooLong n) = IsFirstFaulty bytes n (λ line. 511 < length line)
 HasLoadFault bytes (ByteZero n) = IsFirstFaulty bytes n (λ line. (length line ≤ 511) × Contains line 0)

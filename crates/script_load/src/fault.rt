@@ -1,7 +1,7 @@
 use std::alloc::{AllocError, AllocFailed};
 use thiserror::Error;
 
-/// Why a script is refused, and in which of its lines, counted from 1.
+/// Why the bytes of a script are refused, and in which line, counted from 1 (own).
 #[derive(Clone, Copy, Debug, PartialEq, Eq, Error)]
 pub enum LoadFault {
     /// Fault 1: the line has more than 511 bytes before its LF.
@@ -37,8 +37,8 @@ impl<T: Drop> From<AllocFailed<T>> for LoadFault {
     }
 }
 
-/// A line of a script that was made by hand has a word, a redirection's name or a text of more than 511
-/// bytes, or a command of more than nine words.
+/// A line that a program made, and not `load`, has a word, a redirection's name or a text of more than 511
+/// bytes, or a command of more than nine words (own).
 #[derive(Clone, Copy, Debug, PartialEq, Eq, Error)]
 #[error("line {line} is too large")]
 pub struct LineTooLarge {

@@ -41,8 +41,8 @@ fn check(bytes: &[u8]) -> Result<(), LoadFault>
     Ok(())
 }
 
-// The line of a text. Its tree grows in an arena of its own, which is given up whole, and is copied out of it
-// in blocks of the right sizes.
+// The line of a text. Its tree grows in an arena of its own, and is copied out of it in blocks of the
+// right sizes; the arena is then freed whole.
 fn read_line<A: Allocator + Copy>(alloc: A, text: &[u8]) -> Result<Line<A>, AllocError>
     ensures { IfOk result (λ line. IsLineOf text.now (line_of line)) }
 {
@@ -92,12 +92,12 @@ pub fn load<A: Allocator + Copy>(alloc: A, bytes: &[u8]) -> Result<Script<A>, Lo
 /// The script of these bytes under a profile (`user/sh.c`'s `getcmd` and `main`; the limits are own).
 ///
 /// A line ends at LF; a last line without LF counts if it has a byte. A line that begins with `cd `
-/// is kept as such, a line that is no command with its fault, and any other as its tree: a line
-/// without bytes is a command without words.
+/// is a `Cd`, a line that is no command a `Bad` with its fault, and any other a `Tree`: a line without
+/// bytes is a command without words.
 ///
-/// The lowest line that has more than 511 bytes before its LF, or holds a byte 0, is told, counted
-/// from 1; one with both is too long. These faults are looked for before anything is allocated.
-/// `Memory` comes only where no line has one.
+/// `LineTooLong` and `ByteZero` name the first line that has more than 511 bytes before its LF, or holds a
+/// byte 0, counted from 1; a line with both is too long. These faults are looked for before anything is
+/// allocated. `Memory` is returned only where no line has one.
 pub fn load_with<A: Allocator + Copy>(
     alloc: A,
     bytes: &[u8],

@@ -11,7 +11,7 @@ use std::alloc::Allocator;
 /// The most bytes of a line's text (own).
 const MAX_TEXT: usize = 511;
 
-/// The lines of a script, and what `>>` means to it. Every word, redirection name and text in the lines
+/// A script: its lines, and what `>>` means in it (own). Every word, redirection name and text in the lines
 /// has at most 511 bytes, and no command has more than nine words.
 #[derive(Drop)]
 pub struct Script<A: Allocator> {
@@ -44,9 +44,10 @@ fn first_large<A: Allocator>(lines: &[Line<A>]) -> Option<usize>
 }
 
 impl<A: Allocator> Script<A> {
-    /// The script of lines that were made by hand, under this profile (own). It is refused, and the lines dropped, where a
-    /// word, a redirection's name or a text has more than 511 bytes, or a command more than nine words:
-    /// the first such line is told, counted from 1.
+    /// The script of these lines under this profile, for lines that a program made (own).
+    ///
+    /// `LineTooLarge` where a word, a redirection's name or a text has more than 511 bytes, or a command more
+    /// than nine words: it names the first such line, counted from 1, and the lines are dropped.
     pub fn from_lines(lines: Lines<A>, profile: Profile) -> Result<Script<A>, LineTooLarge>
         ensures script { IfOk result (λ script. lines_of script.lines ≡ lines_of lines) }
         ensures profile { IfOk result (λ script. script.profile ≡ profile) }

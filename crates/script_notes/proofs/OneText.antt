@@ -1,4 +1,4 @@
--- One text is told of a script: a line is cut, read, parsed and checked in one way.
+-- A script has one text of notes: a line is cut, read, parsed and checked in one way.
 use Rattle.std.proofs.Common.{◌≡◌, ℕ, ◌+◌, List, [], ◌∷◌, ◌++◌, refl, sym, ◌∙◌, ap, ap₂, subst, arith, inl, inr}
 use Rattle.std.specs.Prelude.{All}
 use Rattle.std.proofs.lemmas.List.Elements.{All-push}

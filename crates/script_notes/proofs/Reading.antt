@@ -12,7 +12,7 @@ use Rattle.script_load.specs.Script.{IsFine, IsLineOf, IsScript}
 use Rattle.script_notes.specs.Notes.{Note, notes_text}
 use Rattle.script_notes.specs.Explained.{HasNotes, AreTold, IsExplained}
 
--- these lines are left, which have the numbers from this one on and begin with the rest; whatever is told of them completes the text
+-- these lines are left, which have the numbers from this one on and begin with the rest; whatever their notes are, these complete the text
 pub record IsToldTo (bytes rest : Bytes) (lines : List ScriptLine) (number : ℕ) (told : Bytes) : Type 0 where
   pub texts : List Bytes
   pub cut : AreLines bytes texts

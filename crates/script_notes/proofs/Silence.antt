@@ -1,4 +1,4 @@
--- What is told is empty exactly where no line has a note, since a note has a text.
+-- The text is empty exactly where no line has a note, since the text of a note is not empty.
 use Rattle.std.proofs.Common.{◌≡◌, ℕ, ◌+◌, List, [], ◌∷◌, ◌++◌, refl, sym, ◌∙◌, subst}
 use Rattle.std.specs.Prelude.{◌↔◌}
 use Rattle.mem_files.specs.Name.{Bytes}

@@ -1,4 +1,4 @@
--- Notes of a command's tokens, each by the tokens before it in its segment. Of several redirections of one command the last in the text is outermost and so comes first, and what it opened gives way to the next (`user/sh.c`'s `parseredirs` and `runcmd`).
+-- Notes of a command's tokens, each by the tokens before it in its segment. Of several redirections of one command the last in the text is outermost and so comes first, and the next replaces what it opened (`user/sh.c`'s `parseredirs` and `runcmd`).
 use Rattle.std.specs.Prelude.{Bool, true, false, not, ◌&&◌, is_none, List, [], ◌∷◌, ◌++◌}
 use Rattle.sh_lexer.specs.declared.token.Kind.{Kind}
 use Rattle.sh_lexer.specs.declared.token.Kind.TheVariants.{Word, Less, More, MoreMore, Bar, Amp, Semi, LeftParen, RightParen}

@@ -1,4 +1,4 @@
--- What is told of a script.
+-- The notes of a script, as text.
 use Rattle.std.specs.Prelude.{◌≡◌, ℕ, ◌+◌, List, [], ◌∷◌, ◌++◌, All}
 use Rattle.sh_lexer.specs.declared.token.Token.{Token}
 use Rattle.sh_lexer.specs.Tokens.{IsTokenList}
@@ -24,14 +24,14 @@ HasNotes number text (cd folder) notes = notes ≡ byte_notes number text ++ cd_
 abbrev pub AreNotes : ℕ → Bytes → List Note → Type 0
 AreNotes number text notes = (line : ScriptLine) × IsLineOf text line × HasNotes number text line notes
 
--- what is told of texts that are numbered from this number on
+-- the notes of lines with these texts, which are numbered from this number on
 abbrev pub AreTold : ℕ → List Bytes → Bytes → Type 0
 AreTold number [] told = told ≡ []
 AreTold number (text ∷ texts) told =
     (notes : List Note) × (later : Bytes) × AreNotes number text notes × AreTold (number + 1) texts later
     × (told ≡ notes_text number text notes ++ later)
 
--- what is told of a script whose lines are fine
+-- the notes of a script whose lines are fine
 pub record IsExplained (bytes text : Bytes) : Type 0 where
   pub texts : List Bytes
   pub cut : AreLines bytes texts

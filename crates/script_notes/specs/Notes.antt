@@ -7,7 +7,7 @@ use Rattle.script_notes.specs.declared.marks.Span.{Span}
 use Rattle.script_notes.specs.Marks.{shown, marks}
 use Rattle.script_notes.specs.Sentences.{sentence}
 
--- what a note tells, and of which places of the line
+-- a note: what it says, and of which places of the line
 pub record Note : Type 0 where
   pub kind : NoteKind
   pub spans : List Span

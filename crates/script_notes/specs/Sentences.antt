@@ -1,4 +1,4 @@
--- What a note tells, as a sentence: once for each kind (own).
+-- The sentence of a note, one for each kind (own).
 use Rattle.std.specs.Prelude.{codes}
 use Rattle.mem_files.specs.Name.{Bytes}
 use Rattle.script_notes.specs.declared.kind.NoteKind.{NoteKind}

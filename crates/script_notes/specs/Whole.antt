@@ -21,7 +21,7 @@ use Rattle.script_notes.specs.Segments.{is_word}
 abbrev pub cd_note : Note
 cd_note = note_of NoDirectories 0 2
 
--- of the place of a fault; want of memory, which no loaded line has, has none
+-- of the place of a fault; `Memory`, which no loaded line has, has none
 abbrev pub fault_notes : ParseFault → List Note
 fault_notes (MissingFile at) = note_of MissingName at at ∷ []
 fault_notes (MissingParen at) = note_of OpenParen at at ∷ []

@@ -17,7 +17,7 @@ use sh_lexer::{Kind, Token};
 use sh_tree::Cmd;
 use std::alloc::{AllocError, Global};
 
-/// What the tokens before a token say of it, those of its segment.
+/// What the tokens before a token in its segment say of it.
 #[derive(Clone, Copy)]
 pub struct Seen {
     /// A word here is a file's name.

@@ -56,14 +56,14 @@ fn explain_line(
     }
 }
 
-/// Tells a student, line by line and in sentences, what the lines of a script are not (own): a `#` that
-/// begins no comment, a quote that is none, a byte order mark, a carriage return, a line that is no command,
-/// a command that runs no program, a name that no file can have, a `cd`, a `&`, a `>>`, a redirection that gives way to another, and
-/// the first clash of a line. Nothing is run.
+/// The notes of a script, as text for a student (own): on a `#` that begins no comment, a quote that is none, a
+/// byte order mark, a carriage return, a line that is no command, a command that runs no program, a name that no
+/// file can have, a `cd`, a `&`, a `>>`, a redirection that another replaces, and the first clash of a line.
+/// Nothing is run.
 ///
-/// Each note is three lines: `line N: SENTENCE`, the line without its carriage returns behind two spaces, and marks `^` under the places
-/// that it speaks of, behind two spaces too, with a tab under a tab. Lines are counted from 1. Where there is nothing
-/// to tell the text is empty. The faults are those of `load`.
+/// Each note is three lines: `line N: SENTENCE`, the line without its carriage returns behind two spaces, and
+/// marks `^` under the places that it speaks of, behind two spaces too, with a tab under a tab. Lines are counted
+/// from 1. The text is empty where no line has a note. The errors are those of `load`.
 pub fn explain(alloc: Global, bytes: &[u8]) -> Result<Vec<u8>, LoadFault>
     ensures told { IfOk result (λ told. IsExplained bytes.now told.items) }
     ensures fault { IfErr result (HasLoadFault bytes.now) }

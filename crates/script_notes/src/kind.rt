@@ -1,6 +1,6 @@
 ghost use Rattle.std.specs.Prelude.{◌≡◌};
 
-/// What a note tells of the places that it marks. Own, as all that is told here.
+/// What a note says of the places that it marks (own).
 #[derive(Clone, Copy, Debug, PartialEq, Eq)]
 pub enum NoteKind {
     /// The script begins with a byte order mark.
@@ -19,7 +19,7 @@ pub enum NoteKind {
     Background,
     /// A `>>`.
     WritesOver,
-    /// A `<` after another one of its command.
+    /// A `<` after another `<` of its command.
     InputUnread,
     /// A `>` after a `>` or `>>` of its command.
     OutputEmptied,
@@ -46,7 +46,7 @@ pub enum NoteKind {
 impl NoteKind {
     ghost use Rattle.script_notes.specs.Sentences.{sentence};
 
-    /// The sentence of a note of this kind.
+    /// The sentence of a note of this kind, without the line number (own).
     pub fn sentence(self) -> &'static [u8]
         ensures { result.now ≡ sentence self }
     {

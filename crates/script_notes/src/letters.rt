@@ -10,7 +10,7 @@ use crate::marks::{Span, add_note};
 use sh_lexer::Token;
 use std::alloc::{AllocError, Global};
 
-/// Adds a note of this place where something holds.
+/// Adds a note of this kind and place where the condition holds.
 pub fn add_where(
     alloc: Global,
     number: usize,

@@ -1,4 +1,5 @@
-//! Tells a student, line by line and in sentences, what a script's lines are not.
+//! Explains a script to a student, line by line and in sentences: what looks like shell there, and is not in
+//! xv6's shell.
 #![tactic(auto)]
 
 mod commands;

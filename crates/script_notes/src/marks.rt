@@ -6,7 +6,7 @@ ghost use Rattle.script_notes.specs.Notes.{head_text, note_text};
 use crate::kind::NoteKind;
 use std::alloc::{AllocError, Global};
 
-/// The bytes of a line from `first` up to, and without, `past`, counted from 0.
+/// The bytes of a line from `first` up to and without `past`, counted from 0 (own).
 #[derive(Clone, Copy, Debug, PartialEq, Eq)]
 pub struct Span {
     pub first: usize,

@@ -28,7 +28,7 @@ pub fn add_cd_note(
     add_note(alloc, number, text, NoteKind::NoDirectories, &[span], told)
 }
 
-// What is told of a fault, and where.
+// The kind of the note of a fault, and its place.
 fn fault_note(fault: ParseFault) -> Option<(NoteKind, usize)>
     ensures { MatchOption result (fault_notes fault ≡ []) (λ told. (fault_notes fault ≡ note_of told.0 told.1 told.1 ∷ []) × (told.1 ≡ place_told fault)) }
 {

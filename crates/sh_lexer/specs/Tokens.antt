@@ -12,7 +12,7 @@ is_white b = b == 32 || b == 9 || b == 10 || b == 11 || b == 13
 abbrev pub is_sign : ℕ → Bool
 is_sign b = b == 60 || b == 124 || b == 62 || b == 38 || b == 59 || b == 40 || b == 41
 
--- every other byte is of a word
+-- every other byte belongs to a word
 abbrev pub is_word_byte : ℕ → Bool
 is_word_byte b = not (is_white b || is_sign b)
 
@@ -28,7 +28,7 @@ AllWord line first past = (i : ℕ) → first ≤ i → i < past → is_word_byt
 abbrev pub IsSign : ℕ → List ℕ → ℕ → ℕ → Type 0
 IsSign b line first past = (past ≡ first + 1) × (slice_index line first ≡ b)
 
--- they are a text of this kind, which does not go on: no byte of a word follows a word, and no > a lone >
+-- they are a token of this kind, as long as it can be: no byte of a word follows a word, and no > follows a lone >
 abbrev pub IsTextOf : Kind → List ℕ → ℕ → ℕ → Type 0
 IsTextOf Word line first past =
     AllWord line first past × (past < length line → is_word_byte (slice_index line past) ≡ false)

@@ -3,7 +3,7 @@ ghost use Rattle.std.specs.Prelude.{◌≡◌, IfOk};
 use std::alloc::{AllocError, Allocator};
 use std::marker::Model;
 
-/// A byte string over any allocator, which contracts see as the list of its bytes.
+/// A byte string over any allocator, which contracts see as the list of its bytes (own).
 #[derive(Drop)]
 pub struct Bytes<A: Allocator> {
     items: Vec<u8, A>,
@@ -18,14 +18,14 @@ impl<A: Allocator> Model for Bytes<A> {
 }
 
 impl<A: Allocator> Bytes<A> {
-    /// The bytes of a `Vec`, which is moved and not copied.
+    /// The bytes of a `Vec`, which is moved and not copied. Takes no memory (own).
     pub fn from_vec(items: Vec<u8, A>) -> Self
         ensures { result ≡ items.items }
     {
         Bytes { items }
     }
 
-    /// A copy of a slice. The only error is want of memory.
+    /// A copy of a slice. `AllocError` where the allocator refuses memory for it (own).
     pub fn copy_of(alloc: A, bytes: &[u8]) -> Result<Self, AllocError>
         ensures { IfOk result (λ copy. copy ≡ bytes.now) }
     {
@@ -34,7 +34,7 @@ impl<A: Allocator> Bytes<A> {
         })
     }
 
-    /// The bytes, lent.
+    /// The bytes, borrowed (own).
     pub fn as_slice(&self) -> &[u8]
         ensures { result.now ≡ self.now }
     {

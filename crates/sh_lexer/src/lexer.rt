@@ -10,7 +10,7 @@ use std::alloc::{AllocError, Allocator};
 pub fn is_white(byte: u8) -> bool
     ensures { result ≡ is_white byte }
 {
-    // All five compared, with no branch: in text, white space comes too unevenly to be foreseen.
+    // All five are compared, with no branch: white space in text is too irregular for branch prediction.
     (byte == b' ') | (byte == b'\t') | (byte == b'\n') | (byte == 11) | (byte == b'\r')
 }
 
@@ -58,9 +58,9 @@ fn token_at(line: &[u8], first: usize) -> Token
 
 /// The token list of a line (`user/sh.c`'s `gettoken`, called until the line's end).
 ///
-/// Every line has exactly one, so nothing is refused: the only error is want of memory.
+/// Every line has exactly one, so nothing is refused. `AllocError` where the allocator refuses memory.
 /// White space is space, tab, LF, vertical tab and CR. The signs are `<`, `|`, `>`, `&`, `;`, `(`
-/// and `)`; `>>` is one token, taken from the left. All other bytes, byte 0 and those above 127
+/// and `)`; `>>` is one token, from the left. All other bytes, byte 0 and those above 127
 /// among them, make words. Places are bytes of the line, counted from 0.
 pub fn tokens<A: Allocator>(alloc: A, line: &[u8]) -> Result<Vec<Token, A>, AllocError>
     ensures { IfOk result (λ all. IsTokenList line.now all.items) }

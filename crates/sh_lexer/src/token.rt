@@ -1,4 +1,4 @@
-/// What a token is. A sign's text is given beside it.
+/// The kind of a token: a word, or a sign with this text (`user/sh.c`'s `gettoken`).
 #[derive(Clone, Copy, Debug, PartialEq, Eq)]
 pub enum Kind {
     /// A longest run of bytes that are neither white space nor signs.
@@ -21,7 +21,7 @@ pub enum Kind {
     RightParen,
 }
 
-/// A token of a line: the bytes from `first` up to, and without, `past`, counted from 0.
+/// A token of a line: its kind, and its bytes, from `first` up to and without `past`, counted from 0.
 #[derive(Clone, Copy, Debug, PartialEq, Eq)]
 pub struct Token {
     pub kind: Kind,

@@ -95,7 +95,7 @@ same_place h = cc
 none_not_some : {p : Place} → None ≡ Some p → ⊥
 none_not_some h = cc
 
--- what is accepted from one place is accepted from the place that the automaton comes to
+-- what is accepted from one place is accepted from the place that the automaton reaches
 moves : {d e : ℕ} {s u : State} {ts us : List Lexeme} → run d s ts ≡ run e u us → IsAccepted d s ts → IsAccepted e u us
 moves same a = record { last = a.last; taken = sym same ∙ a.taken; ends = a.ends }
 

@@ -1,4 +1,4 @@
--- Why the automaton refuses: the kind that its place tells is the first that fits.
+-- Why the automaton refuses: the kind that it returns at its place is the first that fits.
 use Rattle.std.proofs.Common.{◌≡◌, ◌≢◌, ℕ, zero, suc, ◌+◌, ◌<◌, List, [], ◌∷◌, ◌++◌, length, Bool, true, false, Option, Some, None, option_and_then, ◌⊎◌, inl, inr, ⊎_elim, refl, sym, ◌∙◌, ap, subst, arith, count_by, slice_range, append_assoc, ◌≤◌, get_or, take, drop, drop-cons, take-append-drop}
 use Rattle.std.proofs.lemmas.List.{append-nil, take_more, length-map}
 use Rattle.std.proofs.lemmas.List.Sums.{count_by-le-length}
@@ -131,7 +131,7 @@ in_simple before d (suc n) text (Some Amp) at taken = by_depth before d _ _ at t
 in_simple before d (suc n) text (Some Semi) at taken = by_depth before d _ _ at taken refl (λ w h. no_word w) (λ h m e. cc)
 in_simple before d (suc n) text (Some RightParen) at taken = by_depth before d _ _ at taken refl (λ w h. no_word w) (λ h m e. cc)
 
--- the kind that a place tells fits
+-- the kind that is returned at a place fits
 pub fits : (before : List Lexeme) (d : ℕ) (s : State) (text : List ℕ) (next : Option Kind) (at : ℕ) → run 0 Begin before ≡ at_place d s → Fits (refusal d s next at) before (lexeme_if text next)
 fits before d Begin text next at taken = by_depth before d Begin (lexeme_if text next) at taken refl (λ w h. cc) (λ w m h. cc)
 fits before d (Simple n) text next at taken = in_simple before d n text next at taken
@@ -140,7 +140,7 @@ fits before d Closed text next at taken = by_depth before d Closed (lexeme_if te
 fits before d ClosedTarget text next at taken = (stands_at before _ taken).sign
 fits before d Backed text next at taken = by_depth before d Backed (lexeme_if text next) at taken refl (λ w h. cc) (λ w m h. cc)
 
--- the place is told, and want of memory is not the kind
+-- the place is returned, and `Memory` is not the kind
 abbrev Told : ParseFault → ℕ → Type 0
 Told fault at = (place_told fault ≡ at) × (fault ≢ Memory)
 

@@ -1,4 +1,4 @@
--- A code for trees, which tells them apart: a ghost field that speaks of a tree needs one.
+-- A code for trees, different for different trees: a ghost field that speaks of a tree needs one.
 use Rattle.std.specs.Prelude.{◌≡◌, refl, ℕ, zero, suc}
 use Rattle.std.specs.Coded.{Coded, coded_list, coded_ℕ}
 use mathlib.Core.Path.{ap, subst}

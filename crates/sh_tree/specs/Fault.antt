@@ -114,7 +114,7 @@ pub record StopsAt (line : List ℕ) (ts : List Token) (fault : ParseFault) : Ty
   pub refused : IsRefused (lexemes line before) (first_of (lexemes line rest))
   pub reason : Fits fault (lexemes line before) (first_of (lexemes line rest))
 
--- the line has this fault; want of memory says nothing of it
+-- the line has this fault; `Memory` says nothing of the line
 abbrev pub HasFault : List ℕ → ParseFault → Type 0
 HasFault line Memory = Unit {0}
 HasFault line fault = (ts : List Token) × IsTokenList line ts × StopsAt line ts fault

@@ -9,14 +9,14 @@ ghost use Rattle.sh_tree.specs.Lexeme.{lexeme_by, lexemes};
 use crate::fault::ParseFault;
 use sh_lexer::{Kind, Token};
 
-/// What the automaton has read last.
+/// What the automaton has read last (own).
 #[derive(Clone, Copy, Debug, PartialEq, Eq)]
 pub enum State {
     /// A command may begin.
     Begin,
-    /// In a simple command, which may have so many more words.
+    /// In a simple command, which may have this many more words.
     Simple(u8),
-    /// After the sign of a redirection in it.
+    /// After the sign of a redirection of a simple command, which may have this many more words.
     Target(u8),
     /// After a block and redirections of it.
     Closed,
@@ -26,7 +26,7 @@ pub enum State {
     Backed,
 }
 
-/// How many parentheses are open, and what was read last.
+/// How many parentheses are open, and what was read last (own).
 #[derive(Clone, Copy, Debug, PartialEq, Eq)]
 pub struct Place {
     pub depth: usize,
@@ -108,7 +108,8 @@ fn refusal(from: Place, next: Option<Kind>, at: usize) -> ParseFault
     }
 }
 
-/// Whether the tokens are a line of the grammar, or where and why they stop being one.
+/// `Ok` where the tokens of the line are a line of the grammar, else where and why they stop being one (own;
+/// the reasons are those of `user/sh.c`).
 pub fn check(line: &[u8], tokens: &[Token]) -> Result<(), ParseFault>
     ensures accepted { OnOk result (IsAccepted 0 State.Begin (lexemes line.now tokens.now)) }
     ensures fault { IfErr result (StopsAt line.now tokens.now) }

@@ -25,7 +25,7 @@ pub enum ParseFault {
     /// Anything else that no line goes on with (`parsecmd`).
     #[error("leftovers")]
     Leftover(usize),
-    /// The allocator refused.
+    /// The allocator refused memory.
     #[error("no memory")]
     Memory,
 }

@@ -41,7 +41,7 @@ pub fn is_short<A: Allocator>(tree: &Cmd<A>) -> bool
     }
 }
 
-/// Whether every simple command of a tree has at most nine words, as those that `parse` gives do
+/// Whether every simple command of a tree has at most nine words, as those that `parse` returns do
 /// (`user/sh.c`'s `parseexec`).
 ///
 /// Takes no memory. It recurses as deep as the tree is high.

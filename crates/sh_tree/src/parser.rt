@@ -1,5 +1,5 @@
 //! The recursive descent over the tokens of a line that the automaton has accepted. So the only
-//! error of its functions is want of memory.
+//! error of its functions is that memory is refused.
 ghost use Rattle.std.specs.Prelude.{◌≡◌, ℕ, List, IfOk, IfErr, MatchOption};
 ghost use Rattle.sh_tree.specs.Fault.{HasFault, HasTree};
 ghost use Rattle.sh_tree.specs.Grammar.{IsLine, IsPipe, IsExec};
@@ -21,7 +21,7 @@ fn after_kind(tokens: &[Token], kind: Kind) -> Option<&[Token]>
     if first.kind == kind { Some(rest) } else { None }
 }
 
-// A pipe in the `&` after it, and the tokens after those.
+// A pipe with each `&` after it, and the tokens after those.
 fn parse_backs<'t, A: Allocator + Copy>(
     alloc: A,
     pipe: Cmd<A>,
@@ -130,8 +130,8 @@ fn parse_simple<'t, A: Allocator + Copy>(
 /// The tree of a line (`user/sh.c`'s `parsecmd`), or why it has none.
 ///
 /// Every line has exactly one tree or exactly one fault other than `Memory`, whatever its bytes:
-/// `ParseFault` says which fault it is and where. `Memory` comes only where the allocator
-/// refused, and may then stand in place of either.
+/// `ParseFault` says which fault it is and where. `Memory` is returned only where the allocator
+/// refuses memory, and then in place of either.
 ///
 /// A fault is found with no recursion, so a faulty line may be of any length and depth. To make a
 /// tree, `parse` recurses as deep as parentheses nest and as many `;` and `|` follow one another,

@@ -11,7 +11,7 @@ use crate::words::Words;
 use sh_lexer::{Bytes, Kind, Token};
 use std::alloc::{AllocError, Allocator};
 
-/// A word, or a redirection with its name.
+/// A part of a simple command: a word, or a redirection with its name.
 #[derive(Clone, Copy)]
 pub enum Part<'l> {
     Word(&'l [u8]),

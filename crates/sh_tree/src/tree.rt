@@ -5,14 +5,14 @@ use crate::words::Words;
 use sh_lexer::Bytes;
 use std::alloc::{AllocError, Allocator};
 
-/// How a redirection opens its file.
+/// How a redirection opens its file (`user/sh.c`'s `parseredirs`).
 #[derive(Clone, Copy, Debug, PartialEq, Eq)]
 pub enum Mode {
     /// `<`: the file is read.
     Input,
-    /// `>`: the file is written, and emptied first.
+    /// `>`: the file is emptied, and then written.
     Fresh,
-    /// `>>`: the file is written from its beginning, and keeps the bytes that are not reached.
+    /// `>>`: the file is written from its beginning, and keeps the bytes past the written ones.
     Over,
 }
 
@@ -36,7 +36,7 @@ pub enum Cmd<A: Allocator> {
     Back(Box<Cmd<A>, A>),
 }
 
-/// Whether two commands are equal, whatever allocators they lie in. Own.
+/// Whether two commands are equal, whatever allocators hold them (own).
 ///
 /// Takes no memory. It recurses as deep as the lesser tree is high.
 pub fn same<A: Allocator, B: Allocator>(left: &Cmd<A>, right: &Cmd<B>) -> bool
@@ -67,9 +67,9 @@ pub fn same<A: Allocator, B: Allocator>(left: &Cmd<A>, right: &Cmd<B>) -> bool
     }
 }
 
-/// An equal command over another allocator, as out of an arena. Own.
+/// An equal command whose memory is of another allocator, as one out of an arena (own).
 ///
-/// The only error is want of memory, and what had been copied is then dropped. It recurses as
+/// `AllocError` where that allocator refuses memory; what was copied is then dropped. It recurses as
 /// deep as the tree is high.
 pub fn copy_in<A: Allocator + Copy, B: Allocator>(
     tree: &Cmd<B>,

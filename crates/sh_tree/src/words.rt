@@ -4,7 +4,7 @@ use sh_lexer::Bytes;
 use std::alloc::{AllocError, Allocator};
 use std::marker::Model;
 
-/// A list of words over any allocator, which contracts see as the list of their bytes.
+/// A list of words over any allocator, which contracts see as the list of their bytes (own).
 #[derive(Drop)]
 pub struct Words<A: Allocator> {
     items: Vec<Bytes<A>, A>,
@@ -19,14 +19,14 @@ impl<A: Allocator> Model for Words<A> {
 }
 
 impl<A: Allocator> Words<A> {
-    /// The words of a `Vec`, which is moved and not copied. Own.
+    /// The words of a `Vec`, which is moved and not copied. Takes no memory (own).
     pub fn from_vec(items: Vec<Bytes<A>, A>) -> Self
         ensures { result ≡ items.items }
     {
         Words { items }
     }
 
-    /// The words, lent. Own.
+    /// The words, borrowed (own).
     pub fn as_slice(&self) -> &[Bytes<A>]
         ensures { result.now ≡ self.now }
     {

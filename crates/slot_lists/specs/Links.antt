@@ -2,7 +2,7 @@
 use Rattle.std.specs.Prelude.{◌≡◌, ℕ, zero, suc, ◌+◌, ◌<◌, ◌==◌, Bool, List, [], ◌∷◌, length, nat_lt, slice_index, slice_index_or, if◌then◌else◌}
 use Rattle.std.specs.List.{list_any}
 
--- the slots that a walk from node i passes before it comes to an end, at most n
+-- the slots that a walk from node i passes before it reaches an end, at most n
 unfoldable pub walk : ℕ → List ℕ → ℕ → List ℕ
 walk zero next i = []
 walk (suc n) next i = if nat_lt i 64 then i ∷ walk n next (slice_index next i) else []
@@ -12,7 +12,7 @@ unfoldable pub end_of : ℕ → List ℕ → ℕ → ℕ
 end_of zero next i = i
 end_of (suc n) next i = if nat_lt i 64 then end_of n next (slice_index next i) else i
 
--- a walk from node i passes exactly these slots and comes to e
+-- a walk from node i passes exactly these slots and then reaches e
 abbrev pub Path : List ℕ → ℕ → List ℕ → ℕ → Type 0
 Path next i [] e = i ≡ e
 Path next i (x ∷ xs) e = (i ≡ x) × (x < 64) × Path next (slice_index next x) xs e

@@ -23,7 +23,7 @@ pub record AreGrouped (groups : ℕ) (keys : List (Option ℕ)) (sets : List ℕ
   pub all : length keys ≡ 64
   pub theirs : (group : ℕ) → group < groups → HasFlags (slice_index sets group) (map (is_key group) keys)
 
--- the slot was put into the set of this key, or taken out of it, and the other sets are as they were
+-- the slot was put into the set of this key, or taken out of it, and the other sets are unchanged
 unfoldable pub IsMarked : ℕ → Option ℕ → ℕ → Bool → List ℕ → List ℕ → Type 0
 IsMarked groups key slot is_in old new =
     (group : ℕ) (flags : List Bool) → group < groups → HasFlags (slice_index old group) flags → HasFlags (slice_index new group) (if is_key group key then slice_set flags slot is_in else flags)

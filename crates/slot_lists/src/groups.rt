@@ -1,7 +1,8 @@
 use crate::{SLOTS, SlotSet};
 use std::marker::Model;
 
-/// The slots by a key of each, which is the number of a group, or none. Contracts see the set of each group.
+/// The slots in groups: each slot has a key, the number of its group, or none (own). Contracts see the set of each
+/// group.
 #[derive(Drop)]
 pub struct SlotGroups<const GROUPS: usize> {
     sets: [SlotSet; GROUPS],
@@ -21,7 +22,7 @@ impl<const GROUPS: usize> SlotGroups<GROUPS> {
     ghost use Rattle.std.specs.Prelude.{◌≡◌, ℕ, ◌<◌, ◌≤◌, List, Option, None, Some, IfSome, count_by, map, position, replicate, slice_index_or, slice_set};
     ghost use Rattle.slot_lists.specs.Sets.{AreGrouped, HasFlags, IsMarked, is_key};
 
-    /// No slot has a key.
+    /// Groups in which no slot has a key (own).
     pub fn new() -> Self
         ensures { AreGrouped GROUPS (replicate SLOTS None) result }
     {
@@ -30,7 +31,7 @@ impl<const GROUPS: usize> SlotGroups<GROUPS> {
         }
     }
 
-    /// All slots have this key.
+    /// Groups in which all slots have this key (own).
     pub fn filled(group: usize) -> Self
         requires { group < GROUPS }
         ensures { AreGrouped GROUPS (replicate SLOTS (Some group)) result }
@@ -40,7 +41,7 @@ impl<const GROUPS: usize> SlotGroups<GROUPS> {
         SlotGroups { sets }
     }
 
-    /// The slot, which had the key `from`, has the key `to` then.
+    /// Gives the slot, which has the key `from`, the key `to` (own).
     pub fn put(&mut self, slot: usize, from: Option<usize>, to: Option<usize>)
         requires { slot < SLOTS }
         ensures { (keys : List (Option ℕ)) → AreGrouped GROUPS keys self.old → slice_index_or keys slot None ≡ from → AreGrouped GROUPS (slice_set keys slot to) self.new }
@@ -49,7 +50,7 @@ impl<const GROUPS: usize> SlotGroups<GROUPS> {
         self.mark(slot, to, true);
     }
 
-    /// The lowest slot with this key.
+    /// The lowest slot with this key; `None` where none has it (own).
     pub fn first(&self, group: usize) -> Option<usize>
         requires { group < GROUPS }
         ensures value { (keys : List (Option ℕ)) → AreGrouped GROUPS keys self.now → result ≡ position (is_key group) keys }
@@ -58,7 +59,7 @@ impl<const GROUPS: usize> SlotGroups<GROUPS> {
         self.sets[group].first()
     }
 
-    /// How many slots have this key.
+    /// How many slots have this key (own).
     pub fn count(&self, group: usize) -> usize
         requires { group < GROUPS }
         ensures value { (keys : List (Option ℕ)) → AreGrouped GROUPS keys self.now → result ≡ count_by (is_key group) keys }
@@ -67,7 +68,7 @@ impl<const GROUPS: usize> SlotGroups<GROUPS> {
         self.sets[group].count()
     }
 
-    /// The slots with this key.
+    /// The slots with this key (own).
     pub fn set(&self, group: usize) -> SlotSet
         requires { group < GROUPS }
         ensures { (keys : List (Option ℕ)) → AreGrouped GROUPS keys self.now → HasFlags result (map (is_key group) keys) }

@@ -2,16 +2,16 @@ ghost use Rattle.std.specs.Prelude.{◌≡◌, ℕ, ◌<◌, length, slice_index
 
 use std::marker::Model;
 
-/// How many slots there are.
+/// How many slots there are, as many as xv6's `NPROC`.
 pub const SLOTS: usize = 64;
 
-/// How many lists there are.
+/// How many lists there are (own).
 pub const LISTS: usize = 72;
 
 // A node for each slot, and one for each list, which stands before its first slot and after its last.
 const NODES: usize = 136;
 
-/// Lists of slots, each slot in one of them at most. Contracts see which slots each list has, in order.
+/// Lists of slots, each slot in one of them at most (own). Contracts see which slots each list has, in order.
 #[derive(Drop)]
 pub struct SlotLists {
     next: [usize; NODES],
@@ -35,7 +35,7 @@ impl SlotLists {
     ghost use Rattle.std.specs.Prelude.{◌≡◌, ◌≢◌, ℕ, ◌<◌, ◌≤◌, List, [], ◌∷◌, ◌++◌, true, false, IfSome, IfNone, length, slice_get};
     ghost use Rattle.slot_lists.specs.Links.{has, slots_of, without};
 
-    /// No list has a slot.
+    /// Lists without slots (own).
     pub fn new() -> Self
         ensures { (list : ℕ) → list < LISTS → slots_of result list ≡ [] }
     {
@@ -46,7 +46,7 @@ impl SlotLists {
         }
     }
 
-    /// The slot, which stands in no list, is then the last of this one.
+    /// Adds the slot, which stands in no list, at the end of this list (own).
     pub fn push(&mut self, list: usize, slot: usize)
         requires list { list < LISTS }
         requires slot { slot < SLOTS }
@@ -63,7 +63,7 @@ impl SlotLists {
         self.owner[slot] = list;
     }
 
-    /// The slot is then in no list; the others stay where they are.
+    /// Takes the slot out of the list that it stands in, if any; the other slots stay where they are (own).
     pub fn remove(&mut self, slot: usize)
         requires { slot < SLOTS }
         ensures { (list : ℕ) → list < LISTS → slots_of self.new list ≡ without slot (slots_of self.old list) }
@@ -77,7 +77,7 @@ impl SlotLists {
         }
     }
 
-    /// The first slot of the list.
+    /// The first slot of the list; `None` where it is empty (own).
     pub fn first(&self, list: usize) -> Option<usize>
         requires { list < LISTS }
         ensures value { result ≡ slice_get (slots_of self.now list) 0 }
@@ -88,7 +88,7 @@ impl SlotLists {
         if node < SLOTS { Some(node) } else { None }
     }
 
-    /// The slot behind this one in the list that it stands in.
+    /// The slot behind this one in the list that it stands in; `None` where it is the last (own).
     pub fn after(&self, slot: usize) -> Option<usize>
         requires { slot < SLOTS }
         ensures value { (list : ℕ) (before rest : List ℕ) → list < LISTS → slots_of self.now list ≡ before ++ slot ∷ rest → result ≡ slice_get rest 0 }
@@ -98,7 +98,7 @@ impl SlotLists {
         if node < SLOTS { Some(node) } else { None }
     }
 
-    /// The list that the slot stands in.
+    /// The list that the slot stands in; `None` where it stands in none (own).
     pub fn list_with(&self, slot: usize) -> Option<usize>
         requires { slot < SLOTS }
         ensures within { IfSome result (λ list. list < LISTS) }

@@ -1,4 +1,4 @@
--- The cost of a command: how many bytes it writes at most and how many steps it makes, as far as these are few enough to be told.
+-- The cost of a command: how many bytes it writes at most and how many steps it makes, as far as these are few enough to be reported.
 use Rattle.std.specs.Prelude.{◌≡◌, ℕ, ◌+◌, ◌<◌, ◌≤◌, List, Option, Some, None}
 use Rattle.mem_files.specs.Name.{Bytes, Name}
 use Rattle.mem_files.specs.Files.{files}
@@ -8,7 +8,7 @@ use Rattle.tree_model.specs.Bound.{grown, tree_bytes, tree_steps}
 use Rattle.step_bounds.specs.declared.capped.TheConstants.{MAX_STEPS}
 use Rattle.step_bounds.specs.declared.cost.Cost.{Cost}
 
--- the number, or None where it is more than are told
+-- the number, or None where it is more than are reported
 abbrev pub IsCapped : ℕ → Option ℕ → Type 0
 IsCapped n None = MAX_STEPS < n
 IsCapped n (Some m) = (m ≡ n) × (n ≤ MAX_STEPS)

@@ -1,8 +1,8 @@
-//! Numbers up to the most steps that are told.
+//! Numbers up to the most steps that are reported.
 ghost use Rattle.std.specs.Prelude.{◌+◌, ◌*◌};
 ghost use Rattle.step_bounds.specs.Cost.{IsCapped};
 
-/// The most steps that are told (own): as many as the turns that a run may have.
+/// The most steps that are reported (own): as many as the turns that a run may have.
 pub const MAX_STEPS: u64 = 1_000_000_000;
 
 pub fn capped(n: u64) -> Option<u64>

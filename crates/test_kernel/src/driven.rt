@@ -1,7 +1,7 @@
 //! A kernel whose processes are driven one by one.
 
 use crate::walker::Walker;
-use kernel_core::{Kernel, Task};
+use kernel_events::{Kernel, Task};
 use mem_files::Files;
 use std::alloc::{AllocError, Allocator};
 use std::test::Fail;

@@ -6,7 +6,7 @@ ghost use Rattle.std.specs.Prelude.{◌<◌};
 use crate::driven::boot;
 use crate::schedules::{SCRIPTS, draw, run_drawn};
 use crate::walker::Walker;
-use kernel_core::{Event, Kernel, Task};
+use kernel_events::{Event, Kernel, Task};
 use proc_table::Pid;
 use std::alloc::{AllocError, Allocator};
 use std::test::Fail;

@@ -1,11 +1,9 @@
-//! Tests alone, but for the walk of `sleepers`: a kernel runs small scripts, one process after the other, in orders that are drawn,
+//! Tests alone, but for the walk of `sleepers` and the machine `walker`: a kernel runs small scripts, one process after the other, in orders that are drawn,
 //! with forged work, and where memory is refused or a table is full.
 #![tactic(auto)]
 
 #[cfg(test)]
 mod driven;
-#[cfg(test)]
-mod facts;
 #[cfg(test)]
 mod forged;
 #[cfg(test)]
@@ -15,5 +13,4 @@ mod schedules;
 pub mod sleepers;
 #[cfg(test)]
 mod tables;
-#[cfg(test)]
-mod walker;
+pub mod walker;

@@ -2,7 +2,7 @@
 
 use crate::driven::{boot, trap, turn};
 use crate::walker::Walker;
-use kernel_core::{Full, Kernel, Task};
+use kernel_events::{Full, Kernel, Task};
 use linked_list_allocator::LocalHeap;
 use std::alloc::{Allocator, Global};
 use std::test::Fail;

@@ -6,7 +6,7 @@ use crate::driven::{boot, trap};
 use crate::forged::are_refused;
 use crate::sleepers::whoever_sleeps_has_to;
 use crate::walker::Walker;
-use kernel_core::{Kernel, Task};
+use kernel_events::{Kernel, Task};
 use std::alloc::{AllocError, Allocator};
 use std::test::Fail;
 

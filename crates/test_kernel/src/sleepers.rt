@@ -1,7 +1,7 @@
 //! A walk over a kernel's slots which looks whether each process that sleeps has to.
 
 use byte_pipe::PIPE_SIZE;
-use kernel_core::Kernel;
+use kernel_events::Kernel;
 use proc_table::{Channel, PROCS, Pid, State};
 use std::alloc::Allocator;
 use user_calls::Machine;

@@ -2,7 +2,7 @@
 
 use crate::driven::{boot, turn, turns};
 use crate::walker::Walker;
-use kernel_core::{Event, Kernel, Report};
+use kernel_events::{Event, Kernel, Report};
 use std::alloc::{AllocError, Allocator, Global};
 use std::test::Fail;
 use user_calls::Reply;

@@ -7,8 +7,8 @@ use user_calls::{Block, Call, Machine, Mode, Reply};
 
 /// It makes the calls of its script one after the other, and a child those behind the first bar (`specs/Walker.antt`).
 #[derive(Drop)]
-pub(crate) struct Walker {
-    pub(crate) left: &'static [u8],
+pub struct Walker {
+    pub left: &'static [u8],
 }
 
 impl Machine for Walker {

@@ -2,8 +2,8 @@
 
 use crate::given::{TURNS, file_of, files_of};
 use bumpalo::Bump;
-use hart_run::replay;
-use kernel_core::{Event, Report, run_one};
+use kernel_events::{Event, Report};
+use kernel_runs::{replay, run_one};
 use mem_files::Files;
 use script_load::load;
 use std::alloc::Global;

@@ -2,7 +2,7 @@
 
 use crate::given::{TURNS, files_of};
 use kernel_threads::{Gate, OpenGate, RunFault, run_harts};
-use kernel_core::{Full, Report};
+use kernel_events::{Full, Report};
 use mem_files::{Files, MAX_SIZE};
 use script_load::load;
 use std::alloc::Global;

@@ -22,5 +22,3 @@ mod seats;
 mod tees;
 #[cfg(test)]
 mod threads;
-#[cfg(test)]
-mod whole;

@@ -1,8 +1,9 @@
 //! How many events a run has, schedules of which an event can't take place, and one that was kept.
 
 use crate::given::{TURNS, file_of};
-use hart_run::{ReplayFault, replay};
-use kernel_core::{Event, MAX_TURNS, Report, RunOneFault, run_one};
+use kernel_events::{Event, Report};
+use kernel_runs::{ReplayFault, RunOneFault, replay, run_one};
+use script_load::MAX_TURNS;
 use mem_files::Files;
 use script_load::{Script, load};
 use std::alloc::{AllocError, Global};

@@ -6,7 +6,7 @@ ghost use Rattle.kernel_threads.specs.Boots.{number_of};
 
 use crate::given::files_of;
 use kernel_threads::{OpenGate, Run, RunFault, Seat, Shared, Turn};
-use kernel_core::{Kernel, Report};
+use kernel_events::{Kernel, Report};
 use mem_files::Files;
 use script_load::{Script, load};
 use sh_machine::{Naming, User};

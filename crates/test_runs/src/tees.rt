@@ -2,7 +2,7 @@
 
 use crate::given::{TURNS, files_of};
 use kernel_threads::{OpenGate, run_harts};
-use kernel_core::{Full, Report};
+use kernel_events::{Full, Report};
 use mem_files::Files;
 use script_load::{Script, load};
 use std::alloc::Global;

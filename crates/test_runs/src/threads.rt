@@ -2,7 +2,7 @@
 
 use crate::faults::run_text;
 use crate::given::{TURNS, files_of};
-use hart_run::replay;
+use kernel_runs::replay;
 use kernel_threads::{Gate, OpenGate, run_harts};
 use proc_table::Pid;
 use script_load::{Script, load};

@@ -9,7 +9,7 @@ use std::marker::Model;
 /// How many bytes a call moves at most (own; a block of xv6's file system).
 pub const BLOCK_SIZE: usize = 1024;
 
-/// The bytes that one call moves: at most 1,024, which is all that contracts see of them.
+/// The bytes that one call moves, at most 1,024 (own). Contracts see the list of the bytes.
 #[derive(Debug, Drop)]
 pub struct Block {
     bytes: ArrayVec<u8, BLOCK_SIZE>,
@@ -27,7 +27,7 @@ impl Model for Block {
 }
 
 impl Block {
-    /// No bytes.
+    /// A block of no bytes (own).
     pub fn new() -> Self
         ensures { result ≡ [] }
     {
@@ -36,7 +36,7 @@ impl Block {
         }
     }
 
-    /// The first 1,024 of these bytes, or all of them where there are fewer.
+    /// A block of the first 1,024 of these bytes, or of all of them where there are fewer (own).
     pub fn from_slice(bytes: &[u8]) -> Self
         ensures { result ≡ take BLOCK_SIZE bytes.now }
     {
@@ -45,7 +45,7 @@ impl Block {
         block
     }
 
-    /// Puts these bytes behind those that are there; what goes past 1,024 bytes is left out.
+    /// Adds these bytes behind those that are there; what goes past 1,024 bytes is left out (own).
     pub fn append(&mut self, bytes: &[u8])
         ensures { self.new ≡ take BLOCK_SIZE (self.old ++ bytes.now) }
     {
@@ -53,7 +53,7 @@ impl Block {
         let _ = self.bytes.try_extend_from_slice(&bytes[..fitting]);
     }
 
-    /// The bytes.
+    /// The bytes, borrowed (own).
     pub fn as_slice(&self) -> &[u8]
         ensures bytes { result.now ≡ self.now }
         ensures fits { length self.now ≤ BLOCK_SIZE }
@@ -61,14 +61,14 @@ impl Block {
         self.bytes.as_slice()
     }
 
-    /// A copy.
+    /// A copy (own).
     pub fn twin(&self) -> Self
         ensures { result ≡ self.now }
     {
         Block::from_slice(self.as_slice())
     }
 
-    /// Whether the two have the same bytes.
+    /// Whether the two have the same bytes (own).
     pub fn same(&self, other: &Self) -> bool
         ensures { IsTrue result ↔ (self.now ≡ other.now) }
     {

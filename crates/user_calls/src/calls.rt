@@ -1,4 +1,4 @@
-//! System calls and what they are answered.
+//! System calls and the replies to them.
 
 ghost use Rattle.std.specs.Prelude.{◌≡◌, ◌↔◌, IsTrue};
 
@@ -14,24 +14,24 @@ pub enum Mode {
     Fresh,
     /// For writing, over the bytes that are there.
     Over,
-    /// For writing, where each write goes to the end of the file as it is then.
+    /// For writing, where each write goes to the end of the file at that time.
     Append,
 }
 
-/// A system call. Descriptors are numbers from 0.
+/// A system call (xv6's `user/user.h`). Descriptors are numbers from 0.
 #[derive(Debug, Drop)]
 pub enum Call {
     /// `fork`: a child goes on from the same state, with the reply `Child`.
     Fork,
-    /// `exec` of a program, which was found or not; xv6 hands the path and the words over.
+    /// `exec` of a program, with whether it was found (own: in xv6 the call takes the path and the words).
     Exec(bool),
-    /// `exit`. Nothing is told to the parent (own).
+    /// `exit`. The parent gets no exit status (own).
     Exit,
     /// `wait` for a child that exits.
     Wait,
     /// `pipe`.
     MakePipe,
-    /// `read` from this descriptor of at most so many bytes.
+    /// `read` from this descriptor of at most this many bytes.
     Read(usize, usize),
     /// `write` of all these bytes to this descriptor.
     Write(usize, Block),
@@ -43,12 +43,12 @@ pub enum Call {
     Dup(usize),
 }
 
-/// What a call is answered.
+/// The reply to a call (xv6's return value in `a0`, and the bytes in the caller's buffer).
 #[derive(Debug, Drop)]
 pub enum Reply {
-    /// No call was made yet: what init and the top shell are first given.
+    /// No call was made yet: the first reply to init and to the top shell.
     Start,
-    /// To a new child, in place of its parent's `Done`.
+    /// The reply to a new child, where its parent gets `Done`.
     Child,
     /// The call was carried out.
     Done,
@@ -63,7 +63,7 @@ pub enum Reply {
 }
 
 impl Reply {
-    /// A copy.
+    /// A copy (own).
     pub fn twin(&self) -> Self
         ensures { result ≡ self.now }
     {
@@ -78,7 +78,7 @@ impl Reply {
         }
     }
 
-    /// Whether the two are equal.
+    /// Whether the two are equal (own).
     pub fn same(&self, other: &Self) -> bool
         ensures { IsTrue result ↔ (self.now ≡ other.now) }
     {

@@ -1,4 +1,4 @@
-//! The system calls of a program, what they are answered, and programs as machines that make them. Nothing here takes
+//! The system calls of a program, the replies to them, and programs as machines that make them. Nothing here takes
 //! memory.
 //!
 //! The calls are those of xv6's `user/user.h` that its shell and six programs make.

@@ -6,11 +6,11 @@ ghost use Rattle.user_calls.specs.declared.calls.Reply.{Reply};
 
 use crate::{Call, Reply};
 
-/// A program with the state that it is in. It is run from one system call to the next: given the reply to the last
-/// call, it makes the next one.
+/// A program with the state that it is in (own). It is run from one system call to the next: it takes the reply to
+/// the last call and makes the next one.
 ///
 /// Contracts see its state as plain data, of which both the call and the next state are functions. A state that holds
-/// a reference counts as what that points to.
+/// a reference counts as the value behind it.
 pub trait Machine: Drop {
     /// The states.
     type State;
@@ -20,7 +20,7 @@ pub trait Machine: Drop {
 
     ghost use Rattle.std.specs.Coded.{Coded};
 
-    /// Tells states apart.
+    /// A code for states, different for different states.
     ghost code: { Coded Self.State };
 
     /// The call that a state makes of a reply.
@@ -29,7 +29,7 @@ pub trait Machine: Drop {
     /// The state after it.
     ghost next_of: { Self.State → Reply → Self.State };
 
-    /// Takes the reply to the last call, and makes the next one.
+    /// Runs on to the next call: takes the reply to the last call, and returns the next one.
     fn run(&mut self, reply: &Reply) -> Call
         ensures call { result ≡ call_of (view self.old) reply.now }
         ensures next { view self.new ≡ next_of (view self.old) reply.now };

@@ -5,8 +5,8 @@ ghost use Rattle.std.specs.Prelude.{◌≡◌};
 use crate::{Call, Machine, Reply};
 use std::marker::Model;
 
-/// A machine that was run once: the machine before it, the reply that it was given, the call that it made and the
-/// machine after it. That these belong together is kept by the type, so contracts see the first two alone.
+/// One run of a machine: the machine before it, the reply that it took, the call that it made and the machine after it
+/// (own). The type keeps that these belong together, so contracts see only the first two.
 #[derive(Drop)]
 pub struct Ran<M: Machine> {
     before: M,
@@ -27,7 +27,7 @@ impl<M: Machine> Model for Ran<M> {
 }
 
 impl<M: Machine> Ran<M> {
-    /// Runs the machine once, with this reply.
+    /// Runs the machine once, with this reply (own).
     pub fn make(machine: M, reply: Reply) -> Self
         ensures before { result.before ≡ M.view machine }
         ensures reply { result.reply ≡ reply }
@@ -42,35 +42,35 @@ impl<M: Machine> Ran<M> {
         }
     }
 
-    /// The machine before the run.
+    /// The machine before the run (own).
     pub fn before(&self) -> &M
         ensures { M.view result.now ≡ self.now.before }
     {
         &self.before
     }
 
-    /// The reply that it was given.
+    /// The reply that the machine took (own).
     pub fn reply(&self) -> &Reply
         ensures { result.now ≡ self.now.reply }
     {
         &self.reply
     }
 
-    /// The call that it made.
+    /// The call that the machine made (own).
     pub fn call(&self) -> &Call
         ensures { result.now ≡ M.call_of self.now.before self.now.reply }
     {
         &self.call
     }
 
-    /// The machine after the run.
+    /// The machine after the run (own).
     pub fn into_after(self) -> M
         ensures { M.view result ≡ M.next_of self.before self.reply }
     {
         self.after
     }
 
-    /// The call that it made, and the machine after the run.
+    /// The call that the machine made, and the machine after the run (own).
     pub fn into_parts(self) -> (Call, M)
         ensures call { result.0 ≡ M.call_of self.before self.reply }
         ensures after { M.view result.1 ≡ M.next_of self.before self.reply }

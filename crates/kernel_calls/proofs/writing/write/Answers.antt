@@ -3,6 +3,7 @@ use Rattle.std.specs.Prelude.{IfSome, IsSome}
 use Rattle.fd_table.specs.Entries.{OpenFile, entry_at}
 use Rattle.kernel_model.specs.KernelState.{KernelState}
 use Rattle.kernel_model.specs.Writing.{write_entry, write_object, write_held}
+use Rattle.kernel_model.specs.Notes.{is_refused}
 use Rattle.kernel_calls.proofs.InUse.{in_use}
 use Rattle.kernel_calls.proofs.writing.write.Goals as goal
 
@@ -18,4 +19,4 @@ returns-in-Some g c =
     let k = c.args.state.now in
     let e = c.in-Some.entry in
     let after = g.M.Machine.view c.args.after in
-    by_object k c.write_held.new.state c.args.pid after e c.args.bytes.now c.write_held.result (entry_at k.entries e) (in_use k c.args.pid c.args.fd e c.requires.runs c.requires.sound c.in-Some.ensures) c.write_held.ensures ∙ ap (write_held k c.args.pid after c.args.bytes.now c.write_held.result) c.in-Some.ensures
+    by_object k c.write_held.new.state c.args.pid after e c.args.bytes.now (is_refused c.write_held.result) (entry_at k.entries e) (in_use k c.args.pid c.args.fd e c.requires.runs c.requires.sound c.in-Some.ensures) c.write_held.ensures ∙ ap (write_held k c.args.pid after c.args.bytes.now (is_refused c.write_held.result)) c.in-Some.ensures

@@ -2,9 +2,9 @@ use Rattle.law_kernel.proofs.SoundRuns as runs
 use Rattle.law_kernel.proofs.laws.every_run_is_sound.Goals as goal
 
 pub returns-clause-sound : goal.returns-clause-sound
-returns-clause-sound g c = λ init shell input list m events notes are is.
-    runs.every_run_is_sound g.M.Machine.call_of g.M.Machine.next_of init shell input list events notes m are is
+returns-clause-sound g c = λ r are.
+    runs.every_run_is_sound g.M.Machine.call_of g.M.Machine.next_of r.init r.shell r.input r.files r.schedule r.notes r.last are r.runs
 
 pub returns-clause-files : goal.returns-clause-files
-returns-clause-files g c = λ init shell input list m events notes are is.
-    runs.every_run_has_files g.M.Machine.call_of g.M.Machine.next_of init shell input list events notes m are is
+returns-clause-files g c = λ r are.
+    runs.every_run_has_files g.M.Machine.call_of g.M.Machine.next_of r.init r.shell r.input r.files r.schedule r.notes r.last are r.runs

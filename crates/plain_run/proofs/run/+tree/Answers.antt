@@ -1,4 +1,4 @@
--- Each node's value is made of what its parts gave, and each fault that a part told is due.
+-- Each node's value is made of what its parts gave, and each fault that a part returned is due.
 use Rattle.std.proofs.Common.{◌≡◌, ◌<◌, ◌↔◌, IsTrue, true, ap, sym, ◌∙◌, subst, Ok, Some, [], length}
 use Rattle.std.specs.Prelude.{option_copied}
 use Rattle.std.proofs.lemmas.Result.{err_from_is_err_and, IfOk-weaker}

@@ -7,7 +7,7 @@ use Rattle.plain_run.specs.Spans.{all_names, AreSpans}
 use Rattle.plain_run.proofs.SettledLines.{IsSettledTo}
 use Rattle.plain_run.proofs.run.run_lines.Given as goal
 
--- the lines that are left complete what was done and told
+-- the lines that are left complete what was done and its verdict
 abbrev pub invariant-loop-i : goal.invariant-loop-i
 invariant-loop-i g l = record {
   runs : IsRunTo l.profile (map line_of l.lines) l.fn.input (files l.fn.store) l.fn.out.items (map line_of (drop l.i l.lines)) l.rest (files l.store) l.out.items;

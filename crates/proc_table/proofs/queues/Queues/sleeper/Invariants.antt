@@ -1,4 +1,4 @@
--- Nobody before the place where the walk is sleeps on the channel.
+-- No process before the place where the walk is sleeps on the channel.
 use Rattle.std.proofs.Common.{◌≡◌, ◌<◌, IfSome, ◌+◌, ◌≤◌, ◌++◌, ℕ, List, length, false, true}
 use Rattle.std.specs.Prelude.{slice_get}
 use Rattle.slot_lists.specs.Links.{has, slots_of}

@@ -1,4 +1,4 @@
--- A child that was given is none of the process's any more, and none is left at the end.
+-- A child that was given is no child of the process any more, and none is left at the end.
 use Rattle.std.proofs.Common.{◌∙◌, ap, sym, ◌<◌, subst}
 use Rattle.std.specs.Prelude.{map, count_by}
 use Rattle.proc_table.specs.Calls.{given}

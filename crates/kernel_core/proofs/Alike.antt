@@ -1,9 +1,9 @@
--- Two reports that tell what a script means tell the same.
+-- Two reports that have what a script means agree.
 use Rattle.std.proofs.Common.{◌∙◌, sym}
 use Rattle.meaning_model.specs.Value.{Value}
 use Rattle.kernel_core.specs.Answer.{IsAnswer}
 use Rattle.kernel_events.specs.declared.report.Report.{Report}
-use Rattle.law_answers.specs.Alike.{AreAlike}
+use Rattle.kernel_core.specs.Alike.{AreAlike}
 
 pub alike : {A B : _} (value : Value) (first : Report A) (second : Report B) → IsAnswer value first → IsAnswer value second → AreAlike value.soft first second
 alike value first second left right =

@@ -1,7 +1,8 @@
-//! Laws of reports: each function's contract is the law, and its body is empty.
+//! The laws of a kernel's runs. Each function's contract is the law, and its body is empty.
 //!
-//! That a report is one of a finished run of the script, under the script's own profile, is what the contracts of `run_one`
-//! and `replay` say of theirs.
+//! Those of reports stand here. The others stand in the crates of laws, and are given out here: no wake-up is lost, the kernel
+//! stands for the tree machine, file steps of a pipe's two sides commute, each step keeps the final value, a finished run gives
+//! the meaning, and no run is stuck.
 
 ghost use Rattle.std.specs.Prelude.{◌≡◌, List, None};
 ghost use Rattle.mem_files.specs.Name.{Bytes, Name};
@@ -14,12 +15,20 @@ ghost use Rattle.meaning_model.specs.Settled.{IsSettledScript};
 ghost use Rattle.kernel_core.specs.Answer.{IsAnswer};
 ghost use Rattle.kernel_events.specs.Reports.{IsRunFrom};
 ghost use Rattle.run_model.specs.ScriptRun.{script_kernel};
-ghost use Rattle.law_answers.specs.Alike.{AreAlike};
+ghost use Rattle.kernel_core.specs.Alike.{AreAlike};
 
-use kernel_core::Report;
+use kernel_events::Report;
 use script_load::Script;
 use std::alloc::Allocator;
 
+pub use law_bounds::laws::{every_run_ends_with_the_meaning, every_run_is_finished_after_so_many_events};
+pub use law_kernel::laws::no_wake_up_is_lost;
+pub use law_never_stuck::laws::no_run_is_stuck;
+pub use law_standing::laws::{a_finished_run_gives_the_meaning, every_run_stands_for_the_tree_machine};
+pub use law_trees::laws::{each_step_keeps_the_final_value, steps_of_the_two_sides_commute};
+
+/// A report is that of a finished run of a script where the contract of `run_one`, `run_harts` or `replay` says so of theirs.
+///
 /// For every settled script under either profile, any standard input and files, and every schedule, on one hart or on eight:
 /// if the run finishes and nothing was full, the standard output and every file that isn't soft are exactly those of the
 /// recursive meaning, in which each pipe's left side runs to its end first.

@@ -5,12 +5,12 @@ ghost use Rattle.proc_table.specs.Slots.{is_running_on};
 ghost use Rattle.law_kernel.specs.Sleeping.{AllWait};
 ghost use Rattle.law_kernel.specs.Limits.{IsWithin};
 
-use crate::walker::Walker;
 use kernel_core::Kernel;
 use kernel_core::facts;
 use mem_files::Files;
 use std::alloc::{AllocError, Allocator};
 use std::test::Fail;
+use test_kernel::walker::Walker;
 
 // A kernel of which init and the shell wait.
 fn boot<A: Allocator + Copy>(alloc: A) -> Result<Kernel<Walker, A>, AllocError>

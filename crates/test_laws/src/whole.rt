@@ -1,9 +1,9 @@
 //! A run in as many turns as are enough for it.
 
+use kernel_core::run_whole;
 use mem_files::Files;
 use script_load::load;
 use std::test::Fail;
-use kernel_core::run_whole;
 
 // A run takes as many turns as it has events, far fewer than are enough.
 #[test]

@@ -2,8 +2,8 @@ use Rattle.mem_files.specs.Files.{files}
 use Rattle.script_load.specs.Line.{lines_of}
 use Rattle.meaning_model.specs.Meaning.{script_meaning}
 use Rattle.kernel_core.proofs.Answers.{answer}
-use Rattle.law_answers.proofs.Alike.{alike}
-use Rattle.law_answers.proofs.reports.two_runs_of_a_settled_script_agree.Goals as goal
+use Rattle.kernel_core.proofs.Alike.{alike}
+use Rattle.kernel_core.proofs.laws.two_runs_of_a_settled_script_agree.Goals as goal
 
 pub returns : goal.returns
 returns g c = λ profile input list are settled ran quiet again loud.

@@ -1,37 +1,18 @@
-//! What the laws say of a kernel that runs a script, and of its dispatches.
+//! Dispatches of a kernel that runs a script.
 
-ghost use Rattle.std.specs.Prelude.{◌≡◌, ◌<◌, false, None, Ok, All, IfOk, IfSome, OnErr, IsErr, count_by};
+ghost use Rattle.std.specs.Prelude.{◌≡◌, ◌<◌, false, Ok, All, IfOk, IfSome, OnErr, IsErr, count_by};
 ghost use Rattle.proc_table.specs.Slots.{at, is_runnable, is_running, is_running_on};
 ghost use Rattle.proc_table.specs.declared.table.TheConstants.{HARTS};
 ghost use Rattle.kernel_model.specs.History.{GoesOn, IsTask};
 ghost use Rattle.kernel_model.specs.declared.events.Event.TheVariants.{Dispatch};
 ghost use Rattle.sh_machine.specs.Turn.{call_of, next_of};
 ghost use Rattle.sh_machine.specs.View.{user_of};
-ghost use Rattle.law_never_stuck.specs.Awake.{IsAwake};
 ghost use Rattle.run_model.specs.Plain.{IsPlainRun};
 
+use crate::facts::nothing_is_runnable_only_while_one_runs_elsewhere;
 use kernel_events::{Kernel, Task};
 use sh_machine::{Naming, User};
 use std::alloc::{AllocError, Allocator};
-
-/// In a run of a script without `&` in which nothing was full, some process is Runnable or Running.
-pub fn it_is_never_stuck<'t, B: Allocator, N: Naming, A: Allocator>(
-    kernel: &Kernel<User<'t, B, N>, A>,
-)
-    ensures { IsPlainRun kernel.now → IsAwake kernel.now.now.table }
-{
-    kernel.is_booted();
-    kernel.replays();
-}
-
-/// So where nothing is Runnable, some process is Running.
-pub fn nothing_is_runnable_only_while_one_runs_elsewhere<'t, B: Allocator, N: Naming, A: Allocator>(
-    kernel: &Kernel<User<'t, B, N>, A>,
-)
-    ensures { IsPlainRun kernel.now → All (λ slot. is_runnable slot ≡ false) kernel.now.now.table → 0 < count_by is_running kernel.now.now.table }
-{
-    it_is_never_stuck(kernel);
-}
 
 /// A dispatch on the hart, which runs nothing, as `Kernel::dispatch`. In a run of a script without `&` in which nothing was
 /// full it answers `None` only while some process runs on another hart.

@@ -1,5 +1,5 @@
 use Rattle.law_never_stuck.proofs.Turns.{one_runs}
-use Rattle.kernel_core.proofs.awake.nothing_is_runnable_only_while_one_runs_elsewhere.Goals as goal
+use Rattle.kernel_core.proofs.facts.nothing_is_runnable_only_while_one_runs_elsewhere.Goals as goal
 
 pub returns : goal.returns
 returns g c = λ run none. one_runs c.args.kernel.now.now.table (c.it_is_never_stuck.ensures run) none
