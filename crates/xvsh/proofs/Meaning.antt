@@ -23,7 +23,7 @@ no_file_given : (file : Path → Option Bytes) (paths : List (Bor Path)) (given 
 no_file_given file paths given none none_put = refl
 no_file_given file paths given none (one_put {paths = before} path name bytes put is own) = absurd (cons_at_end≢nil before path none)
 
--- a run of the script of standard input on no files writes the meaning of what the host tells of it
+-- a run of the script of standard input on no files writes the meaning of what the host states of it
 pub writes_meaning : (input : Option Bytes) (file : Path → Option Bytes) (is_settled : Bool) (old new : Option (List ℕ)) → RanPlain input file Xv6 (codes "-") [] false is_settled old new → WritesMeaning input old new
 writes_meaning None file is_settled old new run = tt
 writes_meaning (Some told) file is_settled old new run =

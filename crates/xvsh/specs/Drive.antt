@@ -6,14 +6,15 @@ use Rattle.script_load.specs.declared.profile.Profile.TheVariants.{Xv6}
 use Rattle.script_load.specs.Line.{ScriptLine}
 use Rattle.meaning_model.specs.Meaning.{script_meaning}
 use Rattle.script_load.specs.Script.{IsScript}
-use Rattle.clap.specs.Simple.{App, HasMatchesOf}
+use Rattle.clap.specs.Simple.{App, subcommand_of, subcommand_rows_of}
 use Rattle.clap.specs.declared.parser.matches.ArgMatches.{ArgMatches}
+use Rattle.xvsh_words.specs.Program.{program}
 use Rattle.xvsh_ends.specs.Ends.{Asked, help, misuse}
 use Rattle.xvsh_ends.specs.Requests.{asked}
 use Rattle.xvsh_ends.specs.declared.request.Request.{Request}
 use Rattle.xvsh.specs.Words.{IsRequestOf}
 
--- where the host tells its input and the writer what it holds, the output of the input's script under
+-- where the host states its input and the writer what it holds, the output of the input's script under
 -- xv6's profile, on an empty standard input and no files, is added to the writer, and nothing else
 abbrev pub WritesMeaning : Option (List ℕ) → Option (List ℕ) → Option (List ℕ) → Type 0
 WritesMeaning told old new =
@@ -27,6 +28,11 @@ IsNoRequest what = (what ≡ help) ⊎ (what ≡ misuse)
 abbrev pub IsAskedBy : ArgMatches → Asked → Type 0
 IsAskedBy matches what = ((request : Request) × IsRequestOf matches request × (what ≡ asked request)) ⊎ IsNoRequest what
 
--- and so do the words of a command line
+-- the program's command line: on at most 8 harts, and in at most 1,000,000,000 turns
+abbrev pub own_program : App
+own_program = program 8 1000000000
+
+-- the words of a command line ask for this: they were parsed to the command, and to the words of it, that the program's command
+-- line has of them, and these make a request; or there is none
 abbrev pub IsAskedByWords : List (List ℕ) → Asked → Type 0
-IsAskedByWords words what = ((matches : ArgMatches) × IsAskedBy matches what) ⊎ IsNoRequest what
+IsAskedByWords words what = ((matches : ArgMatches) × (subcommand_rows_of matches ≡ subcommand_of own_program words) × IsAskedBy matches what) ⊎ IsNoRequest what

@@ -81,32 +81,34 @@ fn end_words<R: Threads + Wait + Clock + Sync, H: Host, W: Write, E: Write>(
     }
 }
 
-/// Runs the program on these words, its own name not among them, and returns the status with which
-/// it ends.
+/// Runs the program on these words, its own name not among them, and returns the status with which it ends. Own, except what
+/// a script's commands do, which is as xv6's `sh.c`, kernel and programs do it.
 ///
 /// `plain [--append] [--files] [--strict] SCRIPT [FILE]..` reads the script, loads it, reads the files in order, each
 /// before the next, and then standard input, runs the script by its meaning, and writes its output and, with
 /// `--files`, all files, the soft ones marked. SCRIPT `-` is standard input, and the script's own input is then empty.
-/// With `--append` `>>` appends, and else it writes over a file from its beginning, as in xv6. Without
-/// words it is `plain -`. A script and a standard input have at most 1,048,576 bytes, and a
-/// file at most 274,432. Then `settled` or `not settled` goes to `err`: whether the script is settled, that is, whether
-/// its commands keep out of each other's way. With `--strict` the status of a script that isn't is 3.
+/// With `--append` `>>` appends, and without it writes over a file from its beginning, as in xv6. Without words the program is
+/// `plain -`. A script and a standard input have at most 1,048,576 bytes, and a file at most 274,432. Then `settled` or
+/// `not settled` goes to standard error: whether the script prints the same in any order of its processes. With `--strict`
+/// the status of a script that isn't settled is 3.
 ///
-/// `run [--harts N] [--turns N] [--schedule] [--append] [--files] [--strict] SCRIPT [FILE]..` reads the same and runs the script by
-/// its processes, on 4 harts or N, of which each is a thread, in at most 10,000,000 turns or N. It writes the output, with `--files` all files, and with
-/// `--schedule` a line an event, and to `err` the diagnostics, and then, where something was full, what. With `--strict` the
-/// status of a script that isn't settled, which is found out first, is 3, unless something was full. `replay
-/// [--append] [--files] SCHEDULE SCRIPT [FILE]..` does so by the events of a schedule in that form, which it reads first.
+/// `run [--harts N] [--turns N] [--schedule] [--append] [--files] [--strict] SCRIPT [FILE]..` reads the same and runs the
+/// script by its processes, on 4 harts or N, of which each is a thread, in at most 10,000,000 turns or N. It writes the output,
+/// with `--files` all files, and with `--schedule` a line an event, and to standard error the diagnostics, and then, where
+/// something was full, what. With `--strict` it finds out first whether the script is settled, and the status of one that isn't
+/// is 3, unless something was full. `replay [--append] [--files] SCHEDULE SCRIPT [FILE]..` runs a script by the events of a
+/// schedule in that form, which it reads first.
 ///
-/// `check SCRIPT` reads and loads the script, runs nothing, and writes the faults, the `&` and the
-/// first clash of each line. `check --turns SCRIPT [FILE]..` reads what `plain` reads, and writes last how many turns are
-/// enough for a run by processes. `explain SCRIPT` reads and loads the script, runs nothing, and writes in sentences what its
-/// lines are not, or `nothing to tell`.
+/// `check SCRIPT` reads and loads the script, runs nothing, and writes the faults, the `&` and the first clash of each line.
+/// `check --turns SCRIPT [FILE]..` reads what `plain` reads, and writes last how many turns are enough for a run by processes.
+/// `explain SCRIPT` reads and loads the script, runs nothing, and writes in sentences what its lines are not, or
+/// `nothing to tell`.
 ///
-/// A fault goes to `err` as one line, and then nothing of the script was written: 1 for what can't be
-/// read or is refused, or is no schedule of a finished run, 2 for words that are no command line, 3 where
-/// `check` told of a clash or a `&` or `explain` of anything, or as above, 4 for a run that is too large, is past its turns, wants memory, or met something
-/// full, which alone is told after what it wrote. `--help` and `--version` go to `out`. Where `out` or `err` fails, the status is 1 and nothing more is written.
+/// A fault goes to standard error as one line, and then nothing of the script was written. The status is 1 for what can't be
+/// read or is refused, and for a schedule that is not of a finished run; 2 for words that are no command line; 3 where `check`
+/// reported a clash or a `&`, or `explain` a note, or as above; 4 for a run that is too large, is past its turns, is out of
+/// memory, or met something full, which alone is reported after what it wrote. `--help` and `--version` go to standard output.
+/// Where standard output or standard error fails, the status is 1 and nothing more is written.
 pub fn drive<R: Threads + Wait + Clock + Sync, H: Host, W: Write, E: Write>(
     rt: &R,
     alloc: Global,

@@ -15,7 +15,7 @@ abbrev pub written_of : Bytes → Bytes
 written_of [] = codes "nothing to tell\n"
 written_of (byte ∷ told) = byte ∷ told
 
--- this is told of the script at a path
+-- these are the notes on the script at a path
 pub record IsExplainedAt (input : Option Bytes) (file : Path → Option Bytes) (script : Path) (told : Bytes) : Type 0 where
   pub bytes : Bytes
   pub own : Agree (told_at input file script) bytes

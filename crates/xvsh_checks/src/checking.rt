@@ -1,4 +1,4 @@
-//! What `check` tells of a script before any run.
+//! What `check` reports of a script before any run.
 ghost use Rattle.std.specs.Prelude.{◌≡◌, ◌≢◌, ◌++◌, ◌↔◌, ℕ, List, OnOk, IfOk, IfErr, IsTrue, false};
 ghost use Rattle.std.specs.Io.KnownBytes.{Appends};
 ghost use Rattle.sh_tree.specs.Tree.{tree_of};
@@ -104,7 +104,7 @@ fn add_clash(
     Ok(())
 }
 
-// Adds what is told of a tree, and returns whether it is harmless.
+// Adds what is reported of a tree, and returns whether it is harmless.
 fn check_tree(
     alloc: Global,
     number: usize,
@@ -126,7 +126,7 @@ fn check_tree(
     }
 }
 
-// Adds what is told of a line, and returns whether it is harmless.
+// Adds what is reported of a line, and returns whether it is harmless.
 fn check_line(
     alloc: Global,
     number: usize,
@@ -146,7 +146,7 @@ fn check_line(
     }
 }
 
-/// What `check` tells of a script.
+/// What `check` reports of a script.
 #[derive(Drop)]
 pub struct Checked {
     /// The lines that are printed.
@@ -171,7 +171,7 @@ pub fn check(alloc: Global, script: &Script<Global>) -> Result<Checked, AllocErr
     Ok(Checked { text, is_harmless })
 }
 
-// Writes what is told of a script's lines, and returns whether they are harmless.
+// Writes what is reported of a script's lines, and returns whether they are harmless.
 fn check_script<'a, W: Write>(
     alloc: Global,
     script: &Script<Global>,

@@ -1,4 +1,4 @@
-//! What `explain` tells of a script.
+//! What `explain` reports of a script.
 ghost use Rattle.std.specs.Prelude.{◌≡◌, ◌≢◌, ◌↔◌, [], IfOk, IfErr, IsTrue};
 ghost use Rattle.xvsh_read.specs.Console.{known};
 ghost use Rattle.xvsh_read.specs.Starting.{IsScriptAtFault};
@@ -10,7 +10,7 @@ use std::alloc::Global;
 use std::io::Write;
 use xvsh_read::{Console, Fault, Host, MAX_INPUT, read, write};
 
-// What is told of the script at a path.
+// The notes on the script at a path.
 fn explain_at<'a, H: Host>(
     alloc: Global,
     host: &mut H,
@@ -35,7 +35,7 @@ fn written_of(told: &[u8]) -> &[u8]
     }
 }
 
-// Whether nothing is told.
+// Whether there is no note.
 fn is_nothing(told: &[u8]) -> bool
     ensures { IsTrue result ↔ (told.now ≡ []) }
 {

@@ -1,4 +1,4 @@
-//! What is told of a script before any run: what `check` and `explain` read and write.
+//! What is reported of a script before any run: what `check` and `explain` read and write.
 #![tactic(auto)]
 
 mod checking;

@@ -1,4 +1,4 @@
-//! What `check --turns` tells: the lines of a script, and the turns that are enough for it.
+//! What `check --turns` reports: the lines of a script, and the turns that are enough for it.
 ghost use Rattle.std.specs.Prelude.{◌≡◌, ◌≢◌, ◌++◌, ◌↔◌, ℕ, List, IfOk, IfErr, IsTrue, string_bytes};
 ghost use Rattle.mem_files.specs.Files.{files};
 ghost use Rattle.script_load.specs.Line.{lines_of};
@@ -9,11 +9,11 @@ ghost use Rattle.xvsh_read.specs.Console.{known};
 use crate::checking::{Checked, check};
 use crate::request::CheckRequest;
 use mem_files::Files;
-use script_load::Script;
+use script_load::{Profile, Script};
 use std::alloc::{AllocError, Global};
 use std::io::Write;
 use step_bounds::turns_enough;
-use xvsh_read::{Console, Fault, Host, prepare, write};
+use xvsh_read::{Console, Fault, Host, Source, prepare, write};
 
 // The line `turns N`.
 fn turns_line(
@@ -30,7 +30,7 @@ fn turns_line(
     }
 }
 
-// What is told of a script's lines, and then its turns.
+// What is reported of a script's lines, and then its turns.
 fn check_with_turns(
     alloc: Global,
     script: &Script<Global>,
@@ -60,7 +60,12 @@ pub fn run_turns<'a, H: Host, W: Write, E: Write>(
     ensures refusal { IfErr result (λ fault. fault ≢ Fault.Unwritten → console.new.out ≡ console.old.out) }
     ensures err_stays { console.new.err ≡ console.old.err }
 {
-    let start = prepare(alloc, &mut console.host, &request.source(), false)?;
+    let source = Source {
+        profile: Profile::Xv6,
+        script: request.script,
+        files: request.files,
+    };
+    let start = prepare(alloc, &mut console.host, &source, false)?;
     let stdin = start.stdin.as_slice();
     let checked = check_with_turns(alloc, &start.script, stdin, &start.files)?;
     write(&mut console.out, checked.text.as_slice())?;

@@ -1,4 +1,4 @@
--- With what a run and a check end, of what they gave and what was told of it.
+-- How a run and a check end, by what they returned and what was reported.
 use Rattle.std.proofs.Common.{◌≡◌, ◌≢◌, ℕ, Bool, true, false, List, [], Option, Some, None, Result, Ok, Err, ◌⊎◌, inl, inr, refl, sym, ◌∙◌, ap, subst}
 use Rattle.std.specs.Prelude.{IfOk, IfErr}
 use Rattle.std.specs.Borrow.{Bor}
@@ -30,7 +30,7 @@ keeps_same (Some bytes) = refl
 pub keeps_equal : (old new : Option Bytes) → new ≡ old → Keeps old new
 keeps_equal old new same = subst (Keeps old) (sym same) (keeps_same old)
 
--- of a fault that is not told nothing was to be written
+-- where a fault isn't reported, nothing was to be written
 unwritten_or : (fault : Fault) → (fault ≡ Unwritten) ⊎ (fault ≢ Unwritten)
 unwritten_or (Unreadable path) = inr (λ is. cc)
 unwritten_or (TooLong path) = inr (λ is. cc)
@@ -68,7 +68,7 @@ some_status TooLarge is = cc
 some_status Memory is = cc
 some_status Unwritten is = cc
 
--- a status of a script that ran is 0, or 3 of one that was asked for strictly
+-- a status of a script that ran is 0, or 3 of one that was requested strictly
 pub verdict_or : (strict is_settled : Bool) → verdict_status strict is_settled ≢ 0 → (strict ≡ true) × (verdict_status strict is_settled ≡ 3)
 verdict_or false is_settled some = absurd (some refl)
 verdict_or true true some = absurd (some refl)
@@ -124,7 +124,7 @@ module _ (input : Option Bytes) (file : Path → Option Bytes) (out out' err err
   no_words status same (inr untold) = one misuse status untold
   no_words status same (inl told) = subst (Ends input file out out' err err' misuse) (sym told.0) (no_memory (keeps_equal out out' same) told.1)
 
-  -- what is wrong with the words was told
+  -- what is wrong with the words was reported
   pub told_misuse : (text : Bytes) (status : ℕ) → out' ≡ out → Tells text 2 status err err' → Ends input file out out' err err' misuse status
   told_misuse text status same (inr untold) = one misuse status untold
   told_misuse text status same (inl told) = subst (Ends input file out out' err err' misuse) (sym told.0) (misused text (keeps_equal out out' same) told.1)
@@ -134,7 +134,7 @@ module _ (input : Option Bytes) (file : Path → Option Bytes) (out out' err err
   told_help text status same (inr untold) = one help status untold
   told_help text status same (inl told) = subst (Ends input file out out' err err' help) (sym told.0) (helped text told.1 (keeps_equal err err' same))
 
--- a run by processes ends with what it came to
+-- how a run by processes ends
 module _ (input : Option Bytes) (file : Path → Option Bytes) (how : How) (profile : Profile) (script : Path) (paths : List (Bor Path)) (lists : Lists) (out out' err diag err' : Option Bytes) where
   pub ended_ran : (result : Result (Option Full) ProcessFault) (status : ℕ) → IfOk result (λ full. RanBy input file how profile script paths lists full out out' err diag) → IfErr result (IsFaultBy input file how profile script paths) → IfErr result (λ fault. fault ≢ Common Unwritten → (out' ≡ out) × (diag ≡ err)) → TellsRan result status diag err' → Ends input file out out' err err' (asks_run profile script paths how lists) status
   ended_ran (Ok None) status gave due stays told =
@@ -182,7 +182,7 @@ nothing_ran x x' y y' (Err fault) status mid after stays (inl told) some one fou
   | inr other ↦ (stays other).0
 ]
 
--- where a run's verdict was told, a status but 0 and 1 is that of a script that isn't settled
+-- where a run's verdict was reported, a status but 0 and 1 is that of a script that isn't settled
 pub verdict_written : {X : Type 0} (strict is_settled : Bool) (status : ℕ) (err err' : Option Bytes) → Tells (verdict_text is_settled) (verdict_status strict is_settled) status err err' → status ≢ 0 → status ≢ 1 → (strict ≡ true → status ≢ 3) → X
 verdict_written strict is_settled status err err' (inr untold) some one three = absurd (one untold)
 verdict_written strict is_settled status err err' (inl told) some one three =

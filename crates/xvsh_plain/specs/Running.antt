@@ -21,7 +21,7 @@ use Rattle.xvsh_plain.specs.declared.request.PlainRequest.{PlainRequest}
 use Rattle.xvsh_read.specs.declared.fault.Fault.{Fault}
 use Rattle.xvsh_read.specs.declared.fault.Fault.TheVariants.{Unreadable, TooLong, LineTooLong, ByteZero, BadName, TooManyFiles, TooLarge, Memory, Unwritten}
 
--- the meaning's output is added to the writer, and then the list of its files where it is asked for
+-- the meaning's output is added to the writer, and then the list of its files where it is requested
 abbrev pub WritesRun : Bool → Value → Option (List ℕ) → Option (List ℕ) → Type 0
 WritesRun false value old new = Appends old new value.out
 WritesRun true value old new =
@@ -43,7 +43,7 @@ abbrev pub of_plain : PlainFault → Fault
 of_plain plain_large = TooLarge
 of_plain plain_memory = Memory
 
--- what follows is said after what the host tells of standard input and of the files at paths
+-- what follows is by what the host states of standard input and of the files at paths
 module _ (input : Option Bytes) (file : Path → Option Bytes) where
   -- the script at a path was run under a profile on the files at these paths
   pub record RanPlain (profile : Profile) (script : Path) (paths : List (Bor Path)) (lists is_settled : Bool) (old new : Option (List ℕ)) : Type 0 where

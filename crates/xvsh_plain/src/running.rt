@@ -26,7 +26,7 @@ pub fn of_plain<'a>(fault: PlainFault) -> Fault<'a>
     }
 }
 
-// Runs a script, writes its output and then, if asked, all files, and returns whether the script is
+// Runs a script, writes its output and then, if requested, all files, and returns whether the script is
 // settled.
 fn run_script<'a, W: Write>(
     alloc: Global,

@@ -28,7 +28,7 @@ pub record RanOn (start : KernelState User) (harts turns : ℕ) (lists : Lists) 
   pub within : length events ≤ turns
   pub written : IsWritten start events lists full out out' err err'
 
--- what follows is said after what the host tells of standard input and of the files at paths, of the script at a path
+-- what follows is by what the host states of standard input and of the files at paths, of the script at a path
 -- under a profile and on the files at these paths
 module _ (input : Option Bytes) (file : Path → Option Bytes) (profile : Profile) (script : Path) (paths : List (Bor Path)) where
   -- a finished run on so many harts in at most so many turns was written

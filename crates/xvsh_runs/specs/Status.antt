@@ -1,4 +1,4 @@
--- Faults of runs by processes, what is told of them, and the statuses with which the program ends.
+-- Faults of runs by processes, their messages, and the statuses with which the program ends.
 use Rattle.std.specs.Prelude.{ℕ, [], ◌∷◌, ◌++◌, codes}
 use Rattle.std.specs.Fmt.{decimal}
 use Rattle.mem_files.specs.Name.{Bytes}

@@ -1,4 +1,4 @@
--- Why `run` and `replay` tell no run.
+-- Why `run` and `replay` write no run.
 use Rattle.std.specs.Prelude.{◌≡◌, ◌-◌, ◌⊎◌, ℕ, false, List, Option, Some, slice_get, length, codes}
 use Rattle.std.specs.Borrow.{Bor}
 use Rattle.std.specs.Str.{bytes_eq}
@@ -26,8 +26,8 @@ use Rattle.xvsh_runs.specs.declared.fault.ProcessFault.{ProcessFault}
 use Rattle.xvsh_runs.specs.declared.fault.ProcessFault.TheVariants.{Common, BadHarts, BadTurns, Spent, SharedInput, NoEvent, NotRunnable, NotRunning, Unfinished}
 use Rattle.xvsh_runs.specs.declared.replaying.TheConstants.{MAX_SCHEDULE}
 
--- no run from this kernel on so many harts in so many turns is told: some run spends them, the harts or they are out of
--- range, or it can't be told
+-- no run from this kernel on so many harts in so many turns is written: some run spends them, the harts or they are out of
+-- range, or the run can't be written
 abbrev pub IsHartsFault : KernelState User → ℕ → ℕ → ProcessFault → Type 0
 IsHartsFault start harts turns (Common fault) = IsTellFault fault
 IsHartsFault start harts turns BadHarts = AreBadHarts harts
@@ -55,8 +55,8 @@ IsLinesFault path bytes (Unfinished count) = ⊥
 abbrev pub IsEventAt : List Event → ℕ → Event → Type 0
 IsEventAt events number event = slice_get events (number - 1) ≡ Some event
 
--- no run from this kernel by these events is told: an event can't take place, the run isn't finished then, or it can't be
--- told
+-- no run from this kernel by these events is written: an event can't take place, the run isn't finished then, or it can't be
+-- written
 abbrev pub IsEventsFault : KernelState User → List Event → ProcessFault → Type 0
 IsEventsFault start events (Common fault) = IsTellFault fault
 IsEventsFault start events BadHarts = ⊥
@@ -70,21 +70,21 @@ IsEventsFault start events (NotRunning number pid hart) =
     IsReplayFault start events (not_running number) × IsEventAt events number (Trap hart pid)
 IsEventsFault start events (Unfinished count) = IsReplayFault start events unfinished × (count ≡ length events)
 
--- no run from this kernel by the schedule at a path is told
+-- no run from this kernel by the schedule at a path is written
 abbrev pub IsBytesFault : KernelState User → Path → Bytes → ProcessFault → Type 0
 IsBytesFault start path bytes fault =
     IsLinesFault path bytes fault ⊎ ((events : List Event) × AreLinesOf bytes events × IsEventsFault start events fault)
 
--- what follows is said after what the host tells of standard input and of the files at paths, of the script at a path
+-- what follows is by what the host states of standard input and of the files at paths, of the script at a path
 -- under a profile and on the files at these paths
 module _ (input : Option Bytes) (file : Path → Option Bytes) (profile : Profile) (script : Path) (paths : List (Bor Path)) where
-  -- why `run` told no run: it couldn't begin, or there is none
+  -- why `run` wrote no run: it couldn't begin, or there is none
   pub data IsRunFault (harts turns : ℕ) : ProcessFault → Type 0 where
     no_start : {fault : Fault} → IsStartFault input file false script paths fault → IsRunFault harts turns (Common fault)
     no_run : {fault : ProcessFault} (lines : List ScriptLine) (given : List (Name × Bytes)) (stdin : Bytes) → Starts input file false script paths lines given stdin → IsHartsFault (script_kernel profile lines stdin given) harts turns fault → IsRunFault harts turns fault
 
-  -- why `replay` told none: its schedule and its script are both standard input, its schedule can't be read, it can't
-  -- begin, or no run by its events is told
+  -- why `replay` wrote none: its schedule and its script are both standard input, its schedule can't be read, it can't
+  -- begin, or no run by its events is written
   pub data IsReplayingFault (schedule : Path) : ProcessFault → Type 0 where
     shared : schedule ≡ codes "-" → script ≡ codes "-" → IsReplayingFault schedule SharedInput
     no_schedule : {fault : Fault} → IsReadFault MAX_SCHEDULE (told_at input file schedule) schedule fault → IsReplayingFault schedule (Common fault)

@@ -1,4 +1,4 @@
-//! Why a run by processes isn't told.
+//! Why a run by processes wasn't written.
 ghost use Rattle.std.specs.Prelude.{◌≡◌, ◌↔◌, IsTrue};
 ghost use Rattle.xvsh_runs.specs.Status.{run_status};
 ghost use Rattle.xvsh_read.specs.declared.fault.Fault.TheVariants.{Unwritten};
@@ -8,7 +8,7 @@ use kernel_core::RunOneFault;
 use std::fmt;
 use xvsh_read::Fault;
 
-/// Why `run` or `replay` fails. Each is told as one line on standard error after `xvsh: `, but for an output that took no
+/// Why `run` or `replay` fails. Each is reported as one line on standard error after `xvsh: `, except an output that took no
 /// more, after which nothing is written. Events, and a schedule's lines, are counted from 1.
 #[derive(Clone, Copy, Debug)]
 pub enum ProcessFault<'a> {

@@ -21,7 +21,7 @@ use Rattle.xvsh_runs.specs.Why.{IsRunFault}
 use Rattle.xvsh_strict.specs.declared.strict.StrictRun.{StrictRun}
 use Rattle.xvsh_plain.specs.Running.{IsMeaningFault}
 
--- what follows is said after what the host tells of standard input and of the files at paths, of the script at a path under a
+-- what follows is by what the host states of standard input and of the files at paths, of the script at a path under a
 -- profile and on the files at these paths, and of a run on so many harts in at most so many turns
 module _ (input : Option Bytes) (file : Path → Option Bytes) (profile : Profile) (script : Path) (paths : List (Bor Path)) (harts turns : ℕ) where
   -- a run was written, and this is whether its script is settled on what it began with
@@ -29,7 +29,7 @@ module _ (input : Option Bytes) (file : Path → Option Bytes) (profile : Profil
     pub ran : RanRun input file profile script paths harts turns lists full out out' err err'
     pub settled : IsTrue is_settled ↔ IsSettledScript profile ran.lines ran.stdin (files ran.given)
 
-  -- why none was: it isn't known whether the script is settled, since its meaning passes a limit or wants memory, or there is
+  -- why none was: it isn't known whether the script is settled, since its meaning passes a limit or is out of memory, or there is
   -- no run
   pub data IsStrictFault : ProcessFault → Type 0 where
     no_verdict : {fault : Fault} (lines : List ScriptLine) (given : List (Name × Bytes)) (stdin : Bytes) → Starts input file false script paths lines given stdin → IsMeaningFault profile lines stdin (files given) fault → IsStrictFault (Common fault)

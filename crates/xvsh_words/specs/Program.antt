@@ -1,6 +1,6 @@
 -- The command line of the program: its commands, and the words that each takes.
 use Rattle.std.specs.Prelude.{◌≡◌, ℕ, true, false, List, [], ◌∷◌, Some, codes}
-use Rattle.clap.specs.Facts.{fields_of}
+use Rattle.clap.specs.declared.builder.command.Command.TheViews.{out-Command}
 use Rattle.clap.specs.Lexer.{usize_max}
 use Rattle.clap.specs.Simple.{App, Shape, shape_of, new_rule, new_shape}
 use Rattle.clap.specs.Walk.{Rule}
@@ -66,4 +66,4 @@ program harts turns = record {
 
 -- a command of this shape, none of whose arguments are of its subcommands too
 abbrev pub IsCommand : Shape → Command → Type 0
-IsCommand shape command = (shape_of command ≡ shape) × ((fields_of command).has_globals ≡ false)
+IsCommand shape command = (shape_of command ≡ shape) × ((out-Command command).has_globals ≡ false)

@@ -1,6 +1,10 @@
-use Rattle.std.proofs.Common.{inl, inr, refl}
+use Rattle.std.proofs.Common.{◌≡◌, inl, inr, refl}
+use Rattle.std.specs.Prelude.{map, string_bytes}
+use Rattle.clap.specs.Simple.{app_of}
 use Rattle.xvsh_ends.specs.Ends.{misuse}
 use Rattle.xvsh_ends.proofs.Ending.{no_words}
+use Rattle.xvsh.specs.Drive.{own_program}
+use Rattle.xvsh.proofs.Parsed.{parsed}
 use Rattle.xvsh.proofs.driver.end_words.Goals as goal
 
 pub returns-in_default-clause-ends : goal.returns-in_default-clause-ends
@@ -10,7 +14,9 @@ returns-in_default-clause-ends g c =
 pub returns-in-Ok-clause-ends : goal.returns-in-Ok-clause-ends
 returns-in-Ok-clause-ends g c =
     let ended = c.end_command.ensures.ends in
-    (ended.0, inl (c.in-Ok.matches, ended.1), ended.2)
+    let words = map string_bytes c.args.words.now in
+    let own : app_of c.in_else-command.command ≡ own_program = c.command_line.ensures in
+    (ended.0, inl (c.in-Ok.matches, parsed _ words c.in-Ok.matches own c.in-Ok.ensures.matches, ended.1), ended.2)
 
 pub returns-in-Err-clause-ends : goal.returns-in-Err-clause-ends
 returns-in-Err-clause-ends g c =
