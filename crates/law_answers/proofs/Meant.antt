@@ -15,12 +15,9 @@ use Rattle.sh_machine.specs.State.{init, shell, top}
 use Rattle.sh_machine.specs.Turn.{call_of, next_of}
 use Rattle.sh_machine.specs.declared.state.Phase.TheVariants.{Starts as Begins}
 use Rattle.kernel_model.specs.declared.events.Event.{Event}
-use Rattle.kernel_model.specs.Boot.{boot_kernel}
-use Rattle.kernel_model.specs.Events.{run}
 use Rattle.law_kernel.proofs.SoundRuns.{every_run_has_files}
 use Rattle.law_standing.proofs.RunsEnd.{finished_means}
 use Rattle.run_model.specs.ScriptRun.{script_kernel}
-use Rattle.run_model.proofs.Scripts.{whole}
 use Rattle.xvsh_read.specs.Path.{Path}
 use Rattle.xvsh_read.specs.Starting.{Starts}
 use Rattle.xvsh_runs.specs.Lists.{IsWritten, run_text}
@@ -32,12 +29,11 @@ module _ (profile : Profile) (lines : List ScriptLine) (stdin : Bytes) (given : 
   writes_value are short =
       let value = script_meaning profile lines stdin (files given) in
       let first = shell profile (top Begins lines) in
-      let runs : run call_of next_of (Some (boot_kernel init first stdin given)) events wrote.notes ≡ Some wrote.last = ap (λ k. run call_of next_of (Some k) events wrote.notes) (whole profile lines stdin given) ∙ wrote.runs in
-      let agrees = finished_means profile lines stdin given events wrote.notes wrote.last are settled short runs (sym wrote.marked) wrote.finished in
+      let agrees = finished_means profile lines stdin given events wrote.notes wrote.last are settled short wrote.runs (sym wrote.marked) wrote.finished in
       let writes = subst (λ text. Appends out out' (run_text lists text wrote.last.files events)) agrees.out wrote.writes in
       record {
         left = wrote.last.files;
-        are = every_run_has_files call_of next_of init first stdin given events wrote.notes wrote.last are runs;
+        are = every_run_has_files call_of next_of init first stdin given events wrote.notes wrote.last are wrote.runs;
         same = agrees.files;
         writes = writes;
         alone = λ none. subst (Appends out out') (append-nil value.out) (subst (λ l. Appends out out' (run_text l value.out wrote.last.files events)) none writes);

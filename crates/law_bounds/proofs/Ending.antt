@@ -17,7 +17,6 @@ use Rattle.sh_machine.specs.State.{User}
 use Rattle.sh_machine.specs.Turn.{call_of, next_of}
 use Rattle.law_standing.proofs.RunsEnd.{finished_means}
 use Rattle.run_model.specs.ScriptRun.{IsSpentFrom, script_kernel}
-use Rattle.run_model.proofs.Scripts.{whole}
 use Rattle.law_never_stuck.proofs.Turns.{spends_turns}
 use Rattle.step_bounds.specs.Most.{most_events}
 use Rattle.law_bounds.specs.GoingOn.{CanGoOn}
@@ -55,10 +54,7 @@ module _ (profile : Profile) (lines : List ScriptLine) (input : Bytes) (list : L
 
   -- a run that is given up had fewer turns
   pub few_turns : IsClearScript lines → (turns : ℕ) → (s : IsSpentFrom (script_kernel profile lines input list) turns) → s.last.full ≡ None → turns < most_events lines input (files list) + 2
-  few_turns clear turns s full = by (finished_or_short profile lines input list are clear s.events s.notes s.last is full) where
-    is : run call_of next_of (Some start) s.events s.notes ≡ Some s.last
-    is = ap (λ k. run call_of next_of (Some k) s.events s.notes) (whole profile lines input list) ∙ s.runs
-
+  few_turns clear turns s full = by (finished_or_short profile lines input list are clear s.events s.notes s.last s.runs full) where
     by : IsFinished s.last ⊎ (length s.events ≤ most_events lines input (files list)) → turns < most_events lines input (files list) + 2
     by (inl finished) = absurd (s.spent.unfinished finished)
     by (inr short) = omega (arith, short, spends_turns profile lines input list turns are clear.no_back s full)

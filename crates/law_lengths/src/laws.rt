@@ -1,11 +1,12 @@
 //! Laws on the lengths of runs: each function's contract is the law, and its body is empty.
 
 ghost use Rattle.std.specs.Prelude.{◌≡◌, ◌≤◌, ◌+◌, ◌*◌, ℕ, List, Bool, Some, length, count_by};
+ghost use Rattle.mem_files.specs.Name.{Bytes, Name};
 ghost use Rattle.mem_files.specs.Listing.{AreFiles};
 ghost use Rattle.proc_table.specs.Slots.{is_running};
 ghost use Rattle.kernel_model.specs.declared.events.Event.{Event};
-ghost use Rattle.kernel_model.specs.KernelState.{KernelState};
 ghost use Rattle.kernel_model.specs.KernelRun.{KernelRun};
+ghost use Rattle.kernel_model.specs.Boot.{boot_kernel};
 ghost use Rattle.kernel_model.specs.Events.{is_dispatch};
 ghost use Rattle.law_lengths.specs.Kinds.{count_events, count_in, does_more, only_sleeps, stays_awake};
 
@@ -25,7 +26,7 @@ pub fn a_run_is_as_long_as_what_its_calls_do<M: Machine>()
 /// as many of them as calls after which the process doesn't sleep, since only such a call makes a pipe or takes bytes from one;
 /// and these calls alone bound all events.
 pub fn a_run_is_as_long_as_its_calls_that_dont_sleep<M: Machine>()
-    ensures more { (k : KernelState M.State) (events : List Event) (notes : List Bool)
-        → count_events M.call_of M.next_of does_more (Some k) events notes ≤ 2 * count_events M.call_of M.next_of stays_awake (Some k) events notes }
+    ensures more { (init shell : M.State) (input : Bytes) (list : List (Name × Bytes)) (events : List Event) (notes : List Bool)
+        → count_events M.call_of M.next_of does_more (Some (boot_kernel init shell input list)) events notes ≤ 2 * count_events M.call_of M.next_of stays_awake (Some (boot_kernel init shell input list)) events notes }
     ensures all { (r : KernelRun M.call_of M.next_of) → AreFiles r.files → length r.schedule ≤ 192 + 260 * count_in M.call_of M.next_of stays_awake r }
 {}

@@ -18,7 +18,7 @@ invariant_of-self g c =
     (c.write.ensures.events ∙ ap (λ n. c.self.inside.log.events ++ Trap c.args.hart n ∷ []) c.index.ensures.value)
     c.write.ensures.notes
     (omega (arith, c.trap-memory.ensures.keeps.count, c.self.invariant.owed, c.write.ensures.room))
-    c.trap-memory.ensures.keeps.count
+    (omega (arith, c.trap-memory.ensures.keeps.count))
     c.trap-memory.ensures.keeps.sound
 
 pub returns-clause-event : goal.returns-clause-event
