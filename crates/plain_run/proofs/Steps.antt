@@ -1,5 +1,5 @@
 -- How the value of a command is made of what its parts gave, and when a limit was passed.
-use Rattle.std.proofs.Common.{◌≡◌, ◌≢◌, ◌<◌, Bool, true, false, [], ◌++◌, length, refl, sym, ◌∙◌, ap, subst, append_assoc, inl, inr, arith, None}
+use Rattle.std.proofs.Common.{◌≡◌, ◌≢◌, ◌<◌, Bool, true, false, [], ◌++◌, length, refl, sym, ◌∙◌, ap, subst, append_assoc, inl, inr, arith, None, Some}
 use Rattle.std.proofs.lemmas.List.{append-nil, drop_all}
 use Rattle.sh_tree.specs.declared.tree.Mode.{Mode}
 use Rattle.sh_tree.specs.declared.tree.Mode.TheVariants.{Input, Fresh, Over}
@@ -10,7 +10,8 @@ use Rattle.mem_files.specs.Listing.{max_size}
 use Rattle.script_load.specs.declared.profile.Profile.{Profile}
 use Rattle.script_load.specs.declared.profile.Profile.TheVariants.{Xv6, Append}
 use Rattle.meaning_model.specs.Limits.{OnOpened, Outgrows, HasNoRoom}
-use Rattle.meaning_model.specs.Meaning.{meaning, opened, over_end, at_end, output_value, written_value}
+use Rattle.meaning_model.specs.Inputs.{found}
+use Rattle.meaning_model.specs.Meaning.{meaning, input_value, opened, over_end, at_end, output_value, written_value}
 use Rattle.meaning_model.specs.Value.{Value}
 use Rattle.plain_progs.specs.declared.fault.PlainFault.{PlainFault}
 use Rattle.plain_progs.specs.declared.fault.PlainFault.TheVariants.{TooLarge, Memory}
@@ -100,3 +101,8 @@ due_end profile Over name T input written rest F F1 fault writes good gives due 
     due_more (max_size < length (over_end profile (bytes_of (F name)) written)) (Outgrows profile (redir Over name T) input F) fault
     (λ h. let there : OnOpened true (HasNoRoom F name) (Outgrows profile T input (opened Over name F)) (max_size < length (at_end profile Over (bytes_of (F name)) (meaning profile T input (opened Over name F)).out)) = inr (inr (subst (λ w. max_size < length (over_end profile (bytes_of (F name)) w)) gives.out h)) in
     subst (λ b. OnOpened b (HasNoRoom F name) (Outgrows profile T input (opened Over name F)) (max_size < length (at_end profile Over (bytes_of (F name)) (meaning profile T input (opened Over name F)).out))) (sym good) there) due
+
+-- a command under <, on these bytes of its file
+pub from_gives : (profile : Profile) (file : Name) (T : Tree) (input bytes old new rest : Bytes) (F G : FileMap) → found F file ≡ Some bytes → Gives (meaning profile T bytes F) old new rest G → Gives (meaning profile (redir Input file T) input F) old new input G
+from_gives profile file T input bytes old new rest F G is body =
+    subst (λ o. Gives (input_value o input F (λ b. meaning profile T b F)) old new input G) (sym is) (record { out = body.out; rest = refl; files = body.files })

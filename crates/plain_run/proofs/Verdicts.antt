@@ -1,5 +1,5 @@
 -- How the verdict of a command is made of those of its parts.
-use Rattle.std.proofs.Common.{◌≡◌, ◌≢◌, Bool, true, false, ◌||◌, ◌&&◌, not, List, [], ◌++◌, refl, sym, ap, ap₂, subst, ◌∙◌}
+use Rattle.std.proofs.Common.{◌≡◌, ◌≢◌, Bool, true, false, ◌||◌, ◌&&◌, not, List, [], ◌++◌, refl, sym, ap, ap₂, subst, ◌∙◌, Some}
 use Rattle.std.specs.Str.{bytes_eq}
 use Rattle.std.proofs.lemmas.List.Folds.{list_any-append}
 use Rattle.sh_tree.specs.declared.tree.Mode.{Mode}
@@ -13,7 +13,8 @@ use Rattle.conflict_check.specs.Occurrences.{written}
 use Rattle.prog_parts.specs.Program.{is_empty}
 use Rattle.conflict_check.proofs.Listed.{writes_listed}
 use Rattle.script_load.specs.declared.profile.Profile.{Profile}
-use Rattle.meaning_model.specs.Meaning.{meaning, opened, written_value}
+use Rattle.meaning_model.specs.Inputs.{found}
+use Rattle.meaning_model.specs.Meaning.{meaning, input_value, opened, written_value}
 use Rattle.meaning_model.specs.Value.{is_cut}
 use Rattle.plain_progs.specs.Gives.{Gives}
 use Rattle.plain_run.specs.Tells.{Tells, with_lost}
@@ -77,3 +78,8 @@ pipe_tells profile L R input middle rest left F F1 cut first second both soft th
           ∙ ap₂ (λ a b. (a || b) || (cut && writes L n)) (one.soft n) (next.soft n)
           ∙ ap (λ b. ((meaning profile L input F).soft n || W.soft n) || (b && writes L n)) is;
     }
+
+-- a command under <
+pub from_tells : (profile : Profile) (file : Name) (T : Tree) (input bytes : Bytes) (F : FileMap) (loose loose' : Bool) (soft soft' : List Name) → found F file ≡ Some bytes → Tells (meaning profile T bytes F) loose soft → loose' ≡ false → soft' ≡ soft → Tells (meaning profile (redir Input file T) input F) loose' soft'
+from_tells profile file T input bytes F loose loose' soft soft' is told l s =
+    subst (λ o. Tells (input_value o input F (λ b. meaning profile T b F)) loose' soft') (sym is) (record { loose = l; soft = λ n. ap (λ names. among names n) s ∙ told.soft n })

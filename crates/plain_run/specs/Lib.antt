@@ -2,3 +2,4 @@ pub mod CatAlone
 pub mod Held
 pub mod Spans
 pub mod Tells
+pub mod Means

@@ -10,9 +10,9 @@ ghost use Rattle.meaning_model.specs.Settled.{IsSettled, IsSettledScript};
 ghost use Rattle.meaning_model.specs.Limits.{Outgrows};
 ghost use Rattle.script_load.specs.Line.{line_of, lines_of};
 ghost use Rattle.meaning_model.specs.Meaning.{meaning, line_tree, script_tree, script_meaning};
-ghost use Rattle.plain_progs.specs.Gives.{Gives, IsDue};
+ghost use Rattle.plain_progs.specs.Gives.{IsDue};
 ghost use Rattle.plain_run.specs.CatAlone.{cat_alone};
-ghost use Rattle.plain_run.specs.Tells.{Tells};
+ghost use Rattle.plain_run.specs.Means.{Means};
 
 use crate::line_verdicts::{are_clear, with_line};
 use crate::name_lines::is_met_beside;
@@ -87,10 +87,7 @@ fn run_tree<'i, A: Allocator + Copy, B: Allocator>(
     store: &mut Files<A>,
     out: &mut Vec<u8, A>,
 ) -> Result<Ran<'i, A>, PlainFault>
-    ensures gives { IfOk result (λ ran. Gives (meaning profile (tree_of tree.now) input.now (files store.old)) out.old.items out.new.items ran.rest.now (files store.new)) }
-    ensures tells { IfOk result (λ ran. Tells (meaning profile (tree_of tree.now) input.now (files store.old)) ran.verdict.is_loose ran.verdict.soft.items) }
-    ensures settled { IfOk result (λ ran. IsTrue ran.verdict.is_settled ↔ IsSettled profile (tree_of tree.now) no_names input.now (files store.old)) }
-    ensures large { IfErr result (IsDue (Outgrows profile (tree_of tree.now) input.now (files store.old))) }
+    ensures { Means profile (tree_of tree.now) input.now (files store.old) out.old.items out.new.items (files store.new) result }
 {
     match tree {
         Cmd::Exec(words) => Ok(Ran {
@@ -122,10 +119,7 @@ fn run_from_file<'i, A: Allocator + Copy, B: Allocator>(
     store: &mut Files<A>,
     out: &mut Vec<u8, A>,
 ) -> Result<Ran<'i, A>, PlainFault>
-    ensures gives { IfOk result (λ ran. Gives (meaning profile (redir Input name.now (tree_of body.now)) input.now (files store.old)) out.old.items out.new.items ran.rest.now (files store.new)) }
-    ensures tells { IfOk result (λ ran. Tells (meaning profile (redir Input name.now (tree_of body.now)) input.now (files store.old)) ran.verdict.is_loose ran.verdict.soft.items) }
-    ensures settled { IfOk result (λ ran. IsTrue ran.verdict.is_settled ↔ IsSettled profile (redir Input name.now (tree_of body.now)) no_names input.now (files store.old)) }
-    ensures large { IfErr result (IsDue (Outgrows profile (redir Input name.now (tree_of body.now)) input.now (files store.old))) }
+    ensures { Means profile (redir Input name.now (tree_of body.now)) input.now (files store.old) out.old.items out.new.items (files store.new) result }
 {
     let Some(bytes) = find(store, name) else {
         return Ok(Ran::nothing(alloc, input));
@@ -150,10 +144,7 @@ fn run_into_file<'i, A: Allocator + Copy, B: Allocator>(
     store: &mut Files<A>,
 ) -> Result<Ran<'i, A>, PlainFault>
     requires { mode ≢ Input }
-    ensures gives { IfOk result (λ ran. (old : List ℕ) → Gives (meaning profile (redir mode name.now (tree_of body.now)) input.now (files store.old)) old old ran.rest.now (files store.new)) }
-    ensures tells { IfOk result (λ ran. Tells (meaning profile (redir mode name.now (tree_of body.now)) input.now (files store.old)) ran.verdict.is_loose ran.verdict.soft.items) }
-    ensures settled { IfOk result (λ ran. IsTrue ran.verdict.is_settled ↔ IsSettled profile (redir mode name.now (tree_of body.now)) no_names input.now (files store.old)) }
-    ensures large { IfErr result (IsDue (Outgrows profile (redir mode name.now (tree_of body.now)) input.now (files store.old))) }
+    ensures { (old : List ℕ) → Means profile (redir mode name.now (tree_of body.now)) input.now (files store.old) old old (files store.new) result }
 {
     let held = held_bytes(alloc, mode, store, name)?;
     if !open_output(mode, store, name)? {
@@ -180,10 +171,7 @@ fn run_pipe<'i, A: Allocator + Copy, B: Allocator>(
     store: &mut Files<A>,
     out: &mut Vec<u8, A>,
 ) -> Result<Ran<'i, A>, PlainFault>
-    ensures gives { IfOk result (λ ran. Gives (meaning profile (pipe (tree_of left.now) (tree_of right.now)) input.now (files store.old)) out.old.items out.new.items ran.rest.now (files store.new)) }
-    ensures tells { IfOk result (λ ran. Tells (meaning profile (pipe (tree_of left.now) (tree_of right.now)) input.now (files store.old)) ran.verdict.is_loose ran.verdict.soft.items) }
-    ensures settled { IfOk result (λ ran. IsTrue ran.verdict.is_settled ↔ IsSettled profile (pipe (tree_of left.now) (tree_of right.now)) no_names input.now (files store.old)) }
-    ensures large { IfErr result (IsDue (Outgrows profile (pipe (tree_of left.now) (tree_of right.now)) input.now (files store.old))) }
+    ensures { Means profile (pipe (tree_of left.now) (tree_of right.now)) input.now (files store.old) out.old.items out.new.items (files store.new) result }
 {
     if is_bare_cat(right) {
         return run_tree(alloc, profile, left, input, store, out);
@@ -204,10 +192,7 @@ fn run_after_cat<'i, A: Allocator + Copy, B: Allocator>(
     store: &mut Files<A>,
     out: &mut Vec<u8, A>,
 ) -> Result<Ran<'i, A>, PlainFault>
-    ensures gives { IfOk result (λ ran. Gives (meaning profile (pipe cat_alone (tree_of right.now)) input.now (files store.old)) out.old.items out.new.items ran.rest.now (files store.new)) }
-    ensures tells { IfOk result (λ ran. Tells (meaning profile (pipe cat_alone (tree_of right.now)) input.now (files store.old)) ran.verdict.is_loose ran.verdict.soft.items) }
-    ensures settled { IfOk result (λ ran. IsTrue ran.verdict.is_settled ↔ IsSettled profile (pipe cat_alone (tree_of right.now)) no_names input.now (files store.old)) }
-    ensures large { IfErr result (IsDue (Outgrows profile (pipe cat_alone (tree_of right.now)) input.now (files store.old))) }
+    ensures { Means profile (pipe cat_alone (tree_of right.now)) input.now (files store.old) out.old.items out.new.items (files store.new) result }
 {
     let ran = run_tree(alloc, profile, right, input, store, out)?;
     let is_cut = ran.is_cut();
@@ -228,10 +213,7 @@ fn run_sides<'i, A: Allocator + Copy, B: Allocator>(
     store: &mut Files<A>,
     out: &mut Vec<u8, A>,
 ) -> Result<Ran<'i, A>, PlainFault>
-    ensures gives { IfOk result (λ ran. Gives (meaning profile (pipe (tree_of left.now) (tree_of right.now)) input.now (files store.old)) out.old.items out.new.items ran.rest.now (files store.new)) }
-    ensures tells { IfOk result (λ ran. Tells (meaning profile (pipe (tree_of left.now) (tree_of right.now)) input.now (files store.old)) ran.verdict.is_loose ran.verdict.soft.items) }
-    ensures settled { IfOk result (λ ran. IsTrue ran.verdict.is_settled ↔ IsSettled profile (pipe (tree_of left.now) (tree_of right.now)) no_names input.now (files store.old)) }
-    ensures large { IfErr result (IsDue (Outgrows profile (pipe (tree_of left.now) (tree_of right.now)) input.now (files store.old))) }
+    ensures { Means profile (pipe (tree_of left.now) (tree_of right.now)) input.now (files store.old) out.old.items out.new.items (files store.new) result }
 {
     let mut middle = Vec::new(alloc);
     let first = run_tree(alloc, profile, left, input, store, &mut middle)?;
@@ -255,10 +237,7 @@ fn run_list<'i, A: Allocator + Copy, B: Allocator>(
     store: &mut Files<A>,
     out: &mut Vec<u8, A>,
 ) -> Result<Ran<'i, A>, PlainFault>
-    ensures gives { IfOk result (λ ran. Gives (meaning profile (list (tree_of left.now) (tree_of right.now)) input.now (files store.old)) out.old.items out.new.items ran.rest.now (files store.new)) }
-    ensures tells { IfOk result (λ ran. Tells (meaning profile (list (tree_of left.now) (tree_of right.now)) input.now (files store.old)) ran.verdict.is_loose ran.verdict.soft.items) }
-    ensures settled { IfOk result (λ ran. IsTrue ran.verdict.is_settled ↔ IsSettled profile (list (tree_of left.now) (tree_of right.now)) no_names input.now (files store.old)) }
-    ensures large { IfErr result (IsDue (Outgrows profile (list (tree_of left.now) (tree_of right.now)) input.now (files store.old))) }
+    ensures { Means profile (list (tree_of left.now) (tree_of right.now)) input.now (files store.old) out.old.items out.new.items (files store.new) result }
 {
     let first = run_tree(alloc, profile, left, input, store, out)?;
     let second = run_tree(alloc, profile, right, first.rest, store, out)?;
@@ -278,10 +257,7 @@ fn run_line<'i, A: Allocator + Copy, B: Allocator>(
     store: &mut Files<A>,
     out: &mut Vec<u8, A>,
 ) -> Result<Ran<'i, A>, PlainFault>
-    ensures gives { IfOk result (λ ran. Gives (meaning profile (line_tree (line_of line.now)) input.now (files store.old)) out.old.items out.new.items ran.rest.now (files store.new)) }
-    ensures tells { IfOk result (λ ran. Tells (meaning profile (line_tree (line_of line.now)) input.now (files store.old)) ran.verdict.is_loose ran.verdict.soft.items) }
-    ensures settled { IfOk result (λ ran. IsTrue ran.verdict.is_settled ↔ IsSettled profile (line_tree (line_of line.now)) no_names input.now (files store.old)) }
-    ensures large { IfErr result (IsDue (Outgrows profile (line_tree (line_of line.now)) input.now (files store.old))) }
+    ensures { Means profile (line_tree (line_of line.now)) input.now (files store.old) out.old.items out.new.items (files store.new) result }
 {
     match line {
         Line::Tree(tree) => run_tree(alloc, profile, tree, input, store, out),
@@ -298,10 +274,7 @@ fn run_lines<'i, A: Allocator + Copy, B: Allocator>(
     store: &mut Files<A>,
     out: &mut Vec<u8, A>,
 ) -> Result<Ran<'i, A>, PlainFault>
-    ensures gives { IfOk result (λ ran. Gives (script_meaning profile (map line_of lines.now) input.now (files store.old)) out.old.items out.new.items ran.rest.now (files store.new)) }
-    ensures tells { IfOk result (λ ran. Tells (script_meaning profile (map line_of lines.now) input.now (files store.old)) ran.verdict.is_loose ran.verdict.soft.items) }
-    ensures settled { IfOk result (λ ran. IsTrue ran.verdict.is_settled ↔ IsSettled profile (script_tree (map line_of lines.now)) no_names input.now (files store.old)) }
-    ensures large { IfErr result (IsDue (Outgrows profile (script_tree (map line_of lines.now)) input.now (files store.old))) }
+    ensures { Means profile (script_tree (map line_of lines.now)) input.now (files store.old) out.old.items out.new.items (files store.new) result }
 {
     let mut rest = input;
     let mut verdict = Verdict::firm(alloc);

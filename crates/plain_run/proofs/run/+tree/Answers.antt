@@ -1,8 +1,8 @@
 -- Each node's value is made of what its parts gave, and each fault that a part returned is due.
-use Rattle.std.proofs.Common.{◌≡◌, ◌<◌, ◌↔◌, IsTrue, true, ap, sym, ◌∙◌, subst, Ok, Some, [], length}
+use Rattle.std.proofs.Common.{◌≡◌, ◌<◌, ◌↔◌, IsTrue, true, ap, sym, ◌∙◌, subst, Ok, Some, [], length, rules}
 use Rattle.std.specs.Prelude.{option_copied}
-use Rattle.std.proofs.lemmas.Result.{err_from_is_err_and, IfOk-weaker}
-use Rattle.sh_tree.specs.Tree.{pipe, tree_of}
+use Rattle.std.proofs.lemmas.Result.{err_from_is_err_and}
+use Rattle.sh_tree.specs.Tree.{pipe, redir, tree_of}
 use Rattle.mem_files.specs.Name.{is_openable}
 use Rattle.mem_files.specs.Files.{files, with_file}
 use Rattle.mem_files.specs.Listing.{max_size}
@@ -13,26 +13,60 @@ use Rattle.meaning_model.specs.Meaning.{meaning, over_end}
 use Rattle.meaning_model.specs.Settled.{IsSettled}
 use Rattle.plain_progs.specs.Gives.{Gives, IsDue}
 use Rattle.plain_run.specs.Tells.{Tells}
-use Rattle.plain_run.proofs.CatPipes.{into_cat_settled}
+use Rattle.plain_run.specs.Means.{Means}
+use Rattle.plain_run.proofs.CatPipes.{after_cat_gives, after_cat_settled, into_cat}
 use Rattle.plain_run.proofs.Settling.{into_settled, from_settled, list_is_settled, pipe_is_settled}
-use Rattle.plain_run.proofs.Steps.{due_right, due_later, list_gives, still_there, into_gives, due_body, due_end}
-use Rattle.plain_run.proofs.Verdicts.{into_tells, list_tells, pipe_tells}
+use Rattle.plain_run.proofs.Steps.{from_gives, due_right, due_later, list_gives, still_there, into_gives, due_body, due_end}
+use Rattle.plain_run.proofs.Verdicts.{from_tells, into_tells, list_tells, pipe_tells}
 use Rattle.plain_run.proofs.run.+tree.Goals as goal
 
-pub run_from_file-returns-clause-settled : goal.run_from_file-returns-clause-settled
-run_from_file-returns-clause-settled g t c =
+pub run_from_file-returns : goal.run_from_file-returns
+run_from_file-returns g t c =
     let T = tree_of c.args.body.now in
-    let is : found (files c.args.store.now) c.args.name.now ≡ Some c.as_slice.result.now =
+    let F = files c.args.store.now in
+    let bytes = c.as_slice.result.now in
+    let is : found F c.args.name.now ≡ Some bytes =
     sym c.find.ensures ∙ ap option_copied c.in-Some.is ∙ ap Some (sym (c.as_slice.ensures ∙ c.in_ok-bytes.ensures))
     in
-    from_settled c.args.profile c.args.name.now T c.args.input.now c.as_slice.result.now (files c.args.store.now) c.in_ok-ran.ran.verdict.soft.items c.in_ok-ran.ran.verdict.is_settled c.from_file.result.is_settled is c.in_ok-ran.ensures.tells.soft c.in_ok-ran.ensures.settled c.from_file.ensures.settled
+    record {
+      gives = from_gives c.args.profile c.args.name.now T c.args.input.now bytes c.args.out.now.items c.run_tree.new.out.items c.in_ok-ran.ran.rest.now F (files c.run_tree.new.store) is c.in_ok-ran.ensures.gives;
+      tells = from_tells c.args.profile c.args.name.now T c.args.input.now bytes F c.in_ok-ran.ran.verdict.is_loose c.from_file.result.is_loose c.in_ok-ran.ran.verdict.soft.items c.from_file.result.soft.items is c.in_ok-ran.ensures.tells c.from_file.ensures.loose c.from_file.ensures.soft;
+      settled = from_settled c.args.profile c.args.name.now T c.args.input.now bytes F c.in_ok-ran.ran.verdict.soft.items c.in_ok-ran.ran.verdict.is_settled c.from_file.result.is_settled is c.in_ok-ran.ensures.tells.soft c.in_ok-ran.ensures.settled c.from_file.ensures.settled;
+      large = tt;
+    }
 
-pub run_into_file-returns-in_err-ran-clause-large : goal.run_into_file-returns-in_err-ran-clause-large
-run_into_file-returns-in_err-ran-clause-large g t c =
-    let p = err_from_is_err_and c.from_residual-in_err-ran.result c.from_residual-in_err-ran.ensures.1 in
-    let open' = c.in_ok-open_output.ensures.opened (ap Ok c.if-not-branch.false) in
-    let good : is_openable c.args.name.now ≡ true = sym c.in_ok-open_output.ensures.answer ∙ c.if-not-branch.false in
-    rw (p.1, p.2) (due_body c.args.profile c.args.mode c.args.name.now (tree_of c.args.body.now) c.args.input.now (files c.args.store.now) (files c.open_output.new.store) c.in_err-ran.field-0.0 c.requires good open' c.in_err-ran.ensures.large)
+pub run_into_file-returns-in_err-ran : goal.run_into_file-returns-in_err-ran
+run_into_file-returns-in_err-ran g t c = λ old.
+    record {
+      gives = search rules;
+      tells = search rules;
+      settled = search rules;
+      large = (
+          let p = err_from_is_err_and c.from_residual-in_err-ran.result c.from_residual-in_err-ran.ensures.1 in
+          let open' = c.in_ok-open_output.ensures.opened (ap Ok c.if-not-branch.false) in
+          let good : is_openable c.args.name.now ≡ true = sym c.in_ok-open_output.ensures.answer ∙ c.if-not-branch.false in
+          rw (p.1, p.2) (due_body c.args.profile c.args.mode c.args.name.now (tree_of c.args.body.now) c.args.input.now (files c.args.store.now) (files c.open_output.new.store) c.in_err-ran.field-0.0 c.requires good open' c.in_err-ran.ensures.large)
+          );
+    }
+
+pub run_into_file-returns-in_err-close_output : goal.run_into_file-returns-in_err-close_output
+run_into_file-returns-in_err-close_output g t c = λ old.
+    record {
+      gives = search rules;
+      tells = search rules;
+      settled = search rules;
+      large = (
+          let T = tree_of c.args.body.now in
+          let p = err_from_is_err_and c.from_residual-in_err-close_output.result c.from_residual-in_err-close_output.ensures.1 in
+          let open' = c.in_ok-open_output.ensures.opened (ap Ok c.if-not-branch.false) in
+          let good : is_openable c.args.name.now ≡ true = sym c.in_ok-open_output.ensures.answer ∙ c.if-not-branch.false in
+          let gives = subst (λ F. Gives (meaning c.args.profile T c.args.input.now F) [] c.run_tree.new.out.items c.in_ok-ran.ran.rest.now (files c.run_tree.new.store)) open'
+          (subst (λ none. Gives (meaning c.args.profile T c.args.input.now (files c.open_output.new.store)) none c.run_tree.new.out.items c.in_ok-ran.ran.rest.now (files c.run_tree.new.store)) c.new-written.ensures.items c.in_ok-ran.ensures.gives)
+          in
+          let large = subst (λ h. IsDue (max_size < length (over_end c.args.profile h c.run_tree.new.out.items)) c.in_err-close_output.field-0.0) c.in_ok-held.ensures c.in_err-close_output.ensures.large in
+          rw (p.1, p.2) (due_end c.args.profile c.args.mode c.args.name.now T c.args.input.now c.run_tree.new.out.items c.in_ok-ran.ran.rest.now (files c.args.store.now) (files c.run_tree.new.store) c.in_err-close_output.field-0.0 c.requires good gives large)
+          );
+    }
 
 pub run_into_file-close_output-requires-clause-present : goal.run_into_file-close_output-requires-clause-present
 run_into_file-close_output-requires-clause-present g t c =
@@ -43,103 +77,132 @@ run_into_file-close_output-requires-clause-present g t c =
     in
     still_there c.args.profile c.args.mode c.args.name.now T c.args.input.now c.run_tree.new.out.items c.in_ok-ran.ran.rest.now (files c.args.store.now) (files c.run_tree.new.store) c.requires gives
 
-pub run_into_file-returns-in_err-close_output-clause-large : goal.run_into_file-returns-in_err-close_output-clause-large
-run_into_file-returns-in_err-close_output-clause-large g t c =
-    let T = tree_of c.args.body.now in
-    let p = err_from_is_err_and c.from_residual-in_err-close_output.result c.from_residual-in_err-close_output.ensures.1 in
-    let open' = c.in_ok-open_output.ensures.opened (ap Ok c.if-not-branch.false) in
-    let good : is_openable c.args.name.now ≡ true = sym c.in_ok-open_output.ensures.answer ∙ c.if-not-branch.false in
-    let gives = subst (λ F. Gives (meaning c.args.profile T c.args.input.now F) [] c.run_tree.new.out.items c.in_ok-ran.ran.rest.now (files c.run_tree.new.store)) open'
-    (subst (λ none. Gives (meaning c.args.profile T c.args.input.now (files c.open_output.new.store)) none c.run_tree.new.out.items c.in_ok-ran.ran.rest.now (files c.run_tree.new.store)) c.new-written.ensures.items c.in_ok-ran.ensures.gives)
-    in
-    let large = subst (λ h. IsDue (max_size < length (over_end c.args.profile h c.run_tree.new.out.items)) c.in_err-close_output.field-0.0) c.in_ok-held.ensures c.in_err-close_output.ensures.large in
-    rw (p.1, p.2) (due_end c.args.profile c.args.mode c.args.name.now T c.args.input.now c.run_tree.new.out.items c.in_ok-ran.ran.rest.now (files c.args.store.now) (files c.run_tree.new.store) c.in_err-close_output.field-0.0 c.requires good gives large)
+pub run_into_file-returns : goal.run_into_file-returns
+run_into_file-returns g t c = λ old.
+    record {
+      gives = (
+          let T = tree_of c.args.body.now in
+          let open' = c.in_ok-open_output.ensures.opened (ap Ok c.if-not-branch.false) in
+          let good : is_openable c.args.name.now ≡ true = sym c.in_ok-open_output.ensures.answer ∙ c.if-not-branch.false in
+          let gives = subst (λ F. Gives (meaning c.args.profile T c.args.input.now F) [] c.run_tree.new.out.items c.in_ok-ran.ran.rest.now (files c.run_tree.new.store)) open'
+          (subst (λ none. Gives (meaning c.args.profile T c.args.input.now (files c.open_output.new.store)) none c.run_tree.new.out.items c.in_ok-ran.ran.rest.now (files c.run_tree.new.store)) c.new-written.ensures.items c.in_ok-ran.ensures.gives)
+          in
+          let end = c.in_ok-close_output.ensures.closed ∙ ap (λ h. with_file (files c.run_tree.new.store) c.args.name.now (over_end c.args.profile h c.run_tree.new.out.items)) c.in_ok-held.ensures in
+          into_gives c.args.profile c.args.mode c.args.name.now T c.args.input.now old c.run_tree.new.out.items c.in_ok-ran.ran.rest.now (files c.args.store.now) (files c.run_tree.new.store) (files c.close_output.new.store) c.requires good gives end
+          );
+      tells = (
+          let open' = c.in_ok-open_output.ensures.opened (ap Ok c.if-not-branch.false) in
+          let good : is_openable c.args.name.now ≡ true = sym c.in_ok-open_output.ensures.answer ∙ c.if-not-branch.false in
+          into_tells c.args.profile c.args.mode c.args.name.now (tree_of c.args.body.now) c.args.input.now (files c.args.store.now) (files c.open_output.new.store) c.in_ok-ran.ran.verdict.is_loose c.into_file.result.is_loose c.in_ok-ran.ran.verdict.soft.items c.into_file.result.soft.items c.requires good open' c.in_ok-ran.ensures.tells c.into_file.ensures.loose c.into_file.ensures.soft
+          );
+      settled = (
+          let open' = c.in_ok-open_output.ensures.opened (ap Ok c.if-not-branch.false) in
+          let good : is_openable c.args.name.now ≡ true = sym c.in_ok-open_output.ensures.answer ∙ c.if-not-branch.false in
+          into_settled c.args.profile c.args.mode c.args.name.now (tree_of c.args.body.now) c.args.input.now (files c.args.store.now) (files c.open_output.new.store) c.in_ok-ran.ran.verdict.soft.items c.in_ok-ran.ran.verdict.is_settled c.into_file.result.is_settled c.requires good open' c.in_ok-ran.ensures.tells.soft c.in_ok-ran.ensures.settled c.into_file.ensures.settled
+          );
+      large = tt;
+    }
 
-pub run_into_file-returns-clause-gives : goal.run_into_file-returns-clause-gives
-run_into_file-returns-clause-gives g t c =
-    let T = tree_of c.args.body.now in
-    let open' = c.in_ok-open_output.ensures.opened (ap Ok c.if-not-branch.false) in
-    let good : is_openable c.args.name.now ≡ true = sym c.in_ok-open_output.ensures.answer ∙ c.if-not-branch.false in
-    let gives = subst (λ F. Gives (meaning c.args.profile T c.args.input.now F) [] c.run_tree.new.out.items c.in_ok-ran.ran.rest.now (files c.run_tree.new.store)) open'
-    (subst (λ none. Gives (meaning c.args.profile T c.args.input.now (files c.open_output.new.store)) none c.run_tree.new.out.items c.in_ok-ran.ran.rest.now (files c.run_tree.new.store)) c.new-written.ensures.items c.in_ok-ran.ensures.gives)
-    in
-    let end = c.in_ok-close_output.ensures.closed ∙ ap (λ h. with_file (files c.run_tree.new.store) c.args.name.now (over_end c.args.profile h c.run_tree.new.out.items)) c.in_ok-held.ensures in
-    λ old. into_gives c.args.profile c.args.mode c.args.name.now T c.args.input.now old c.run_tree.new.out.items c.in_ok-ran.ran.rest.now (files c.args.store.now) (files c.run_tree.new.store) (files c.close_output.new.store) c.requires good gives end
+pub run_list-returns-in_err-second : goal.run_list-returns-in_err-second
+run_list-returns-in_err-second g t c =
+    record {
+      gives = search rules;
+      tells = search rules;
+      settled = search rules;
+      large = (
+          let p = err_from_is_err_and c.from_residual-in_err-second.result c.from_residual-in_err-second.ensures.1 in
+          rw (p.1, p.2) (due_later c.args.profile (tree_of c.args.left.now) (tree_of c.args.right.now) c.args.input.now c.args.out.now.items c.run_tree.new.out.items c.in_ok-first.first.rest.now (files c.args.store.now) (files c.run_tree.new.store) c.in_err-second.field-0.0 c.in_ok-first.ensures.gives c.in_err-second.ensures.large)
+          );
+    }
 
-pub run_into_file-returns-clause-tells : goal.run_into_file-returns-clause-tells
-run_into_file-returns-clause-tells g t c =
-    let open' = c.in_ok-open_output.ensures.opened (ap Ok c.if-not-branch.false) in
-    let good : is_openable c.args.name.now ≡ true = sym c.in_ok-open_output.ensures.answer ∙ c.if-not-branch.false in
-    into_tells c.args.profile c.args.mode c.args.name.now (tree_of c.args.body.now) c.args.input.now (files c.args.store.now) (files c.open_output.new.store) c.in_ok-ran.ran.verdict.is_loose c.into_file.result.is_loose c.in_ok-ran.ran.verdict.soft.items c.into_file.result.soft.items c.requires good open' c.in_ok-ran.ensures.tells c.into_file.ensures.loose c.into_file.ensures.soft
+pub run_list-returns : goal.run_list-returns
+run_list-returns g t c =
+    record {
+      gives = (
+          list_gives c.args.profile (tree_of c.args.left.now) (tree_of c.args.right.now) c.args.input.now c.args.out.now.items c.run_tree.new.out.items c.run_tree-2.new.out.items c.in_ok-first.first.rest.now c.in_ok-second.second.rest.now (files c.args.store.now) (files c.run_tree.new.store) (files c.run_tree-2.new.store) c.in_ok-first.ensures.gives c.in_ok-second.ensures.gives
+          );
+      tells = (
+          list_tells c.args.profile (tree_of c.args.left.now) (tree_of c.args.right.now) c.args.input.now c.args.out.now.items c.run_tree.new.out.items c.in_ok-first.first.rest.now (files c.args.store.now) (files c.run_tree.new.store) c.in_ok-first.first.verdict.is_loose c.in_ok-second.second.verdict.is_loose c.in_ok-verdict.verdict.is_loose c.in_ok-first.first.verdict.soft.items c.in_ok-second.second.verdict.soft.items c.in_ok-verdict.verdict.soft.items c.in_ok-first.ensures.gives c.in_ok-first.ensures.tells c.in_ok-second.ensures.tells c.in_ok-verdict.ensures.loose c.in_ok-verdict.ensures.soft
+          );
+      settled = (
+          let V = c.in_ok-first.first.verdict in
+          let W = c.in_ok-second.second.verdict in
+          list_is_settled c.args.profile (tree_of c.args.left.now) (tree_of c.args.right.now) c.args.input.now c.args.out.now.items c.run_tree.new.out.items c.in_ok-first.first.rest.now (files c.args.store.now) (files c.run_tree.new.store) V.is_settled W.is_settled c.in_ok-verdict.verdict.is_settled V.is_loose W.is_loose V.soft.items W.soft.items c.in_ok-first.ensures.gives c.in_ok-first.ensures.tells c.in_ok-second.ensures.tells c.in_ok-first.ensures.settled c.in_ok-second.ensures.settled c.in_ok-verdict.ensures.settled
+          );
+      large = tt;
+    }
 
-pub run_into_file-returns-clause-settled : goal.run_into_file-returns-clause-settled
-run_into_file-returns-clause-settled g t c =
-    let open' = c.in_ok-open_output.ensures.opened (ap Ok c.if-not-branch.false) in
-    let good : is_openable c.args.name.now ≡ true = sym c.in_ok-open_output.ensures.answer ∙ c.if-not-branch.false in
-    into_settled c.args.profile c.args.mode c.args.name.now (tree_of c.args.body.now) c.args.input.now (files c.args.store.now) (files c.open_output.new.store) c.in_ok-ran.ran.verdict.soft.items c.in_ok-ran.ran.verdict.is_settled c.into_file.result.is_settled c.requires good open' c.in_ok-ran.ensures.tells.soft c.in_ok-ran.ensures.settled c.into_file.ensures.settled
+pub run_sides-returns-in_err-second : goal.run_sides-returns-in_err-second
+run_sides-returns-in_err-second g t c =
+    record {
+      gives = search rules;
+      tells = search rules;
+      settled = search rules;
+      large = (
+          let L = tree_of c.args.left.now in
+          let R = tree_of c.args.right.now in
+          let p = err_from_is_err_and c.from_residual-in_err-second.result c.from_residual-in_err-second.ensures.1 in
+          let first = subst (λ none. Gives (meaning c.args.profile L c.args.input.now (files c.args.store.now)) none c.run_tree.new.out.items c.in_ok-first.first.rest.now (files c.run_tree.new.store)) c.new-middle.ensures.items c.in_ok-first.ensures.gives in
+          let large = subst (λ m. IsDue (Outgrows c.args.profile R m (files c.run_tree.new.store)) c.in_err-second.field-0.0) c.as_slice.ensures.value c.in_err-second.ensures.large in
+          rw (p.1, p.2) (due_right c.args.profile L R c.args.input.now c.run_tree.new.out.items c.in_ok-first.first.rest.now (files c.args.store.now) (files c.run_tree.new.store) c.in_err-second.field-0.0 first large)
+          );
+    }
 
-pub run_list-returns-in_err-second-clause-large : goal.run_list-returns-in_err-second-clause-large
-run_list-returns-in_err-second-clause-large g t c =
-    let p = err_from_is_err_and c.from_residual-in_err-second.result c.from_residual-in_err-second.ensures.1 in
-    rw (p.1, p.2) (due_later c.args.profile (tree_of c.args.left.now) (tree_of c.args.right.now) c.args.input.now c.args.out.now.items c.run_tree.new.out.items c.in_ok-first.first.rest.now (files c.args.store.now) (files c.run_tree.new.store) c.in_err-second.field-0.0 c.in_ok-first.ensures.gives c.in_err-second.ensures.large)
+pub run_sides-returns : goal.run_sides-returns
+run_sides-returns g t c =
+    record {
+      gives = search rules;
+      tells = (
+          let L = tree_of c.args.left.now in
+          let R = tree_of c.args.right.now in
+          let first = subst (λ none. Gives (meaning c.args.profile L c.args.input.now (files c.args.store.now)) none c.run_tree.new.out.items c.in_ok-first.first.rest.now (files c.run_tree.new.store)) c.new-middle.ensures.items c.in_ok-first.ensures.gives in
+          let unread = subst (λ m. c.in_ok-second.second.rest.now ≡ (meaning c.args.profile R m (files c.run_tree.new.store)).rest) c.as_slice.ensures.value c.in_ok-second.ensures.gives.rest in
+          let told = subst (λ m. Tells (meaning c.args.profile R m (files c.run_tree.new.store)) c.in_ok-second.second.verdict.is_loose c.in_ok-second.second.verdict.soft.items) c.as_slice.ensures.value c.in_ok-second.ensures.tells in
+          pipe_tells c.args.profile L R c.args.input.now c.run_tree.new.out.items c.in_ok-first.first.rest.now c.in_ok-second.second.rest.now (files c.args.store.now) (files c.run_tree.new.store) c.is_cut-is_cut.result c.in_ok-first.first.verdict.is_loose c.in_ok-second.second.verdict.is_loose c.in_ok-verdict.verdict.is_loose c.in_ok-first.first.verdict.soft.items c.in_ok-second.second.verdict.soft.items c.in_ok-verdict.verdict.soft.items first c.in_ok-first.ensures.tells unread told c.is_cut-is_cut.ensures c.in_ok-verdict.ensures.loose c.in_ok-verdict.ensures.soft
+          );
+      settled = (
+          let L = tree_of c.args.left.now in
+          let R = tree_of c.args.right.now in
+          let first = subst (λ none. Gives (meaning c.args.profile L c.args.input.now (files c.args.store.now)) none c.run_tree.new.out.items c.in_ok-first.first.rest.now (files c.run_tree.new.store)) c.new-middle.ensures.items c.in_ok-first.ensures.gives in
+          let unread = subst (λ m. c.in_ok-second.second.rest.now ≡ (meaning c.args.profile R m (files c.run_tree.new.store)).rest) c.as_slice.ensures.value c.in_ok-second.ensures.gives.rest in
+          let told = subst (λ m. Tells (meaning c.args.profile R m (files c.run_tree.new.store)) c.in_ok-second.second.verdict.is_loose c.in_ok-second.second.verdict.soft.items) c.as_slice.ensures.value c.in_ok-second.ensures.tells in
+          let right = subst (λ m. IsTrue c.in_ok-second.second.verdict.is_settled ↔ IsSettled c.args.profile R no_names m (files c.run_tree.new.store)) c.as_slice.ensures.value c.in_ok-second.ensures.settled in
+          let V = c.in_ok-first.first.verdict in
+          let W = c.in_ok-second.second.verdict in
+          pipe_is_settled c.args.profile L R c.args.input.now c.run_tree.new.out.items c.in_ok-first.first.rest.now c.in_ok-second.second.rest.now (files c.args.store.now) (files c.run_tree.new.store) c.is_cut-is_cut.result V.is_settled W.is_settled c.in_ok-verdict.verdict.is_settled V.is_loose W.is_loose V.soft.items W.soft.items first c.in_ok-first.ensures.tells unread told c.is_cut-is_cut.ensures c.in_ok-first.ensures.settled right c.in_ok-verdict.ensures.settled
+          );
+      large = tt;
+    }
 
-pub run_list-returns-clause-gives : goal.run_list-returns-clause-gives
-run_list-returns-clause-gives g t c =
-    list_gives c.args.profile (tree_of c.args.left.now) (tree_of c.args.right.now) c.args.input.now c.args.out.now.items c.run_tree.new.out.items c.run_tree-2.new.out.items c.in_ok-first.first.rest.now c.in_ok-second.second.rest.now (files c.args.store.now) (files c.run_tree.new.store) (files c.run_tree-2.new.store) c.in_ok-first.ensures.gives c.in_ok-second.ensures.gives
-
-pub run_list-returns-clause-tells : goal.run_list-returns-clause-tells
-run_list-returns-clause-tells g t c =
-    list_tells c.args.profile (tree_of c.args.left.now) (tree_of c.args.right.now) c.args.input.now c.args.out.now.items c.run_tree.new.out.items c.in_ok-first.first.rest.now (files c.args.store.now) (files c.run_tree.new.store) c.in_ok-first.first.verdict.is_loose c.in_ok-second.second.verdict.is_loose c.in_ok-verdict.verdict.is_loose c.in_ok-first.first.verdict.soft.items c.in_ok-second.second.verdict.soft.items c.in_ok-verdict.verdict.soft.items c.in_ok-first.ensures.gives c.in_ok-first.ensures.tells c.in_ok-second.ensures.tells c.in_ok-verdict.ensures.loose c.in_ok-verdict.ensures.soft
-
-pub run_list-returns-clause-settled : goal.run_list-returns-clause-settled
-run_list-returns-clause-settled g t c =
-    let V = c.in_ok-first.first.verdict in
-    let W = c.in_ok-second.second.verdict in
-    list_is_settled c.args.profile (tree_of c.args.left.now) (tree_of c.args.right.now) c.args.input.now c.args.out.now.items c.run_tree.new.out.items c.in_ok-first.first.rest.now (files c.args.store.now) (files c.run_tree.new.store) V.is_settled W.is_settled c.in_ok-verdict.verdict.is_settled V.is_loose W.is_loose V.soft.items W.soft.items c.in_ok-first.ensures.gives c.in_ok-first.ensures.tells c.in_ok-second.ensures.tells c.in_ok-first.ensures.settled c.in_ok-second.ensures.settled c.in_ok-verdict.ensures.settled
-
-pub run_sides-returns-in_err-second-clause-large : goal.run_sides-returns-in_err-second-clause-large
-run_sides-returns-in_err-second-clause-large g t c =
-    let L = tree_of c.args.left.now in
-    let R = tree_of c.args.right.now in
-    let p = err_from_is_err_and c.from_residual-in_err-second.result c.from_residual-in_err-second.ensures.1 in
-    let first = subst (λ none. Gives (meaning c.args.profile L c.args.input.now (files c.args.store.now)) none c.run_tree.new.out.items c.in_ok-first.first.rest.now (files c.run_tree.new.store)) c.new-middle.ensures.items c.in_ok-first.ensures.gives in
-    let large = subst (λ m. IsDue (Outgrows c.args.profile R m (files c.run_tree.new.store)) c.in_err-second.field-0.0) c.as_slice.ensures.value c.in_err-second.ensures.large in
-    rw (p.1, p.2) (due_right c.args.profile L R c.args.input.now c.run_tree.new.out.items c.in_ok-first.first.rest.now (files c.args.store.now) (files c.run_tree.new.store) c.in_err-second.field-0.0 first large)
-
-pub run_sides-returns-clause-tells : goal.run_sides-returns-clause-tells
-run_sides-returns-clause-tells g t c =
-    let L = tree_of c.args.left.now in
-    let R = tree_of c.args.right.now in
-    let first = subst (λ none. Gives (meaning c.args.profile L c.args.input.now (files c.args.store.now)) none c.run_tree.new.out.items c.in_ok-first.first.rest.now (files c.run_tree.new.store)) c.new-middle.ensures.items c.in_ok-first.ensures.gives in
-    let unread = subst (λ m. c.in_ok-second.second.rest.now ≡ (meaning c.args.profile R m (files c.run_tree.new.store)).rest) c.as_slice.ensures.value c.in_ok-second.ensures.gives.rest in
-    let told = subst (λ m. Tells (meaning c.args.profile R m (files c.run_tree.new.store)) c.in_ok-second.second.verdict.is_loose c.in_ok-second.second.verdict.soft.items) c.as_slice.ensures.value c.in_ok-second.ensures.tells in
-    pipe_tells c.args.profile L R c.args.input.now c.run_tree.new.out.items c.in_ok-first.first.rest.now c.in_ok-second.second.rest.now (files c.args.store.now) (files c.run_tree.new.store) c.is_cut-is_cut.result c.in_ok-first.first.verdict.is_loose c.in_ok-second.second.verdict.is_loose c.in_ok-verdict.verdict.is_loose c.in_ok-first.first.verdict.soft.items c.in_ok-second.second.verdict.soft.items c.in_ok-verdict.verdict.soft.items first c.in_ok-first.ensures.tells unread told c.is_cut-is_cut.ensures c.in_ok-verdict.ensures.loose c.in_ok-verdict.ensures.soft
-
-pub run_sides-returns-clause-settled : goal.run_sides-returns-clause-settled
-run_sides-returns-clause-settled g t c =
-    let L = tree_of c.args.left.now in
-    let R = tree_of c.args.right.now in
-    let first = subst (λ none. Gives (meaning c.args.profile L c.args.input.now (files c.args.store.now)) none c.run_tree.new.out.items c.in_ok-first.first.rest.now (files c.run_tree.new.store)) c.new-middle.ensures.items c.in_ok-first.ensures.gives in
-    let unread = subst (λ m. c.in_ok-second.second.rest.now ≡ (meaning c.args.profile R m (files c.run_tree.new.store)).rest) c.as_slice.ensures.value c.in_ok-second.ensures.gives.rest in
-    let told = subst (λ m. Tells (meaning c.args.profile R m (files c.run_tree.new.store)) c.in_ok-second.second.verdict.is_loose c.in_ok-second.second.verdict.soft.items) c.as_slice.ensures.value c.in_ok-second.ensures.tells in
-    let right = subst (λ m. IsTrue c.in_ok-second.second.verdict.is_settled ↔ IsSettled c.args.profile R no_names m (files c.run_tree.new.store)) c.as_slice.ensures.value c.in_ok-second.ensures.settled in
-    let V = c.in_ok-first.first.verdict in
-    let W = c.in_ok-second.second.verdict in
-    pipe_is_settled c.args.profile L R c.args.input.now c.run_tree.new.out.items c.in_ok-first.first.rest.now c.in_ok-second.second.rest.now (files c.args.store.now) (files c.run_tree.new.store) c.is_cut-is_cut.result V.is_settled W.is_settled c.in_ok-verdict.verdict.is_settled V.is_loose W.is_loose V.soft.items W.soft.items first c.in_ok-first.ensures.tells unread told c.is_cut-is_cut.ensures c.in_ok-first.ensures.settled right c.in_ok-verdict.ensures.settled
-
-pub run_pipe-returns-then-is_bare_cat-clause-settled : goal.run_pipe-returns-then-is_bare_cat-clause-settled
-run_pipe-returns-then-is_bare_cat-clause-settled g t c =
+pub run_pipe-returns-then-is_bare_cat : goal.run_pipe-returns-then-is_bare_cat
+run_pipe-returns-then-is_bare_cat g t c =
     let L = tree_of c.args.left.now in
     let F = files c.args.store.now in
-    let alone = c.is_bare_cat.ensures.0 c.if-is_bare_cat.true in
-    IfOk-weaker c.run_tree.result _ _
-    (λ ran settled. subst (λ R. IsTrue ran.verdict.is_settled ↔ IsSettled c.args.profile (pipe L R) no_names c.args.input.now F) (sym alone)
-    (into_cat_settled c.args.profile L c.args.input.now F ran.verdict.is_settled settled))
-    c.run_tree.ensures.settled
+    let new = c.run_tree.new.out.items in
+    let G = files c.run_tree.new.store in
+    subst (λ R. Means c.args.profile (pipe L R) c.args.input.now F c.args.out.now.items new G c.run_tree.result) (sym (c.is_bare_cat.ensures.0 c.if-is_bare_cat.true))
+    (into_cat c.args.profile L c.args.input.now F c.args.out.now.items new G c.run_tree.result c.run_tree.ensures)
 
-pub run_pipe-returns-then-is_bare_cat-2-clause-settled : goal.run_pipe-returns-then-is_bare_cat-2-clause-settled
-run_pipe-returns-then-is_bare_cat-2-clause-settled g t c =
-    let alone = c.is_bare_cat-2.ensures.0 c.if-is_bare_cat-2.true in
-    IfOk-weaker c.run_after_cat.result _ _
-    (λ ran settled. subst (λ L. IsTrue ran.verdict.is_settled ↔ IsSettled c.args.profile (pipe L (tree_of c.args.right.now)) no_names c.args.input.now (files c.args.store.now)) (sym alone) settled)
-    c.run_after_cat.ensures.settled
+pub run_pipe-returns-then-is_bare_cat-2 : goal.run_pipe-returns-then-is_bare_cat-2
+run_pipe-returns-then-is_bare_cat-2 g t c =
+    subst (λ L. Means c.args.profile (pipe L (tree_of c.args.right.now)) c.args.input.now (files c.args.store.now) c.args.out.now.items c.run_after_cat.new.out.items (files c.run_after_cat.new.store) c.run_after_cat.result) (sym (c.is_bare_cat-2.ensures.0 c.if-is_bare_cat-2.true))
+    c.run_after_cat.ensures
+
+pub run_after_cat-returns : goal.run_after_cat-returns
+run_after_cat-returns g t c =
+    let R = tree_of c.args.right.now in
+    let F = files c.args.store.now in
+    record {
+      gives = after_cat_gives c.args.profile R c.args.input.now c.args.out.now.items c.run_tree.new.out.items c.in_ok-ran.ran.rest.now F (files c.run_tree.new.store) c.in_ok-ran.ensures.gives;
+      tells = search rules;
+      settled = after_cat_settled c.args.profile R c.args.input.now F c.with_looseness.result.is_settled (subst (λ b. IsTrue b ↔ IsSettled c.args.profile R no_names c.args.input.now F) (sym c.with_looseness.ensures.settled) c.in_ok-ran.ensures.settled);
+      large = tt;
+    }
+
+pub run_tree-returns-in-Redir : goal.run_tree-returns-in-Redir
+run_tree-returns-in-Redir g t c =
+    let is : tree_of c.args.tree.now ≡ redir c.in-Redir.mode c.as_slice-in-Redir.result.now (tree_of c.deref-in-Redir.result.now) =
+    ap tree_of c.in-Redir.is ∙ (λ i. redir c.in-Redir.mode (sym c.as_slice-in-Redir.ensures i) (tree_of (sym c.deref-in-Redir.ensures i)))
+    in
+    subst (λ T. Means c.args.profile T c.args.input.now (files c.args.store.now) c.args.out.now.items c.args.out.now.items (files c.run_into_file.new.store) c.run_into_file.result) (sym is)
+    (c.run_into_file.ensures c.args.out.now.items)

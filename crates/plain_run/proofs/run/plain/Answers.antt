@@ -1,9 +1,10 @@
 -- The soft names are those of the run, in order.
-use Rattle.std.proofs.Common.{◌≡◌, ◌↔◌, IsTrue, false, subst, ap, sym, ◌∙◌, rules, List, ℕ}
-use Rattle.mem_files.specs.Files.{files}
+use Rattle.std.proofs.Common.{◌≡◌, ◌↔◌, IsTrue, false, subst, ap, sym, ◌∙◌, ◌++◌, rules, List, ℕ}
+use Rattle.mem_files.specs.Files.{FileMap, files}
 use Rattle.prog_parts.specs.NameSets.{among}
 use Rattle.script_load.specs.Line.{lines_of}
 use Rattle.meaning_model.specs.Meaning.{script_meaning}
+use Rattle.plain_progs.specs.Gives.{Gives}
 use Rattle.plain_run.specs.Tells.{Tells}
 use Rattle.plain_run.proofs.NameSets.{contained, contains}
 use Rattle.conflict_check.specs.Clear.{has_back, IsClear}
@@ -14,10 +15,55 @@ use Rattle.plain_run.proofs.SettledLines.{clear_and_settled, not_clear}
 use Rattle.plain_run.proofs.run.plain.Goals.{then-are_clear, else-are_clear}
 use Rattle.plain_run.proofs.run.plain.Goals as goal
 
+pub returns-clause-out : goal.returns-clause-out
+returns-clause-out g c =
+    let P = c.args.script.now.profile in
+    let lines = lines_of c.args.script.now.lines in
+    let stdin = c.args.stdin.now in
+    let F = files c.args.given.now in
+    let same : files c.in-Ok.store ≡ F = search rules in
+    let old = c.new-out.result.items in
+    let new = c.run_lines.new.out.items in
+    let rest = c.in_ok-ran.ran.rest.now in
+    let H = files c.run_lines.new.store in
+    let gives = subst (λ G. Gives (script_meaning P lines stdin G) old new rest H) same (subst (λ ls. Gives (script_meaning P ls stdin (files c.in-Ok.store)) old new rest H) c.as_slice.ensures c.in_ok-ran.ensures.gives) in
+    c.from_vec.ensures ∙ gives.out ∙ ap (λ before. before ++ (script_meaning P lines stdin F).out) c.new-out.ensures.items
+
+pub returns-clause-rest : goal.returns-clause-rest
+returns-clause-rest g c =
+    let P = c.args.script.now.profile in
+    let lines = lines_of c.args.script.now.lines in
+    let stdin = c.args.stdin.now in
+    let F = files c.args.given.now in
+    let same : files c.in-Ok.store ≡ F = search rules in
+    let old = c.new-out.result.items in
+    let new = c.run_lines.new.out.items in
+    let rest = c.in_ok-ran.ran.rest.now in
+    let H = files c.run_lines.new.store in
+    let gives = subst (λ G. Gives (script_meaning P lines stdin G) old new rest H) same (subst (λ ls. Gives (script_meaning P ls stdin (files c.in-Ok.store)) old new rest H) c.as_slice.ensures c.in_ok-ran.ensures.gives) in
+    c.in_ok-copy_of.ensures ∙ gives.rest
+
+pub returns-clause-files : goal.returns-clause-files
+returns-clause-files g c =
+    let P = c.args.script.now.profile in
+    let lines = lines_of c.args.script.now.lines in
+    let stdin = c.args.stdin.now in
+    let F = files c.args.given.now in
+    let same : files c.in-Ok.store ≡ F = search rules in
+    let old = c.new-out.result.items in
+    let new = c.run_lines.new.out.items in
+    let rest = c.in_ok-ran.ran.rest.now in
+    let H = files c.run_lines.new.store in
+    let gives = subst (λ G. Gives (script_meaning P lines stdin G) old new rest H) same (subst (λ ls. Gives (script_meaning P ls stdin (files c.in-Ok.store)) old new rest H) c.as_slice.ensures c.in_ok-ran.ensures.gives) in
+    λ name. ap (λ store. files store name) c.store.view_is ∙ ap (λ (G : FileMap). G name) gives.files
+
 pub returns-clause-soft : goal.returns-clause-soft
 returns-clause-soft g c =
     let value = script_meaning c.args.script.now.profile (lines_of c.args.script.now.lines) c.args.stdin.now (files c.args.given.now) in
-    let told : Tells value c.in_ok-ran.ran.verdict.is_loose c.in_ok-ran.ran.verdict.soft.items = search rules in
+    let same_files : files c.in-Ok.store ≡ files c.args.given.now = search rules in
+    let told = subst (λ G. Tells (script_meaning c.args.script.now.profile (lines_of c.args.script.now.lines) c.args.stdin.now G) c.in_ok-ran.ran.verdict.is_loose c.in_ok-ran.ran.verdict.soft.items) same_files
+    (subst (λ ls. Tells (script_meaning c.args.script.now.profile ls c.args.stdin.now (files c.in-Ok.store)) c.in_ok-ran.ran.verdict.is_loose c.in_ok-ran.ran.verdict.soft.items) c.as_slice.ensures c.in_ok-ran.ensures.tells)
+    in
     let same : (name : List ℕ) → among c.from_vec-2.result name ≡ value.soft name =
     λ name. ap (λ ns. among ns name) c.from_vec-2.ensures ∙ c.in_ok-in_order.ensures.names name ∙ ap (λ ns. among ns name) c.as_slice-3.ensures.value ∙ told.soft name
     in

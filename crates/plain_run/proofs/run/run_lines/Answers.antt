@@ -42,16 +42,21 @@ loop-i-preserved g c =
           (c.in_ok-verdict.ensures.settled ∙ ap (λ line. c.loop-i.verdict.is_settled && own.is_settled && not c.in_ok-is_met.is_met && not (c.loop-i.verdict.is_loose && uses_input (line_tree line))) here) c.in_ok-verdict.ensures.loose;
     }
 
-pub returns-in_err-ran-clause-large : goal.returns-in_err-ran-clause-large
-returns-in_err-ran-clause-large g c =
+pub returns-in_err-ran : goal.returns-in_err-ran
+returns-in_err-ran g c =
     let p = err_from_is_err_and c.from_residual.result c.from_residual.ensures.1 in
     let lines = c.args.lines.now in
     let i = c.loop-i.i in
     let inside : i < length lines = omega arith in
     let so_far = subst (λ ls. IsRunTo c.args.profile (map line_of lines) c.args.input.now (files c.args.store.now) c.args.out.now.items ls c.loop-i.rest.now (files c.loop-i.store) c.loop-i.out.items) (next_line lines i c.index-lines-i.result inside) c.loop-i.invariant.runs in
     let here = ap line_of c.index-lines-i.is in
-    rw (p.1, p.2) (line_due c.args.profile (map line_of lines) c.args.input.now (files c.args.store.now) c.args.out.now.items _ (map line_of (drop (i + 1) lines)) c.loop-i.rest.now c.loop-i.out.items (files c.loop-i.store) c.in_err-ran.field-0.0 so_far
-    (subst (λ line. IsDue (Outgrows c.args.profile (line_tree line) c.loop-i.rest.now (files c.loop-i.store)) c.in_err-ran.field-0.0) here c.in_err-ran.ensures.large))
+    rw (p.1, p.2) (record {
+      gives = tt;
+      tells = tt;
+      settled = tt;
+      large = line_due c.args.profile (map line_of lines) c.args.input.now (files c.args.store.now) c.args.out.now.items _ (map line_of (drop (i + 1) lines)) c.loop-i.rest.now c.loop-i.out.items (files c.loop-i.store) c.in_err-ran.field-0.0 so_far
+          (subst (λ line. IsDue (Outgrows c.args.profile (line_tree line) c.loop-i.rest.now (files c.loop-i.store)) c.in_err-ran.field-0.0) here c.in_err-ran.ensures.large);
+    })
 
 pub loop-i-init : goal.loop-i-init
 loop-i-init g c = record {
@@ -61,14 +66,10 @@ loop-i-init g c = record {
   settled = settled_none c.args.profile (map line_of c.args.lines.now) c.args.input.now (files c.args.store.now) c.firm-verdict.result.is_settled c.firm-verdict.result.is_loose c.firm-verdict.ensures.settled c.firm-verdict.ensures.loose;
 }
 
-pub returns-clause-gives : goal.returns-clause-gives
-returns-clause-gives g c =
-    run_all c.args.profile (map line_of c.args.lines.now) c.args.input.now (files c.args.store.now) c.args.out.now.items (map line_of (drop c.loop-i.i c.args.lines.now)) c.loop-i.rest.now c.loop-i.out.items (files c.loop-i.store) (no_line c.args.lines.now c.loop-i.i (omega arith)) c.loop-i.invariant.runs
-
-pub returns-clause-tells : goal.returns-clause-tells
-returns-clause-tells g c =
-    told_all c.args.profile (map line_of c.args.lines.now) c.args.input.now (files c.args.store.now) (map line_of (drop c.loop-i.i c.args.lines.now)) c.loop-i.rest.now (files c.loop-i.store) c.loop-i.verdict.is_loose c.loop-i.verdict.soft.items (no_line c.args.lines.now c.loop-i.i (omega arith)) c.loop-i.invariant.tells
-
-pub returns-clause-settled : goal.returns-clause-settled
-returns-clause-settled g c =
-    settled_all c.args.profile (map line_of c.args.lines.now) c.args.input.now (files c.args.store.now) (all_names (take c.loop-i.i c.args.lines.now)) (map line_of (drop c.loop-i.i c.args.lines.now)) c.loop-i.rest.now (files c.loop-i.store) c.loop-i.verdict.is_settled c.loop-i.verdict.is_loose (no_line c.args.lines.now c.loop-i.i (omega arith)) c.loop-i.invariant.settled
+pub returns : goal.returns
+returns g c = record {
+  gives = run_all c.args.profile (map line_of c.args.lines.now) c.args.input.now (files c.args.store.now) c.args.out.now.items (map line_of (drop c.loop-i.i c.args.lines.now)) c.loop-i.rest.now c.loop-i.out.items (files c.loop-i.store) (no_line c.args.lines.now c.loop-i.i (omega arith)) c.loop-i.invariant.runs;
+  tells = told_all c.args.profile (map line_of c.args.lines.now) c.args.input.now (files c.args.store.now) (map line_of (drop c.loop-i.i c.args.lines.now)) c.loop-i.rest.now (files c.loop-i.store) c.loop-i.verdict.is_loose c.loop-i.verdict.soft.items (no_line c.args.lines.now c.loop-i.i (omega arith)) c.loop-i.invariant.tells;
+  settled = settled_all c.args.profile (map line_of c.args.lines.now) c.args.input.now (files c.args.store.now) (all_names (take c.loop-i.i c.args.lines.now)) (map line_of (drop c.loop-i.i c.args.lines.now)) c.loop-i.rest.now (files c.loop-i.store) c.loop-i.verdict.is_settled c.loop-i.verdict.is_loose (no_line c.args.lines.now c.loop-i.i (omega arith)) c.loop-i.invariant.settled;
+  large = tt;
+}
