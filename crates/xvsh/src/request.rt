@@ -5,7 +5,9 @@ ghost use Rattle.xvsh.specs.Words.{IsCheckOf, IsExplainOf, IsFlag, IsNamed, IsNu
 
 use clap::ArgMatches;
 use script_load::Profile;
-use xvsh_ends::{CheckRequest, ExplainRequest, Lists, PlainRequest, ReplayRequest, Request, RunRequest};
+use xvsh_ends::{
+    CheckRequest, ExplainRequest, Lists, PlainRequest, ReplayRequest, Request, RunRequest,
+};
 use xvsh_read::{STDIN, Source, profile_of};
 
 /// How many harts a run has, if the words name none (own).
@@ -35,10 +37,7 @@ fn path_of<'m>(words: &'m ArgMatches<'_>, name: &str) -> &'m str
 fn files_of<'m>(words: &'m ArgMatches<'_>) -> &'m [&'m str]
     ensures { ArePaths (found_of words.now) (codes "paths") result.now }
 {
-    match words.get_strs("paths") {
-        Some(paths) => paths,
-        None => &[],
-    }
+    words.get_strs("paths").unwrap_or(&[])
 }
 
 // The script, its files and its profile.

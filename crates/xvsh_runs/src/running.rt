@@ -22,7 +22,11 @@ use std::time::Clock;
 use xvsh_read::{Console, Host, Start, prepare};
 
 // Runs what was read on hart 0, on this thread alone, in at most so many turns.
-fn run_alone<'a>(alloc: Global, start: &Start, turns: u64) -> Result<Report<Global>, ProcessFault<'a>>
+fn run_alone<'a>(
+    alloc: Global,
+    start: &Start,
+    turns: u64,
+) -> Result<Report<Global>, ProcessFault<'a>>
     ensures run { IfOk result (IsRunFrom (kernel_of start.now)) }
     ensures harts { IfOk result (λ report. AreOfHarts 1 report.schedule) }
     ensures turns { IfOk result (λ report. length report.schedule ≤ turns) }
