@@ -1,4 +1,4 @@
--- Runs of one settled script on what one host tells, by processes or by meaning, write the same.
+-- Runs of one settled script on what one host states, by processes or by meaning, write the same.
 use Rattle.std.proofs.Common.{◌≢◌, true, false, List, codes, Option, None, refl, ap, subst}
 use Rattle.std.specs.Borrow.{Bor}
 use Rattle.std.specs.Io.KnownBytes.{Appends}

@@ -39,6 +39,6 @@ module _ (profile : Profile) (lines : List ScriptLine) (stdin : Bytes) (given : 
         alone = λ none. subst (Appends out out') (append-nil value.out) (subst (λ l. Appends out out' (run_text l value.out wrote.last.files events)) none writes);
       }
 
-  -- whatever the host tells, and whether standard input was taken before
+  -- whatever the host states, and whether standard input was taken before
   pub means : (input : Option Bytes) (file : Path → Option Bytes) (is_taken : Bool) (script : Path) (paths : List (Bor Path)) → Starts input file is_taken script paths lines given stdin → WritesValue (script_meaning profile lines stdin (files given)) lists events out out'
   means input file is_taken script paths starts = writes_value starts.are (script_short starts.loaded.bytes lines starts.loaded.cut)

@@ -1,4 +1,4 @@
--- Where the host tells the bytes of each file, the files at some paths are put in one way.
+-- Where the host states the bytes of each file, the files at some paths are put in one way.
 use Rattle.std.proofs.Common.{◌≡◌, ◌≢◌, true, is_some, List, [], ◌∷◌, ◌++◌, All, Option, Some, None, refl, sym, ◌∙◌, subst}
 use Rattle.std.specs.Borrow.{Bor}
 use Rattle.std.proofs.lemmas.Bool.{false≢true}

@@ -1,4 +1,4 @@
--- Where the host tells all that is read, two runs begin with the same.
+-- Where the host states all that is read, two runs begin with the same.
 use Rattle.std.proofs.Common.{◌≡◌, ◌≢◌, Bool, true, false, List, codes, Option, refl, sym, ◌∙◌, subst}
 use Rattle.std.specs.Borrow.{Bor}
 use Rattle.std.specs.Str.{bytes_eq}

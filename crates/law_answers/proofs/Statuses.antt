@@ -1,4 +1,4 @@
--- What the statuses of two runs say: a run that ends with status 0 ran, and what was told as settled is.
+-- What the statuses of two runs say: a run that ends with status 0 ran, and what was reported as settled is.
 use Rattle.std.proofs.Common.{◌≡◌, ◌≢◌, ℕ, Bool, true, false, List, ◌++◌, codes, length, Option, Some, None, refl, ap, subst, arith}
 use Rattle.std.specs.Borrow.{Bor}
 use Rattle.std.specs.Io.KnownBytes.{Appends}
@@ -6,10 +6,10 @@ use Rattle.std.proofs.lemmas.List.{append_cancel_left}
 use Rattle.mem_files.specs.Name.{Bytes}
 use Rattle.script_load.specs.declared.profile.Profile.{Profile}
 use Rattle.xvsh_read.specs.Path.{Path}
-use Rattle.xvsh_runs.specs.declared.fault.RunFault.{RunFault}
-use Rattle.xvsh_runs.specs.declared.fault.RunFault.TheVariants.{Common, BadHarts, BadTurns, Spent, SharedInput, NoEvent, NotRunnable, NotRunning, Unfinished}
+use Rattle.xvsh_runs.specs.declared.fault.ProcessFault.{ProcessFault}
+use Rattle.xvsh_runs.specs.declared.fault.ProcessFault.TheVariants.{Common, BadHarts, BadTurns, Spent, SharedInput, NoEvent, NotRunnable, NotRunning, Unfinished}
 use Rattle.xvsh_runs.specs.Status.{run_status}
-use Rattle.xvsh_ends.specs.Ends.{verdict_text, Request, asks_plain, asks_run, asks_strict, asks_check, asks_turns, asks_explain, verdict_status, help, misuse, How, by_schedule, RanBy, Ends, plain_ran, no_plain, ran, ran_full, no_run, ran_strict, strict_full, no_strict, harmless, harmful, no_check, counted, not_counted, explained, not_explained, helped, misused, no_memory, unwritten}
+use Rattle.xvsh_ends.specs.Ends.{verdict_text, Asked, asks_plain, asks_run, asks_strict, asks_check, asks_turns, asks_explain, verdict_status, help, misuse, How, by_schedule, RanBy, Ends, plain_ran, no_plain, ran, ran_full, no_run, ran_strict, strict_full, no_strict, harmless, harmful, no_check, counted, not_counted, explained, not_explained, helped, misused, no_memory, unwritten}
 use Rattle.xvsh_plain.specs.Running.{RanPlain}
 use Rattle.xvsh_strict.specs.Strict.{RanStrict}
 use Rattle.xvsh_ends.proofs.Ending.{some_status}
@@ -17,7 +17,7 @@ use Rattle.law_answers.specs.Told.{IsTold, IsSettledAt}
 use Rattle.law_answers.specs.Written.{AddsTheSame, no_lists}
 use Rattle.law_answers.proofs.Agreeing.{agrees, runs_agree}
 
-some_run_status : (fault : RunFault) → run_status fault ≢ 0
+some_run_status : (fault : ProcessFault) → run_status fault ≢ 0
 some_run_status (Common fault) is = some_status fault is
 some_run_status BadHarts is = cc
 some_run_status BadTurns is = cc
@@ -28,14 +28,14 @@ some_run_status (NotRunnable number pid) is = cc
 some_run_status (NotRunning number pid hart) is = cc
 some_run_status (Unfinished count) is = cc
 
--- a script is settled where a run of it that was asked for strictly ends with status 0
+-- a script is settled where a run of it that was requested strictly ends with status 0
 strictly_settled : (is_settled : Bool) → verdict_status true is_settled ≡ 0 → is_settled ≡ true
 strictly_settled true zero = refl
 strictly_settled false zero = cc
 
 module _ (input : Option Bytes) (file : Path → Option Bytes) (out out' err err' : Option Bytes) where
   -- what a run of the request did that ended well
-  abbrev pub DidRun : Request → Type 0
+  abbrev pub DidRun : Asked → Type 0
   DidRun (asks_plain profile script paths lists strict) = (is_settled : Bool) × RanPlain input file profile script paths lists is_settled out out' × Appends err err' (verdict_text is_settled) × (verdict_status strict is_settled ≡ 0)
   DidRun (asks_run profile script paths how lists) = RanBy input file how profile script paths lists None out out' err err'
   DidRun (asks_strict profile script paths harts turns lists) = RanStrict input file profile script paths harts turns lists None true out out' err err'
@@ -45,7 +45,7 @@ module _ (input : Option Bytes) (file : Path → Option Bytes) (out out' err err
   DidRun help = Unit {0}
   DidRun misuse = Unit {0}
 
-  pub ended_well : (request : Request) (status : ℕ) → Ends input file out out' err err' request status → status ≡ 0 → DidRun request
+  pub ended_well : (request : Asked) (status : ℕ) → Ends input file out out' err err' request status → status ≡ 0 → DidRun request
   ended_well request status (plain_ran is_settled gave told) zero = (is_settled, gave, told, zero)
   ended_well request status (no_plain fault due keeps told) zero = absurd (some_status fault zero)
   ended_well request status (ran gave) zero = gave

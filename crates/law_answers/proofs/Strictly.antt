@@ -36,7 +36,7 @@ module _ (input : Option Bytes) (file : Path → Option Bytes) (profile : Profil
   strict_means harts turns lists out out' err err' ends =
       run_means harts turns lists out out' err err' (ended_well input file out out' err err' (asks_strict profile script paths harts turns lists) 0 ends refl)
 
-  -- where the host tells all that is read, both read the same
+  -- where the host states all that is read, both read the same
   pub meant_alike : IsTold input file script paths → (out out' old new : Option Bytes) → WritesMeaningAt input file profile script paths no_lists out out' → WritesMeaningAt input file profile script paths no_lists old new → AddsTheSame out out' old new
   meant_alike told out out' old new first second = (
     (script_meaning profile first.lines first.stdin (files first.given)).out,

@@ -10,7 +10,7 @@ use Rattle.xvsh_read.specs.Path.{Path}
 use Rattle.xvsh_read.specs.Reading.{told_at}
 use Rattle.xvsh_read.specs.Starting.{Starts}
 
--- the host tells which bytes standard input has, the script at a path, and each file at these paths
+-- the host states which bytes standard input has, the script at a path, and each file at these paths
 pub record IsTold (input : Option Bytes) (file : Path → Option Bytes) (script : Path) (paths : List (Bor Path)) : Type 0 where
   pub of_input : is_some input ≡ true
   pub of_script : is_some (told_at input file script) ≡ true

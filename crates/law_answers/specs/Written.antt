@@ -19,7 +19,7 @@ use Rattle.xvsh_runs.specs.declared.report.Lists.{Lists}
 abbrev pub no_lists : Lists
 no_lists = record { files = false; events = false }
 
--- the output of a value was added to a writer, and then the lists that are asked for: of files that are the value's but for
+-- the output of a value was added to a writer, and then the lists that are requested: of files that are the value's but for
 -- soft ones, and of these events; where none is asked for it was the output alone
 pub record WritesValue (value : Value) (lists : Lists) (events : List Event) (old new : Option Bytes) : Type 0 where
   pub left : List (Name × Bytes)

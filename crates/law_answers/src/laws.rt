@@ -17,7 +17,7 @@ ghost use Rattle.law_answers.specs.Told.{IsSettledAt, IsTold};
 ghost use Rattle.law_answers.specs.Written.{AddsTheSame, WritesMeaningAt, WritesValue, no_lists};
 
 /// Where `run` wrote a run in which nothing was full, of a script that is settled on what was read, it wrote the output of the
-/// script's recursive meaning, and then the lists that were asked for: the files that it lists are the meaning's but for soft
+/// script's recursive meaning, and then the lists that were requested: the files that it lists are the meaning's but for soft
 /// names. Without lists it wrote that output and nothing else. So does `replay`, whatever the schedule says.
 pub fn a_run_writes_the_meaning()
     ensures run { (input : Option Bytes) (file : Path → Option Bytes) (profile : Profile) (script : Path) (paths : List (Bor Path)) (harts turns : ℕ) (lists : Lists) (out out' err err' : Option Bytes)
@@ -29,7 +29,7 @@ pub fn a_run_writes_the_meaning()
 {}
 
 /// So two runs of one script, under one profile and on the same files, write the same to standard output, where nothing was full
-/// in them, the script is settled, no list was asked for, and the host tells all bytes that are read: two runs by processes, each
+/// in them, the script is settled, no list was requested, and the host states all bytes that are read: two runs by processes, each
 /// by `run`, on as many harts as may be, or by `replay` of a schedule that isn't read from standard input; or one of these and
 /// one by meaning, as of `plain`, that found the script settled.
 pub fn two_runs_write_the_same()
@@ -43,7 +43,7 @@ pub fn two_runs_write_the_same()
         → AddsTheSame out out' old new }
 {}
 
-/// The same by what the program tells of itself: where a run by processes ends with status 0, and another does, or `plain` does
+/// The same by what the program reports: where a run by processes ends with status 0, and another does, or `plain` does
 /// and adds `settled` to standard error, or `plain --strict` does, both wrote the same to standard output.
 pub fn status_0_and_settled_is_one_output()
     ensures by_processes { (input : Option Bytes) (file : Path → Option Bytes) (profile : Profile) (script : Path) (paths : List (Bor Path)) (how other : How) (out out' err err' old new said later : Option Bytes)
@@ -64,7 +64,7 @@ pub fn status_0_and_settled_is_one_output()
 {}
 
 /// Of `run --strict` status 0 alone says it: the script is settled on what was read, and its recursive meaning was written, with
-/// the lists that were asked for. So two such runs without lists, on as many harts as may be, wrote the same to standard output.
+/// the lists that were requested. So two such runs without lists, on as many harts as may be, wrote the same to standard output.
 pub fn status_0_of_a_strict_run_is_the_meaning()
     ensures meaning { (input : Option Bytes) (file : Path → Option Bytes) (profile : Profile) (script : Path) (paths : List (Bor Path)) (harts turns : ℕ) (lists : Lists) (out out' err err' : Option Bytes)
         → Ends input file out out' err err' (asks_strict profile script paths harts turns lists) 0

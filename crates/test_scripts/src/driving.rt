@@ -7,7 +7,7 @@ use std::io::Write;
 use std::sync::Wait;
 use std::thread::Threads;
 use std::time::Clock;
-use xvsh::drive;
+use xvsh::{Console, drive};
 
 /// With which status the program ended, and what it wrote to standard output and to standard error.
 #[derive(Drop)]
@@ -51,7 +51,12 @@ fn status_of<W: Write, E: Write>(
     err: &mut E,
 ) -> Result<u8, AllocError> {
     let words = words_of(rt.alloc(), words)?;
-    Ok(drive(rt, rt.alloc(), words, &mut Lent(store), out, err))
+    let mut console = Console {
+        host: Lent(store),
+        out,
+        err,
+    };
+    Ok(drive(rt, rt.alloc(), words, &mut console))
 }
 
 // The words of a line.

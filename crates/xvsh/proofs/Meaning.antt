@@ -10,7 +10,7 @@ use Rattle.script_load.specs.Script.{IsScript}
 use Rattle.xvsh_read.specs.Path.{Path}
 use Rattle.xvsh_read.specs.Reading.{ArePut, none_put, one_put}
 use Rattle.xvsh_plain.specs.Running.{RanPlain}
-use Rattle.xvsh_ends.specs.Ends.{Request, asks_plain, Ends, plain_ran, no_plain, ran, ran_full, no_run, ran_strict, strict_full, no_strict, harmless, harmful, no_check, counted, not_counted, explained, not_explained, helped, misused, no_memory, unwritten}
+use Rattle.xvsh_ends.specs.Ends.{Asked, asks_plain, Ends, plain_ran, no_plain, ran, ran_full, no_run, ran_strict, strict_full, no_strict, harmless, harmful, no_check, counted, not_counted, explained, not_explained, helped, misused, no_memory, unwritten}
 use Rattle.xvsh_ends.proofs.Ending.{some_status}
 use Rattle.xvsh.specs.Drive.{WritesMeaning}
 
@@ -23,7 +23,7 @@ no_file_given : (file : Path → Option Bytes) (paths : List (Bor Path)) (given 
 no_file_given file paths given none none_put = refl
 no_file_given file paths given none (one_put {paths = before} path name bytes put is own) = absurd (cons_at_end≢nil before path none)
 
--- a run of the script of standard input on no files writes the meaning of what the host tells of it
+-- a run of the script of standard input on no files writes the meaning of what the host states of it
 pub writes_meaning : (input : Option Bytes) (file : Path → Option Bytes) (is_settled : Bool) (old new : Option (List ℕ)) → RanPlain input file Xv6 (codes "-") [] false is_settled old new → WritesMeaning input old new
 writes_meaning None file is_settled old new run = tt
 writes_meaning (Some told) file is_settled old new run =
@@ -36,7 +36,7 @@ writes_meaning (Some told) file is_settled old new run =
 
 module _ (input : Option Bytes) (file : Path → Option Bytes) (out out' err err' : Option Bytes) where
   -- without words status 0 comes of a run alone, whose output is the meaning's
-  meaning_of : (request : Request) (status : ℕ) → Ends input file out out' err err' request status → request ≡ asks_plain Xv6 (codes "-") [] false false → status ≡ 0 → WritesMeaning input out out'
+  meaning_of : (request : Asked) (status : ℕ) → Ends input file out out' err err' request status → request ≡ asks_plain Xv6 (codes "-") [] false false → status ≡ 0 → WritesMeaning input out out'
   meaning_of request status (plain_ran {profile = profile} {script = script} {paths = paths} {lists = lists} is_settled gave told) is zero =
       let xv6 : profile ≡ Xv6 = cc in
       let own : script ≡ codes "-" = cc in

@@ -2,9 +2,12 @@
 #![tactic(auto)]
 
 mod driver;
-mod processes;
 mod program;
+mod request;
 mod system;
 
 pub use driver::drive;
 pub use program::run;
+pub use request::request_of;
+pub use xvsh_ends::Request;
+pub use xvsh_read::Console;

@@ -7,6 +7,7 @@ use std::rt::{Env, Files};
 use std::sync::Wait;
 use std::thread::Threads;
 use std::time::Clock;
+use xvsh_read::Console;
 
 // The words after the program's own name.
 fn words_of(rt: &(impl Env + AllocGlobal)) -> io::Result<Vec<String>> {
@@ -31,8 +32,11 @@ where
             return Ok(ExitCode::from(4));
         }
     };
-    let mut host = System::new(rt);
-    let mut out = io::writer(rt);
-    let status = drive(rt, rt.alloc(), words, &mut host, &mut out, err);
+    let mut console = Console {
+        host: System::new(rt),
+        out: io::writer(rt),
+        err,
+    };
+    let status = drive(rt, rt.alloc(), words, &mut console);
     Ok(ExitCode::from(status))
 }

@@ -1,4 +1,4 @@
--- What a check that tells its turns read and wrote.
+-- What a check with turns read and wrote.
 use Rattle.std.proofs.Common.{◌≡◌, Bool, false, List, ◌++◌, Option, IsTrue, subst}
 use Rattle.std.specs.Prelude.{◌↔◌}
 use Rattle.std.specs.Borrow.{Bor}

@@ -1,4 +1,4 @@
--- What `explain` did: it wrote what is told of the script, and there was nothing to tell exactly where no line has a note.
+-- What `explain` did: it wrote the notes on the script, and there was none exactly where no line has a note.
 use Rattle.std.proofs.Common.{◌≡◌, Bool, [], Option, subst}
 use Rattle.std.specs.Prelude.{◌↔◌, IsTrue}
 use Rattle.std.specs.Io.KnownBytes.{Appends}

@@ -1,4 +1,4 @@
--- What is told of one line more.
+-- What is reported of one line more.
 use Rattle.std.proofs.Common.{◌≡◌, ℕ, ◌+◌, ◌++◌, List, [], ◌∷◌, Bool, true, false, ◌&&◌, sym, ◌∙◌, ap, refl, subst, append_assoc}
 use Rattle.std.specs.Prelude.{◌↔◌, IsTrue}
 use Rattle.std.proofs.lemmas.List.{append-nil}
@@ -6,7 +6,7 @@ use Rattle.mem_files.specs.Name.{Bytes}
 use Rattle.script_load.specs.Line.{ScriptLine}
 use Rattle.xvsh_checks.specs.Check.{IsTold, AreTold, IsHarmless, AreHarmless}
 
--- whatever is told of these lines, from this number on, completes the text to what is told of all
+-- any report of these lines, from this number on, completes the text to a report of all
 abbrev pub Completes : List ScriptLine → ℕ → List ScriptLine → Bytes → Type 0
 Completes all number lines text = (later : Bytes) → AreTold number lines later → AreTold 1 all (text ++ later)
 

@@ -1,4 +1,4 @@
--- What is told of a script's lines before any run.
+-- What is reported of a script's lines before any run.
 use Rattle.std.specs.Prelude.{◌≡◌, ◌↔◌, ℕ, ◌+◌, Bool, true, false, IsTrue, List, [], ◌∷◌, ◌++◌, Option, codes, ◌⊎◌}
 use Rattle.std.specs.Fmt.{decimal}
 use Rattle.std.specs.Io.KnownBytes.{Appends}
@@ -11,6 +11,8 @@ use Rattle.conflict_check.specs.Clash.{IsFirstClash}
 use Rattle.conflict_check.specs.Clear.{IsClear, has_back}
 use Rattle.mem_files.specs.Name.{Bytes}
 use Rattle.script_load.specs.Line.{ScriptLine, command, bad, cd}
+use Rattle.xvsh_read.specs.Console.{Known}
+use Rattle.xvsh_checks.specs.declared.request.CheckRequest.{CheckRequest}
 use Rattle.xvsh_read.specs.declared.fault.Fault.{Fault}
 use Rattle.xvsh_read.specs.Path.{Path}
 use Rattle.xvsh_read.specs.Starting.{AreLinesAt, IsScriptAtFault}
@@ -21,7 +23,7 @@ abbrev pub fault_line : ℕ → ℕ → Bytes → ℕ → Bytes
 fault_line number kind name at =
     decimal number ++ (codes " fault " ++ (decimal kind ++ (32 ∷ (name ++ (codes " at " ++ (decimal at ++ 10 ∷ []))))))
 
--- the kinds by their numbers and names; want of memory, which no loaded script tells, has no place
+-- the kinds by their numbers and names; out of memory, which no loaded script has, is at no place
 abbrev pub fault_text : ℕ → ParseFault → Bytes
 fault_text number (MissingFile at) = fault_line number 1 (codes "MissingFile") at
 fault_text number (MissingParen at) = fault_line number 2 (codes "MissingParen") at
@@ -48,7 +50,7 @@ abbrev pub IsClashTold : ℕ → Tree → Bytes → Type 0
 IsClashTold number tree text =
     (IsClear tree × (text ≡ [])) ⊎ ((kind : ClashKind) × (name : Bytes) × IsFirstClash tree kind name × (text ≡ clash_text number kind name))
 
--- what is told of the line of this number
+-- the report of the line of this number
 abbrev pub IsTold : ℕ → ScriptLine → Bytes → Type 0
 IsTold number (bad fault whole) text = text ≡ fault_text number fault
 IsTold number (cd folder) text = text ≡ []
@@ -71,7 +73,7 @@ abbrev pub AreHarmless : List ScriptLine → Type 0
 AreHarmless [] = Unit {0}
 AreHarmless (line ∷ lines) = IsHarmless line × AreHarmless lines
 
--- what is told of the lines of the script at a path was added to the writer
+-- the report of the lines of the script at a path was added to the writer
 pub record RanCheck (input : Option Bytes) (file : Path → Option Bytes) (script : Path) (is_harmless : Bool) (old new : Option (List ℕ)) : Type 0 where
   pub lines : List ScriptLine
   pub loaded : AreLinesAt input file script lines
@@ -80,7 +82,15 @@ pub record RanCheck (input : Option Bytes) (file : Path → Option Bytes) (scrip
   pub writes : Appends old new text
   pub harmless : IsTrue is_harmless ↔ AreHarmless lines
 
--- why nothing is told of the script at a path, or not all: there is no script, or it can't be told
+-- why nothing is reported of the script at a path, or not all: there is no script, or the report can't be written
 pub data IsCheckFault (input : Option Bytes) (file : Path → Option Bytes) (script : Path) : Fault → Type 0 where
   no_script_told : {fault : Fault} → IsScriptAtFault input file script fault → IsCheckFault input file script fault
   not_told : {fault : Fault} → IsTellFault fault → IsCheckFault input file script fault
+
+-- a request was carried out, by what is known of the console before and after, and whether the lines are harmless
+abbrev pub DidCheck : Known → Known → CheckRequest → Bool → Type 0
+DidCheck old new request is_harmless = RanCheck old.input old.file request.script.now is_harmless old.out new.out
+
+-- why it wasn't
+abbrev pub IsCheckRefusal : Known → CheckRequest → Fault → Type 0
+IsCheckRefusal old request = IsCheckFault old.input old.file request.script.now

@@ -1,18 +1,20 @@
-//! What `check` tells of a script before any run.
+//! What `check` reports of a script before any run.
 ghost use Rattle.std.specs.Prelude.{◌≡◌, ◌≢◌, ◌++◌, ◌↔◌, ℕ, List, OnOk, IfOk, IfErr, IsTrue, false};
 ghost use Rattle.std.specs.Io.KnownBytes.{Appends};
 ghost use Rattle.sh_tree.specs.Tree.{tree_of};
 ghost use Rattle.conflict_check.specs.Clear.{IsClear, has_back as back};
 ghost use Rattle.script_load.specs.Line.{line_of, lines_of};
 ghost use Rattle.xvsh_read.specs.Status.{IsTellFault};
-ghost use Rattle.xvsh_checks.specs.Check.{fault_line, fault_text, back_text, kind_name, clash_text, IsClashTold, IsTold, AreTold, IsHarmless, AreHarmless, RanCheck, IsCheckFault};
+ghost use Rattle.xvsh_checks.specs.Check.{fault_line, fault_text, back_text, kind_name, clash_text, IsClashTold, IsTold, AreTold, IsHarmless, AreHarmless, DidCheck, IsCheckRefusal};
+ghost use Rattle.xvsh_read.specs.Console.{known};
 
+use crate::request::CheckRequest;
 use conflict_check::{ClashKind, clash, has_back};
 use script_load::{Line, Profile, Script};
 use sh_tree::{Cmd, ParseFault};
 use std::alloc::{AllocError, Global};
 use std::io::Write;
-use xvsh_read::{Fault, Host, read_script, write};
+use xvsh_read::{Console, Fault, Host, read_script, write};
 
 // Adds `N fault K NAME at P` and LF.
 fn add_fault_line(
@@ -102,7 +104,7 @@ fn add_clash(
     Ok(())
 }
 
-// Adds what is told of a tree, and returns whether it is harmless.
+// Adds what is reported of a tree, and returns whether it is harmless.
 fn check_tree(
     alloc: Global,
     number: usize,
@@ -124,7 +126,7 @@ fn check_tree(
     }
 }
 
-// Adds what is told of a line, and returns whether it is harmless.
+// Adds what is reported of a line, and returns whether it is harmless.
 fn check_line(
     alloc: Global,
     number: usize,
@@ -144,7 +146,7 @@ fn check_line(
     }
 }
 
-/// What `check` tells of a script.
+/// What `check` reports of a script.
 #[derive(Drop)]
 pub struct Checked {
     /// The lines that are printed.
@@ -169,7 +171,7 @@ pub fn check(alloc: Global, script: &Script<Global>) -> Result<Checked, AllocErr
     Ok(Checked { text, is_harmless })
 }
 
-// Writes what is told of a script's lines, and returns whether they are harmless.
+// Writes what is reported of a script's lines, and returns whether they are harmless.
 fn check_script<'a, W: Write>(
     alloc: Global,
     script: &Script<Global>,
@@ -186,18 +188,18 @@ fn check_script<'a, W: Write>(
     Ok(checked.is_harmless)
 }
 
-/// `check`: reads the script, writes what is told of its lines, and returns whether these are harmless. A fault comes before
-/// anything is written, but for `Unwritten`.
-pub fn run_check<'a, H: Host, W: Write>(
+/// `check`: reads the script, writes what is reported of its lines, and returns whether these are harmless. On an error
+/// nothing was written, except after `Unwritten`.
+pub fn run_check<'a, H: Host, W: Write, E: Write>(
     alloc: Global,
-    host: &mut H,
-    script: &'a str,
-    out: &mut W,
+    request: &CheckRequest<'a>,
+    console: &mut Console<H, W, E>,
 ) -> Result<bool, Fault<'a>>
-    ensures ran { IfOk result (λ is. RanCheck (H.input host.old) (H.file host.old) script.now is (W.contents out.old) (W.contents out.new)) }
-    ensures fault { IfErr result (IsCheckFault (H.input host.old) (H.file host.old) script.now) }
-    ensures refusal { IfErr result (λ fault. fault ≢ Fault.Unwritten → out.new ≡ out.old) }
+    ensures ran { let seen = known H.input H.file W.contents E.contents in IfOk result (DidCheck (seen console.old) (seen console.new) request.now) }
+    ensures fault { let seen = known H.input H.file W.contents E.contents in IfErr result (IsCheckRefusal (seen console.old) request.now) }
+    ensures refusal { IfErr result (λ fault. fault ≢ Fault.Unwritten → console.new.out ≡ console.old.out) }
+    ensures err_stays { console.new.err ≡ console.old.err }
 {
-    let loaded = read_script(alloc, host, Profile::Xv6, script)?;
-    check_script(alloc, &loaded, out)
+    let loaded = read_script(alloc, &mut console.host, Profile::Xv6, request.script)?;
+    check_script(alloc, &loaded, &mut console.out)
 }

@@ -1,15 +1,16 @@
-//! What `explain` tells of a script.
+//! What `explain` reports of a script.
 ghost use Rattle.std.specs.Prelude.{◌≡◌, ◌≢◌, ◌↔◌, [], IfOk, IfErr, IsTrue};
+ghost use Rattle.xvsh_read.specs.Console.{known};
 ghost use Rattle.xvsh_read.specs.Starting.{IsScriptAtFault};
-ghost use Rattle.xvsh_checks.specs.Check.{IsCheckFault};
-ghost use Rattle.xvsh_checks.specs.Explain.{IsExplainedAt, RanExplain, written_of};
+ghost use Rattle.xvsh_checks.specs.Explain.{IsExplainedAt, DidExplain, IsExplainRefusal, written_of};
 
+use crate::request::ExplainRequest;
 use script_notes::explain;
 use std::alloc::Global;
 use std::io::Write;
-use xvsh_read::{Fault, Host, MAX_INPUT, read, write};
+use xvsh_read::{Console, Fault, Host, MAX_INPUT, read, write};
 
-// What is told of the script at a path.
+// The notes on the script at a path.
 fn explain_at<'a, H: Host>(
     alloc: Global,
     host: &mut H,
@@ -34,27 +35,27 @@ fn written_of(told: &[u8]) -> &[u8]
     }
 }
 
-// Whether nothing is told.
+// Whether there is no note.
 fn is_nothing(told: &[u8]) -> bool
     ensures { IsTrue result ↔ (told.now ≡ []) }
 {
     told.is_empty()
 }
 
-/// `explain`: reads the script, writes what is told of its lines in sentences, and returns whether there is nothing to
-/// tell (own). A fault comes before anything is written, but for `Unwritten`.
-pub fn run_explain<'a, H: Host, W: Write>(
+/// `explain`: reads the script, writes its notes on the lines in sentences, and returns whether there are none (own). On an
+/// error nothing was written, except after `Unwritten`.
+pub fn run_explain<'a, H: Host, W: Write, E: Write>(
     alloc: Global,
-    host: &mut H,
-    script: &'a str,
-    out: &mut W,
+    request: &ExplainRequest<'a>,
+    console: &mut Console<H, W, E>,
 ) -> Result<bool, Fault<'a>>
-    ensures ran { IfOk result (λ is. RanExplain (H.input host.old) (H.file host.old) script.now is (W.contents out.old) (W.contents out.new)) }
-    ensures fault { IfErr result (IsCheckFault (H.input host.old) (H.file host.old) script.now) }
-    ensures refusal { IfErr result (λ fault. fault ≢ Fault.Unwritten → out.new ≡ out.old) }
+    ensures ran { let seen = known H.input H.file W.contents E.contents in IfOk result (DidExplain (seen console.old) (seen console.new) request.now) }
+    ensures fault { let seen = known H.input H.file W.contents E.contents in IfErr result (IsExplainRefusal (seen console.old) request.now) }
+    ensures refusal { IfErr result (λ fault. fault ≢ Fault.Unwritten → console.new.out ≡ console.old.out) }
+    ensures err_stays { console.new.err ≡ console.old.err }
 {
-    let told = explain_at(alloc, host, script)?;
+    let told = explain_at(alloc, &mut console.host, request.script)?;
     let text = told.as_slice();
-    write(out, written_of(text))?;
+    write(&mut console.out, written_of(text))?;
     Ok(is_nothing(text))
 }

@@ -1,13 +1,15 @@
-//! With what each kind of run and check ends: what is told on standard error, and the status.
+//! With what each kind of run and check ends: what is reported on standard error, and the status.
 #![tactic(auto)]
 
 mod checks;
 mod plain;
 mod processes;
+mod request;
 mod told;
 
-pub use checks::{end_check, end_explain, end_turns};
 pub use plain::end_plain;
-pub use processes::{end_replay, end_run, end_strict};
+pub use request::{Request, end_request};
 pub use told::{tell, tell_text};
-pub use xvsh_runs::{Lists, MAX_HARTS, MAX_TURNS};
+pub use xvsh_checks::{CheckRequest, ExplainRequest};
+pub use xvsh_plain::PlainRequest;
+pub use xvsh_runs::{Lists, MAX_HARTS, MAX_TURNS, ReplayRequest, RunRequest};

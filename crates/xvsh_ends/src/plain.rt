@@ -1,15 +1,16 @@
 //! How a run by its meaning ends.
 ghost use Rattle.std.specs.Prelude.{◌≡◌, ◌≢◌, IsTrue};
-ghost use Rattle.xvsh_ends.specs.Ends.{Ends, asks_plain, verdict_text};
+ghost use Rattle.xvsh_read.specs.Console.{known};
+ghost use Rattle.xvsh_ends.specs.Ends.{verdict_text};
+ghost use Rattle.xvsh_ends.specs.Requests.{EndsAt, plain_asked};
 
 use crate::told::{tell, tell_text, verdict_status};
-use script_load::Profile;
 use std::alloc::Global;
 use std::io::Write;
-use xvsh_plain::run_plain;
-use xvsh_read::Host;
+use xvsh_plain::{PlainRequest, run_plain};
+use xvsh_read::{Console, Host};
 
-// What is told of the verdict.
+// The text of the verdict.
 fn verdict(is_settled: bool) -> &'static str
     ensures { result.now ≡ verdict_text is_settled }
 {
@@ -20,27 +21,20 @@ fn verdict(is_settled: bool) -> &'static str
     }
 }
 
-/// Runs a script, tells whether it is settled or why it wasn't run, and gives the status.
-pub fn end_plain<'a, H: Host, W: Write, E: Write>(
+/// Runs a script by its meaning, reports whether it is settled or why it wasn't run, and returns the status.
+pub fn end_plain<H: Host, W: Write, E: Write>(
     alloc: Global,
-    host: &mut H,
-    profile: Profile,
-    script: &'a str,
-    paths: &[&'a str],
-    lists_files: bool,
-    is_strict: bool,
-    out: &mut W,
-    err: &mut E,
+    request: &PlainRequest<'_>,
+    console: &mut Console<H, W, E>,
 ) -> u8
-    ensures ends { Ends (H.input host.old) (H.file host.old) (W.contents out.old) (W.contents out.new)
-        (E.contents err.old) (E.contents err.new) (asks_plain profile script.now paths.now lists_files is_strict) result }
-    ensures nothing_written { result ≢ 0 → result ≢ 1 → (IsTrue is_strict → result ≢ 3) → out.new ≡ out.old }
+    ensures ends { let seen = known H.input H.file W.contents E.contents in EndsAt (seen console.old) (seen console.new) (plain_asked request.now) result }
+    ensures nothing_written { result ≢ 0 → result ≢ 1 → (IsTrue request.now.is_strict → result ≢ 3) → console.new.out ≡ console.old.out }
 {
-    match run_plain(alloc, host, profile, script, paths, lists_files, out) {
+    match run_plain(alloc, request, console) {
         Ok(is_settled) => {
-            let status = verdict_status(is_strict, is_settled);
-            tell_text(verdict(is_settled), status, err)
+            let status = verdict_status(request.is_strict, is_settled);
+            tell_text(verdict(is_settled), status, &mut console.err)
         }
-        Err(fault) => tell(fault, err),
+        Err(fault) => tell(fault, &mut console.err),
     }
 }

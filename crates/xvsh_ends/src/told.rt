@@ -1,4 +1,4 @@
-//! What is told on standard error, and the status that goes with it.
+//! What is reported on standard error, and the status that goes with it.
 ghost use Rattle.std.specs.Prelude.{◌≡◌};
 ghost use Rattle.xvsh_read.specs.Status.{status_of, fault_told};
 ghost use Rattle.xvsh_runs.specs.Status.{full_told, run_status, run_fault_told};
@@ -7,10 +7,10 @@ ghost use Rattle.xvsh_ends.specs.Ends.{Tells, TellsFull, TellsRan, TellsStrict, 
 use kernel_model::Full;
 use std::io::Write;
 use xvsh_read::Fault;
-use xvsh_runs::{RunFault, word_of};
+use xvsh_runs::{ProcessFault, full_word};
 use xvsh_strict::StrictRun;
 
-/// Writes a text, and gives this status, or that of a failed write.
+/// Writes a text, and returns this status, or that of a failed write.
 pub fn tell_text<W: Write>(text: &str, status: u8, to: &mut W) -> u8
     ensures { Tells text.now status result (W.contents to.old) (W.contents to.new) }
 {
@@ -20,7 +20,7 @@ pub fn tell_text<W: Write>(text: &str, status: u8, to: &mut W) -> u8
     }
 }
 
-/// Tells a fault in one line, but for an output that took no more, and gives its status.
+/// Reports a fault in one line, unless an output took no more, and returns its status.
 pub fn tell<E: Write>(fault: Fault<'_>, err: &mut E) -> u8
     ensures { Tells (fault_told fault.entry) (status_of fault.entry) result (E.contents err.old) (E.contents err.new) }
 {
@@ -33,8 +33,8 @@ pub fn tell<E: Write>(fault: Fault<'_>, err: &mut E) -> u8
     }
 }
 
-// Tells a fault of a run by processes, as `tell` does.
-fn tell_fault<E: Write>(fault: RunFault<'_>, err: &mut E) -> u8
+// Reports a fault of a run by processes, as `tell` does.
+fn tell_fault<E: Write>(fault: ProcessFault<'_>, err: &mut E) -> u8
     ensures { Tells (run_fault_told fault.entry) (run_status fault.entry) result (E.contents err.old) (E.contents err.new) }
 {
     if fault.is_unwritten() {
@@ -46,29 +46,29 @@ fn tell_fault<E: Write>(fault: RunFault<'_>, err: &mut E) -> u8
     }
 }
 
-/// The status of a script that ran: where it is asked for strictly, one that isn't settled has 3.
+/// The status of a script that ran: where it is requested strictly, one that isn't settled has 3.
 pub fn verdict_status(is_strict: bool, is_settled: bool) -> u8
     ensures { result ≡ verdict_status is_strict is_settled }
 {
     if is_strict && !is_settled { 3 } else { 0 }
 }
 
-// Tells what was full in a run, or gives this status.
+// Reports what was full in a run, or returns this status.
 fn tell_full<E: Write>(full: Option<Full>, status: u8, err: &mut E) -> u8
     ensures { TellsFull full status result (E.contents err.old) (E.contents err.new) }
 {
     let Some(full) = full else {
         return status;
     };
-    let word = word_of(full);
+    let word = full_word(full);
     match writeln!(err, "xvsh: full {word}") {
         Ok(()) => 4,
         Err(_) => Fault::Unwritten.status(),
     }
 }
 
-/// Tells what a run by processes came to, if that is more than what it wrote, and gives its status.
-pub fn tell_ran<E: Write>(ran: Result<Option<Full>, RunFault<'_>>, err: &mut E) -> u8
+/// Reports what was full in a run by processes, or its fault, and returns the status.
+pub fn tell_ran<E: Write>(ran: Result<Option<Full>, ProcessFault<'_>>, err: &mut E) -> u8
     ensures { TellsRan ran.entry result (E.contents err.old) (E.contents err.new) }
 {
     match ran {
@@ -77,8 +77,8 @@ pub fn tell_ran<E: Write>(ran: Result<Option<Full>, RunFault<'_>>, err: &mut E) 
     }
 }
 
-/// The same of a strict run, whose status also tells whether its script is settled.
-pub fn tell_strict<E: Write>(ran: Result<StrictRun, RunFault<'_>>, err: &mut E) -> u8
+/// The same of a strict run, whose status also says whether its script is settled.
+pub fn tell_strict<E: Write>(ran: Result<StrictRun, ProcessFault<'_>>, err: &mut E) -> u8
     ensures { TellsStrict ran.entry result (E.contents err.old) (E.contents err.new) }
 {
     match ran {

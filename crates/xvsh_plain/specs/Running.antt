@@ -13,35 +13,37 @@ use Rattle.meaning_model.specs.Settled.{IsSettledScript}
 use Rattle.meaning_model.specs.Value.{Value}
 use Rattle.plain_progs.specs.declared.fault.PlainFault.{PlainFault}
 use Rattle.plain_progs.specs.declared.fault.PlainFault.TheVariants.{TooLarge as plain_large, Memory as plain_memory}
+use Rattle.xvsh_read.specs.Console.{Known}
 use Rattle.xvsh_read.specs.Listing.{list_text}
 use Rattle.xvsh_read.specs.Path.{Path}
 use Rattle.xvsh_read.specs.Starting.{Starts, IsStartFault}
+use Rattle.xvsh_plain.specs.declared.request.PlainRequest.{PlainRequest}
 use Rattle.xvsh_read.specs.declared.fault.Fault.{Fault}
 use Rattle.xvsh_read.specs.declared.fault.Fault.TheVariants.{Unreadable, TooLong, LineTooLong, ByteZero, BadName, TooManyFiles, TooLarge, Memory, Unwritten}
 
--- the meaning's output is added to the writer, and then the list of its files where it is asked for
+-- the meaning's output is added to the writer, and then the list of its files where it is requested
 abbrev pub WritesRun : Bool → Value → Option (List ℕ) → Option (List ℕ) → Type 0
 WritesRun false value old new = Appends old new value.out
 WritesRun true value old new =
     (list : List (Name × Bytes)) × AreFiles list × ((name : Name) → files list name ≡ value.files name) × Appends old new (value.out ++ list_text value.soft list)
 
 -- a fault of the run of a script: only where its meaning passes a limit is it too large
-abbrev pub IsRunFault : Profile → List ScriptLine → Bytes → FileMap → Fault → Type 0
-IsRunFault profile lines input F TooLarge = Outgrows profile (script_tree lines) input F
-IsRunFault profile lines input F Memory = Unit {0}
-IsRunFault profile lines input F Unwritten = Unit {0}
-IsRunFault profile lines input F (Unreadable path) = ⊥
-IsRunFault profile lines input F (TooLong path) = ⊥
-IsRunFault profile lines input F (LineTooLong n) = ⊥
-IsRunFault profile lines input F (ByteZero n) = ⊥
-IsRunFault profile lines input F (BadName path) = ⊥
-IsRunFault profile lines input F TooManyFiles = ⊥
+abbrev pub IsMeaningFault : Profile → List ScriptLine → Bytes → FileMap → Fault → Type 0
+IsMeaningFault profile lines input F TooLarge = Outgrows profile (script_tree lines) input F
+IsMeaningFault profile lines input F Memory = Unit {0}
+IsMeaningFault profile lines input F Unwritten = Unit {0}
+IsMeaningFault profile lines input F (Unreadable path) = ⊥
+IsMeaningFault profile lines input F (TooLong path) = ⊥
+IsMeaningFault profile lines input F (LineTooLong n) = ⊥
+IsMeaningFault profile lines input F (ByteZero n) = ⊥
+IsMeaningFault profile lines input F (BadName path) = ⊥
+IsMeaningFault profile lines input F TooManyFiles = ⊥
 
 abbrev pub of_plain : PlainFault → Fault
 of_plain plain_large = TooLarge
 of_plain plain_memory = Memory
 
--- what follows is said after what the host tells of standard input and of the files at paths
+-- what follows is by what the host states of standard input and of the files at paths
 module _ (input : Option Bytes) (file : Path → Option Bytes) where
   -- the script at a path was run under a profile on the files at these paths
   pub record RanPlain (profile : Profile) (script : Path) (paths : List (Bor Path)) (lists is_settled : Bool) (old new : Option (List ℕ)) : Type 0 where
@@ -55,4 +57,12 @@ module _ (input : Option Bytes) (file : Path → Option Bytes) where
   -- why it wasn't: it couldn't begin, or the run failed
   pub data IsPlainFault (profile : Profile) (script : Path) (paths : List (Bor Path)) : Fault → Type 0 where
     no_start : {fault : Fault} → IsStartFault input file false script paths fault → IsPlainFault profile script paths fault
-    no_run : {fault : Fault} (lines : List ScriptLine) (given : List (Name × Bytes)) (stdin : Bytes) → Starts input file false script paths lines given stdin → IsRunFault profile lines stdin (files given) fault → IsPlainFault profile script paths fault
+    no_run : {fault : Fault} (lines : List ScriptLine) (given : List (Name × Bytes)) (stdin : Bytes) → Starts input file false script paths lines given stdin → IsMeaningFault profile lines stdin (files given) fault → IsPlainFault profile script paths fault
+
+-- a request was carried out, by what is known of the console before and after, and whether its script is settled
+abbrev pub DidPlain : Known → Known → PlainRequest → Bool → Type 0
+DidPlain old new request is_settled = RanPlain old.input old.file request.source.profile request.source.script.now request.source.files.now request.lists_files is_settled old.out new.out
+
+-- why it wasn't
+abbrev pub IsPlainRefusal : Known → PlainRequest → Fault → Type 0
+IsPlainRefusal old request = IsPlainFault old.input old.file request.source.profile request.source.script.now request.source.files.now

@@ -4,15 +4,17 @@ ghost use Rattle.mem_files.specs.Files.{files};
 ghost use Rattle.script_load.specs.Line.{lines_of};
 ghost use Rattle.meaning_model.specs.Meaning.{script_meaning};
 ghost use Rattle.meaning_model.specs.Settled.{IsSettledScript};
-ghost use Rattle.xvsh_plain.specs.Running.{of_plain, WritesRun, IsRunFault, RanPlain, IsPlainFault};
+ghost use Rattle.xvsh_plain.specs.Running.{of_plain, WritesRun, IsMeaningFault, DidPlain, IsPlainRefusal};
+ghost use Rattle.xvsh_read.specs.Console.{known};
 
+use crate::request::PlainRequest;
 use mem_files::Files;
 use mem_files::laws::are_files;
 use plain_run::{PlainFault, plain};
-use script_load::{Profile, Script};
+use script_load::Script;
 use std::alloc::Global;
 use std::io::Write;
-use xvsh_read::{Fault, Host, listing, prepare, write};
+use xvsh_read::{Console, Fault, Host, listing, prepare, write};
 
 /// Why a run by its meaning failed.
 pub fn of_plain<'a>(fault: PlainFault) -> Fault<'a>
@@ -24,7 +26,7 @@ pub fn of_plain<'a>(fault: PlainFault) -> Fault<'a>
     }
 }
 
-// Runs a script, writes its output and then, if asked, all files, and returns whether the script is
+// Runs a script, writes its output and then, if requested, all files, and returns whether the script is
 // settled.
 fn run_script<'a, W: Write>(
     alloc: Global,
@@ -37,7 +39,7 @@ fn run_script<'a, W: Write>(
     ensures settled { IfOk result (λ is. IsTrue is ↔ IsSettledScript script.now.profile (lines_of script.now.lines) stdin.now (files given.now)) }
     ensures meaning { OnOk result (WritesRun lists_files (script_meaning script.now.profile (lines_of script.now.lines) stdin.now (files given.now)) (W.contents out.old) (W.contents out.new)) }
     ensures refusal { IfErr result (λ fault. fault ≢ Fault.Unwritten → out.new ≡ out.old) }
-    ensures run { IfErr result (IsRunFault script.now.profile (lines_of script.now.lines) stdin.now (files given.now)) }
+    ensures run { IfErr result (IsMeaningFault script.now.profile (lines_of script.now.lines) stdin.now (files given.now)) }
 {
     let outcome = match plain(alloc, script, stdin, given) {
         Ok(outcome) => outcome,
@@ -54,23 +56,27 @@ fn run_script<'a, W: Write>(
     Ok(outcome.settled)
 }
 
-/// `plain`: reads the script, the files in order, and standard input unless that is the script, runs the
-/// script under this profile, and writes its output and then, if asked, all files. Returns whether the script is settled.
-/// A fault comes before anything is written, but for `Unwritten`.
-pub fn run_plain<'a, H: Host, W: Write>(
+/// `plain`: reads the script, the files in order, and standard input unless that is the script, runs the script by its
+/// meaning, and writes its output and then, if requested, all files. Returns whether the script is settled. On an error
+/// nothing was written, except after `Unwritten`.
+pub fn run_plain<'a, H: Host, W: Write, E: Write>(
     alloc: Global,
-    host: &mut H,
-    profile: Profile,
-    script: &'a str,
-    paths: &[&'a str],
-    lists_files: bool,
-    out: &mut W,
+    request: &PlainRequest<'a>,
+    console: &mut Console<H, W, E>,
 ) -> Result<bool, Fault<'a>>
-    ensures ran { IfOk result (λ is. RanPlain (H.input host.old) (H.file host.old) profile script.now paths.now lists_files is (W.contents out.old) (W.contents out.new)) }
-    ensures fault { IfErr result (IsPlainFault (H.input host.old) (H.file host.old) profile script.now paths.now) }
-    ensures refusal { IfErr result (λ fault. fault ≢ Fault.Unwritten → out.new ≡ out.old) }
+    ensures ran { let seen = known H.input H.file W.contents E.contents in IfOk result (DidPlain (seen console.old) (seen console.new) request.now) }
+    ensures fault { let seen = known H.input H.file W.contents E.contents in IfErr result (IsPlainRefusal (seen console.old) request.now) }
+    ensures refusal { IfErr result (λ fault. fault ≢ Fault.Unwritten → console.new.out ≡ console.old.out) }
+    ensures err_stays { console.new.err ≡ console.old.err }
 {
-    let start = prepare(alloc, host, profile, script, paths, false)?;
+    let start = prepare(alloc, &mut console.host, &request.source, false)?;
     let stdin = start.stdin.as_slice();
-    run_script(alloc, &start.script, stdin, &start.files, lists_files, out)
+    run_script(
+        alloc,
+        &start.script,
+        stdin,
+        &start.files,
+        request.lists_files,
+        &mut console.out,
+    )
 }

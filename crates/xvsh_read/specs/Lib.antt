@@ -1,3 +1,4 @@
+pub mod Console
 pub mod Listing
 pub mod Path
 pub mod Reading

@@ -1,4 +1,4 @@
--- What is read at the paths of the command line, after what the host tells of them.
+-- What is read at the paths of the command line, by what the host states of them.
 use Rattle.std.specs.Prelude.{◌≡◌, ℕ, ◌<◌, true, false, List, [], ◌∷◌, ◌++◌, Option, None, IfSome, if◌then◌else◌, length, codes}
 use Rattle.std.specs.Borrow.{Bor}
 use Rattle.std.specs.Str.{bytes_eq}
@@ -12,15 +12,15 @@ use Rattle.xvsh_read.specs.Path.{Path, IsNameOf}
 abbrev pub max_input : ℕ
 max_input = 1048576
 
--- these are the bytes, where the host tells them
+-- these are the bytes, where the host states them
 abbrev pub Agree : Option Bytes → Bytes → Type 0
 Agree told bytes = IfSome told (λ own. bytes ≡ own)
 
--- what the host tells at a path: of standard input at `-`, and of a file at any other
+-- what the host states at a path: of standard input at `-`, and of a file at any other
 abbrev pub told_at : Option Bytes → (Path → Option Bytes) → Path → Option Bytes
 told_at input file path = if bytes_eq path (codes "-") then input else file path
 
--- why a path's bytes, of which there may be as many as the limit, can't be had: they can't be read, which what is told can,
+-- why a path's bytes, of which there may be as many as the limit, can't be read: the host states none,
 -- or are too many
 abbrev pub IsReadFault : ℕ → Option Bytes → Path → Fault → Type 0
 IsReadFault limit told path (Unreadable at) = (at.now ≡ path) × (told ≡ None)

@@ -23,7 +23,7 @@ IsScriptFault bytes TooManyFiles = ⊥
 IsScriptFault bytes TooLarge = ⊥
 IsScriptFault bytes Unwritten = ⊥
 
--- what follows is said after what the host tells of standard input and of the files at paths
+-- what follows is by what the host states of standard input and of the files at paths
 module _ (input : Option Bytes) (file : Path → Option Bytes) where
   -- the lines of the script at a path
   pub record AreLinesAt (script : Path) (lines : List ScriptLine) : Type 0 where
@@ -49,7 +49,7 @@ module _ (input : Option Bytes) (file : Path → Option Bytes) where
     pub are : AreFiles given
     pub own : IsInputOf is_taken script stdin
 
-  -- why it doesn't: there is no script, one of the files can't be had, or standard input, each where those before were had
+  -- why it doesn't: there is no script, one of the files can't be added, or standard input can't be read, each where those before were read
   pub data IsStartFault (is_taken : Bool) (script : Path) (paths : List (Bor Path)) : Fault → Type 0 where
     no_script : {fault : Fault} → IsScriptAtFault script fault → IsStartFault is_taken script paths fault
     no_file : {fault : Fault} (lines : List ScriptLine) → AreLinesAt script lines → IsFilesFault file paths fault → IsStartFault is_taken script paths fault

@@ -1,4 +1,4 @@
--- Faults, what is told of them, and the statuses with which the program ends.
+-- Faults, their messages, and the statuses with which the program ends.
 use Rattle.std.specs.Prelude.{ℕ, List, [], ◌∷◌, ◌++◌, codes}
 use Rattle.std.specs.Borrow.{Bor}
 use Rattle.std.specs.Fmt.{decimal}
@@ -45,7 +45,7 @@ of_host path host_unreadable = Unreadable path
 of_host path host_long = TooLong path
 of_host path host_memory = Memory
 
--- two that adding a file never meets stand here as want of memory
+-- two that adding a file never has are out of memory here
 abbrev pub of_files : Bor (List ℕ) → FilesFault → Fault
 of_files path files_name = BadName path
 of_files path files_missing = Memory
@@ -59,7 +59,7 @@ of_load (load_long n) = LineTooLong n
 of_load (load_zero n) = ByteZero n
 of_load load_memory = Memory
 
--- what was had or made can't be told: there is no memory for it, or an output takes no more
+-- the result can't be written: there is no memory for it, or an output takes no more
 abbrev pub IsTellFault : Fault → Type 0
 IsTellFault Memory = Unit {0}
 IsTellFault Unwritten = Unit {0}

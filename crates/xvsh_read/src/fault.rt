@@ -7,8 +7,8 @@ use script_load::LoadFault;
 use std::alloc::AllocError;
 use std::fmt;
 
-/// Why the program fails. Each is told as one line on standard error after `xvsh: `, but for
-/// `Unwritten`, after which nothing more is written. A path is told as it was given, and `-` stands
+/// Why the program fails. Each is reported as one line on standard error after `xvsh: `, except
+/// `Unwritten`, after which nothing more is written. A path is printed as it was given, and `-` stands
 /// for standard input.
 #[derive(Clone, Copy, Debug)]
 pub enum Fault<'a> {
@@ -52,7 +52,7 @@ impl<'a> Fault<'a> {
         matches!(self, Fault::Unwritten)
     }
 
-    /// Why the bytes at this path can't be had.
+    /// Why the bytes at this path can't be read.
     pub fn at_path(path: &'a str, fault: HostFault) -> Self
         ensures { result ≡ of_host path.entry fault }
     {

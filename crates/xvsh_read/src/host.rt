@@ -3,7 +3,7 @@ ghost use Rattle.std.specs.Prelude.{◌≡◌, ◌<◌, ◌≤◌, Err, None, Op
 use std::alloc::Global;
 use thiserror::Error;
 
-/// Why the host gives no bytes, numbered from 1.
+/// Why the host returns no bytes, numbered from 1.
 #[derive(Clone, Copy, Debug, PartialEq, Eq, Error)]
 pub enum HostFault {
     /// A file can't be opened, or a read failed.
@@ -19,10 +19,10 @@ pub enum HostFault {
 
 /// Where the program's input comes from: the system, or a test's memory.
 pub trait Host {
-    /// The bytes of standard input, where the host tells them; then they can be read.
+    /// The bytes of standard input, where the host states them; then they can be read.
     ghost input: { Self → Option (List ℕ) };
 
-    /// The bytes of the file at a path, where the host tells them; then they can be read.
+    /// The bytes of the file at a path, where the host states them; then they can be read.
     ghost file: { Self → List ℕ → Option (List ℕ) };
 
     /// All bytes of standard input, of which there may be as many as the limit.

@@ -3,6 +3,7 @@
 #![tactic(auto)]
 
 mod collecting;
+mod console;
 mod fault;
 mod file_list;
 mod host;
@@ -11,9 +12,10 @@ mod starting;
 mod writing;
 
 pub use collecting::read_all;
+pub use console::Console;
 pub use fault::Fault;
 pub use file_list::listing;
 pub use host::{Host, HostFault};
 pub use reading::{MAX_INPUT, STDIN, read};
-pub use starting::{Start, prepare, profile_of, read_script};
+pub use starting::{Source, Start, prepare, profile_of, read_script};
 pub use writing::write;

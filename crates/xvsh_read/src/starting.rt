@@ -59,6 +59,17 @@ fn read_stdin<'a, H: Host>(
     read(alloc, host, STDIN, MAX_INPUT)
 }
 
+/// Which script a command is about.
+#[derive(Clone, Copy, Debug)]
+pub struct Source<'a> {
+    /// What `>>` means.
+    pub profile: Profile,
+    /// The path of the script; `-` is standard input.
+    pub script: &'a str,
+    /// The paths of the script's files, in order.
+    pub files: &'a [&'a str],
+}
+
 /// What a run begins with.
 #[derive(Drop)]
 pub struct Start {
@@ -73,20 +84,18 @@ pub struct Start {
 pub fn prepare<'a, H: Host>(
     alloc: Global,
     host: &mut H,
-    profile: Profile,
-    script: &'a str,
-    paths: &[&'a str],
+    source: &Source<'a>,
     is_taken: bool,
 ) -> Result<Start, Fault<'a>>
-    ensures prepared { IfOk result (λ start. Starts (H.input host.old) (H.file host.old) is_taken script.now paths.now
+    ensures prepared { IfOk result (λ start. Starts (H.input host.old) (H.file host.old) is_taken source.now.script.now source.now.files.now
         (lines_of start.script.lines) start.files start.stdin.items) }
-    ensures profile { IfOk result (λ start. start.script.profile ≡ profile) }
-    ensures fault { IfErr result (IsStartFault (H.input host.old) (H.file host.old) is_taken script.now paths.now) }
+    ensures profile { IfOk result (λ start. start.script.profile ≡ source.now.profile) }
+    ensures fault { IfErr result (IsStartFault (H.input host.old) (H.file host.old) is_taken source.now.script.now source.now.files.now) }
 {
-    let loaded = read_script(alloc, host, profile, script)?;
-    let files = read_files(alloc, host, paths)?;
+    let loaded = read_script(alloc, host, source.profile, source.script)?;
+    let files = read_files(alloc, host, source.files)?;
     are_files(&files);
-    let stdin = read_stdin(alloc, host, script, is_taken)?;
+    let stdin = read_stdin(alloc, host, source.script, is_taken)?;
     Ok(Start {
         script: loaded,
         stdin,

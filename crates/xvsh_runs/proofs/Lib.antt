@@ -1,3 +1,4 @@
+mod Harts
 pub mod Moved
 pub mod Prepared
 pub mod Written

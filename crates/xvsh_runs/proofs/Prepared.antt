@@ -9,13 +9,13 @@ use Rattle.kernel_model.specs.declared.events.Full.{Full}
 use Rattle.run_model.specs.ScriptRun.{script_kernel}
 use Rattle.xvsh_read.specs.Path.{Path}
 use Rattle.xvsh_read.specs.Starting.{Starts}
-use Rattle.xvsh_runs.specs.declared.fault.RunFault.{RunFault}
+use Rattle.xvsh_runs.specs.declared.fault.ProcessFault.{ProcessFault}
 use Rattle.xvsh_runs.specs.declared.report.Lists.{Lists}
 use Rattle.xvsh_runs.specs.Runs.{RanOn, RanRun}
 use Rattle.xvsh_runs.specs.Why.{IsHartsFault, IsRunFault, no_run}
 
 module _ (input : Option Bytes) (file : Path → Option Bytes) (profile own : Profile) (script : Path) (paths : List (Bor Path)) (lines : List ScriptLine) (given : List (Name × Bytes)) (stdin : Bytes) (starts : Starts input file false script paths lines given stdin) (same : own ≡ profile) (harts turns : ℕ) where
-  pub prepared_ran : (lists : Lists) (out out' err err' : Option Bytes) (result : Result (Option Full) RunFault) → IfOk result (λ full. RanOn (script_kernel own lines stdin given) harts turns lists full out out' err err') →
+  pub prepared_ran : (lists : Lists) (out out' err err' : Option Bytes) (result : Result (Option Full) ProcessFault) → IfOk result (λ full. RanOn (script_kernel own lines stdin given) harts turns lists full out out' err err') →
       IfOk result (λ full. RanRun input file profile script paths harts turns lists full out out' err err')
   prepared_ran lists out out' err err' (Err fault) ran = tt
   prepared_ran lists out out' err err' (Ok full) ran = record {
@@ -26,6 +26,6 @@ module _ (input : Option Bytes) (file : Path → Option Bytes) (profile own : Pr
     on = subst (λ p. RanOn (script_kernel p lines stdin given) harts turns lists full out out' err err') same ran;
   }
 
-  pub prepared_fault : (result : Result (Option Full) RunFault) → IfErr result (IsHartsFault (script_kernel own lines stdin given) harts turns) → IfErr result (IsRunFault input file profile script paths harts turns)
+  pub prepared_fault : (result : Result (Option Full) ProcessFault) → IfErr result (IsHartsFault (script_kernel own lines stdin given) harts turns) → IfErr result (IsRunFault input file profile script paths harts turns)
   prepared_fault (Ok full) why = tt
   prepared_fault (Err fault) why = no_run lines given stdin starts (subst (λ p. IsHartsFault (script_kernel p lines stdin given) harts turns fault) same why)

@@ -13,12 +13,12 @@ use Rattle.schedule_lines.specs.EventLines.{schedule_text}
 use Rattle.xvsh_read.specs.Listing.{list_text}
 use Rattle.xvsh_runs.specs.declared.report.Lists.{Lists}
 
--- the list of the files, none of them marked, if it is asked for
+-- the list of the files, none of them marked, if it is requested
 abbrev pub files_text : Bool → List (Name × Bytes) → Bytes
 files_text true files = list_text (among []) files
 files_text false files = []
 
--- the events, a line each, if they are asked for
+-- the events, a line each, if they are requested
 abbrev pub events_text : Bool → List Event → Bytes
 events_text true events = schedule_text events
 events_text false events = []

@@ -12,6 +12,9 @@ use Rattle.kernel_model.specs.KernelState.{KernelState}
 use Rattle.run_model.specs.ScriptRun.{script_kernel}
 use Rattle.kernel_threads.specs.Events.{AreOfHarts}
 use Rattle.schedule_lines.specs.EventLines.{AreLinesOf}
+use Rattle.xvsh_read.specs.Console.{Known}
+use Rattle.xvsh_runs.specs.declared.request.RunRequest.{RunRequest}
+use Rattle.xvsh_runs.specs.declared.request.ReplayRequest.{ReplayRequest}
 use Rattle.xvsh_read.specs.Path.{Path}
 use Rattle.xvsh_read.specs.Reading.{Agree, told_at}
 use Rattle.xvsh_read.specs.Starting.{Starts}
@@ -25,7 +28,7 @@ pub record RanOn (start : KernelState User) (harts turns : ℕ) (lists : Lists) 
   pub within : length events ≤ turns
   pub written : IsWritten start events lists full out out' err err'
 
--- what follows is said after what the host tells of standard input and of the files at paths, of the script at a path
+-- what follows is by what the host states of standard input and of the files at paths, of the script at a path
 -- under a profile and on the files at these paths
 module _ (input : Option Bytes) (file : Path → Option Bytes) (profile : Profile) (script : Path) (paths : List (Bor Path)) where
   -- a finished run on so many harts in at most so many turns was written
@@ -47,3 +50,14 @@ module _ (input : Option Bytes) (file : Path → Option Bytes) (profile : Profil
     pub events : List Event
     pub listed : AreLinesOf bytes events
     pub written : IsWritten (script_kernel profile lines stdin given) events lists full out out' err err'
+
+-- a request was carried out, by what is known of the console before and after, and this was full: of a run from this kernel,
+-- of `run`, and of `replay`
+abbrev pub DidRunFrom : KernelState User → Known → Known → RunRequest → Option Full → Type 0
+DidRunFrom start old new request full = RanOn start request.harts request.turns request.lists full old.out new.out old.err new.err
+
+abbrev pub DidRun : Known → Known → RunRequest → Option Full → Type 0
+DidRun old new request full = RanRun old.input old.file request.source.profile request.source.script.now request.source.files.now request.harts request.turns request.lists full old.out new.out old.err new.err
+
+abbrev pub DidReplay : Known → Known → ReplayRequest → Option Full → Type 0
+DidReplay old new request full = RanReplay old.input old.file request.source.profile request.source.script.now request.source.files.now request.schedule.now request.lists full old.out new.out old.err new.err

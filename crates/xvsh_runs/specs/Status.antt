@@ -1,4 +1,4 @@
--- Faults of runs by processes, what is told of them, and the statuses with which the program ends.
+-- Faults of runs by processes, their messages, and the statuses with which the program ends.
 use Rattle.std.specs.Prelude.{ℕ, [], ◌∷◌, ◌++◌, codes}
 use Rattle.std.specs.Fmt.{decimal}
 use Rattle.mem_files.specs.Name.{Bytes}
@@ -10,11 +10,11 @@ use Rattle.kernel_threads.specs.declared.faults.RunFault.{RunFault as HartsFault
 use Rattle.kernel_threads.specs.declared.faults.RunFault.TheVariants.{BadHarts as bad_harts, BadTurns as bad_turns, Spent as harts_spent, Memory as harts_memory}
 use Rattle.xvsh_read.specs.declared.fault.Fault.TheVariants.{Memory as no_memory}
 use Rattle.xvsh_read.specs.Status.{status_of, fault_words}
-use Rattle.xvsh_runs.specs.declared.fault.RunFault.{RunFault}
-use Rattle.xvsh_runs.specs.declared.fault.RunFault.TheVariants.{Common, BadHarts, BadTurns, Spent, SharedInput, NoEvent, NotRunnable, NotRunning, Unfinished}
+use Rattle.xvsh_runs.specs.declared.fault.ProcessFault.{ProcessFault}
+use Rattle.xvsh_runs.specs.declared.fault.ProcessFault.TheVariants.{Common, BadHarts, BadTurns, Spent, SharedInput, NoEvent, NotRunnable, NotRunning, Unfinished}
 
 -- 1: an input that can't be read or is refused, or an output that takes no more; 2: usage; 4: no room
-abbrev pub run_status : RunFault → ℕ
+abbrev pub run_status : ProcessFault → ℕ
 run_status (Common fault) = status_of fault
 run_status BadHarts = 2
 run_status BadTurns = 2
@@ -26,7 +26,7 @@ run_status (NotRunning number pid hart) = 1
 run_status (Unfinished count) = 1
 
 -- what a fault is, in words
-abbrev pub run_words : RunFault → Bytes
+abbrev pub run_words : ProcessFault → Bytes
 run_words (Common fault) = fault_words fault
 run_words BadHarts = codes "the harts are 1 to 8"
 run_words BadTurns = codes "the turns are 1 to 1000000000"
@@ -39,7 +39,7 @@ run_words (NotRunning number pid hart) =
 run_words (Unfinished count) = codes "unfinished after " ++ (decimal count ++ codes " events")
 
 -- its line on standard error
-abbrev pub run_fault_told : RunFault → Bytes
+abbrev pub run_fault_told : ProcessFault → Bytes
 run_fault_told fault = codes "xvsh: " ++ (run_words fault ++ 10 ∷ [])
 
 -- what was full
@@ -54,12 +54,12 @@ full_word Memory = codes "memory"
 abbrev pub full_told : Full → Bytes
 full_told full = codes "xvsh: full " ++ (full_word full ++ 10 ∷ [])
 
-abbrev pub of_one : RunOneFault → RunFault
+abbrev pub of_one : RunOneFault → ProcessFault
 of_one one_turns = BadTurns
 of_one one_spent = Spent
 of_one one_memory = Common no_memory
 
-abbrev pub of_harts : HartsFault → RunFault
+abbrev pub of_harts : HartsFault → ProcessFault
 of_harts bad_harts = BadHarts
 of_harts bad_turns = BadTurns
 of_harts harts_spent = Spent

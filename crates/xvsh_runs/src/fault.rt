@@ -1,4 +1,4 @@
-//! Why a run by processes isn't told.
+//! Why a run by processes wasn't written.
 ghost use Rattle.std.specs.Prelude.{◌≡◌, ◌↔◌, IsTrue};
 ghost use Rattle.xvsh_runs.specs.Status.{run_status};
 ghost use Rattle.xvsh_read.specs.declared.fault.Fault.TheVariants.{Unwritten};
@@ -8,10 +8,10 @@ use kernel_core::RunOneFault;
 use std::fmt;
 use xvsh_read::Fault;
 
-/// Why `run` or `replay` fails. Each is told as one line on standard error after `xvsh: `, but for an output that took no
+/// Why `run` or `replay` fails. Each is reported as one line on standard error after `xvsh: `, except an output that took no
 /// more, after which nothing is written. Events, and a schedule's lines, are counted from 1.
 #[derive(Clone, Copy, Debug)]
-pub enum RunFault<'a> {
+pub enum ProcessFault<'a> {
     /// What any run of a script meets.
     Common(Fault<'a>),
     /// No harts, or more than 8.
@@ -32,34 +32,34 @@ pub enum RunFault<'a> {
     Unfinished(usize),
 }
 
-impl RunFault<'_> {
+impl ProcessFault<'_> {
     /// The status with which the program ends.
     pub fn status(self) -> u8
         ensures { result ≡ run_status self.entry }
     {
         match self {
-            RunFault::Common(fault) => fault.status(),
-            RunFault::Spent => 4,
-            RunFault::BadHarts | RunFault::BadTurns | RunFault::SharedInput => 2,
-            RunFault::NoEvent(_, _)
-            | RunFault::NotRunnable(_, _)
-            | RunFault::NotRunning(_, _, _)
-            | RunFault::Unfinished(_) => 1,
+            ProcessFault::Common(fault) => fault.status(),
+            ProcessFault::Spent => 4,
+            ProcessFault::BadHarts | ProcessFault::BadTurns | ProcessFault::SharedInput => 2,
+            ProcessFault::NoEvent(_, _)
+            | ProcessFault::NotRunnable(_, _)
+            | ProcessFault::NotRunning(_, _, _)
+            | ProcessFault::Unfinished(_) => 1,
         }
     }
 
     /// Whether it is an output that failed.
     pub fn is_unwritten(&self) -> bool
-        ensures { IsTrue result ↔ (self.now ≡ RunFault.Common Unwritten) }
+        ensures { IsTrue result ↔ (self.now ≡ ProcessFault.Common Unwritten) }
     {
         match self {
-            RunFault::Common(fault) => fault.is_unwritten(),
+            ProcessFault::Common(fault) => fault.is_unwritten(),
             _ => false,
         }
     }
 }
 
-impl fmt::Display for RunFault<'_> {
+impl fmt::Display for ProcessFault<'_> {
     ghost use Rattle.std.specs.Prelude.{Some};
     ghost use Rattle.xvsh_runs.specs.Status.{run_words};
 
@@ -67,66 +67,66 @@ impl fmt::Display for RunFault<'_> {
 
     fn fmt<W: fmt::Write>(&self, f: &mut fmt::Formatter<W>) -> fmt::Result {
         match *self {
-            RunFault::Common(fault) => write!(f, "{fault}"),
-            RunFault::BadHarts => f.write_str("the harts are 1 to 8"),
-            RunFault::BadTurns => f.write_str("the turns are 1 to 1000000000"),
-            RunFault::Spent => f.write_str("spent"),
-            RunFault::SharedInput => {
+            ProcessFault::Common(fault) => write!(f, "{fault}"),
+            ProcessFault::BadHarts => f.write_str("the harts are 1 to 8"),
+            ProcessFault::BadTurns => f.write_str("the turns are 1 to 1000000000"),
+            ProcessFault::Spent => f.write_str("spent"),
+            ProcessFault::SharedInput => {
                 f.write_str("the schedule and the script are both standard input")
             }
-            RunFault::NoEvent(path, line) => write!(f, "{path} line {line} is no event"),
-            RunFault::NotRunnable(number, pid) => {
+            ProcessFault::NoEvent(path, line) => write!(f, "{path} line {line} is no event"),
+            ProcessFault::NotRunnable(number, pid) => {
                 write!(f, "event {number}: process {pid} is not runnable")
             }
-            RunFault::NotRunning(number, pid, hart) => {
+            ProcessFault::NotRunning(number, pid, hart) => {
                 write!(
                     f,
                     "event {number}: process {pid} is not running on hart {hart}"
                 )
             }
-            RunFault::Unfinished(count) => write!(f, "unfinished after {count} events"),
+            ProcessFault::Unfinished(count) => write!(f, "unfinished after {count} events"),
         }
     }
 }
 
-impl<'a> From<Fault<'a>> for RunFault<'a> {
+impl<'a> From<Fault<'a>> for ProcessFault<'a> {
     ghost use Rattle.std.specs.Prelude.{◌≡◌};
-    ghost use Rattle.xvsh_runs.specs.declared.fault.RunFault.TheVariants.{Common};
+    ghost use Rattle.xvsh_runs.specs.declared.fault.ProcessFault.TheVariants.{Common};
 
     ghost from_gives = { λ fault given. given ≡ Common fault };
 
-    fn from(fault: Fault<'a>) -> RunFault<'a> {
-        RunFault::Common(fault)
+    fn from(fault: Fault<'a>) -> ProcessFault<'a> {
+        ProcessFault::Common(fault)
     }
 }
 
-impl<'a> From<RunOneFault> for RunFault<'a> {
+impl<'a> From<RunOneFault> for ProcessFault<'a> {
     ghost use Rattle.std.specs.Prelude.{◌≡◌};
     ghost use Rattle.xvsh_runs.specs.Status.{of_one};
 
     ghost from_gives = { λ fault given. given ≡ of_one fault };
 
-    fn from(fault: RunOneFault) -> RunFault<'a> {
+    fn from(fault: RunOneFault) -> ProcessFault<'a> {
         match fault {
-            RunOneFault::BadTurns => RunFault::BadTurns,
-            RunOneFault::Spent => RunFault::Spent,
-            RunOneFault::Memory => RunFault::Common(Fault::Memory),
+            RunOneFault::BadTurns => ProcessFault::BadTurns,
+            RunOneFault::Spent => ProcessFault::Spent,
+            RunOneFault::Memory => ProcessFault::Common(Fault::Memory),
         }
     }
 }
 
-impl<'a> From<HartsFault> for RunFault<'a> {
+impl<'a> From<HartsFault> for ProcessFault<'a> {
     ghost use Rattle.std.specs.Prelude.{◌≡◌};
     ghost use Rattle.xvsh_runs.specs.Status.{of_harts};
 
     ghost from_gives = { λ fault given. given ≡ of_harts fault };
 
-    fn from(fault: HartsFault) -> RunFault<'a> {
+    fn from(fault: HartsFault) -> ProcessFault<'a> {
         match fault {
-            HartsFault::BadHarts => RunFault::BadHarts,
-            HartsFault::BadTurns => RunFault::BadTurns,
-            HartsFault::Spent => RunFault::Spent,
-            HartsFault::Memory => RunFault::Common(Fault::Memory),
+            HartsFault::BadHarts => ProcessFault::BadHarts,
+            HartsFault::BadTurns => ProcessFault::BadTurns,
+            HartsFault::Spent => ProcessFault::Spent,
+            HartsFault::Memory => ProcessFault::Common(Fault::Memory),
         }
     }
 }

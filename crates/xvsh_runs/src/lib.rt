@@ -4,11 +4,13 @@
 mod fault;
 mod replaying;
 mod report;
+mod request;
 mod running;
 
-pub use fault::RunFault;
+pub use fault::ProcessFault;
 pub use hart_run::MAX_HARTS;
 pub use kernel_core::MAX_TURNS;
 pub use replaying::{MAX_SCHEDULE, run_replay};
-pub use report::{Lists, word_of};
-pub use running::{run_prepared, run_run};
+pub use report::{Lists, full_word};
+pub use request::{ReplayRequest, RunRequest};
+pub use running::{run_prepared, run_processes};

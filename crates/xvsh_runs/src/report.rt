@@ -23,7 +23,7 @@ pub struct Lists {
 }
 
 /// The word for what was full.
-pub fn word_of(full: Full) -> &'static str
+pub fn full_word(full: Full) -> &'static str
     ensures { result.now ≡ full_word full }
 {
     match full {
@@ -36,7 +36,7 @@ pub fn word_of(full: Full) -> &'static str
     }
 }
 
-// The list of the files, if it is asked for.
+// The list of the files, if it is requested.
 fn list_files(alloc: Global, lists: bool, files: &Files<Global>) -> Result<Vec<u8>, AllocError>
     ensures { IfOk result (λ text. text.items ≡ files_text lists files.now) }
 {
@@ -47,7 +47,7 @@ fn list_files(alloc: Global, lists: bool, files: &Files<Global>) -> Result<Vec<u
     }
 }
 
-// The lines of the events, if they are asked for.
+// The lines of the events, if they are requested.
 fn list_events(alloc: Global, lists: bool, events: &[Event]) -> Result<Vec<u8>, AllocError>
     ensures { IfOk result (λ text. text.items ≡ events_text lists events.now) }
 {
@@ -58,7 +58,7 @@ fn list_events(alloc: Global, lists: bool, events: &[Event]) -> Result<Vec<u8>, 
     }
 }
 
-/// Writes the output of a run, the list of the files and that of the events where they are asked for, and to `err` its
+/// Writes the output of a run, the list of the files and that of the events where they are requested, and to `err` its
 /// diagnostics.
 pub fn write_report<'a, W: Write, E: Write>(
     alloc: Global,

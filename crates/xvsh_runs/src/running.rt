@@ -1,32 +1,36 @@
 //! `run`: a script by its processes on some harts.
 ghost use Rattle.std.specs.Prelude.{◌≡◌, ◌≢◌, ◌≤◌, IfOk, IfErr, length};
-ghost use Rattle.script_load.specs.Line.{lines_of};
 ghost use Rattle.kernel_events.specs.Reports.{IsRunFrom};
-ghost use Rattle.run_model.specs.ScriptRun.{script_kernel};
 ghost use Rattle.kernel_threads.specs.Events.{AreOfHarts};
 ghost use Rattle.xvsh_read.specs.declared.fault.Fault.TheVariants.{Unwritten};
-ghost use Rattle.xvsh_runs.specs.Runs.{RanOn, RanRun};
-ghost use Rattle.xvsh_runs.specs.Why.{IsRunFault, IsHartsFault};
+ghost use Rattle.xvsh_read.specs.Console.{known};
+ghost use Rattle.xvsh_runs.specs.Kernels.{kernel_of};
+ghost use Rattle.xvsh_runs.specs.Runs.{DidRun, DidRunFrom};
+ghost use Rattle.xvsh_runs.specs.Why.{IsHartsFault, IsRunRefusal};
 
-use crate::fault::RunFault;
-use crate::report::{Lists, write_report};
+use crate::fault::ProcessFault;
+use crate::report::write_report;
+use crate::request::RunRequest;
 use hart_run::{OpenGate, run_harts};
 use kernel_core::{Report, run_one};
 use kernel_model::Full;
-use script_load::Profile;
 use std::alloc::Global;
 use std::io::Write;
 use std::sync::Wait;
 use std::thread::Threads;
 use std::time::Clock;
-use xvsh_read::{Host, Start, prepare};
+use xvsh_read::{Console, Host, Start, prepare};
 
 // Runs what was read on hart 0, on this thread alone, in at most so many turns.
-fn run_alone<'a>(alloc: Global, start: &Start, turns: u64) -> Result<Report<Global>, RunFault<'a>>
-    ensures run { IfOk result (IsRunFrom (script_kernel start.now.script.profile (lines_of start.now.script.lines) start.now.stdin.items start.now.files)) }
+fn run_alone<'a>(
+    alloc: Global,
+    start: &Start,
+    turns: u64,
+) -> Result<Report<Global>, ProcessFault<'a>>
+    ensures run { IfOk result (IsRunFrom (kernel_of start.now)) }
     ensures harts { IfOk result (λ report. AreOfHarts 1 report.schedule) }
     ensures turns { IfOk result (λ report. length report.schedule ≤ turns) }
-    ensures fault { IfErr result (IsHartsFault (script_kernel start.now.script.profile (lines_of start.now.script.lines) start.now.stdin.items start.now.files) 1 turns) }
+    ensures fault { IfErr result (IsHartsFault (kernel_of start.now) 1 turns) }
 {
     let report = run_one(
         alloc,
@@ -45,11 +49,11 @@ fn run_on_threads<'a, R: Threads + Wait + Clock + Sync>(
     start: &Start,
     harts: u8,
     turns: u64,
-) -> Result<Report<Global>, RunFault<'a>>
-    ensures run { IfOk result (IsRunFrom (script_kernel start.now.script.profile (lines_of start.now.script.lines) start.now.stdin.items start.now.files)) }
+) -> Result<Report<Global>, ProcessFault<'a>>
+    ensures run { IfOk result (IsRunFrom (kernel_of start.now)) }
     ensures harts { IfOk result (λ report. AreOfHarts harts report.schedule) }
     ensures turns { IfOk result (λ report. length report.schedule ≤ turns) }
-    ensures fault { IfErr result (IsHartsFault (script_kernel start.now.script.profile (lines_of start.now.script.lines) start.now.stdin.items start.now.files) harts turns) }
+    ensures fault { IfErr result (IsHartsFault (kernel_of start.now) harts turns) }
 {
     let report = run_harts(
         rt,
@@ -71,11 +75,11 @@ fn run_started<'a, R: Threads + Wait + Clock + Sync>(
     start: &Start,
     harts: u8,
     turns: u64,
-) -> Result<Report<Global>, RunFault<'a>>
-    ensures run { IfOk result (IsRunFrom (script_kernel start.now.script.profile (lines_of start.now.script.lines) start.now.stdin.items start.now.files)) }
+) -> Result<Report<Global>, ProcessFault<'a>>
+    ensures run { IfOk result (IsRunFrom (kernel_of start.now)) }
     ensures harts { IfOk result (λ report. AreOfHarts harts report.schedule) }
     ensures turns { IfOk result (λ report. length report.schedule ≤ turns) }
-    ensures fault { IfErr result (IsHartsFault (script_kernel start.now.script.profile (lines_of start.now.script.lines) start.now.stdin.items start.now.files) harts turns) }
+    ensures fault { IfErr result (IsHartsFault (kernel_of start.now) harts turns) }
 {
     if harts == 1 {
         run_alone(alloc, start, turns)
@@ -84,51 +88,45 @@ fn run_started<'a, R: Threads + Wait + Clock + Sync>(
     }
 }
 
-/// Runs what was read by its processes on so many harts in at most so many turns, and writes its output, the lists that are
-/// asked for, and to `err` its diagnostics. Returns what was full, if something was. A fault comes before anything is
-/// written, but for an output that took no more.
-pub fn run_prepared<'a, R: Threads + Wait + Clock + Sync, W: Write, E: Write>(
+/// Runs what was read by its processes as the request says, and writes its output, the lists that are requested, and to
+/// standard error its diagnostics. Returns what was full, if something was. On an error nothing was written, except where an
+/// output took no more.
+pub fn run_prepared<'a, R: Threads + Wait + Clock + Sync, H: Host, W: Write, E: Write>(
     rt: &R,
     alloc: Global,
     start: &Start,
-    harts: u8,
-    turns: u64,
-    lists: Lists,
-    out: &mut W,
-    err: &mut E,
-) -> Result<Option<Full>, RunFault<'a>>
-    ensures ran { IfOk result (λ full. RanOn (script_kernel start.now.script.profile (lines_of start.now.script.lines) start.now.stdin.items start.now.files) harts turns lists full
-        (W.contents out.old) (W.contents out.new) (E.contents err.old) (E.contents err.new)) }
-    ensures fault { IfErr result (IsHartsFault (script_kernel start.now.script.profile (lines_of start.now.script.lines) start.now.stdin.items start.now.files) harts turns) }
-    ensures refusal { IfErr result (λ fault. fault ≢ RunFault.Common Unwritten → (out.new ≡ out.old) × (err.new ≡ err.old)) }
+    request: &RunRequest<'a>,
+    console: &mut Console<H, W, E>,
+) -> Result<Option<Full>, ProcessFault<'a>>
+    ensures ran { let seen = known H.input H.file W.contents E.contents in IfOk result (DidRunFrom (kernel_of start.now) (seen console.old) (seen console.new) request.now) }
+    ensures fault { IfErr result (IsHartsFault (kernel_of start.now) request.now.harts request.now.turns) }
+    ensures refusal { IfErr result (λ fault. fault ≢ ProcessFault.Common Unwritten → (console.new.out ≡ console.old.out) × (console.new.err ≡ console.old.err)) }
 {
-    let report = run_started(rt, alloc, start, harts, turns)?;
-    write_report(alloc, &report, lists, out, err)?;
+    let report = run_started(rt, alloc, start, request.harts, request.turns)?;
+    write_report(
+        alloc,
+        &report,
+        request.lists,
+        &mut console.out,
+        &mut console.err,
+    )?;
     Ok(report.full)
 }
 
 /// `run`: reads the script, the files in order, and standard input unless that is the script, runs the script by its
-/// processes on so many harts in at most so many turns, and writes its output, the lists that are asked for, and to `err`
-/// its diagnostics. Returns what was full, if something was. A fault comes before anything is written, but for an output
-/// that took no more.
-pub fn run_run<'a, R: Threads + Wait + Clock + Sync, H: Host, W: Write, E: Write>(
+/// processes on so many harts in at most so many turns, and writes its output, the lists that are requested, and to standard
+/// error its diagnostics. Returns what was full, if something was. On an error nothing was written, except where an output
+/// took no more.
+pub fn run_processes<'a, R: Threads + Wait + Clock + Sync, H: Host, W: Write, E: Write>(
     rt: &R,
     alloc: Global,
-    host: &mut H,
-    profile: Profile,
-    script: &'a str,
-    paths: &[&'a str],
-    harts: u8,
-    turns: u64,
-    lists: Lists,
-    out: &mut W,
-    err: &mut E,
-) -> Result<Option<Full>, RunFault<'a>>
-    ensures ran { IfOk result (λ full. RanRun (H.input host.old) (H.file host.old) profile script.now paths.now harts turns lists full
-        (W.contents out.old) (W.contents out.new) (E.contents err.old) (E.contents err.new)) }
-    ensures fault { IfErr result (IsRunFault (H.input host.old) (H.file host.old) profile script.now paths.now harts turns) }
-    ensures refusal { IfErr result (λ fault. fault ≢ RunFault.Common Unwritten → (out.new ≡ out.old) × (err.new ≡ err.old)) }
+    request: &RunRequest<'a>,
+    console: &mut Console<H, W, E>,
+) -> Result<Option<Full>, ProcessFault<'a>>
+    ensures ran { let seen = known H.input H.file W.contents E.contents in IfOk result (DidRun (seen console.old) (seen console.new) request.now) }
+    ensures fault { let seen = known H.input H.file W.contents E.contents in IfErr result (IsRunRefusal (seen console.old) request.now) }
+    ensures refusal { IfErr result (λ fault. fault ≢ ProcessFault.Common Unwritten → (console.new.out ≡ console.old.out) × (console.new.err ≡ console.old.err)) }
 {
-    let start = prepare(alloc, host, profile, script, paths, false)?;
-    run_prepared(rt, alloc, &start, harts, turns, lists, out, err)
+    let start = prepare(alloc, &mut console.host, &request.source, false)?;
+    run_prepared(rt, alloc, &start, request, console)
 }

@@ -1,5 +1,10 @@
 //! The words that the program takes.
 
+ghost use Rattle.std.specs.Prelude.{◌≡◌, IfOk, codes, false};
+ghost use Rattle.clap.specs.Simple.{app_of};
+ghost use Rattle.clap.specs.Walk.{rule_of};
+ghost use Rattle.xvsh_words.specs.Program.{IsCommand, bare_program, check_shape, explain_shape, files_rule, flag_rule, number_rule, plain_shape, program, replay_shape, run_shape, word_rule};
+
 use clap::builder::ValueParser;
 use clap::{Arg, ArgAction, Command};
 use std::alloc::{AllocError, Global};
@@ -60,7 +65,10 @@ script that isn't settled; 4 full, spent, too large, or no memory.";
 const VERSION: &str = "0.1.0 (rattle logic dac8208d650f15bf)";
 
 // A flag: `--` and its name.
-fn flag<'a>(alloc: Global, name: &'static str, help: &'static str) -> Arg<'a> {
+fn flag<'a>(alloc: Global, name: &'static str, help: &'static str) -> Arg<'a>
+    ensures rule { rule_of result ≡ flag_rule name.now }
+    ensures local { result.global ≡ false }
+{
     Arg::new(alloc, name)
         .long(name)
         .help(help)
@@ -68,7 +76,10 @@ fn flag<'a>(alloc: Global, name: &'static str, help: &'static str) -> Arg<'a> {
 }
 
 // An option that takes a number from 1 to the most.
-fn number_option<'a>(alloc: Global, name: &'static str, help: &'static str, most: u64) -> Arg<'a> {
+fn number_option<'a>(alloc: Global, name: &'static str, help: &'static str, most: u64) -> Arg<'a>
+    ensures rule { rule_of result ≡ number_rule name.now most }
+    ensures local { result.global ≡ false }
+{
     Arg::new(alloc, name)
         .long(name)
         .value_name("N")
@@ -83,7 +94,10 @@ fn needed_word<'a>(
     name: &'static str,
     shown: &'static str,
     help: &'static str,
-) -> Arg<'a> {
+) -> Arg<'a>
+    ensures rule { rule_of result ≡ word_rule name.now }
+    ensures local { result.global ≡ false }
+{
     Arg::new(alloc, name)
         .value_name(shown)
         .help(help)
@@ -92,12 +106,18 @@ fn needed_word<'a>(
 }
 
 // SCRIPT.
-fn script_word<'a>(alloc: Global, help: &'static str) -> Arg<'a> {
+fn script_word<'a>(alloc: Global, help: &'static str) -> Arg<'a>
+    ensures rule { rule_of result ≡ word_rule (codes "script") }
+    ensures local { result.global ≡ false }
+{
     needed_word(alloc, "script", "SCRIPT", help)
 }
 
 // The files of the script.
-fn file_words<'a>(alloc: Global) -> Arg<'a> {
+fn file_words<'a>(alloc: Global) -> Arg<'a>
+    ensures rule { rule_of result ≡ files_rule }
+    ensures local { result.global ≡ false }
+{
     Arg::new(alloc, "paths")
         .value_name("FILE")
         .help("Files for the script, each under the part of its path after the last `/`")
@@ -126,7 +146,9 @@ fn run_command<'a>(
     alloc: Global,
     most_harts: u64,
     most_turns: u64,
-) -> Result<Command<'a>, AllocError> {
+) -> Result<Command<'a>, AllocError>
+    ensures { IfOk result (IsCommand (run_shape most_harts most_turns)) }
+{
     let args = vec![in alloc;
         number_option(alloc, "harts", HARTS_HELP, most_harts),
         number_option(alloc, "turns", TURNS_HELP, most_turns),
@@ -148,7 +170,9 @@ const REPLAY_ABOUT: &str = "Runs a script by the events that `run --schedule` wr
 const SCHEDULE_HELP: &str =
     "The schedule's path; `-` is standard input, and the script's own input is then empty";
 
-fn replay_command<'a>(alloc: Global) -> Result<Command<'a>, AllocError> {
+fn replay_command<'a>(alloc: Global) -> Result<Command<'a>, AllocError>
+    ensures { IfOk result (IsCommand replay_shape) }
+{
     let args = vec![in alloc;
         flag(alloc, "append", APPEND_HELP),
         flag(alloc, "files", RUN_FILES_HELP),
@@ -164,7 +188,9 @@ const PLAIN_ABOUT: &str = "Runs a script, each pipe's left side to its end befor
 const PLAIN_FILES_HELP: &str =
     "Write all files after the output: `-- NAME LENGTH`, `soft` if it is soft, the bytes, a line's end";
 
-fn plain_command<'a>(alloc: Global) -> Result<Command<'a>, AllocError> {
+fn plain_command<'a>(alloc: Global) -> Result<Command<'a>, AllocError>
+    ensures { IfOk result (IsCommand plain_shape) }
+{
     let args = vec![in alloc;
         flag(alloc, "strict", STRICT_HELP),
         flag(alloc, "append", APPEND_HELP),
@@ -180,7 +206,9 @@ const CHECK_ABOUT: &str = "Tells where commands of a script may clash, and runs 
 const COUNTED_HELP: &str =
     "Write last in how many turns the script runs to its end on the FILEs and its input";
 
-fn check_command<'a>(alloc: Global) -> Result<Command<'a>, AllocError> {
+fn check_command<'a>(alloc: Global) -> Result<Command<'a>, AllocError>
+    ensures { IfOk result (IsCommand check_shape) }
+{
     let files = file_words(alloc).requires_arg("turns")?;
     let args = vec![in alloc;
         flag(alloc, "turns", COUNTED_HELP),
@@ -193,7 +221,9 @@ fn check_command<'a>(alloc: Global) -> Result<Command<'a>, AllocError> {
 const EXPLAIN_ABOUT: &str =
     "Tells in sentences what is wrong or unexpected in a script, and runs nothing";
 
-fn explain_command<'a>(alloc: Global) -> Result<Command<'a>, AllocError> {
+fn explain_command<'a>(alloc: Global) -> Result<Command<'a>, AllocError>
+    ensures { IfOk result (IsCommand explain_shape) }
+{
     Command::new(alloc, "explain").about(EXPLAIN_ABOUT).arg(script_word(
         alloc,
         "The script's path; `-` is standard input",
@@ -201,7 +231,9 @@ fn explain_command<'a>(alloc: Global) -> Result<Command<'a>, AllocError> {
 }
 
 // The program's name, version and help, without a command.
-fn bare_command<'a>(alloc: Global) -> Result<Command<'a>, AllocError> {
+fn bare_command<'a>(alloc: Global) -> Result<Command<'a>, AllocError>
+    ensures { IfOk result (λ command. app_of command ≡ bare_program) }
+{
     Command::new(alloc, "xvsh")
         .no_binary_name(true)
         .about(ABOUT)
@@ -212,24 +244,18 @@ fn bare_command<'a>(alloc: Global) -> Result<Command<'a>, AllocError> {
         .bin_name("xvsh")
 }
 
-// A command with one more that it may be asked for.
-fn with<'a>(
-    command: Command<'a>,
-    subcommand: Result<Command<'a>, AllocError>,
-) -> Result<Command<'a>, AllocError> {
-    command.subcommand(subcommand?)
-}
-
 /// The command line of the program, on which a run may be asked for on so many harts, and in so many turns, at most.
 pub fn command_line<'a>(
     alloc: Global,
     most_harts: u64,
     most_turns: u64,
-) -> Result<Command<'a>, AllocError> {
+) -> Result<Command<'a>, AllocError>
+    ensures { IfOk result (λ command. app_of command ≡ program most_harts most_turns) }
+{
     let command = bare_command(alloc)?;
-    let command = with(command, run_command(alloc, most_harts, most_turns))?;
-    let command = with(command, replay_command(alloc))?;
-    let command = with(command, plain_command(alloc))?;
-    let command = with(command, check_command(alloc))?;
-    with(command, explain_command(alloc))
+    let command = command.subcommand(run_command(alloc, most_harts, most_turns)?)?;
+    let command = command.subcommand(replay_command(alloc)?)?;
+    let command = command.subcommand(plain_command(alloc)?)?;
+    let command = command.subcommand(check_command(alloc)?)?;
+    command.subcommand(explain_command(alloc)?)
 }

@@ -1,9 +1,13 @@
-use Rattle.std.proofs.Common.{[]}
+use Rattle.std.proofs.Common.{[], inl, inr, refl}
 use Rattle.xvsh_ends.specs.Ends.{misuse, misused}
+use Rattle.xvsh_ends.specs.Requests.{asked}
 use Rattle.xvsh_ends.proofs.Ending.{keeps_same, appends_none}
 use Rattle.xvsh.proofs.driver.end_command.Goals as goal
 
-pub returns-in_default-subcommand_matches-4-clause-ends :
-    goal.returns-in_default-subcommand_matches-4-clause-ends
-returns-in_default-subcommand_matches-4-clause-ends g c =
-    (misuse, misused [] (keeps_same (g.W.Write.contents c.args.out.now)) (appends_none (g.E.Write.contents c.args.err.now)))
+pub returns-in-Some-clause-ends : goal.returns-in-Some-clause-ends
+returns-in-Some-clause-ends g c =
+    (asked c.in-Some.request, inl (c.in-Some.request, c.in-Some.ensures.request, refl), c.end_request.ensures.ends)
+
+pub returns-in-None-clause-ends : goal.returns-in-None-clause-ends
+returns-in-None-clause-ends g c =
+    (misuse, inr (inr refl), misused [] (keeps_same (g.W.Write.contents c.args.console.now.out)) (appends_none (g.E.Write.contents c.args.console.now.err)))

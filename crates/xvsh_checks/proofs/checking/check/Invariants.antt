@@ -4,7 +4,7 @@ use Rattle.script_load.specs.Line.{line_of}
 use Rattle.xvsh_checks.proofs.Telling.{Completes, Decides}
 use Rattle.xvsh_checks.proofs.checking.check.Given as goal
 
--- what is told of the lines that are left completes the text, and they are harmless where all are
+-- a report of the lines that are left completes the text, and they are harmless where all are
 abbrev pub invariant-loop-i : goal.invariant-loop-i
 invariant-loop-i l =
     Completes (map line_of l.line-items) (l.i + 1) (map line_of (drop l.i l.line-items)) l.text.items

@@ -20,9 +20,9 @@ returns-in_err-write-clause-fault g c =
 
 pub returns-clause-ran : goal.returns-clause-ran
 returns-clause-ran g c =
-    let old = g.W.Write.contents c.args.out.now in
+    let old = g.W.Write.contents c.args.console.now.out in
     let new = g.W.Write.contents c.write.new.out in
     let told = c.in_ok-told.told.items in
-    ran_explain (g.H.Host.input c.args.host.now) (g.H.Host.file c.args.host.now) c.args.script.now told c.is_nothing.result old new c.in_ok-told.ensures.told
+    ran_explain (g.H.Host.input c.args.console.now.host) (g.H.Host.file c.args.console.now.host) c.args.request.now.script.now told c.is_nothing.result old new c.in_ok-told.ensures.told
     (subst (Appends old new) (c.written_of.ensures ∙ ap written_of c.as_slice-text.ensures.value) c.in_ok-write.ensures.written)
     (subst (λ b. IsTrue c.is_nothing.result ↔ (b ≡ [])) c.as_slice-text.ensures.value c.is_nothing.ensures)

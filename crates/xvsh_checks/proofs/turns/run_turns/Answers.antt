@@ -30,9 +30,9 @@ returns-clause-ran g c =
     let start = c.in_ok-start.start in
     let lines = lines_of start.script.lines in
     let checked = c.in_ok-checked.checked in
-    let old = g.W.Write.contents c.args.out.now in
+    let old = g.W.Write.contents c.args.console.now.out in
     let new = g.W.Write.contents c.write.new.out in
-    ran_turns (g.H.Host.input c.args.host.now) (g.H.Host.file c.args.host.now) c.args.script.now c.args.paths.now old new lines start.files start.stdin.items checked.text.items checked.is_harmless c.in_ok-start.ensures.prepared
+    ran_turns (g.H.Host.input c.args.console.now.host) (g.H.Host.file c.args.console.now.host) c.args.request.now.script.now c.args.request.now.files.now old new lines start.files start.stdin.items checked.text.items checked.is_harmless c.in_ok-start.ensures.prepared
     (subst (λ s. (text : Bytes) × (turns : Bytes) × AreTold 1 lines text × AreTurnsTold lines s (files start.files) turns × (checked.text.items ≡ text ++ turns)) c.as_slice-stdin.ensures.value c.in_ok-checked.ensures.told)
     (subst (Appends old new) c.as_slice.ensures.value c.in_ok-write.ensures.written)
     c.in_ok-checked.ensures.harmless

@@ -1,13 +1,23 @@
 use Rattle.std.proofs.Common.{ap, subst, sym}
-use Rattle.xvsh_ends.specs.Ends.{Ends, asks_turns, counted}
-use Rattle.xvsh_ends.proofs.Ending.{keeps_same, refused_count}
+use Rattle.xvsh_read.specs.Status.{status_of, fault_told}
+use Rattle.xvsh_ends.specs.Ends.{Ends, Tells, asks_turns, counted}
+use Rattle.xvsh_ends.proofs.Ending.{keeps_equal, refused_count}
 use Rattle.xvsh_ends.proofs.checks.end_turns.Goals as goal
 
 pub returns-in-Ok-clause-ends : goal.returns-in-Ok-clause-ends
 returns-in-Ok-clause-ends g c =
-    subst (Ends (g.H.Host.input c.args.host.now) (g.H.Host.file c.args.host.now) (g.W.Write.contents c.args.out.now) (g.W.Write.contents c.run_turns.new.out) (g.E.Write.contents c.args.err.now) (g.E.Write.contents c.args.err.now) (asks_turns c.args.script.now c.args.paths.now)) (sym c.check_status.ensures)
-    (counted c.in-Ok.is_harmless c.in-Ok.ensures.ran (keeps_same (g.E.Write.contents c.args.err.now)))
+    let input = g.H.Host.input c.args.console.now.host in
+    let file = g.H.Host.file c.args.console.now.host in
+    let out = g.W.Write.contents c.args.console.now.out in
+    let out' = g.W.Write.contents c.run_turns.new.console.out in
+    let err = g.E.Write.contents c.args.console.now.err in
+    let err' = g.E.Write.contents c.run_turns.new.console.err in
+    subst (Ends input file out out' err err' (asks_turns c.args.request.now.script.now c.args.request.now.files.now)) (sym c.check_status.ensures)
+    (counted c.in-Ok.is_harmless c.in-Ok.ensures.ran (keeps_equal err err' (ap g.E.Write.contents c.run_turns.ensures.err_stays)))
 
 pub returns-in-Err-clause-ends : goal.returns-in-Err-clause-ends
 returns-in-Err-clause-ends g c =
-    refused_count (g.H.Host.input c.args.host.now) (g.H.Host.file c.args.host.now) (g.W.Write.contents c.args.out.now) (g.W.Write.contents c.run_turns.new.out) (g.E.Write.contents c.args.err.now) (g.E.Write.contents c.tell.new.err) c.args.script.now c.args.paths.now c.in-Err.fault c.tell.result c.in-Err.ensures.fault (λ other. ap g.W.Write.contents (c.in-Err.ensures.refusal other)) c.tell.ensures
+    let fault = c.in-Err.fault in
+    let after = g.E.Write.contents c.tell.new.err in
+    refused_count (g.H.Host.input c.args.console.now.host) (g.H.Host.file c.args.console.now.host) (g.W.Write.contents c.args.console.now.out) (g.W.Write.contents c.run_turns.new.console.out) (g.E.Write.contents c.args.console.now.err) after c.args.request.now.script.now c.args.request.now.files.now fault c.tell.result c.in-Err.ensures.fault (λ other. ap g.W.Write.contents (c.in-Err.ensures.refusal other))
+    (subst (λ e. Tells (fault_told fault) (status_of fault) c.tell.result e after) (ap g.E.Write.contents c.run_turns.ensures.err_stays) c.tell.ensures)

@@ -6,10 +6,10 @@ use Rattle.xvsh_ends.proofs.processes.end_replay.Goals as goal
 
 pub returns-clause-ends : goal.returns-clause-ends
 returns-clause-ends g c =
-    ended_ran (g.H.Host.input c.args.host.now) (g.H.Host.file c.args.host.now) (by_schedule c.args.schedule.now) c.args.profile c.args.script.now c.args.paths.now c.args.lists (g.W.Write.contents c.args.out.now) (g.W.Write.contents c.run_replay-ran.new.out) (g.E.Write.contents c.args.err.now) (g.E.Write.contents c.run_replay-ran.new.err) (g.E.Write.contents c.tell_ran.new.err) c.run_replay-ran.result c.tell_ran.result c.run_replay-ran.ensures.ran c.run_replay-ran.ensures.fault
+    ended_ran (g.H.Host.input c.args.console.now.host) (g.H.Host.file c.args.console.now.host) (by_schedule c.args.request.now.schedule.now) c.args.request.now.source.profile c.args.request.now.source.script.now c.args.request.now.source.files.now c.args.request.now.lists (g.W.Write.contents c.args.console.now.out) (g.W.Write.contents c.run_replay-ran.new.console.out) (g.E.Write.contents c.args.console.now.err) (g.E.Write.contents c.run_replay-ran.new.console.err) (g.E.Write.contents c.tell_ran.new.err) c.run_replay-ran.result c.tell_ran.result c.run_replay-ran.ensures.ran c.run_replay-ran.ensures.fault
     (IfErr-weaker c.run_replay-ran.result _ _ (λ fault stays other. (ap g.W.Write.contents (stays other).0, ap g.E.Write.contents (stays other).1)) c.run_replay-ran.ensures.refusal)
     c.tell_ran.ensures
 
 pub returns-clause-nothing_written : goal.returns-clause-nothing_written
 returns-clause-nothing_written g c =
-    nothing_ran c.args.out.now c.run_replay-ran.new.out c.args.err.now c.run_replay-ran.new.err c.run_replay-ran.result c.tell_ran.result (g.E.Write.contents c.run_replay-ran.new.err) (g.E.Write.contents c.tell_ran.new.err) c.run_replay-ran.ensures.refusal c.tell_ran.ensures
+    nothing_ran c.args.console.now.out c.run_replay-ran.new.console.out c.args.console.now.err c.run_replay-ran.new.console.err c.run_replay-ran.result c.tell_ran.result (g.E.Write.contents c.run_replay-ran.new.console.err) (g.E.Write.contents c.tell_ran.new.err) c.run_replay-ran.ensures.refusal c.tell_ran.ensures

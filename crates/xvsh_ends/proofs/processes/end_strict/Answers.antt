@@ -5,10 +5,10 @@ use Rattle.xvsh_ends.proofs.processes.end_strict.Goals as goal
 
 pub returns-clause-ends : goal.returns-clause-ends
 returns-clause-ends g c =
-    ended_strict (g.H.Host.input c.args.host.now) (g.H.Host.file c.args.host.now) c.args.profile c.args.script.now c.args.paths.now c.args.harts c.args.turns c.args.lists (g.W.Write.contents c.args.out.now) (g.W.Write.contents c.run_strict-ran.new.out) (g.E.Write.contents c.args.err.now) (g.E.Write.contents c.run_strict-ran.new.err) (g.E.Write.contents c.tell_strict.new.err) c.run_strict-ran.result c.tell_strict.result c.run_strict-ran.ensures.ran c.run_strict-ran.ensures.fault
+    ended_strict (g.H.Host.input c.args.console.now.host) (g.H.Host.file c.args.console.now.host) c.args.request.now.source.profile c.args.request.now.source.script.now c.args.request.now.source.files.now c.args.request.now.harts c.args.request.now.turns c.args.request.now.lists (g.W.Write.contents c.args.console.now.out) (g.W.Write.contents c.run_strict-ran.new.console.out) (g.E.Write.contents c.args.console.now.err) (g.E.Write.contents c.run_strict-ran.new.console.err) (g.E.Write.contents c.tell_strict.new.err) c.run_strict-ran.result c.tell_strict.result c.run_strict-ran.ensures.ran c.run_strict-ran.ensures.fault
     (IfErr-weaker c.run_strict-ran.result _ _ (λ fault stays other. (ap g.W.Write.contents (stays other).0, ap g.E.Write.contents (stays other).1)) c.run_strict-ran.ensures.refusal)
     c.tell_strict.ensures
 
 pub returns-clause-nothing_written : goal.returns-clause-nothing_written
 returns-clause-nothing_written g c =
-    nothing_strict c.args.out.now c.run_strict-ran.new.out c.args.err.now c.run_strict-ran.new.err c.run_strict-ran.result c.tell_strict.result (g.E.Write.contents c.run_strict-ran.new.err) (g.E.Write.contents c.tell_strict.new.err) c.run_strict-ran.ensures.refusal c.tell_strict.ensures
+    nothing_strict c.args.console.now.out c.run_strict-ran.new.console.out c.args.console.now.err c.run_strict-ran.new.console.err c.run_strict-ran.result c.tell_strict.result (g.E.Write.contents c.run_strict-ran.new.console.err) (g.E.Write.contents c.tell_strict.new.err) c.run_strict-ran.ensures.refusal c.tell_strict.ensures

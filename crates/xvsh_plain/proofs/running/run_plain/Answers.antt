@@ -5,7 +5,7 @@ use Rattle.mem_files.specs.Files.{files}
 use Rattle.script_load.specs.Line.{lines_of}
 use Rattle.meaning_model.specs.Meaning.{script_meaning}
 use Rattle.meaning_model.specs.Settled.{IsSettledScript}
-use Rattle.xvsh_plain.specs.Running.{no_start, no_run, IsRunFault, WritesRun}
+use Rattle.xvsh_plain.specs.Running.{no_start, no_run, IsMeaningFault, WritesRun}
 use Rattle.xvsh_plain.proofs.Ran.{ran_plain}
 use Rattle.xvsh_plain.proofs.running.run_plain.Goals as goal
 
@@ -21,11 +21,11 @@ returns-clause-ran g c =
     let given = files start.files in
     let stdin = start.stdin.items in
     let result = c.run_script.result in
-    let out = g.W.Write.contents c.args.out.now in
+    let out = g.W.Write.contents c.args.console.now.out in
     let out' = g.W.Write.contents c.run_script.new.out in
-    let lists = c.args.lists_files in
+    let lists = c.args.request.now.lists_files in
     let profile = start.script.profile in
-    ran_plain (g.H.Host.input c.args.host.now) (g.H.Host.file c.args.host.now) c.args.script.now c.args.profile c.args.paths.now lists out out' lines start.files stdin result c.in_ok-start.ensures.prepared
+    ran_plain (g.H.Host.input c.args.console.now.host) (g.H.Host.file c.args.console.now.host) c.args.request.now.source.script.now c.args.request.now.source.profile c.args.request.now.source.files.now lists out out' lines start.files stdin result c.in_ok-start.ensures.prepared
     (subst (λ profile. IfOk result (λ is. IsTrue is ↔ IsSettledScript profile lines stdin given)) c.in_ok-start.ensures.profile (subst (λ s. IfOk result (λ is. IsTrue is ↔ IsSettledScript profile lines s given)) c.as_slice-stdin.ensures.value c.run_script.ensures.settled))
     (subst (λ profile. OnOk result (WritesRun lists (script_meaning profile lines stdin given) out out')) c.in_ok-start.ensures.profile (subst (λ s. OnOk result (WritesRun lists (script_meaning profile lines s given) out out')) c.as_slice-stdin.ensures.value c.run_script.ensures.meaning))
 
@@ -37,5 +37,5 @@ returns-clause-fault g c =
     let stdin = start.stdin.items in
     let result = c.run_script.result in
     let profile = start.script.profile in
-    IfErr-weaker result (IsRunFault c.args.profile lines stdin given) _ (λ fault due. no_run lines start.files stdin c.in_ok-start.ensures.prepared due)
-    (subst (λ profile. IfErr result (IsRunFault profile lines stdin given)) c.in_ok-start.ensures.profile (subst (λ s. IfErr result (IsRunFault profile lines s given)) c.as_slice-stdin.ensures.value c.run_script.ensures.run))
+    IfErr-weaker result (IsMeaningFault c.args.request.now.source.profile lines stdin given) _ (λ fault due. no_run lines start.files stdin c.in_ok-start.ensures.prepared due)
+    (subst (λ profile. IfErr result (IsMeaningFault profile lines stdin given)) c.in_ok-start.ensures.profile (subst (λ s. IfErr result (IsMeaningFault profile lines s given)) c.as_slice-stdin.ensures.value c.run_script.ensures.run))

@@ -14,14 +14,14 @@ returns-in_err-loaded-clause-fault g c =
 pub returns-in_err-files-clause-fault : goal.returns-in_err-files-clause-fault
 returns-in_err-files-clause-fault g c =
     let p = err_from_is_err_and c.from_residual-in_err-files.result c.from_residual-in_err-files.ensures.1 in
-    rw (p.1, p.2) (no_file (lines_of c.in_ok-loaded.loaded.lines) c.in_ok-loaded.ensures.lines (subst (λ file. IsFilesFault file c.args.paths.now c.in_err-files.field-0.0) c.read_script.ensures.files_stay c.in_err-files.ensures.fault))
+    rw (p.1, p.2) (no_file (lines_of c.in_ok-loaded.loaded.lines) c.in_ok-loaded.ensures.lines (subst (λ file. IsFilesFault file c.args.source.now.files.now c.in_err-files.field-0.0) c.read_script.ensures.files_stay c.in_err-files.ensures.fault))
 
 pub returns-in_err-stdin-clause-fault : goal.returns-in_err-stdin-clause-fault
 returns-in_err-stdin-clause-fault g c =
     let p = err_from_is_err_and c.from_residual-in_err-stdin.result c.from_residual-in_err-stdin.ensures.1 in
     let free = c.in_err-stdin.ensures.free in
     let stays = c.read_files.ensures.stays.0 ∙ c.read_script.ensures.input_stays free.1 in
-    rw (p.1, p.2) (no_input (lines_of c.in_ok-loaded.loaded.lines) c.in_ok-files.files c.in_ok-loaded.ensures.lines (subst (λ file. ArePut file c.args.paths.now c.in_ok-files.files) c.read_script.ensures.files_stay c.in_ok-files.ensures.put) free.0 free.1 (subst (λ told. IsReadFault max_input told (codes "-") c.in_err-stdin.field-0.0) stays c.in_err-stdin.ensures.fault))
+    rw (p.1, p.2) (no_input (lines_of c.in_ok-loaded.loaded.lines) c.in_ok-files.files c.in_ok-loaded.ensures.lines (subst (λ file. ArePut file c.args.source.now.files.now c.in_ok-files.files) c.read_script.ensures.files_stay c.in_ok-files.ensures.put) free.0 free.1 (subst (λ told. IsReadFault max_input told (codes "-") c.in_err-stdin.field-0.0) stays c.in_err-stdin.ensures.fault))
 
 pub returns-clause-prepared : goal.returns-clause-prepared
 returns-clause-prepared g c =
@@ -29,7 +29,7 @@ returns-clause-prepared g c =
     let file = g.H.Host.file c.args.host.now in
     record {
       loaded = c.in_ok-loaded.ensures.lines;
-      put = subst (λ file. ArePut file c.args.paths.now c.in_ok-files.files) c.read_script.ensures.files_stay c.in_ok-files.ensures.put;
+      put = subst (λ file. ArePut file c.args.source.now.files.now c.in_ok-files.files) c.read_script.ensures.files_stay c.in_ok-files.ensures.put;
       are = c.are_files.ensures;
-      own = input_kept input (g.H.Host.input c.read_files.new.host) file (g.H.Host.file c.read_files.new.host) c.args.script.now c.args.is_taken c.in_ok-stdin.stdin.items (λ other. c.read_files.ensures.stays.0 ∙ c.read_script.ensures.input_stays other) c.in_ok-stdin.ensures.own;
+      own = input_kept input (g.H.Host.input c.read_files.new.host) file (g.H.Host.file c.read_files.new.host) c.args.source.now.script.now c.args.is_taken c.in_ok-stdin.stdin.items (λ other. c.read_files.ensures.stays.0 ∙ c.read_script.ensures.input_stays other) c.in_ok-stdin.ensures.own;
     }

@@ -13,8 +13,8 @@ use Rattle.xvsh_runs.proofs.replaying.run_replay.Goals as goal
 
 pub returns-then-shares_input-clause-fault : goal.returns-then-shares_input-clause-fault
 returns-then-shares_input-clause-fault g c =
-    let schedule = c.args.schedule.now in
-    let script = c.args.script.now in
+    let schedule = c.args.request.now.schedule.now in
+    let script = c.args.request.now.source.script.now in
     let two = both (bytes_eq schedule (codes "-")) (bytes_eq script (codes "-")) (sym c.shares_input.ensures ∙ c.if-shares_input.true) in
     shared ((bytes_eq-Decides schedule (codes "-")).0 two.0) ((bytes_eq-Decides script (codes "-")).0 two.1)
 
@@ -27,7 +27,7 @@ pub returns-in_err-start-clause-fault : goal.returns-in_err-start-clause-fault
 returns-in_err-start-clause-fault g c =
     let p = err_from_is_err_and c.from_residual-in_err-start.result c.from_residual-in_err-start.ensures.1 in
     let one = sym c.shares_input.ensures ∙ c.if-shares_input.false in
-    rw (p.1, p.2) (no_start_after c.in_ok-bytes.bytes.items c.in_ok-bytes.ensures.bytes (begin_fault (g.H.Host.input c.args.host.now) (g.H.Host.input c.read.new.host) (g.H.Host.file c.args.host.now) (g.H.Host.file c.read.new.host) c.args.schedule.now c.args.script.now c.eq.result c.eq.ensures c.read.ensures.files_stay c.read.ensures.input_stays one c.args.paths.now c.in_err-start.field-0.0 c.in_err-start.ensures.fault))
+    rw (p.1, p.2) (no_start_after c.in_ok-bytes.bytes.items c.in_ok-bytes.ensures.bytes (begin_fault (g.H.Host.input c.args.console.now.host) (g.H.Host.input c.read.new.host) (g.H.Host.file c.args.console.now.host) (g.H.Host.file c.read.new.host) c.args.request.now.schedule.now c.args.request.now.source.script.now c.eq-is_taken.result c.eq-is_taken.ensures c.read.ensures.files_stay c.read.ensures.input_stays one c.args.request.now.source.files.now c.in_err-start.field-0.0 c.in_err-start.ensures.fault))
 
 pub returns-in_err-report-clause-fault : goal.returns-in_err-report-clause-fault
 returns-in_err-report-clause-fault g c =
@@ -36,10 +36,10 @@ returns-in_err-report-clause-fault g c =
     let start = c.in_ok-start.start in
     let lines = lines_of start.script.lines in
     let fault = c.in_err-report.field-0.0 in
-    let starts = begins (g.H.Host.input c.args.host.now) (g.H.Host.input c.read.new.host) (g.H.Host.file c.args.host.now) (g.H.Host.file c.read.new.host) c.args.schedule.now c.args.script.now c.eq.result c.eq.ensures c.read.ensures.files_stay c.read.ensures.input_stays one c.args.paths.now lines start.files start.stdin.items c.in_ok-start.ensures.prepared in
+    let starts = begins (g.H.Host.input c.args.console.now.host) (g.H.Host.input c.read.new.host) (g.H.Host.file c.args.console.now.host) (g.H.Host.file c.read.new.host) c.args.request.now.schedule.now c.args.request.now.source.script.now c.eq-is_taken.result c.eq-is_taken.ensures c.read.ensures.files_stay c.read.ensures.input_stays one c.args.request.now.source.files.now lines start.files start.stdin.items c.in_ok-start.ensures.prepared in
     rw (p.1, p.2) (no_replay c.in_ok-bytes.bytes.items lines start.files start.stdin.items c.in_ok-bytes.ensures.bytes starts
-    (subst (λ bytes. IsBytesFault (script_kernel c.args.profile lines start.stdin.items start.files) c.args.schedule.now bytes fault) c.as_slice.ensures.value
-    (subst (λ profile. IsBytesFault (script_kernel profile lines start.stdin.items start.files) c.args.schedule.now c.as_slice.result.now fault) c.in_ok-start.ensures.profile c.in_err-report.ensures.fault)))
+    (subst (λ bytes. IsBytesFault (script_kernel c.args.request.now.source.profile lines start.stdin.items start.files) c.args.request.now.schedule.now bytes fault) c.as_slice.ensures.value
+    (subst (λ profile. IsBytesFault (script_kernel profile lines start.stdin.items start.files) c.args.request.now.schedule.now c.as_slice.result.now fault) c.in_ok-start.ensures.profile c.in_err-report.ensures.fault)))
 
 pub returns-in_err-write_report-clause-fault : goal.returns-in_err-write_report-clause-fault
 returns-in_err-write_report-clause-fault g c =
@@ -47,7 +47,7 @@ returns-in_err-write_report-clause-fault g c =
     let one = sym c.shares_input.ensures ∙ c.if-shares_input.false in
     let start = c.in_ok-start.start in
     let lines = lines_of start.script.lines in
-    let starts = begins (g.H.Host.input c.args.host.now) (g.H.Host.input c.read.new.host) (g.H.Host.file c.args.host.now) (g.H.Host.file c.read.new.host) c.args.schedule.now c.args.script.now c.eq.result c.eq.ensures c.read.ensures.files_stay c.read.ensures.input_stays one c.args.paths.now lines start.files start.stdin.items c.in_ok-start.ensures.prepared in
+    let starts = begins (g.H.Host.input c.args.console.now.host) (g.H.Host.input c.read.new.host) (g.H.Host.file c.args.console.now.host) (g.H.Host.file c.read.new.host) c.args.request.now.schedule.now c.args.request.now.source.script.now c.eq-is_taken.result c.eq-is_taken.ensures c.read.ensures.files_stay c.read.ensures.input_stays one c.args.request.now.source.files.now lines start.files start.stdin.items c.in_ok-start.ensures.prepared in
     rw (p.1, p.2) (no_replay c.in_ok-bytes.bytes.items lines start.files start.stdin.items c.in_ok-bytes.ensures.bytes starts (inl c.in_err-write_report.ensures.fault))
 
 pub returns-clause-ran : goal.returns-clause-ran
@@ -62,8 +62,8 @@ returns-clause-ran g c =
       lines = lines;
       given = start.files;
       stdin = start.stdin.items;
-      starts = begins (g.H.Host.input c.args.host.now) (g.H.Host.input c.read.new.host) (g.H.Host.file c.args.host.now) (g.H.Host.file c.read.new.host) c.args.schedule.now c.args.script.now c.eq.result c.eq.ensures c.read.ensures.files_stay c.read.ensures.input_stays one c.args.paths.now lines start.files start.stdin.items c.in_ok-start.ensures.prepared;
+      starts = begins (g.H.Host.input c.args.console.now.host) (g.H.Host.input c.read.new.host) (g.H.Host.file c.args.console.now.host) (g.H.Host.file c.read.new.host) c.args.request.now.schedule.now c.args.request.now.source.script.now c.eq-is_taken.result c.eq-is_taken.ensures c.read.ensures.files_stay c.read.ensures.input_stays one c.args.request.now.source.files.now lines start.files start.stdin.items c.in_ok-start.ensures.prepared;
       events = report.schedule;
       listed = subst (λ bytes. AreLinesOf bytes report.schedule) c.as_slice.ensures.value c.in_ok-report.ensures.schedule;
-      written = is_written (script_kernel c.args.profile lines start.stdin.items start.files) report c.args.lists report.full (g.W.Write.contents c.args.out.now) (g.W.Write.contents c.write_report.new.out) (g.E.Write.contents c.args.err.now) (g.E.Write.contents c.write_report.new.err) (subst (λ profile. IsRunFrom (script_kernel profile lines start.stdin.items start.files) report) c.in_ok-start.ensures.profile c.in_ok-report.ensures.run) refl c.in_ok-write_report.ensures.out c.in_ok-write_report.ensures.err;
+      written = is_written (script_kernel c.args.request.now.source.profile lines start.stdin.items start.files) report c.args.request.now.lists report.full (g.W.Write.contents c.args.console.now.out) (g.W.Write.contents c.write_report.new.out) (g.E.Write.contents c.args.console.now.err) (g.E.Write.contents c.write_report.new.err) (subst (λ profile. IsRunFrom (script_kernel profile lines start.stdin.items start.files) report) c.in_ok-start.ensures.profile c.in_ok-report.ensures.run) refl c.in_ok-write_report.ensures.out c.in_ok-write_report.ensures.err;
     }

@@ -7,7 +7,7 @@ use Rattle.meaning_model.specs.Settled.{IsSettledScript}
 use Rattle.run_model.specs.ScriptRun.{script_kernel}
 use Rattle.xvsh_runs.specs.Runs.{RanOn}
 use Rattle.xvsh_runs.specs.Why.{IsHartsFault, no_start, no_run}
-use Rattle.xvsh_plain.specs.Running.{IsRunFault}
+use Rattle.xvsh_plain.specs.Running.{IsMeaningFault}
 use Rattle.xvsh_strict.specs.Strict.{no_verdict, no_strict_run}
 use Rattle.xvsh_strict.proofs.strict.run_strict.Goals as goal
 
@@ -21,14 +21,14 @@ returns-in_err-is_settled-clause-fault g c =
     let p = err_from_is_err_and c.from_residual-in_err-is_settled.result c.from_residual-in_err-is_settled.ensures.1 in
     let start = c.in_ok-start.start in
     let lines = lines_of start.script.lines in
-    rw (p.1, p.2) (no_verdict lines start.files start.stdin.items c.in_ok-start.ensures.prepared (subst (λ profile. IsRunFault profile lines start.stdin.items (files start.files) c.in_err-is_settled.field-0.0) c.in_ok-start.ensures.profile c.in_err-is_settled.ensures.fault))
+    rw (p.1, p.2) (no_verdict lines start.files start.stdin.items c.in_ok-start.ensures.prepared (subst (λ profile. IsMeaningFault profile lines start.stdin.items (files start.files) c.in_err-is_settled.field-0.0) c.in_ok-start.ensures.profile c.in_err-is_settled.ensures.fault))
 
 pub returns-in_err-full-clause-fault : goal.returns-in_err-full-clause-fault
 returns-in_err-full-clause-fault g c =
     let p = err_from_is_err_and c.from_residual-in_err-full.result c.from_residual-in_err-full.ensures.1 in
     let start = c.in_ok-start.start in
     let lines = lines_of start.script.lines in
-    rw (p.1, p.2) (no_strict_run (no_run lines start.files start.stdin.items c.in_ok-start.ensures.prepared (subst (λ profile. IsHartsFault (script_kernel profile lines start.stdin.items start.files) c.args.harts c.args.turns c.in_err-full.field-0.0) c.in_ok-start.ensures.profile c.in_err-full.ensures.fault)))
+    rw (p.1, p.2) (no_strict_run (no_run lines start.files start.stdin.items c.in_ok-start.ensures.prepared (subst (λ profile. IsHartsFault (script_kernel profile lines start.stdin.items start.files) c.args.request.now.harts c.args.request.now.turns c.in_err-full.field-0.0) c.in_ok-start.ensures.profile c.in_err-full.ensures.fault)))
 
 pub returns-clause-ran : goal.returns-clause-ran
 returns-clause-ran g c =
@@ -43,7 +43,7 @@ returns-clause-ran g c =
         given = given;
         stdin = stdin;
         starts = c.in_ok-start.ensures.prepared;
-        on = subst (λ profile. RanOn (script_kernel profile lines stdin given) c.args.harts c.args.turns c.args.lists c.in_ok-full.full (g.W.Write.contents c.args.out.now) (g.W.Write.contents c.run_prepared.new.out) (g.E.Write.contents c.args.err.now) (g.E.Write.contents c.run_prepared.new.err)) same c.in_ok-full.ensures.ran;
+        on = subst (λ profile. RanOn (script_kernel profile lines stdin given) c.args.request.now.harts c.args.request.now.turns c.args.request.now.lists c.in_ok-full.full (g.W.Write.contents c.args.console.now.out) (g.W.Write.contents c.run_prepared.new.console.out) (g.E.Write.contents c.args.console.now.err) (g.E.Write.contents c.run_prepared.new.console.err)) same c.in_ok-full.ensures.ran;
       };
       settled = subst (λ profile. IsTrue c.in_ok-is_settled.is_settled ↔ IsSettledScript profile lines stdin (files given)) same c.in_ok-is_settled.ensures.settled;
     }

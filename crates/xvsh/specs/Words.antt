@@ -1,0 +1,92 @@
+-- The request that the words of a command line make, as they were parsed.
+use Rattle.std.specs.Prelude.{◌≡◌, ℕ, ◌<◌, ◌^◌, ◌⊎◌, Bool, true, false, List, [], Option, Some, None, map, option_map, unwrap_or, codes}
+use Rattle.std.specs.Borrow.{Bor}
+use Rattle.std.specs.Str.Parse.{IsNumeral, digits_value, without_leading_plus}
+use Rattle.clap.specs.Matches.{found_of, first_value, matched_of, one_text, raw_values, subcommand_name_of}
+use Rattle.clap.specs.Simple.{subcommand_rows_of}
+use Rattle.clap.specs.Walk.{rows_of}
+use Rattle.clap.specs.declared.parser.matches.ArgMatches.{ArgMatches}
+use Rattle.clap.specs.declared.parser.matches.Found.{Found}
+use Rattle.xvsh_read.specs.Path.{Path}
+use Rattle.xvsh_read.specs.Words.{profile_of}
+use Rattle.xvsh_read.specs.declared.starting.Source.{Source}
+use Rattle.xvsh_runs.specs.declared.request.RunRequest.{RunRequest}
+use Rattle.xvsh_runs.specs.declared.request.ReplayRequest.{ReplayRequest}
+use Rattle.xvsh_plain.specs.declared.request.PlainRequest.{PlainRequest}
+use Rattle.xvsh_checks.specs.declared.request.CheckRequest.{CheckRequest}
+use Rattle.xvsh_checks.specs.declared.request.ExplainRequest.{ExplainRequest}
+use Rattle.xvsh_ends.specs.declared.request.Request.{Request}
+use Rattle.xvsh_ends.specs.declared.request.Request.TheVariants.{Run, Replay, Plain, Check, Explain}
+use Rattle.xvsh.specs.declared.request.TheConstants.{HARTS, TURNS}
+
+-- whether a flag is among the words: it is where it has the value `true`, and not where it has `false` or no value
+abbrev pub IsFlag : Found → List ℕ → Bool → Type 0
+IsFlag found id is =
+    (one_text found id ≡ None → is ≡ false) × (one_text found id ≡ Some (codes "true") → is ≡ true) × (one_text found id ≡ Some (codes "false") → is ≡ false)
+
+-- the path under a name, or `-` where there is none
+abbrev pub IsPath : Found → List ℕ → Path → Type 0
+IsPath found id path = path ≡ unwrap_or (first_value found id) (codes "-")
+
+-- the paths under a name, or none
+abbrev pub ArePaths : Found → List ℕ → List (Bor Path) → Type 0
+ArePaths found id paths = map (λ path. path.now) paths ≡ unwrap_or (option_map raw_values (matched_of found id)) []
+
+-- the number of so many bits under a name, or a default where there is none
+abbrev pub IsNumber : ℕ → ℕ → Found → List ℕ → ℕ → Type 0
+IsNumber bits default found id number =
+    (one_text found id ≡ None → number ≡ default)
+    × ((text : List ℕ) → one_text found id ≡ Some text → IsNumeral 10 (without_leading_plus text) → digits_value 10 (without_leading_plus text) < 2 ^ bits → number ≡ digits_value 10 (without_leading_plus text))
+
+-- the script, its files and its profile
+pub record IsSourceOf (found : Found) (source : Source) : Type 0 where
+  pub script : IsPath found (codes "script") source.script.now
+  pub files : ArePaths found (codes "paths") source.files.now
+  pub appends : Bool
+  pub append : IsFlag found (codes "append") appends
+  pub profile : source.profile ≡ profile_of appends
+
+-- the words of each command make a request
+pub record IsRunOf (found : Found) (request : RunRequest) : Type 0 where
+  pub source : IsSourceOf found request.source
+  pub harts : IsNumber 8 HARTS found (codes "harts") request.harts
+  pub turns : IsNumber 64 TURNS found (codes "turns") request.turns
+  pub files : IsFlag found (codes "files") request.lists.files
+  pub schedule : IsFlag found (codes "schedule") request.lists.events
+  pub strict : IsFlag found (codes "strict") request.is_strict
+
+pub record IsReplayOf (found : Found) (request : ReplayRequest) : Type 0 where
+  pub schedule : IsPath found (codes "events") request.schedule.now
+  pub source : IsSourceOf found request.source
+  pub files : IsFlag found (codes "files") request.lists.files
+  pub events : request.lists.events ≡ false
+
+pub record IsPlainOf (found : Found) (request : PlainRequest) : Type 0 where
+  pub source : IsSourceOf found request.source
+  pub files : IsFlag found (codes "files") request.lists_files
+  pub strict : IsFlag found (codes "strict") request.is_strict
+
+pub record IsCheckOf (found : Found) (request : CheckRequest) : Type 0 where
+  pub script : IsPath found (codes "script") request.script.now
+  pub files : ArePaths found (codes "paths") request.files.now
+  pub turns : IsFlag found (codes "turns") request.counts_turns
+
+pub record IsExplainOf (found : Found) (request : ExplainRequest) : Type 0 where
+  pub script : IsPath found (codes "script") request.script.now
+
+-- the words name a command, and this was found in those of it
+pub record Names (matches : ArgMatches) (name : List ℕ) (found : Found) : Type 0 where
+  pub named : subcommand_name_of matches ≡ Some name
+  pub rows : option_map (λ p. p.1) (subcommand_rows_of matches) ≡ Some (rows_of found)
+
+-- parsed words make a request
+abbrev pub IsRequestOf : ArgMatches → Request → Type 0
+IsRequestOf matches (Run request) = (found : Found) × Names matches (codes "run") found × IsRunOf found request
+IsRequestOf matches (Replay request) = (found : Found) × Names matches (codes "replay") found × IsReplayOf found request
+IsRequestOf matches (Plain request) = (found : Found) × Names matches (codes "plain") found × IsPlainOf found request
+IsRequestOf matches (Check request) = (found : Found) × Names matches (codes "check") found × IsCheckOf found request
+IsRequestOf matches (Explain request) = (found : Found) × Names matches (codes "explain") found × IsExplainOf found request
+
+-- the name of a command
+abbrev pub IsNamed : Option (List ℕ) → Type 0
+IsNamed name = (name ≡ Some (codes "run")) ⊎ ((name ≡ Some (codes "replay")) ⊎ ((name ≡ Some (codes "plain")) ⊎ ((name ≡ Some (codes "check")) ⊎ (name ≡ Some (codes "explain")))))

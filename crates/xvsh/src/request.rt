@@ -1,0 +1,147 @@
+//! The request that the words of a command line make.
+ghost use Rattle.std.specs.Prelude.{◌≡◌, ◌≢◌, None, Some, IfSome, codes};
+ghost use Rattle.clap.specs.Matches.{found_of, subcommand_name_of};
+ghost use Rattle.xvsh.specs.Words.{IsCheckOf, IsExplainOf, IsFlag, IsNamed, IsNumber, IsPath, ArePaths, IsPlainOf, IsReplayOf, IsRequestOf, IsRunOf, IsSourceOf};
+
+use clap::ArgMatches;
+use script_load::Profile;
+use xvsh_ends::{
+    CheckRequest, ExplainRequest, Lists, PlainRequest, ReplayRequest, Request, RunRequest,
+};
+use xvsh_read::{STDIN, Source, profile_of};
+
+/// How many harts a run has, if the words name none (own).
+const HARTS: u8 = 4;
+
+/// The most turns of a run, if the words name none (own).
+const TURNS: u64 = 10_000_000;
+
+// Whether a flag is among the words.
+fn flag_of(words: &ArgMatches<'_>, name: &str) -> bool
+    ensures { IsFlag (found_of words.now) name.now result }
+{
+    words.get_flag(name)
+}
+
+// The path under a name; `-` where there is none.
+fn path_of<'m>(words: &'m ArgMatches<'_>, name: &str) -> &'m str
+    ensures { IsPath (found_of words.now) name.now result.now }
+{
+    match words.get_str(name) {
+        Some(path) => path,
+        None => STDIN,
+    }
+}
+
+// The paths of the script's files.
+fn files_of<'m>(words: &'m ArgMatches<'_>) -> &'m [&'m str]
+    ensures { ArePaths (found_of words.now) (codes "paths") result.now }
+{
+    words.get_strs("paths").unwrap_or(&[])
+}
+
+// The script, its files and its profile.
+fn source_of<'m>(words: &'m ArgMatches<'_>) -> Source<'m>
+    ensures { IsSourceOf (found_of words.now) result }
+{
+    Source {
+        profile: profile_of(flag_of(words, "append")),
+        script: path_of(words, "script"),
+        files: files_of(words),
+    }
+}
+
+fn harts_of(words: &ArgMatches<'_>) -> u8
+    ensures { IsNumber 8 HARTS (found_of words.now) (codes "harts") result }
+{
+    match words.get_one::<u8>("harts") {
+        Some(harts) => harts,
+        None => HARTS,
+    }
+}
+
+fn turns_of(words: &ArgMatches<'_>) -> u64
+    ensures { IsNumber 64 TURNS (found_of words.now) (codes "turns") result }
+{
+    match words.get_one::<u64>("turns") {
+        Some(turns) => turns,
+        None => TURNS,
+    }
+}
+
+fn run_of<'m>(words: &'m ArgMatches<'_>) -> RunRequest<'m>
+    ensures { IsRunOf (found_of words.now) result }
+{
+    RunRequest {
+        source: source_of(words),
+        harts: harts_of(words),
+        turns: turns_of(words),
+        lists: Lists {
+            files: flag_of(words, "files"),
+            events: flag_of(words, "schedule"),
+        },
+        is_strict: flag_of(words, "strict"),
+    }
+}
+
+fn replay_of<'m>(words: &'m ArgMatches<'_>) -> ReplayRequest<'m>
+    ensures { IsReplayOf (found_of words.now) result }
+{
+    ReplayRequest {
+        schedule: path_of(words, "events"),
+        source: source_of(words),
+        lists: Lists {
+            files: flag_of(words, "files"),
+            events: false,
+        },
+    }
+}
+
+fn plain_of<'m>(words: &'m ArgMatches<'_>) -> PlainRequest<'m>
+    ensures { IsPlainOf (found_of words.now) result }
+{
+    PlainRequest {
+        source: source_of(words),
+        lists_files: flag_of(words, "files"),
+        is_strict: flag_of(words, "strict"),
+    }
+}
+
+fn check_of<'m>(words: &'m ArgMatches<'_>) -> CheckRequest<'m>
+    ensures { IsCheckOf (found_of words.now) result }
+{
+    CheckRequest {
+        script: path_of(words, "script"),
+        files: files_of(words),
+        counts_turns: flag_of(words, "turns"),
+    }
+}
+
+fn explain_of<'m>(words: &'m ArgMatches<'_>) -> ExplainRequest<'m>
+    ensures { IsExplainOf (found_of words.now) result }
+{
+    ExplainRequest {
+        script: path_of(words, "script"),
+    }
+}
+
+/// The request that parsed words make: the command that they name, with its words and, where they name none, `-` for a path,
+/// 4 harts and 10,000,000 turns. `None` where they name no command.
+pub fn request_of<'m>(matches: &'m ArgMatches<'_>) -> Option<Request<'m>>
+    ensures request { IfSome result (IsRequestOf matches.now) }
+    ensures none { result ≡ None → IsNamed (subcommand_name_of matches.now) → ⊥ }
+{
+    if let Some(words) = matches.subcommand_matches("run") {
+        Some(Request::Run(run_of(words)))
+    } else if let Some(words) = matches.subcommand_matches("replay") {
+        Some(Request::Replay(replay_of(words)))
+    } else if let Some(words) = matches.subcommand_matches("plain") {
+        Some(Request::Plain(plain_of(words)))
+    } else if let Some(words) = matches.subcommand_matches("check") {
+        Some(Request::Check(check_of(words)))
+    } else if let Some(words) = matches.subcommand_matches("explain") {
+        Some(Request::Explain(explain_of(words)))
+    } else {
+        None
+    }
+}

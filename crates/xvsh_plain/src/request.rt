@@ -1,0 +1,13 @@
+//! What `plain` is asked for.
+
+use xvsh_read::Source;
+
+/// A run of a script by its meaning.
+#[derive(Clone, Copy, Debug)]
+pub struct PlainRequest<'a> {
+    pub source: Source<'a>,
+    /// Write all files after the output.
+    pub lists_files: bool,
+    /// End with status 3 if the script isn't settled.
+    pub is_strict: bool,
+}

@@ -1,0 +1,26 @@
+//! What `run` and `replay` are asked for.
+
+use crate::report::Lists;
+use xvsh_read::Source;
+
+/// A run of a script by its processes.
+#[derive(Clone, Copy, Debug)]
+pub struct RunRequest<'a> {
+    pub source: Source<'a>,
+    /// How many harts run it, 1 to 8.
+    pub harts: u8,
+    /// The most events that it may take, 1 to 1,000,000,000.
+    pub turns: u64,
+    pub lists: Lists,
+    /// End with status 3 if the script isn't settled.
+    pub is_strict: bool,
+}
+
+/// A run of a script by the events of a schedule.
+#[derive(Clone, Copy, Debug)]
+pub struct ReplayRequest<'a> {
+    /// The path of the schedule; `-` is standard input.
+    pub schedule: &'a str,
+    pub source: Source<'a>,
+    pub lists: Lists,
+}

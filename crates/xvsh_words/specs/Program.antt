@@ -1,0 +1,69 @@
+-- The command line of the program: its commands, and the words that each takes.
+use Rattle.std.specs.Prelude.{◌≡◌, ℕ, true, false, List, [], ◌∷◌, Some, codes}
+use Rattle.clap.specs.declared.builder.command.Command.TheViews.{out-Command}
+use Rattle.clap.specs.Lexer.{usize_max}
+use Rattle.clap.specs.Simple.{App, Shape, shape_of, new_rule, new_shape}
+use Rattle.clap.specs.Walk.{Rule}
+use Rattle.clap.specs.declared.builder.action.ArgAction.TheVariants.{Set, Append, SetTrue}
+use Rattle.clap.specs.declared.builder.command.Command.{Command}
+use Rattle.clap.specs.declared.builder.value_parser.ValueParser.TheVariants.{Unsigned}
+
+-- a flag; a number from 1 to the most; a word that has to be there; the files of the script
+abbrev pub flag_rule : List ℕ → Rule
+flag_rule name = record (new_rule name) { long = Some name; action = Some SetTrue }
+
+abbrev pub number_rule : List ℕ → ℕ → Rule
+number_rule name most = record (new_rule name) { long = Some name; value_names = 1; parser = Some (Unsigned 1 most); action = Some Set }
+
+abbrev pub word_rule : List ℕ → Rule
+word_rule name = record (new_rule name) { value_names = 1; required = true; action = Some Set }
+
+abbrev pub files_rule : Rule
+files_rule = record (new_rule (codes "paths")) { value_names = 1; range = Some (record { start_inclusive = 0; end_inclusive = usize_max }); action = Some Append }
+
+-- the commands; `run` by the most harts and the most turns that it may have
+abbrev pub run_shape : ℕ → ℕ → Shape
+run_shape harts turns = record (new_shape (codes "run")) {
+  rules = number_rule (codes "harts") harts ∷ number_rule (codes "turns") turns ∷ flag_rule (codes "schedule") ∷ flag_rule (codes "strict") ∷ flag_rule (codes "append") ∷ flag_rule (codes "files") ∷ word_rule (codes "script") ∷ files_rule ∷ [];
+}
+
+abbrev pub replay_shape : Shape
+replay_shape = record (new_shape (codes "replay")) {
+  rules = flag_rule (codes "append") ∷ flag_rule (codes "files") ∷ word_rule (codes "events") ∷ word_rule (codes "script") ∷ files_rule ∷ [];
+}
+
+abbrev pub plain_shape : Shape
+plain_shape = record (new_shape (codes "plain")) {
+  rules = flag_rule (codes "strict") ∷ flag_rule (codes "append") ∷ flag_rule (codes "files") ∷ word_rule (codes "script") ∷ files_rule ∷ [];
+}
+
+-- files only beside `--turns`
+abbrev pub check_shape : Shape
+check_shape = record (new_shape (codes "check")) {
+  rules = flag_rule (codes "turns") ∷ word_rule (codes "script") ∷ record files_rule { is_free = false } ∷ [];
+}
+
+abbrev pub explain_shape : Shape
+explain_shape = record (new_shape (codes "explain")) { rules = word_rule (codes "script") ∷ [] }
+
+-- the program, without a command and with all of them
+abbrev pub bare_program : App
+bare_program = record {
+  top = record (new_shape (codes "xvsh")) {
+    no_binary_name = true;
+    disable_help_subcommand = true;
+    has_version = true;
+    subcommand_required = true;
+  };
+  subs = [];
+}
+
+abbrev pub program : ℕ → ℕ → App
+program harts turns = record {
+  top = record bare_program.top { is_leaf = false };
+  subs = run_shape harts turns ∷ replay_shape ∷ plain_shape ∷ check_shape ∷ explain_shape ∷ [];
+}
+
+-- a command of this shape, none of whose arguments are of its subcommands too
+abbrev pub IsCommand : Shape → Command → Type 0
+IsCommand shape command = (shape_of command ≡ shape) × ((out-Command command).has_globals ≡ false)
