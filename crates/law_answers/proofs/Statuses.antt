@@ -11,7 +11,7 @@ use Rattle.xvsh_runs.specs.declared.fault.ProcessFault.TheVariants.{Common, BadH
 use Rattle.xvsh_runs.specs.Status.{run_status}
 use Rattle.xvsh_ends.specs.Ends.{verdict_text, Asked, asks_plain, asks_run, asks_strict, asks_check, asks_turns, asks_explain, verdict_status, help, misuse, How, by_schedule, RanBy, Ends, plain_ran, no_plain, ran, ran_full, no_run, ran_strict, strict_full, no_strict, harmless, harmful, no_check, counted, not_counted, explained, not_explained, helped, misused, no_memory, unwritten}
 use Rattle.xvsh_plain.specs.Running.{RanPlain}
-use Rattle.xvsh_strict.specs.Strict.{RanStrict}
+use Rattle.xvsh_runs.specs.Strict.{RanStrict}
 use Rattle.xvsh_ends.proofs.Ending.{some_status}
 use Rattle.law_answers.specs.Told.{IsTold, IsSettledAt}
 use Rattle.law_answers.specs.Written.{AddsTheSame, no_lists}

@@ -10,7 +10,7 @@ use Rattle.meaning_model.specs.Settled.{IsSettledScript}
 use Rattle.xvsh_read.specs.Path.{Path}
 use Rattle.xvsh_runs.specs.declared.report.Lists.{Lists}
 use Rattle.xvsh_ends.specs.Ends.{Ends, asks_strict}
-use Rattle.xvsh_strict.specs.Strict.{RanStrict}
+use Rattle.xvsh_runs.specs.Strict.{RanStrict}
 use Rattle.law_answers.specs.Told.{IsTold}
 use Rattle.law_answers.specs.Written.{AddsTheSame, WritesMeaningAt, no_lists}
 use Rattle.law_answers.proofs.Meant.{means}

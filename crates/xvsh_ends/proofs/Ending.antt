@@ -19,8 +19,8 @@ use Rattle.xvsh_plain.specs.Running.{RanPlain, IsPlainFault}
 use Rattle.xvsh_checks.specs.Check.{RanCheck, IsCheckFault}
 use Rattle.xvsh_checks.specs.Turns.{IsTurnsFault}
 use Rattle.xvsh_ends.specs.Ends.{verdict_text, Asked, asks_plain, asks_run, asks_strict, asks_check, asks_turns, asks_explain, check_status, verdict_status, misuse, help, How, Tells, TellsFull, TellsRan, TellsStrict, RanBy, IsFaultBy, Ends, plain_ran, no_plain, ran, ran_full, no_run, ran_strict, strict_full, no_strict, harmless, harmful, no_check, not_counted, not_explained, helped, misused, no_memory, unwritten}
-use Rattle.xvsh_strict.specs.Strict.{RanStrict, IsStrictFault}
-use Rattle.xvsh_strict.specs.declared.strict.StrictRun.{StrictRun}
+use Rattle.xvsh_runs.specs.Strict.{RanStrict, IsStrictFault}
+use Rattle.xvsh_runs.specs.declared.strict.StrictRun.{StrictRun}
 
 -- what is known stays where nothing changes
 pub keeps_same : (known : Option Bytes) → Keeps known known

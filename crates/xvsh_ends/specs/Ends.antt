@@ -18,8 +18,8 @@ use Rattle.xvsh_plain.specs.Running.{RanPlain, IsPlainFault}
 use Rattle.xvsh_checks.specs.Check.{RanCheck, IsCheckFault}
 use Rattle.xvsh_checks.specs.Explain.{RanExplain}
 use Rattle.xvsh_checks.specs.Turns.{RanTurns, IsTurnsFault}
-use Rattle.xvsh_strict.specs.Strict.{RanStrict, IsStrictFault}
-use Rattle.xvsh_strict.specs.declared.strict.StrictRun.{StrictRun}
+use Rattle.xvsh_runs.specs.Strict.{RanStrict, IsStrictFault}
+use Rattle.xvsh_runs.specs.declared.strict.StrictRun.{StrictRun}
 
 -- how a script is run by its processes: on so many harts in at most so many turns, or by the schedule at a path
 pub data How : Type 0 where

@@ -10,8 +10,7 @@ use std::sync::Wait;
 use std::thread::Threads;
 use std::time::Clock;
 use xvsh_read::{Console, Host};
-use xvsh_runs::{ReplayRequest, RunRequest, run_processes, run_replay};
-use xvsh_strict::run_strict;
+use xvsh_runs::{ReplayRequest, RunRequest, run_processes, run_replay, run_strict};
 
 // Runs a script by its processes, reports what was full or why it wasn't run, and returns the status.
 fn end_processes<R: Threads + Wait + Clock + Sync, H: Host, W: Write, E: Write>(

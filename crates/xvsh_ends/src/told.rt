@@ -7,8 +7,7 @@ ghost use Rattle.xvsh_ends.specs.Ends.{Tells, TellsFull, TellsRan, TellsStrict, 
 use kernel_model::Full;
 use std::io::Write;
 use xvsh_read::Fault;
-use xvsh_runs::{ProcessFault, full_word};
-use xvsh_strict::StrictRun;
+use xvsh_runs::{ProcessFault, StrictRun, full_word};
 
 /// Writes a text, and returns this status, or that of a failed write.
 pub fn tell_text<W: Write>(text: &str, status: u8, to: &mut W) -> u8

@@ -3,3 +3,4 @@ pub mod Lists
 pub mod Runs
 pub mod Status
 pub mod Why
+pub mod Strict

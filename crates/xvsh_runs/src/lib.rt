@@ -1,4 +1,4 @@
-//! Runs of scripts by their processes: what `run` and `replay` read, run and write.
+//! Runs of scripts by their processes: what `run`, `run --strict` and `replay` read, run and write.
 #![tactic(auto)]
 
 mod fault;
@@ -6,6 +6,7 @@ mod replaying;
 mod report;
 mod request;
 mod running;
+mod strict;
 
 pub use fault::ProcessFault;
 pub use hart_run::MAX_HARTS;
@@ -13,4 +14,5 @@ pub use kernel_core::MAX_TURNS;
 pub use replaying::{MAX_SCHEDULE, run_replay};
 pub use report::{Lists, full_word};
 pub use request::{ReplayRequest, RunRequest};
-pub use running::{run_prepared, run_processes};
+pub use running::run_processes;
+pub use strict::{StrictRun, run_strict};

@@ -88,10 +88,10 @@ fn run_started<'a, R: Threads + Wait + Clock + Sync>(
     }
 }
 
-/// Runs what was read by its processes as the request says, and writes its output, the lists that are requested, and to
-/// standard error its diagnostics. Returns what was full, if something was. On an error nothing was written, except where an
-/// output took no more.
-pub fn run_prepared<'a, R: Threads + Wait + Clock + Sync, H: Host, W: Write, E: Write>(
+// Runs what was read by its processes as the request says, and writes its output, the lists that are requested, and to
+// standard error its diagnostics. Returns what was full, if something was. On an error nothing was written, except where an
+// output took no more.
+pub(crate) fn run_prepared<'a, R: Threads + Wait + Clock + Sync, H: Host, W: Write, E: Write>(
     rt: &R,
     alloc: Global,
     start: &Start,

@@ -8,8 +8,8 @@ use Rattle.run_model.specs.ScriptRun.{script_kernel}
 use Rattle.xvsh_runs.specs.Runs.{RanOn}
 use Rattle.xvsh_runs.specs.Why.{IsHartsFault, no_start, no_run}
 use Rattle.xvsh_plain.specs.Running.{IsMeaningFault}
-use Rattle.xvsh_strict.specs.Strict.{no_verdict, no_strict_run}
-use Rattle.xvsh_strict.proofs.strict.run_strict.Goals as goal
+use Rattle.xvsh_runs.specs.Strict.{no_verdict, no_strict_run}
+use Rattle.xvsh_runs.proofs.strict.run_strict.Goals as goal
 
 pub returns-in_err-start-clause-fault : goal.returns-in_err-start-clause-fault
 returns-in_err-start-clause-fault g c =

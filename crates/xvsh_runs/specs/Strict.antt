@@ -18,7 +18,7 @@ use Rattle.xvsh_runs.specs.declared.fault.ProcessFault.TheVariants.{Common}
 use Rattle.xvsh_runs.specs.declared.report.Lists.{Lists}
 use Rattle.xvsh_runs.specs.Runs.{RanRun}
 use Rattle.xvsh_runs.specs.Why.{IsRunFault}
-use Rattle.xvsh_strict.specs.declared.strict.StrictRun.{StrictRun}
+use Rattle.xvsh_runs.specs.declared.strict.StrictRun.{StrictRun}
 use Rattle.xvsh_plain.specs.Running.{IsMeaningFault}
 
 -- what follows is by what the host states of standard input and of the files at paths, of the script at a path under a

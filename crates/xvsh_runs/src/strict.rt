@@ -6,8 +6,11 @@ ghost use Rattle.meaning_model.specs.Settled.{IsSettledScript};
 ghost use Rattle.xvsh_read.specs.declared.fault.Fault.TheVariants.{Unwritten};
 ghost use Rattle.xvsh_plain.specs.Running.{IsMeaningFault};
 ghost use Rattle.xvsh_read.specs.Console.{known};
-ghost use Rattle.xvsh_strict.specs.Strict.{DidStrict, IsStrictRefusal};
+ghost use Rattle.xvsh_runs.specs.Strict.{DidStrict, IsStrictRefusal};
 
+use crate::fault::ProcessFault;
+use crate::request::RunRequest;
+use crate::running::run_prepared;
 use kernel_model::Full;
 use plain_run::plain;
 use std::alloc::Global;
@@ -17,7 +20,6 @@ use std::thread::Threads;
 use std::time::Clock;
 use xvsh_plain::of_plain;
 use xvsh_read::{Console, Fault, Host, Start, prepare};
-use xvsh_runs::{ProcessFault, RunRequest, run_prepared};
 
 // Whether what was read is a settled script.
 fn is_settled<'a>(alloc: Global, start: &Start) -> Result<bool, Fault<'a>>
