@@ -1,5 +1,6 @@
 pub mod Begins
 pub mod Consumed
+pub mod Faults
 pub mod Names
 pub mod Places
 pub mod Putting

@@ -1,20 +1,18 @@
 use Rattle.std.proofs.Common.{subst}
-use Rattle.std.proofs.lemmas.Result.{err_from_is_err_and}
 use Rattle.script_load.specs.Script.{HasLoadFault}
 use Rattle.script_notes.specs.Explained.{IsExplained}
 use Rattle.xvsh_read.specs.Starting.{unread_script, bad_script}
+use Rattle.xvsh_read.proofs.Faults.{at_fault}
 use Rattle.xvsh_read.proofs.Begins.{load_fault}
 use Rattle.xvsh_checks.proofs.explaining.explain_at.Goals as goal
 
 pub returns-in_err-bytes-clause-fault : goal.returns-in_err-bytes-clause-fault
 returns-in_err-bytes-clause-fault g c =
-    let p = err_from_is_err_and c.from_residual.result c.from_residual.ensures.1 in
-    rw (p.1, p.2) (unread_script c.in_err-bytes.ensures.fault)
+    at_fault c.from_residual.result _ _ c.from_residual.ensures.1 (unread_script c.in_err-bytes.ensures.fault)
 
 pub returns-in_err-told-clause-fault : goal.returns-in_err-told-clause-fault
 returns-in_err-told-clause-fault g c =
-    let p = err_from_is_err_and c.from_residual-in_err-told.result c.from_residual-in_err-told.ensures.1 in
-    rw (p.1, p.2) (bad_script c.in_ok-bytes.bytes.items c.in_ok-bytes.ensures.bytes (load_fault c.in_ok-bytes.bytes.items c.in_err-told.field-0.0 (subst (λ b. HasLoadFault b c.in_err-told.field-0.0) c.as_slice.ensures.value c.in_err-told.ensures.fault)))
+    at_fault c.from_residual-in_err-told.result _ _ c.from_residual-in_err-told.ensures.1 (bad_script c.in_ok-bytes.bytes.items c.in_ok-bytes.ensures.bytes (load_fault c.in_ok-bytes.bytes.items c.in_err-told.field-0.0 (subst (λ b. HasLoadFault b c.in_err-told.field-0.0) c.as_slice.ensures.value c.in_err-told.ensures.fault)))
 
 pub returns-clause-told : goal.returns-clause-told
 returns-clause-told g c = record {

@@ -1,8 +1,8 @@
 use Rattle.std.proofs.Common.{◌≡◌, ◌∙◌, [], ap, subst, sym}
 use Rattle.std.specs.Prelude.{◌↔◌, IsTrue}
 use Rattle.std.specs.Io.KnownBytes.{Appends}
-use Rattle.std.proofs.lemmas.Result.{err_from_is_err_and}
 use Rattle.xvsh_read.specs.Status.{IsTellFault}
+use Rattle.xvsh_read.proofs.Faults.{at_fault}
 use Rattle.xvsh_checks.specs.Check.{no_script_told, not_told}
 use Rattle.xvsh_checks.specs.Explain.{written_of}
 use Rattle.xvsh_checks.proofs.Sentences.{ran_explain}
@@ -10,13 +10,11 @@ use Rattle.xvsh_checks.proofs.explaining.run_explain.Goals as goal
 
 pub returns-in_err-told-clause-fault : goal.returns-in_err-told-clause-fault
 returns-in_err-told-clause-fault g c =
-    let p = err_from_is_err_and c.from_residual.result c.from_residual.ensures.1 in
-    rw (p.1, p.2) (no_script_told c.in_err-told.ensures.fault)
+    at_fault c.from_residual.result _ _ c.from_residual.ensures.1 (no_script_told c.in_err-told.ensures.fault)
 
 pub returns-in_err-write-clause-fault : goal.returns-in_err-write-clause-fault
 returns-in_err-write-clause-fault g c =
-    let p = err_from_is_err_and c.from_residual-in_err-write.result c.from_residual-in_err-write.ensures.1 in
-    rw (p.1, p.2) (not_told (subst IsTellFault (sym c.in_err-write.ensures.fault) tt))
+    at_fault c.from_residual-in_err-write.result _ _ c.from_residual-in_err-write.ensures.1 (not_told (subst IsTellFault (sym c.in_err-write.ensures.fault) tt))
 
 pub returns-clause-ran : goal.returns-clause-ran
 returns-clause-ran g c =

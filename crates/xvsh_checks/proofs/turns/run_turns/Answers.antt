@@ -1,10 +1,10 @@
 use Rattle.std.proofs.Common.{◌≡◌, ◌++◌, subst, sym}
 use Rattle.std.specs.Io.KnownBytes.{Appends}
-use Rattle.std.proofs.lemmas.Result.{err_from_is_err_and}
 use Rattle.mem_files.specs.Name.{Bytes}
 use Rattle.mem_files.specs.Files.{files}
 use Rattle.script_load.specs.Line.{lines_of}
 use Rattle.xvsh_read.specs.Status.{IsTellFault}
+use Rattle.xvsh_read.proofs.Faults.{at_fault}
 use Rattle.xvsh_checks.specs.Check.{AreTold}
 use Rattle.xvsh_checks.specs.Turns.{AreTurnsTold, no_start, turns_not_told}
 use Rattle.xvsh_checks.proofs.Counted.{ran_turns}
@@ -12,18 +12,15 @@ use Rattle.xvsh_checks.proofs.turns.run_turns.Goals as goal
 
 pub returns-in_err-start-clause-fault : goal.returns-in_err-start-clause-fault
 returns-in_err-start-clause-fault g c =
-    let p = err_from_is_err_and c.from_residual.result c.from_residual.ensures.1 in
-    rw (p.1, p.2) (no_start c.in_err-start.ensures.fault)
+    at_fault c.from_residual.result _ _ c.from_residual.ensures.1 (no_start c.in_err-start.ensures.fault)
 
 pub returns-in_err-checked-clause-fault : goal.returns-in_err-checked-clause-fault
 returns-in_err-checked-clause-fault g c =
-    let p = err_from_is_err_and c.from_residual-in_err-checked.result c.from_residual-in_err-checked.ensures.1 in
-    rw (p.1, p.2) (turns_not_told tt)
+    at_fault c.from_residual-in_err-checked.result _ _ c.from_residual-in_err-checked.ensures.1 (turns_not_told tt)
 
 pub returns-in_err-write-clause-fault : goal.returns-in_err-write-clause-fault
 returns-in_err-write-clause-fault g c =
-    let p = err_from_is_err_and c.from_residual-in_err-write.result c.from_residual-in_err-write.ensures.1 in
-    rw (p.1, p.2) (turns_not_told (subst IsTellFault (sym c.in_err-write.ensures.fault) tt))
+    at_fault c.from_residual-in_err-write.result _ _ c.from_residual-in_err-write.ensures.1 (turns_not_told (subst IsTellFault (sym c.in_err-write.ensures.fault) tt))
 
 pub returns-clause-ran : goal.returns-clause-ran
 returns-clause-ran g c =

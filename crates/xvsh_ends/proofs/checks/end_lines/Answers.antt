@@ -6,15 +6,8 @@ use Rattle.xvsh_ends.proofs.checks.end_lines.Goals as goal
 
 pub returns-in-Ok-clause-ends : goal.returns-in-Ok-clause-ends
 returns-in-Ok-clause-ends g c =
-    let input = g.H.Host.input c.args.console.now.host in
-    let file = g.H.Host.file c.args.console.now.host in
-    let out = g.W.Write.contents c.args.console.now.out in
-    let out' = g.W.Write.contents c.run_check.new.console.out in
-    let err = g.E.Write.contents c.args.console.now.err in
-    let err' = g.E.Write.contents c.run_check.new.console.err in
-    let script = c.args.request.now.script.now in
-    subst (Ends input file out out' err err' (asks_check script)) (sym c.check_status.ensures)
-    (ended_check input file out out' err err' script c.in-Ok.is_harmless c.in-Ok.ensures.ran (ap g.E.Write.contents c.run_check.ensures.err_stays))
+    subst (Ends _ _ _ _ _ _ (asks_check c.args.request.now.script.now)) (sym c.check_status.ensures)
+    (ended_check _ _ _ _ _ _ c.args.request.now.script.now c.in-Ok.is_harmless c.in-Ok.ensures.ran (ap g.E.Write.contents c.run_check.ensures.err_stays))
 
 pub returns-in-Err-clause-ends : goal.returns-in-Err-clause-ends
 returns-in-Err-clause-ends g c =

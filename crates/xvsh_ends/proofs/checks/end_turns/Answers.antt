@@ -6,14 +6,8 @@ use Rattle.xvsh_ends.proofs.checks.end_turns.Goals as goal
 
 pub returns-in-Ok-clause-ends : goal.returns-in-Ok-clause-ends
 returns-in-Ok-clause-ends g c =
-    let input = g.H.Host.input c.args.console.now.host in
-    let file = g.H.Host.file c.args.console.now.host in
-    let out = g.W.Write.contents c.args.console.now.out in
-    let out' = g.W.Write.contents c.run_turns.new.console.out in
-    let err = g.E.Write.contents c.args.console.now.err in
-    let err' = g.E.Write.contents c.run_turns.new.console.err in
-    subst (Ends input file out out' err err' (asks_turns c.args.request.now.script.now c.args.request.now.files.now)) (sym c.check_status.ensures)
-    (counted c.in-Ok.is_harmless c.in-Ok.ensures.ran (keeps_equal err err' (ap g.E.Write.contents c.run_turns.ensures.err_stays)))
+    subst (Ends _ _ _ _ _ _ (asks_turns c.args.request.now.script.now c.args.request.now.files.now)) (sym c.check_status.ensures)
+    (counted c.in-Ok.is_harmless c.in-Ok.ensures.ran (keeps_equal _ _ (ap g.E.Write.contents c.run_turns.ensures.err_stays)))
 
 pub returns-in-Err-clause-ends : goal.returns-in-Err-clause-ends
 returns-in-Err-clause-ends g c =

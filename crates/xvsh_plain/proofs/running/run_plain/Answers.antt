@@ -1,18 +1,18 @@
 use Rattle.std.proofs.Common.{IsTrue, subst}
 use Rattle.std.specs.Prelude.{◌↔◌, IfErr, IfOk, OnOk}
-use Rattle.std.proofs.lemmas.Result.{err_from_is_err_and, IfErr-weaker}
+use Rattle.std.proofs.lemmas.Result.{IfErr-weaker}
 use Rattle.mem_files.specs.Files.{files}
 use Rattle.script_load.specs.Line.{lines_of}
 use Rattle.meaning_model.specs.Meaning.{script_meaning}
 use Rattle.meaning_model.specs.Settled.{IsSettledScript}
+use Rattle.xvsh_read.proofs.Faults.{at_fault}
 use Rattle.xvsh_plain.specs.Running.{no_start, no_run, IsMeaningFault, WritesRun}
 use Rattle.xvsh_plain.proofs.Ran.{ran_plain}
 use Rattle.xvsh_plain.proofs.running.run_plain.Goals as goal
 
 pub returns-in_err-start-clause-fault : goal.returns-in_err-start-clause-fault
 returns-in_err-start-clause-fault g c =
-    let p = err_from_is_err_and c.from_residual.result c.from_residual.ensures.1 in
-    rw (p.1, p.2) (no_start c.in_err-start.ensures.fault)
+    at_fault c.from_residual.result _ _ c.from_residual.ensures.1 (no_start c.in_err-start.ensures.fault)
 
 pub returns-clause-ran : goal.returns-clause-ran
 returns-clause-ran g c =

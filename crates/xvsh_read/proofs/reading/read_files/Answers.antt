@@ -1,8 +1,8 @@
 use Rattle.std.proofs.Common.{[], refl, sym, ◌∙◌, subst, arith, get_or}
-use Rattle.std.proofs.lemmas.Result.{err_from_is_err_and}
 use Rattle.std.specs.Borrow.{Bor}
 use Rattle.xvsh_read.specs.Path.{Path}
 use Rattle.xvsh_read.specs.Reading.{Agree, ArePut, none_put, IsFileFault}
+use Rattle.xvsh_read.proofs.Faults.{at_fault}
 use Rattle.xvsh_read.proofs.Putting.{put_more, stopped}
 use Rattle.xvsh_read.proofs.reading.read_files.Goals as goal
 
@@ -15,11 +15,10 @@ loop-path-init g c = record {
 
 pub returns-in_err-add_file-clause-fault : goal.returns-in_err-add_file-clause-fault
 returns-in_err-add_file-clause-fault g c =
-    let p = err_from_is_err_and c.from_residual.result c.from_residual.ensures.1 in
     let i = c.loop-path.path-index in
     let d : Bor Path = record { ref_ptr = (0, 0); now = [] } in
     let fault = c.in_err-add_file.field-0.0 in
-    rw (p.1, p.2) (stopped (g.H.Host.file c.args.host.now) c.args.paths.now i d (omega arith) c.loop-path.given c.loop-path.invariant.put fault
+    at_fault c.from_residual.result _ _ c.from_residual.ensures.1 (stopped (g.H.Host.file c.args.host.now) c.args.paths.now i d (omega arith) c.loop-path.given c.loop-path.invariant.put fault
     (subst (λ file. IsFileFault file c.loop-path.given (get_or c.args.paths.now i d).now fault) c.loop-path.invariant.files_stay c.in_err-add_file.ensures.fault))
 
 pub loop-path-preserved : goal.loop-path-preserved

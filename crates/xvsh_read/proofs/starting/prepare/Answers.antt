@@ -1,27 +1,24 @@
 use Rattle.std.proofs.Common.{◌∙◌, codes, subst}
-use Rattle.std.proofs.lemmas.Result.{err_from_is_err_and}
 use Rattle.script_load.specs.Line.{lines_of}
 use Rattle.xvsh_read.specs.Reading.{ArePut, IsFilesFault, IsReadFault, max_input}
 use Rattle.xvsh_read.specs.Starting.{no_script, no_file, no_input}
+use Rattle.xvsh_read.proofs.Faults.{at_fault}
 use Rattle.xvsh_read.proofs.Begins.{input_kept}
 use Rattle.xvsh_read.proofs.starting.prepare.Goals as goal
 
 pub returns-in_err-loaded-clause-fault : goal.returns-in_err-loaded-clause-fault
 returns-in_err-loaded-clause-fault g c =
-    let p = err_from_is_err_and c.from_residual.result c.from_residual.ensures.1 in
-    rw (p.1, p.2) (no_script c.in_err-loaded.ensures.fault)
+    at_fault c.from_residual.result _ _ c.from_residual.ensures.1 (no_script c.in_err-loaded.ensures.fault)
 
 pub returns-in_err-files-clause-fault : goal.returns-in_err-files-clause-fault
 returns-in_err-files-clause-fault g c =
-    let p = err_from_is_err_and c.from_residual-in_err-files.result c.from_residual-in_err-files.ensures.1 in
-    rw (p.1, p.2) (no_file (lines_of c.in_ok-loaded.loaded.lines) c.in_ok-loaded.ensures.lines (subst (λ file. IsFilesFault file c.args.source.now.files.now c.in_err-files.field-0.0) c.read_script.ensures.files_stay c.in_err-files.ensures.fault))
+    at_fault c.from_residual-in_err-files.result _ _ c.from_residual-in_err-files.ensures.1 (no_file (lines_of c.in_ok-loaded.loaded.lines) c.in_ok-loaded.ensures.lines (subst (λ file. IsFilesFault file c.args.source.now.files.now c.in_err-files.field-0.0) c.read_script.ensures.files_stay c.in_err-files.ensures.fault))
 
 pub returns-in_err-stdin-clause-fault : goal.returns-in_err-stdin-clause-fault
 returns-in_err-stdin-clause-fault g c =
-    let p = err_from_is_err_and c.from_residual-in_err-stdin.result c.from_residual-in_err-stdin.ensures.1 in
     let free = c.in_err-stdin.ensures.free in
     let stays = c.read_files.ensures.stays.0 ∙ c.read_script.ensures.input_stays free.1 in
-    rw (p.1, p.2) (no_input (lines_of c.in_ok-loaded.loaded.lines) c.in_ok-files.files c.in_ok-loaded.ensures.lines (subst (λ file. ArePut file c.args.source.now.files.now c.in_ok-files.files) c.read_script.ensures.files_stay c.in_ok-files.ensures.put) free.0 free.1 (subst (λ told. IsReadFault max_input told (codes "-") c.in_err-stdin.field-0.0) stays c.in_err-stdin.ensures.fault))
+    at_fault c.from_residual-in_err-stdin.result _ _ c.from_residual-in_err-stdin.ensures.1 (no_input (lines_of c.in_ok-loaded.loaded.lines) c.in_ok-files.files c.in_ok-loaded.ensures.lines (subst (λ file. ArePut file c.args.source.now.files.now c.in_ok-files.files) c.read_script.ensures.files_stay c.in_ok-files.ensures.put) free.0 free.1 (subst (λ told. IsReadFault max_input told (codes "-") c.in_err-stdin.field-0.0) stays c.in_err-stdin.ensures.fault))
 
 pub returns-clause-prepared : goal.returns-clause-prepared
 returns-clause-prepared g c =

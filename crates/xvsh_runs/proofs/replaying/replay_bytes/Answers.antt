@@ -1,14 +1,14 @@
 use Rattle.std.proofs.Common.{inl, inr, subst}
-use Rattle.std.proofs.lemmas.Result.{err_from_is_err_and, IfErr-weaker}
+use Rattle.std.proofs.lemmas.Result.{IfErr-weaker}
 use Rattle.script_load.specs.Line.{lines_of}
 use Rattle.run_model.specs.ScriptRun.{script_kernel}
+use Rattle.xvsh_read.proofs.Faults.{at_fault}
 use Rattle.xvsh_runs.specs.Why.{IsBytesFault, IsEventsFault}
 use Rattle.xvsh_runs.proofs.replaying.replay_bytes.Goals as goal
 
 pub returns-in_err-events-clause-fault : goal.returns-in_err-events-clause-fault
 returns-in_err-events-clause-fault c =
-    let p = err_from_is_err_and c.from_residual.result c.from_residual.ensures.1 in
-    rw (p.1, p.2) (inl c.in_err-events.ensures.fault)
+    at_fault c.from_residual.result _ _ c.from_residual.ensures.1 (inl c.in_err-events.ensures.fault)
 
 pub returns-clause-fault : goal.returns-clause-fault
 returns-clause-fault c =

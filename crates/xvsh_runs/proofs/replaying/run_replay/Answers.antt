@@ -1,11 +1,11 @@
 use Rattle.std.proofs.Common.{codes, refl, sym, ◌∙◌, subst, inl}
 use Rattle.std.specs.Str.{bytes_eq}
-use Rattle.std.proofs.lemmas.Result.{err_from_is_err_and}
 use Rattle.std.proofs.lemmas.Slice.Eq.{bytes_eq-Decides}
 use Rattle.script_load.specs.Line.{lines_of}
 use Rattle.kernel_events.specs.Reports.{IsRunFrom}
 use Rattle.run_model.specs.ScriptRun.{script_kernel}
 use Rattle.schedule_lines.specs.EventLines.{AreLinesOf}
+use Rattle.xvsh_read.proofs.Faults.{at_fault}
 use Rattle.xvsh_runs.specs.Why.{shared, no_schedule, no_start_after, no_replay, IsBytesFault}
 use Rattle.xvsh_runs.proofs.Moved.{both, begins, begin_fault}
 use Rattle.xvsh_runs.proofs.Written.{is_written}
@@ -20,35 +20,31 @@ returns-then-shares_input-clause-fault g c =
 
 pub returns-in_err-bytes-clause-fault : goal.returns-in_err-bytes-clause-fault
 returns-in_err-bytes-clause-fault g c =
-    let p = err_from_is_err_and c.from_residual.result c.from_residual.ensures.1 in
-    rw (p.1, p.2) (no_schedule c.in_err-bytes.ensures.fault)
+    at_fault c.from_residual.result _ _ c.from_residual.ensures.1 (no_schedule c.in_err-bytes.ensures.fault)
 
 pub returns-in_err-start-clause-fault : goal.returns-in_err-start-clause-fault
 returns-in_err-start-clause-fault g c =
-    let p = err_from_is_err_and c.from_residual-in_err-start.result c.from_residual-in_err-start.ensures.1 in
     let one = sym c.shares_input.ensures ∙ c.if-shares_input.false in
-    rw (p.1, p.2) (no_start_after c.in_ok-bytes.bytes.items c.in_ok-bytes.ensures.bytes (begin_fault (g.H.Host.input c.args.console.now.host) (g.H.Host.input c.read.new.host) (g.H.Host.file c.args.console.now.host) (g.H.Host.file c.read.new.host) c.args.request.now.schedule.now c.args.request.now.source.script.now c.eq-is_taken.result c.eq-is_taken.ensures c.read.ensures.files_stay c.read.ensures.input_stays one c.args.request.now.source.files.now c.in_err-start.field-0.0 c.in_err-start.ensures.fault))
+    at_fault c.from_residual-in_err-start.result _ _ c.from_residual-in_err-start.ensures.1 (no_start_after c.in_ok-bytes.bytes.items c.in_ok-bytes.ensures.bytes (begin_fault (g.H.Host.input c.args.console.now.host) (g.H.Host.input c.read.new.host) (g.H.Host.file c.args.console.now.host) (g.H.Host.file c.read.new.host) c.args.request.now.schedule.now c.args.request.now.source.script.now c.eq-is_taken.result c.eq-is_taken.ensures c.read.ensures.files_stay c.read.ensures.input_stays one c.args.request.now.source.files.now c.in_err-start.field-0.0 c.in_err-start.ensures.fault))
 
 pub returns-in_err-report-clause-fault : goal.returns-in_err-report-clause-fault
 returns-in_err-report-clause-fault g c =
-    let p = err_from_is_err_and c.from_residual-in_err-report.result c.from_residual-in_err-report.ensures.1 in
     let one = sym c.shares_input.ensures ∙ c.if-shares_input.false in
     let start = c.in_ok-start.start in
     let lines = lines_of start.script.lines in
     let fault = c.in_err-report.field-0.0 in
     let starts = begins (g.H.Host.input c.args.console.now.host) (g.H.Host.input c.read.new.host) (g.H.Host.file c.args.console.now.host) (g.H.Host.file c.read.new.host) c.args.request.now.schedule.now c.args.request.now.source.script.now c.eq-is_taken.result c.eq-is_taken.ensures c.read.ensures.files_stay c.read.ensures.input_stays one c.args.request.now.source.files.now lines start.files start.stdin.items c.in_ok-start.ensures.prepared in
-    rw (p.1, p.2) (no_replay c.in_ok-bytes.bytes.items lines start.files start.stdin.items c.in_ok-bytes.ensures.bytes starts
+    at_fault c.from_residual-in_err-report.result _ _ c.from_residual-in_err-report.ensures.1 (no_replay c.in_ok-bytes.bytes.items lines start.files start.stdin.items c.in_ok-bytes.ensures.bytes starts
     (subst (λ bytes. IsBytesFault (script_kernel c.args.request.now.source.profile lines start.stdin.items start.files) c.args.request.now.schedule.now bytes fault) c.as_slice.ensures.value
     (subst (λ profile. IsBytesFault (script_kernel profile lines start.stdin.items start.files) c.args.request.now.schedule.now c.as_slice.result.now fault) c.in_ok-start.ensures.profile c.in_err-report.ensures.fault)))
 
 pub returns-in_err-write_report-clause-fault : goal.returns-in_err-write_report-clause-fault
 returns-in_err-write_report-clause-fault g c =
-    let p = err_from_is_err_and c.from_residual-in_err-write_report.result c.from_residual-in_err-write_report.ensures.1 in
     let one = sym c.shares_input.ensures ∙ c.if-shares_input.false in
     let start = c.in_ok-start.start in
     let lines = lines_of start.script.lines in
     let starts = begins (g.H.Host.input c.args.console.now.host) (g.H.Host.input c.read.new.host) (g.H.Host.file c.args.console.now.host) (g.H.Host.file c.read.new.host) c.args.request.now.schedule.now c.args.request.now.source.script.now c.eq-is_taken.result c.eq-is_taken.ensures c.read.ensures.files_stay c.read.ensures.input_stays one c.args.request.now.source.files.now lines start.files start.stdin.items c.in_ok-start.ensures.prepared in
-    rw (p.1, p.2) (no_replay c.in_ok-bytes.bytes.items lines start.files start.stdin.items c.in_ok-bytes.ensures.bytes starts (inl c.in_err-write_report.ensures.fault))
+    at_fault c.from_residual-in_err-write_report.result _ _ c.from_residual-in_err-write_report.ensures.1 (no_replay c.in_ok-bytes.bytes.items lines start.files start.stdin.items c.in_ok-bytes.ensures.bytes starts (inl c.in_err-write_report.ensures.fault))
 
 pub returns-clause-ran : goal.returns-clause-ran
 returns-clause-ran g c =

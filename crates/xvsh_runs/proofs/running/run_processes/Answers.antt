@@ -1,13 +1,12 @@
-use Rattle.std.proofs.lemmas.Result.{err_from_is_err_and}
 use Rattle.script_load.specs.Line.{lines_of}
+use Rattle.xvsh_read.proofs.Faults.{at_fault}
 use Rattle.xvsh_runs.specs.Why.{no_start}
 use Rattle.xvsh_runs.proofs.Prepared.{prepared_ran, prepared_fault}
 use Rattle.xvsh_runs.proofs.running.run_processes.Goals as goal
 
 pub returns-in_err-start-clause-fault : goal.returns-in_err-start-clause-fault
 returns-in_err-start-clause-fault g c =
-    let p = err_from_is_err_and c.from_residual.result c.from_residual.ensures.1 in
-    rw (p.1, p.2) (no_start c.in_err-start.ensures.fault)
+    at_fault c.from_residual.result _ _ c.from_residual.ensures.1 (no_start c.in_err-start.ensures.fault)
 
 pub returns-clause-ran : goal.returns-clause-ran
 returns-clause-ran g c =

@@ -1,10 +1,10 @@
 use Rattle.std.proofs.Common.{IsTrue, subst}
 use Rattle.std.specs.Prelude.{◌↔◌}
-use Rattle.std.proofs.lemmas.Result.{err_from_is_err_and}
 use Rattle.mem_files.specs.Files.{files}
 use Rattle.script_load.specs.Line.{lines_of}
 use Rattle.meaning_model.specs.Settled.{IsSettledScript}
 use Rattle.run_model.specs.ScriptRun.{script_kernel}
+use Rattle.xvsh_read.proofs.Faults.{at_fault}
 use Rattle.xvsh_runs.specs.Runs.{RanOn}
 use Rattle.xvsh_runs.specs.Why.{IsHartsFault, no_start, no_run}
 use Rattle.xvsh_plain.specs.Running.{IsMeaningFault}
@@ -13,22 +13,19 @@ use Rattle.xvsh_runs.proofs.strict.run_strict.Goals as goal
 
 pub returns-in_err-start-clause-fault : goal.returns-in_err-start-clause-fault
 returns-in_err-start-clause-fault g c =
-    let p = err_from_is_err_and c.from_residual.result c.from_residual.ensures.1 in
-    rw (p.1, p.2) (no_strict_run (no_start c.in_err-start.ensures.fault))
+    at_fault c.from_residual.result _ _ c.from_residual.ensures.1 (no_strict_run (no_start c.in_err-start.ensures.fault))
 
 pub returns-in_err-is_settled-clause-fault : goal.returns-in_err-is_settled-clause-fault
 returns-in_err-is_settled-clause-fault g c =
-    let p = err_from_is_err_and c.from_residual-in_err-is_settled.result c.from_residual-in_err-is_settled.ensures.1 in
     let start = c.in_ok-start.start in
     let lines = lines_of start.script.lines in
-    rw (p.1, p.2) (no_verdict lines start.files start.stdin.items c.in_ok-start.ensures.prepared (subst (λ profile. IsMeaningFault profile lines start.stdin.items (files start.files) c.in_err-is_settled.field-0.0) c.in_ok-start.ensures.profile c.in_err-is_settled.ensures.fault))
+    at_fault c.from_residual-in_err-is_settled.result _ _ c.from_residual-in_err-is_settled.ensures.1 (no_verdict lines start.files start.stdin.items c.in_ok-start.ensures.prepared (subst (λ profile. IsMeaningFault profile lines start.stdin.items (files start.files) c.in_err-is_settled.field-0.0) c.in_ok-start.ensures.profile c.in_err-is_settled.ensures.fault))
 
 pub returns-in_err-full-clause-fault : goal.returns-in_err-full-clause-fault
 returns-in_err-full-clause-fault g c =
-    let p = err_from_is_err_and c.from_residual-in_err-full.result c.from_residual-in_err-full.ensures.1 in
     let start = c.in_ok-start.start in
     let lines = lines_of start.script.lines in
-    rw (p.1, p.2) (no_strict_run (no_run lines start.files start.stdin.items c.in_ok-start.ensures.prepared (subst (λ profile. IsHartsFault (script_kernel profile lines start.stdin.items start.files) c.args.request.now.harts c.args.request.now.turns c.in_err-full.field-0.0) c.in_ok-start.ensures.profile c.in_err-full.ensures.fault)))
+    at_fault c.from_residual-in_err-full.result _ _ c.from_residual-in_err-full.ensures.1 (no_strict_run (no_run lines start.files start.stdin.items c.in_ok-start.ensures.prepared (subst (λ profile. IsHartsFault (script_kernel profile lines start.stdin.items start.files) c.args.request.now.harts c.args.request.now.turns c.in_err-full.field-0.0) c.in_ok-start.ensures.profile c.in_err-full.ensures.fault)))
 
 pub returns-clause-ran : goal.returns-clause-ran
 returns-clause-ran g c =
