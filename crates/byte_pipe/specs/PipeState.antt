@@ -1,6 +1,6 @@
 -- What contracts see of a pipe, and what each call on it does.
 use Rattle.std.specs.Prelude.{ℕ, Bool, true, false, not, min, ◌-◌, ◌==◌, if◌then◌else◌, List, [], ◌++◌, length, take, drop}
-use Rattle.byte_pipe.specs.declared.TheConstants.{PIPE_SIZE}
+use Rattle.byte_pipe.specs.Limits.{pipe_size}
 use Rattle.byte_pipe.specs.declared.Put.{Put}
 use Rattle.byte_pipe.specs.declared.Put.TheVariants.{Took, Full, Closed}
 use Rattle.byte_pipe.specs.declared.Take.{Take}
@@ -18,7 +18,7 @@ new_pipe = record { bytes = []; reader = true; writer = true }
 
 -- how many more bytes a pipe can hold
 abbrev pub room : PipeState → ℕ
-room p = PIPE_SIZE - length p.bytes
+room p = pipe_size - length p.bytes
 
 -- the result of a put of xs
 abbrev pub put_answer : PipeState → List ℕ → Put

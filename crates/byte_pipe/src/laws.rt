@@ -2,7 +2,7 @@
 //! empty.
 
 ghost use Rattle.std.specs.Prelude.{◌≡◌, ◌≤◌, List, ◌++◌, length};
-ghost use Rattle.byte_pipe.specs.declared.TheConstants.{PIPE_SIZE};
+ghost use Rattle.byte_pipe.specs.Limits.{pipe_size};
 ghost use Rattle.byte_pipe.specs.PipeState.{PipeState, new_pipe};
 ghost use Rattle.byte_pipe.specs.PipeCall.{PipeCall, after_calls, all_put, all_taken};
 
@@ -15,5 +15,5 @@ pub fn bytes_come_out_once_and_in_order()
 
 /// No calls make a pipe hold more than 512 bytes.
 pub fn a_pipe_stays_within_its_size()
-    ensures { (p : PipeState) (calls : List PipeCall) → length p.bytes ≤ PIPE_SIZE → length (after_calls p calls).bytes ≤ PIPE_SIZE }
+    ensures { (p : PipeState) (calls : List PipeCall) → length p.bytes ≤ pipe_size → length (after_calls p calls).bytes ≤ pipe_size }
 {}

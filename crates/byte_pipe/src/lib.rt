@@ -5,7 +5,7 @@
 #![tactic(auto)]
 
 ghost use Rattle.std.specs.Prelude.{◌≡◌, ◌≤◌, length, IfOk};
-ghost use Rattle.byte_pipe.specs.declared.TheConstants.{PIPE_SIZE};
+ghost use Rattle.byte_pipe.specs.Limits.{pipe_size};
 
 pub mod laws;
 
@@ -52,13 +52,13 @@ pub struct Pipe<A: Allocator> {
 impl<A: Allocator> Model for Pipe<A> {
     ghost use Rattle.std.specs.Prelude.{◌≡◌, ◌≤◌, length};
     ghost use Rattle.byte_pipe.specs.PipeState.{PipeState};
-    ghost use Rattle.byte_pipe.specs.declared.TheConstants.{PIPE_SIZE};
+    ghost use Rattle.byte_pipe.specs.Limits.{pipe_size};
 
     ghost Value = { PipeState };
 
     ghost view = { λ p. record { bytes = p.ring.items; reader = p.reader; writer = p.writer } };
 
-    ghost invariant = { λ p. (p.ring.capacity ≡ PIPE_SIZE) × (length p.ring.items ≤ PIPE_SIZE) };
+    ghost invariant = { λ p. (p.ring.capacity ≡ pipe_size) × (length p.ring.items ≤ pipe_size) };
 }
 
 impl<A: Allocator> Pipe<A> {
@@ -85,7 +85,7 @@ impl<A: Allocator> Pipe<A> {
     pub fn put(&mut self, bytes: &[u8]) -> Put
         ensures answer { result ≡ put_answer self.old bytes.now }
         ensures after { self.new ≡ after_put self.old bytes.now }
-        ensures within { length self.new.bytes ≤ PIPE_SIZE }
+        ensures within { length self.new.bytes ≤ pipe_size }
     {
         let room = PIPE_SIZE - self.ring.len();
         if bytes.is_empty() {
@@ -108,7 +108,7 @@ impl<A: Allocator> Pipe<A> {
         ensures answer { result ≡ take_answer self.old (length buffer.old) }
         ensures moved { buffer.new ≡ filled self.old buffer.old }
         ensures after { self.new ≡ after_take self.old (length buffer.old) }
-        ensures within { length self.new.bytes ≤ PIPE_SIZE }
+        ensures within { length self.new.bytes ≤ pipe_size }
     {
         if self.ring.is_empty() {
             return if self.writer { Take::Empty } else { Take::End };
@@ -133,7 +133,7 @@ impl<A: Allocator> Pipe<A> {
     /// How many bytes the pipe holds (`nwrite` less `nread`).
     pub fn held(&self) -> usize
         ensures count { result ≡ length self.now.bytes }
-        ensures within { result ≤ PIPE_SIZE }
+        ensures within { result ≤ pipe_size }
     {
         self.ring.len()
     }

@@ -46,7 +46,8 @@ held_by_dup t None place = t
 held_by_dup t (Some e) None = t
 held_by_dup t (Some e) (Some place) = held t e
 
--- the result of a close, by the entry of its descriptor
+-- the result of a close, by the entry of its descriptor, with the object where the entry counts no other holder. In every run it
+-- counts the descriptors of all processes that hold it (`an_entry_is_open_while_a_descriptor_holds_it` of law_kernel/src/laws.rt)
 abbrev pub close_answer : Entries → Option ℕ → Result (Option Object) FdFault
 close_answer t None = Err BadFd
 close_answer t (Some e) = Ok (last_object (entry_at t e))
@@ -56,7 +57,7 @@ abbrev pub after_close : Descriptors → ℕ → Option ℕ → Descriptors
 after_close fds fd None = fds
 after_close fds fd (Some e) = without fds fd
 
--- the entries after a close, by the entry of its descriptor
+-- the entries after a close, by the entry of its descriptor, which counts one holder less: by the same law it is free once no descriptor holds it
 abbrev pub released_by_close : Entries → Option ℕ → Entries
 released_by_close t None = t
 released_by_close t (Some e) = released t e

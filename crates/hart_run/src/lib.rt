@@ -3,10 +3,12 @@
 //! One kernel stands under one lock, and user code runs outside it.
 #![tactic(auto)]
 
+mod closing;
 pub mod laws;
 mod replaying;
 mod running;
 
+pub use closing::close;
 pub use kernel_runs::ReplayFault;
 pub use kernel_threads::{Gate, MAX_HARTS, OpenGate, Run, RunFault, Seat, Shared, Turn};
 pub use replaying::replay;

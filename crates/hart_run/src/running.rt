@@ -2,7 +2,7 @@
 
 ghost use Rattle.std.specs.Prelude.{◌≡◌, ◌≤◌, ◌↔◌, Err, IfOk, length};
 ghost use Rattle.script_load.specs.Line.{lines_of};
-ghost use Rattle.run_model.specs.ScriptRun.{IsSpentFrom, script_kernel};
+ghost use Rattle.run_model.specs.ScriptRun.{IsOutOfTurnsFrom, script_kernel};
 ghost use Rattle.kernel_events.specs.Reports.{IsRunFrom};
 ghost use Rattle.kernel_threads.specs.Events.{AreOfHarts};
 ghost use Rattle.kernel_threads.specs.Ranges.{AreBadHarts, AreBadTurns};
@@ -47,7 +47,7 @@ pub fn run_harts<R: Threads + Wait + Clock + Sync, G: Gate + Sync>(
     ensures turns { IfOk result (λ report. length report.schedule ≤ turns) }
     ensures bad_harts { (result ≡ Err BadHarts) ↔ AreBadHarts harts }
     ensures bad_turns { (result ≡ Err BadTurns) ↔ ((AreBadHarts harts → ⊥) × AreBadTurns turns) }
-    ensures spent { result ≡ Err Spent → IsSpentFrom (script_kernel script.now.profile (lines_of script.now.lines) stdin.now files.now) turns }
+    ensures spent { result ≡ Err Spent → IsOutOfTurnsFrom (script_kernel script.now.profile (lines_of script.now.lines) stdin.now files.now) turns }
 {
     are_files(files);
     kernel_threads::run_harts(rt, alloc, script, stdin, files, harts, turns, gate)

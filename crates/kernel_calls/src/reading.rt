@@ -1,7 +1,7 @@
 //! read (xv6's `fileread` and `piperead`).
 
 ghost use Rattle.std.specs.Prelude.{◌≡◌, ◌≤◌, ◌<◌, true, IfSome, Some, option_map, take, drop, min, length};
-ghost use Rattle.user_calls.specs.declared.block.TheConstants.{BLOCK_SIZE};
+ghost use Rattle.user_calls.specs.Limits.{block_size};
 ghost use Rattle.fd_table.specs.Entries.{IsInUse, entry_at, offset_of};
 ghost use Rattle.mem_files.specs.Files.{files};
 ghost use Rattle.mem_files.specs.Listing.{max_size};
@@ -50,7 +50,7 @@ fn read_held<M: Machine, A: Allocator>(
     requires runs { is_running (at state.old.table pid) ≡ true }
     requires in_use { IsInUse state.old.entries entry }
     requires small { offset_of (entry_at state.old.entries entry) ≤ max_size }
-    requires few { n ≤ BLOCK_SIZE }
+    requires few { n ≤ block_size }
     ensures { IfSome (entry_at state.old.entries entry) (λ f. state.new ≡ read_object state.old pid (M.view after) entry f.offset n f.object) }
 {
     match state.entries.object(entry) {
@@ -91,7 +91,7 @@ fn read_pipe<M: Machine, A: Allocator>(
     n: usize,
 )
     requires runs { is_running (at state.old.table pid) ≡ true }
-    requires few { n ≤ BLOCK_SIZE }
+    requires few { n ≤ block_size }
     ensures { state.new ≡ read_pipe state.old pid (M.view after) name n (pipe_of state.old.pipes name) }
 {
     match state.pipes.take(name, n) {
@@ -107,7 +107,7 @@ fn read_pipe<M: Machine, A: Allocator>(
 
 // At most n bytes of the file from the offset on.
 fn block_of<A: Allocator>(set: &Files<A>, name: &[u8], offset: u64, n: usize) -> Option<Block>
-    requires { n ≤ BLOCK_SIZE }
+    requires { n ≤ block_size }
     ensures { result ≡ option_map (λ bytes. take n (drop offset bytes)) (files set.now name.now) }
 {
     match set.get(name) {

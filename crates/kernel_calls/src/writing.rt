@@ -1,6 +1,6 @@
 //! write (xv6's `filewrite` and `pipewrite`).
 
-ghost use Rattle.std.specs.Prelude.{◌≡◌, ◌≤◌, ◌<◌, ◌+◌, true, IfSome, Some, drop, min, length};
+ghost use Rattle.std.specs.Prelude.{◌≡◌, ◌≤◌, ◌<◌, ◌+◌, ◌++◌, true, IfSome, Some, OnOk, OnErr, drop, min, length};
 ghost use Rattle.fd_table.specs.Entries.{IsInUse, entry_at, offset_of};
 ghost use Rattle.mem_files.specs.Files.{files};
 ghost use Rattle.mem_files.specs.Listing.{max_size};
@@ -18,10 +18,10 @@ use kernel_model::{Full, Memory};
 use kernel_state::State;
 use mem_files::FilesFault;
 use proc_table::{Channel, Pid};
-use std::alloc::Allocator;
+use std::alloc::{AllocError, Allocator};
 use user_calls::{Machine, Reply};
 
-// `sys_write`. Returns whether memory was refused.
+// `sys_write`. Returns whether memory was refused, which can be only where a file or an output grows.
 pub(crate) fn write<M: Machine, A: Allocator>(
     state: &mut State<M, A>,
     pid: Pid,
@@ -43,7 +43,19 @@ pub(crate) fn write<M: Machine, A: Allocator>(
     }
 }
 
-// A write to what the entry has open. Returns whether memory was refused.
+// Appends the bytes. Takes memory only where there are some.
+fn append<A: Allocator>(to: &mut Vec<u8, A>, bytes: &[u8]) -> Result<(), AllocError>
+    ensures ok { OnOk result (to.new.items ≡ to.old.items ++ bytes.now) }
+    ensures err { OnErr result (to.new.items ≡ to.old.items) }
+    ensures grows { OnErr result (0 < length bytes.now) }
+{
+    if bytes.is_empty() {
+        return Ok(());
+    }
+    to.extend_from_slice(bytes)
+}
+
+// A write to what the entry has open. Returns whether memory was refused, which can be only where something grows.
 pub(crate) fn write_held<M: Machine, A: Allocator>(
     state: &mut State<M, A>,
     pid: Pid,
@@ -59,7 +71,7 @@ pub(crate) fn write_held<M: Machine, A: Allocator>(
 {
     match state.entries.object(entry) {
         Object::Out => {
-            if state.out.extend_from_slice(bytes).is_ok() {
+            if append(&mut state.out, bytes).is_ok() {
                 state.procs.ready(pid, after, Reply::Done);
                 Memory::Found
             } else {
@@ -68,7 +80,7 @@ pub(crate) fn write_held<M: Machine, A: Allocator>(
             }
         }
         Object::Diag => {
-            if state.diag.extend_from_slice(bytes).is_ok() {
+            if append(&mut state.diag, bytes).is_ok() {
                 state.procs.ready(pid, after, Reply::Done);
                 Memory::Found
             } else {
@@ -133,7 +145,8 @@ pub(crate) fn write_pipe<M: Machine, A: Allocator>(
     }
 }
 
-// A write to the file that the entry has open for writing. Returns whether memory was refused.
+// A write to the file that the entry has open for writing. Returns whether memory was refused, which can be only where
+// the file grows.
 pub(crate) fn write_file<M: Machine, A: Allocator>(
     state: &mut State<M, A>,
     pid: Pid,
@@ -176,7 +189,8 @@ pub(crate) fn write_file<M: Machine, A: Allocator>(
     }
 }
 
-// A write to the end of the file that the entry has open. Returns whether memory was refused.
+// A write to the end of the file that the entry has open. Returns whether memory was refused, which can be only where
+// there are bytes.
 pub(crate) fn append_file<M: Machine, A: Allocator>(
     state: &mut State<M, A>,
     pid: Pid,

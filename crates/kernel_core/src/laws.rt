@@ -12,7 +12,7 @@ ghost use Rattle.script_load.specs.declared.profile.Profile.{Profile};
 ghost use Rattle.script_load.specs.Line.{lines_of};
 ghost use Rattle.meaning_model.specs.Meaning.{script_meaning};
 ghost use Rattle.meaning_model.specs.Settled.{IsSettledScript};
-ghost use Rattle.kernel_core.specs.Answer.{IsAnswer};
+ghost use Rattle.kernel_core.specs.Answer.{IsAnswerIfSettled};
 ghost use Rattle.kernel_events.specs.Reports.{IsRunFrom};
 ghost use Rattle.run_model.specs.ScriptRun.{script_kernel};
 ghost use Rattle.kernel_core.specs.Alike.{AreAlike};
@@ -21,7 +21,10 @@ use kernel_events::Report;
 pub use law_bounds::laws::{
     every_run_ends_with_the_meaning, every_run_is_finished_after_so_many_events,
 };
-pub use law_kernel::laws::no_wake_up_is_lost;
+pub use law_kernel::laws::{
+    an_entry_is_open_while_a_descriptor_holds_it, an_exit_closes_every_descriptor,
+    no_wake_up_is_lost,
+};
 pub use law_never_stuck::laws::no_run_is_stuck;
 pub use law_standing::laws::{
     a_finished_run_gives_the_meaning, every_run_stands_for_the_tree_machine,
@@ -39,9 +42,9 @@ pub fn a_settled_script_has_one_answer<A: Allocator, B: Allocator>(
     _script: &Script<A>,
     _report: &Report<B>,
 )
-    ensures { (profile : Profile) (input : Bytes) (list : List (Name × Bytes)) → AreFiles list → IsSettledScript profile (lines_of _script.now.lines) input (files list)
-        → IsRunFrom (script_kernel profile (lines_of _script.now.lines) input list) _report.now → _report.now.full ≡ None
-        → IsAnswer (script_meaning profile (lines_of _script.now.lines) input (files list)) _report.now }
+    ensures { (profile : Profile) (input : Bytes) (list : List (Name × Bytes)) → AreFiles list
+        → IsRunFrom (script_kernel profile (lines_of _script.now.lines) input list) _report.now
+        → IsAnswerIfSettled profile (lines_of _script.now.lines) input list _report.now }
 {}
 
 /// So two such runs of one script, under one profile and on the same standard input and files, leave the same output, and the

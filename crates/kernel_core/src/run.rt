@@ -1,9 +1,11 @@
 //! Runs of a script on one hart.
 
-ghost use Rattle.std.specs.Prelude.{◌≡◌, ◌≤◌, ◌<◌, ◌⊎◌, ◌↔◌, All, IfOk, Err, length, true};
+ghost use Rattle.std.specs.Prelude.{◌≡◌, ◌≤◌, ◌<◌, ◌⊎◌, ◌↔◌, All, IfOk, Err, length, true, false};
+ghost use Rattle.conflict_check.specs.Clear.{has_back};
 ghost use Rattle.script_load.specs.Line.{lines_of};
+ghost use Rattle.meaning_model.specs.Meaning.{script_tree};
 ghost use Rattle.script_load.specs.declared.limits.TheConstants.{MAX_TURNS};
-ghost use Rattle.run_model.specs.ScriptRun.{IsSpentFrom, script_kernel};
+ghost use Rattle.run_model.specs.ScriptRun.{IsOutOfTurnsIfRoomy, IsSpentFrom, script_kernel};
 ghost use Rattle.kernel_events.specs.Harts.{is_of_hart};
 ghost use Rattle.kernel_events.specs.Reports.{IsRunFrom};
 ghost use Rattle.kernel_core.specs.Answer.{IsAnswerIfSettled};
@@ -23,7 +25,8 @@ use std::alloc::Allocator;
 /// was full, the report has the output and the files of the script's meaning, in which each pipe's left side runs to its end
 /// first.
 ///
-/// The faults come in their order: `BadTurns`, `Spent`, `Memory`.
+/// The faults come in their order: `BadTurns`, `Spent`, `Memory`. With `Spent` fewer than two turns are left, but for a script
+/// with `&` or where something was full: only there may nothing be Runnable in its place (`turns_spent`).
 #[tactic(auto, using(crate::proofs::Answers::answered))]
 pub fn run_one<A: Allocator + Copy, B: Allocator, C: Allocator>(
     alloc: A,
@@ -38,6 +41,8 @@ pub fn run_one<A: Allocator + Copy, B: Allocator, C: Allocator>(
     ensures turns { IfOk result (λ report. length report.schedule ≤ turns) }
     ensures bad_turns { (result ≡ Err RunOneFault.BadTurns) ↔ ((turns ≡ 0) ⊎ (MAX_TURNS < turns)) }
     ensures spent { result ≡ Err RunOneFault.Spent → IsSpentFrom (script_kernel script.now.profile (lines_of script.now.lines) stdin.now files.now) turns }
+    ensures turns_spent { result ≡ Err RunOneFault.Spent → has_back (script_tree (lines_of script.now.lines)) ≡ false
+        → IsOutOfTurnsIfRoomy (script_kernel script.now.profile (lines_of script.now.lines) stdin.now files.now) turns }
 {
     are_files(files);
     kernel_runs::run_one(alloc, script, stdin, files, turns)

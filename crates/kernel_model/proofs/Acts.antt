@@ -6,7 +6,7 @@ use Rattle.proc_table.specs.Calls.{lowest_free as lowest_free_slot, wait_answer}
 use Rattle.kernel_model.specs.KernelState.{KernelState, fds_at}
 use Rattle.kernel_model.specs.Sound.{IsMid, Keeps}
 use Rattle.mem_files.specs.Listing.{AreFiles}
-use Rattle.user_calls.specs.declared.block.TheConstants.{BLOCK_SIZE}
+use Rattle.user_calls.specs.Limits.{block_size}
 use Rattle.user_calls.specs.declared.calls.Call.{Call}
 use Rattle.user_calls.specs.declared.calls.Call.TheVariants.{Fork, Exec, Exit, Wait, MakePipe, Read, Write, OpenFile, Close, Dup}
 use Rattle.kernel_model.specs.Events.{acted}
@@ -34,7 +34,7 @@ module _ {S : Type 0} (n pid : ℕ) where
   acted_after k after Exit refused are m = exit_after n pid k after (pid == 0) m
   acted_after k after Wait refused are m = wait_after n pid k after (wait_answer k.table pid) m
   acted_after k after MakePipe refused are m = make_pipe_after n pid k after m refused
-  acted_after k after (Read fd want) refused are m = read_held_after n pid k after (min want BLOCK_SIZE) (entry_of (fds_at k pid) fd) are m
+  acted_after k after (Read fd want) refused are m = read_held_after n pid k after (min want block_size) (entry_of (fds_at k pid) fd) are m
   acted_after k after (Write fd b) refused are m = write_held_after n pid k after b refused (entry_of (fds_at k pid) fd) m
   acted_after k after (OpenFile name mode) refused are m = open_after n pid k after name mode refused m
   acted_after k after (Close fd) refused are m = close_after n pid k after fd m

@@ -1,7 +1,7 @@
 -- What every call leaves as it was: the count of events, a mark once there is one, and names of pipes to come.
 use Rattle.std.proofs.Common.{◌≡◌, ℕ, zero, suc, ◌+◌, ◌<◌, List, [], ◌++◌, Bool, true, false, Option, Some, None, length, drop, take, refl, ap, ◌∙◌, arith}
 use Rattle.std.specs.Prelude.{if◌then◌else◌, nat_lt, nat_le, ◌==◌, is_none, Result, Ok, Err, min}
-use Rattle.user_calls.specs.declared.block.TheConstants.{BLOCK_SIZE}
+use Rattle.user_calls.specs.Limits.{block_size}
 use Rattle.user_calls.specs.declared.calls.Call.{Call}
 use Rattle.user_calls.specs.declared.calls.Call.TheVariants.{Fork, Exec, Exit, Wait, MakePipe, Read, Write, OpenFile, Close, Dup}
 use Rattle.user_calls.specs.declared.calls.Mode.{Mode}
@@ -39,7 +39,7 @@ use Rattle.kernel_model.specs.Descriptors.{let_go, let_go_of, taken_away, closed
 use Rattle.kernel_model.specs.Processes.{fork_into, ended, exit, wait_by}
 use Rattle.kernel_model.specs.Opening.{emptied_if, with_bytes, open_here, open_for_reading, open_for_writing, open_file}
 use Rattle.kernel_model.specs.Reading.{read_file, read_mode, read_by, read_pipe, read_object, read_entry, read_held}
-use Rattle.kernel_model.specs.Writing.{write_file, append_file, write_mode, write_by, write_pipe, write_object, write_entry, write_held}
+use Rattle.kernel_model.specs.Writing.{lacks_memory, write_file, append_file, write_mode, write_by, write_pipe, write_object, write_entry, write_held}
 use Rattle.kernel_model.specs.Events.{acted}
 use Rattle.kernel_model.specs.Along.{IsAlong}
 use Rattle.kernel_model.proofs.PipeNames.{changed_names, closed_names, new_names}
@@ -233,19 +233,19 @@ module _ {S : Type 0} (pid : ℕ) where
     write_file_along k e name offset b refused None = answering k Refused
     write_file_along k e name offset b refused (Some bytes) =
         let done : KernelState S = answered (record k { files = with_entry k.files name (written bytes offset b); entries = advanced k.entries e (length b) }) pid after Done in
-        let memory : KernelState S = if refused then refused_for k pid after Memory else done in
+        let memory : KernelState S = if lacks_memory refused (length bytes) (offset + length b) then refused_for k pid after Memory else done in
         let size : KernelState S = if nat_lt max_size (offset + length b) then refused_for k pid after Size else memory in
         either (nat_lt (length bytes) offset) k (answered k pid after Refused) size (answering k Refused)
         (either (nat_lt max_size (offset + length b)) k (refused_for k pid after Size) memory (refusing k after Size)
-        (either refused k (refused_for k pid after Memory) done (refusing k after Memory) (along k done refl refl refl)))
+        (either (lacks_memory refused (length bytes) (offset + length b)) k (refused_for k pid after Memory) done (refusing k after Memory) (along k done refl refl refl)))
 
     append_file_along : (k : KernelState S) (e : ℕ) (name b : List ℕ) (refused : Bool) (o : Option (List ℕ)) → IsAlong k (append_file k pid after e name b refused o)
     append_file_along k e name b refused None = answering k Refused
     append_file_along k e name b refused (Some bytes) =
         let done : KernelState S = answered (record k { files = with_entry k.files name (bytes ++ b); entries = moved_to k.entries e (length bytes + length b) }) pid after Done in
-        let memory : KernelState S = if refused then refused_for k pid after Memory else done in
+        let memory : KernelState S = if lacks_memory refused (length bytes) (length bytes + length b) then refused_for k pid after Memory else done in
         either (nat_lt max_size (length bytes + length b)) k (refused_for k pid after Size) memory (refusing k after Size)
-        (either refused k (refused_for k pid after Memory) done (refusing k after Memory) (along k done refl refl refl))
+        (either (lacks_memory refused (length bytes) (length bytes + length b)) k (refused_for k pid after Memory) done (refusing k after Memory) (along k done refl refl refl))
 
     write_mode_along : (k : KernelState S) (e offset : ℕ) (name b : List ℕ) (refused : Bool) (mode : EntryMode) → IsAlong k (write_mode k pid after e name offset b refused mode)
     write_mode_along k e offset name b refused ForReading = answering k Refused
@@ -266,8 +266,8 @@ module _ {S : Type 0} (pid : ℕ) where
 
     write_object_along : (k : KernelState S) (e offset : ℕ) (b : List ℕ) (refused : Bool) (object : Object) → IsAlong k (write_object k pid after e offset b refused object)
     write_object_along k e offset b refused Input = answering k Refused
-    write_object_along k e offset b refused Out = either refused k _ _ (refusing k after Memory) (along k _ refl refl refl)
-    write_object_along k e offset b refused Diag = either refused k _ _ (refusing k after Memory) (along k _ refl refl refl)
+    write_object_along k e offset b refused Out = either (lacks_memory refused (length k.out) (length k.out + length b)) k _ _ (refusing k after Memory) (along k _ refl refl refl)
+    write_object_along k e offset b refused Diag = either (lacks_memory refused (length k.diag) (length k.diag + length b)) k _ _ (refusing k after Memory) (along k _ refl refl refl)
     write_object_along k e offset b refused (File name mode) = write_mode_along k e offset name b refused mode
     write_object_along k e offset b refused (PipeRead id) = answering k Refused
     write_object_along k e offset b refused (PipeWrite id) = write_pipe_along k id (put_of (at k.table pid)) (drop (put_of (at k.table pid)) b) (pipe_of k.pipes id) refl
@@ -286,7 +286,7 @@ module _ {S : Type 0} (pid : ℕ) where
     acted_along k Exit refused = exit_along k
     acted_along k Wait refused = wait_along k (wait_answer k.table pid)
     acted_along k MakePipe refused = make_pipe_along k refused
-    acted_along k (Read fd n) refused = read_along k (min n BLOCK_SIZE) (entry_of (fds_at k pid) fd)
+    acted_along k (Read fd n) refused = read_along k (min n block_size) (entry_of (fds_at k pid) fd)
     acted_along k (Write fd b) refused = write_along k b refused (entry_of (fds_at k pid) fd)
     acted_along k (OpenFile name mode) refused = open_file_along k name mode refused
     acted_along k (Close fd) refused = answer_along k (closed k pid fd) _ (closed_along k fd)

@@ -26,7 +26,7 @@ use Rattle.kernel_model.specs.Modes.{reads}
 use Rattle.kernel_model.specs.Replies.{answered, refused_for, marked}
 use Rattle.kernel_model.specs.Descriptors.{with_reader, with_ends, ends_reply, make_pipe}
 use Rattle.kernel_model.specs.Opening.{with_bytes, open_here, open_for_reading, open_for_writing, open_file}
-use Rattle.kernel_model.specs.Writing.{write_file, append_file, write_mode, write_object, write_entry, write_held}
+use Rattle.kernel_model.specs.Writing.{lacks_memory, write_file, append_file, write_mode, write_object, write_entry, write_held}
 use Rattle.kernel_model.specs.Events.{acted, counted, trapped, happens, run}
 use Rattle.kernel_model.specs.Lasting.{IsLater}
 use Rattle.kernel_model.specs.Quiet.{no_refusals}
@@ -86,14 +86,14 @@ module _ {S : Type 0} (pid : ℕ) (after : S) where
   write_file_quiet k e name offset b refused (Some bytes) =
       let done : KernelState S = answered (record k { files = with_entry k.files name (written bytes offset b); entries = advanced k.entries e (length b) }) pid after Done in
       let sized : KernelState S → KernelState S = λ l. if nat_lt max_size (offset + length b) then refused_for k pid after Size else l in
-      either (nat_lt (length bytes) offset) (answered k pid after Refused) (sized (if refused then refused_for k pid after Memory else done)) (answered k pid after Refused) (sized done) (same _)
-      (either (nat_lt max_size (offset + length b)) (refused_for k pid after Size) (if refused then refused_for k pid after Memory else done) (refused_for k pid after Size) done (same _) (noted refused k done))
+      either (nat_lt (length bytes) offset) (answered k pid after Refused) (sized (if lacks_memory refused (length bytes) (offset + length b) then refused_for k pid after Memory else done)) (answered k pid after Refused) (sized done) (same _)
+      (either (nat_lt max_size (offset + length b)) (refused_for k pid after Size) (if lacks_memory refused (length bytes) (offset + length b) then refused_for k pid after Memory else done) (refused_for k pid after Size) done (same _) (noted (lacks_memory refused (length bytes) (offset + length b)) k done))
 
   append_quiet : (k : KernelState S) (e : ℕ) (name b : List ℕ) (refused : Bool) (o : Option (List ℕ)) → Quiet (append_file k pid after e name b refused o) (append_file k pid after e name b false o)
   append_quiet k e name b refused None = same _
   append_quiet k e name b refused (Some bytes) =
       let done : KernelState S = answered (record k { files = with_entry k.files name (bytes ++ b); entries = moved_to k.entries e (length bytes + length b) }) pid after Done in
-      either (nat_lt max_size (length bytes + length b)) (refused_for k pid after Size) (if refused then refused_for k pid after Memory else done) (refused_for k pid after Size) done (same _) (noted refused k done)
+      either (nat_lt max_size (length bytes + length b)) (refused_for k pid after Size) (if lacks_memory refused (length bytes) (length bytes + length b) then refused_for k pid after Memory else done) (refused_for k pid after Size) done (same _) (noted (lacks_memory refused (length bytes) (length bytes + length b)) k done)
 
   write_mode_quiet : (k : KernelState S) (e : ℕ) (name : List ℕ) (offset : ℕ) (b : List ℕ) (refused : Bool) (mode : EntryMode) → Quiet (write_mode k pid after e name offset b refused mode) (write_mode k pid after e name offset b false mode)
   write_mode_quiet k e name offset b refused ForReading = same _
@@ -103,8 +103,8 @@ module _ {S : Type 0} (pid : ℕ) (after : S) where
 
   write_object_quiet : (k : KernelState S) (e offset : ℕ) (b : List ℕ) (refused : Bool) (object : Object) → Quiet (write_object k pid after e offset b refused object) (write_object k pid after e offset b false object)
   write_object_quiet k e offset b refused Input = same _
-  write_object_quiet k e offset b refused Out = noted refused k (answered (record k { out = k.out ++ b }) pid after Done)
-  write_object_quiet k e offset b refused Diag = noted refused k (answered (record k { diag = k.diag ++ b }) pid after Done)
+  write_object_quiet k e offset b refused Out = noted (lacks_memory refused (length k.out) (length k.out + length b)) k (answered (record k { out = k.out ++ b }) pid after Done)
+  write_object_quiet k e offset b refused Diag = noted (lacks_memory refused (length k.diag) (length k.diag + length b)) k (answered (record k { diag = k.diag ++ b }) pid after Done)
   write_object_quiet k e offset b refused (File name mode) = write_mode_quiet k e name offset b refused mode
   write_object_quiet k e offset b refused (PipeRead id) = same _
   write_object_quiet k e offset b refused (PipeWrite id) = same _

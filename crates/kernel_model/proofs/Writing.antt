@@ -21,7 +21,7 @@ use Rattle.byte_pipe.specs.PipeState.{PipeState, put_answer}
 use Rattle.kernel_model.specs.Pipes.{pipe_of, put_into}
 use Rattle.fd_table.specs.declared.names.Mode.{Mode as EntryMode}
 use Rattle.fd_table.specs.declared.names.Mode.TheVariants.{Input as ForReading, Fresh, Over, Append}
-use Rattle.kernel_model.specs.Writing.{write_mode, append_file, write_file, write_by, write_pipe, write_object, write_entry, write_held}
+use Rattle.kernel_model.specs.Writing.{lacks_memory, write_mode, append_file, write_file, write_by, write_pipe, write_object, write_entry, write_held}
 use Rattle.proc_table.specs.Slots.{put_of}
 use Rattle.kernel_model.proofs.Keeps.{ready_keeps, sleep_keeps, wake_keeps}
 use Rattle.kernel_model.proofs.Offsets.{advanced_sound, moved_sound}
@@ -49,7 +49,7 @@ module _ {S : Type 0} (n pid : ℕ) where
 
   write_file_after : (k : KernelState S) (after : S) (e offset : ℕ) (name b : List ℕ) (refused : Bool) (o : Option (List ℕ)) → offset ≡ offset_of (entry_at k.entries e) → Mid k → After (write_file k pid after e name offset b refused o)
   write_file_after k after e offset name b refused None is m = ready_keeps n k.table k.entries pid after Refused m
-  write_file_after k after e offset name b refused (Some bytes) is m = write_file_by k after e offset name b bytes (nat_lt (length bytes) offset) (nat_lt max_size (offset + length b)) refused is refl m
+  write_file_after k after e offset name b refused (Some bytes) is m = write_file_by k after e offset name b bytes (nat_lt (length bytes) offset) (nat_lt max_size (offset + length b)) (lacks_memory refused (length bytes) (offset + length b)) is refl m
 
   append_by : (k : KernelState S) (after : S) (e : ℕ) (name b bytes : List ℕ) (y z : Bool) → nat_lt max_size (length bytes + length b) ≡ y → Mid k → After (if y then refused_for k pid after Size else (if z then refused_for k pid after Memory else answered (record k { files = with_entry k.files name (bytes ++ b); entries = moved_to k.entries e (length bytes + length b) }) pid after Done))
   append_by k after e name b bytes true z fits m = ready_keeps n k.table k.entries pid after Refused m
@@ -64,7 +64,7 @@ module _ {S : Type 0} (n pid : ℕ) where
 
   append_file_after : (k : KernelState S) (after : S) (e : ℕ) (name b : List ℕ) (refused : Bool) (o : Option (List ℕ)) → Mid k → After (append_file k pid after e name b refused o)
   append_file_after k after e name b refused None m = ready_keeps n k.table k.entries pid after Refused m
-  append_file_after k after e name b refused (Some bytes) m = append_by k after e name b bytes (nat_lt max_size (length bytes + length b)) refused refl m
+  append_file_after k after e name b refused (Some bytes) m = append_by k after e name b bytes (nat_lt max_size (length bytes + length b)) (lacks_memory refused (length bytes) (length bytes + length b)) refl m
 
   write_took : (k : KernelState S) (after : S) (id put l : ℕ) (b : Bool) → Mid k → After (if b then wakes (PipeBytes id) (answered k pid after Done) else wakes (PipeBytes id) (sleeps k pid (PipeRoom id) (put + l)))
   write_took k after id put l true m = wake_keeps n _ k.entries (PipeBytes id) (ready_keeps n k.table k.entries pid after Done m)
@@ -91,8 +91,8 @@ module _ {S : Type 0} (n pid : ℕ) where
 
   write_object_after : (k : KernelState S) (after : S) (e offset : ℕ) (b : List ℕ) (refused : Bool) (object : Object) → offset ≡ offset_of (entry_at k.entries e) → Mid k → After (write_object k pid after e offset b refused object)
   write_object_after k after e offset b refused Input is m = ready_keeps n k.table k.entries pid after Refused m
-  write_object_after k after e offset b refused Out is m = write_sink k (record k { out = k.out ++ b }) after refused m m
-  write_object_after k after e offset b refused Diag is m = write_sink k (record k { diag = k.diag ++ b }) after refused m m
+  write_object_after k after e offset b refused Out is m = write_sink k (record k { out = k.out ++ b }) after (lacks_memory refused (length k.out) (length k.out + length b)) m m
+  write_object_after k after e offset b refused Diag is m = write_sink k (record k { diag = k.diag ++ b }) after (lacks_memory refused (length k.diag) (length k.diag + length b)) m m
   write_object_after k after e offset b refused (File name mode) is m = write_mode_after k after e offset name b refused mode is m
   write_object_after k after e offset b refused (PipeRead id) is m = ready_keeps n k.table k.entries pid after Refused m
   write_object_after k after e offset b refused (PipeWrite id) is m =

@@ -53,7 +53,8 @@ abbrev pub close_reply : Result (Option Object) FdFault → Reply
 close_reply (Ok object) = Done
 close_reply (Err fault) = Refused
 
--- close
+-- close: the entry is let go with its last descriptor. That its count is the number of descriptors that hold it is the law
+-- `an_entry_is_open_while_a_descriptor_holds_it` of law_kernel/src/laws.rt
 abbrev pub close : {S : Type 0} → KernelState S → ℕ → S → ℕ → KernelState S
 close k pid after fd = answered (closed k pid fd) pid after (close_reply (close_answer k.entries (entry_of (fds_at k pid) fd)))
 

@@ -1,6 +1,6 @@
 -- The call read (`fileread` of `kernel/file.c` and `piperead` of `kernel/pipe.c`).
 use Rattle.std.specs.Prelude.{ℕ, min, List, [], length, take, drop, Option, Some, None}
-use Rattle.user_calls.specs.declared.block.TheConstants.{BLOCK_SIZE}
+use Rattle.user_calls.specs.Limits.{block_size}
 use Rattle.user_calls.specs.declared.calls.Reply.TheVariants.{Bytes, Refused}
 use Rattle.fd_table.specs.declared.names.Mode.{Mode}
 use Rattle.fd_table.specs.declared.names.Mode.TheVariants.{Input as ForReading, Fresh, Over, Append}
@@ -64,4 +64,4 @@ read_held k pid after n (Some e) = read_entry k pid after e n (file_at k.entries
 
 -- read; a call for more bytes than a block reads a block at most (own)
 abbrev pub read : {S : Type 0} → KernelState S → ℕ → S → ℕ → ℕ → KernelState S
-read k pid after fd n = read_held k pid after (min n BLOCK_SIZE) (entry_of (fds_at k pid) fd)
+read k pid after fd n = read_held k pid after (min n block_size) (entry_of (fds_at k pid) fd)

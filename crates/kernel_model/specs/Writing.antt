@@ -1,5 +1,5 @@
 -- The call write (`filewrite` of `kernel/file.c` and `pipewrite` of `kernel/pipe.c`).
-use Rattle.std.specs.Prelude.{ℕ, Bool, ◌+◌, ◌==◌, nat_lt, if◌then◌else◌, ◌++◌, length, drop, Option, Some, None}
+use Rattle.std.specs.Prelude.{ℕ, Bool, ◌+◌, ◌==◌, ◌&&◌, nat_lt, if◌then◌else◌, ◌++◌, length, drop, Option, Some, None}
 use Rattle.user_calls.specs.declared.calls.Reply.TheVariants.{Done, Refused}
 use Rattle.fd_table.specs.declared.names.Mode.{Mode}
 use Rattle.fd_table.specs.declared.names.Mode.TheVariants.{Input as ForReading, Fresh, Over, Append}
@@ -21,13 +21,17 @@ use Rattle.kernel_model.specs.KernelState.{KernelState, fds_at, file_at}
 use Rattle.kernel_model.specs.Pipes.{pipe_of, put_into}
 use Rattle.kernel_model.specs.Replies.{answered, refused_for, sleeps, wakes}
 
+-- whether memory is refused to what has `held` bytes and shall have `wanted`: the note counts only where it grows
+abbrev pub lacks_memory : Bool → ℕ → ℕ → Bool
+lacks_memory refused held wanted = refused && nat_lt held wanted
+
 -- a write of b at the offset, which moves on, to the file that the entry e has open
 abbrev pub write_file : {S : Type 0} → KernelState S → ℕ → S → ℕ → Name → ℕ → Bytes → Bool → Option Bytes → KernelState S
 write_file k pid after e name offset b refused None = answered k pid after Refused
 write_file k pid after e name offset b refused (Some bytes) =
     if nat_lt (length bytes) offset then answered k pid after Refused
     else (if nat_lt max_size (offset + length b) then refused_for k pid after Size
-    else (if refused then refused_for k pid after Memory
+    else (if lacks_memory refused (length bytes) (offset + length b) then refused_for k pid after Memory
     else answered (record k { files = with_entry k.files name (written bytes offset b); entries = advanced k.entries e (length b) }) pid after Done))
 
 -- a write of b to the end of the file that the entry e has open, whose offset becomes the new end (own)
@@ -35,7 +39,7 @@ abbrev pub append_file : {S : Type 0} → KernelState S → ℕ → S → ℕ �
 append_file k pid after e name b refused None = answered k pid after Refused
 append_file k pid after e name b refused (Some bytes) =
     if nat_lt max_size (length bytes + length b) then refused_for k pid after Size
-    else (if refused then refused_for k pid after Memory
+    else (if lacks_memory refused (length bytes) (length bytes + length b) then refused_for k pid after Memory
     else answered (record k { files = with_entry k.files name (bytes ++ b); entries = moved_to k.entries e (length bytes + length b) }) pid after Done)
 
 -- a write to the file by the mode of its entry
@@ -62,9 +66,9 @@ write_pipe k pid after id put xs (Some p) =
 abbrev pub write_object : {S : Type 0} → KernelState S → ℕ → S → ℕ → ℕ → Bytes → Bool → Object → KernelState S
 write_object k pid after e offset b refused Input = answered k pid after Refused
 write_object k pid after e offset b refused Out =
-    if refused then refused_for k pid after Memory else answered (record k { out = k.out ++ b }) pid after Done
+    if lacks_memory refused (length k.out) (length k.out + length b) then refused_for k pid after Memory else answered (record k { out = k.out ++ b }) pid after Done
 write_object k pid after e offset b refused Diag =
-    if refused then refused_for k pid after Memory else answered (record k { diag = k.diag ++ b }) pid after Done
+    if lacks_memory refused (length k.diag) (length k.diag + length b) then refused_for k pid after Memory else answered (record k { diag = k.diag ++ b }) pid after Done
 write_object k pid after e offset b refused (File name mode) = write_mode k pid after e name offset b refused mode
 write_object k pid after e offset b refused (PipeRead id) = answered k pid after Refused
 write_object k pid after e offset b refused (PipeWrite id) =

@@ -2,7 +2,7 @@
 
 ghost use Rattle.std.specs.Prelude.{◌≡◌, ◌<◌, ◌≤◌, ◌||◌, if◌then◌else◌, [], IfSome, OnErr, OnOk, None, Some, length, option_map, remove, take};
 ghost use Rattle.std.specs.Borrow.{Lends, sem};
-ghost use Rattle.user_calls.specs.declared.block.TheConstants.{BLOCK_SIZE};
+ghost use Rattle.user_calls.specs.Limits.{block_size};
 ghost use Rattle.byte_pipe.specs.PipeState.{put_answer, take_answer};
 ghost use Rattle.byte_pipe.specs.contracts.Pipe.{the_row as pipe_row};
 ghost use Rattle.kernel_model.specs.Pipes.{pipe_of, put_into, reader_gone, taken_from, with_new, writer_gone};
@@ -59,7 +59,7 @@ impl<A: Allocator> Pipes<A> {
     /// Takes at most `count` bytes from the pipe of that name (`piperead`): the result of `Pipe::take`, and the bytes;
     /// `None` where there is no such pipe.
     pub fn take(&mut self, name: u64, count: usize) -> Option<(Take, Block)>
-        requires { count ≤ BLOCK_SIZE }
+        requires { count ≤ block_size }
         ensures answer { result ≡ option_map (λ p. (take_answer p count, take count p.bytes)) (pipe_of self.old name) }
         ensures after { self.new ≡ taken_from self.old name count (pipe_of self.old name) }
     {

@@ -1,7 +1,7 @@
 //! The standard input that hasn't been read yet.
 
 ghost use Rattle.std.specs.Prelude.{◌≡◌, ◌≤◌, drop, take};
-ghost use Rattle.user_calls.specs.declared.block.TheConstants.{BLOCK_SIZE};
+ghost use Rattle.user_calls.specs.Limits.{block_size};
 
 use kernel_pipes::first_block;
 use std::alloc::Allocator;
@@ -35,7 +35,7 @@ impl<A: Allocator> Unread<A> {
 
     /// Reads the next `n` bytes, or all where there are fewer (`consoleread`).
     pub fn read(&mut self, n: usize) -> Block
-        requires { n ≤ BLOCK_SIZE }
+        requires { n ≤ block_size }
         ensures block { result ≡ take n self.old }
         ensures after { self.new ≡ drop n self.old }
     {

@@ -1,5 +1,5 @@
 -- What a kernel leaves is the report of its run, from the start with the kernel's number.
-use Rattle.std.proofs.Common.{◌≡◌, ◌∙◌, ℕ, List, Some, refl, sym}
+use Rattle.std.proofs.Common.{◌≡◌, ◌<◌, ◌+◌, ◌∙◌, ℕ, List, Some, length, refl, sym}
 use Rattle.std.specs.Coded.{Coded}
 use base.Stored.{Gv}
 use Rattle.user_calls.specs.declared.calls.Call.{Call}
@@ -29,6 +29,6 @@ module _ {S : Type 0} (code : Coded S) (call : S → Reply → Call) (next : S �
   to_the_end report booted runs schedule tells finished = λ start is.
       record { last = k.now; notes = k.notes; runs = from_start start report.schedule booted runs schedule is; finished = finished; tells = tells }
 
-  pub spends : (turns : ℕ) → number_of code k.boot ≡ boot → run call next (Some k.boot) k.schedule k.notes ≡ Some k.now → IsSpent turns k.now k.schedule → IsSpentAfter code call next boot turns
+  pub spends : (turns : ℕ) → number_of code k.boot ≡ boot → run call next (Some k.boot) k.schedule k.notes ≡ Some k.now → IsSpent turns k.now k.schedule × (turns < length k.schedule + 2) → IsSpentAfter code call next boot turns
   spends turns booted runs spent = λ start is.
-      record { events = k.schedule; notes = k.notes; last = k.now; runs = from_start start k.schedule booted runs refl is; spent = spent }
+      (record { events = k.schedule; notes = k.notes; last = k.now; runs = from_start start k.schedule booted runs refl is; spent = spent.0 }, spent.1)

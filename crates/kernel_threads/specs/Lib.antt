@@ -1,3 +1,4 @@
+pub mod Codes
 pub mod Boots
 pub mod Events
 pub mod Ranges

@@ -8,7 +8,7 @@ use Rattle.kernel_model.specs.KernelState.{KernelState}
 use Rattle.kernel_model.specs.Events.{run}
 use Rattle.kernel_events.specs.declared.report.Report.{Report}
 use Rattle.kernel_events.specs.Reports.{IsReport, Tells}
-use Rattle.run_model.specs.Turns.{IsSpentBy}
+use Rattle.run_model.specs.Turns.{RunsOutOfTurns}
 use Rattle.kernel_threads.specs.Boots.{number_of}
 
 module _ {S : Type 0} (code : Coded S) (call : S → Reply → Call) (next : S → Reply → S) where
@@ -28,6 +28,6 @@ module _ {S : Type 0} (code : Coded S) (call : S → Reply → Call) (next : S �
   abbrev pub IsFinishedFrom : {A : _} → Gv → Report A → Type 0
   IsFinishedFrom boot report = (start : KernelState S) → number_of code start ≡ boot → IsReport call next start report
 
-  -- some run from the kernel with this number spends so many turns
+  -- some run from the kernel with this number spends so many turns, and leaves fewer than two of them
   abbrev pub IsSpentAfter : Gv → ℕ → Type 0
-  IsSpentAfter boot turns = (start : KernelState S) → number_of code start ≡ boot → IsSpentBy call next start turns
+  IsSpentAfter boot turns = (start : KernelState S) → number_of code start ≡ boot → RunsOutOfTurns call next start turns

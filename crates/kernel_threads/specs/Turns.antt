@@ -1,5 +1,5 @@
 -- What a turn that makes no event states of its run.
-use Rattle.std.specs.Prelude.{◌≡◌, ◌<◌, ◌+◌, ℕ, Bool, false, List, Some, All, ⊤, count_by, length}
+use Rattle.std.specs.Prelude.{◌≡◌, ◌<◌, ◌≤◌, ◌+◌, ℕ, Bool, false, List, Some, All, ⊤, count_by, length}
 use Rattle.std.specs.Coded.{Coded}
 use base.Stored.{Gv}
 use Rattle.user_calls.specs.declared.calls.Call.{Call}
@@ -12,11 +12,11 @@ use Rattle.kernel_threads.specs.Boots.{number_of}
 use Rattle.kernel_threads.specs.declared.sharing.Turn.{Turn}
 use Rattle.kernel_threads.specs.declared.sharing.Turn.TheVariants.{Finished, Spent, Idle, Stepped, Lost}
 
--- a turn of the hart h, in a run of so many turns, that finds this kernel after these events: the run is finished; or it isn't and fewer than two turns are left beside those of the traps that are owed; or it isn't and the hart, if it runs nothing, finds nothing Runnable
+-- a turn of the hart h, in a run of so many turns, that finds this kernel after these events: the run is finished; or it isn't and fewer than two turns are left beside those of the traps that are owed; or it isn't, two such turns are left, and the hart, if it runs nothing, finds nothing Runnable
 abbrev pub Says : {S : Type 0} → ℕ → ℕ → Turn → KernelState S → List Event → Type 0
 Says turns h Finished k events = IsFinished k
 Says turns h Spent k events = (IsFinished k → ⊥) × (turns < length events + count_by is_running k.table + 2)
-Says turns h Idle k events = (IsFinished k → ⊥) × (All (λ slot. is_running_on h slot ≡ false) k.table → All (λ slot. is_runnable slot ≡ false) k.table)
+Says turns h Idle k events = (IsFinished k → ⊥) × (length events + count_by is_running k.table + 2 ≤ turns) × (All (λ slot. is_running_on h slot ≡ false) k.table → All (λ slot. is_runnable slot ≡ false) k.table)
 Says turns h Stepped k events = ⊤
 Says turns h Lost k events = ⊤
 

@@ -1,9 +1,10 @@
 //! The kernel that harts share, as it is under its lock.
 
-ghost use Rattle.std.specs.Prelude.{◌≡◌, ◌<◌, ◌≤◌, ◌+◌, ◌*◌, ◌↔◌, IsTrue, IfOk, IfErr, IfSome, OnErr, None, Some, Ok, [], ℕ, false, All, is_some, is_ok, true, if◌then◌else◌, length, count_by, vec_len};
+ghost use Rattle.std.specs.Prelude.{◌≡◌, ◌≢◌, ◌<◌, ◌≤◌, ◌+◌, ◌*◌, ◌↔◌, IsTrue, IfOk, IfErr, IfSome, OnErr, None, Some, Ok, [], ℕ, false, All, is_some, is_ok, true, if◌then◌else◌, length, count_by, vec_len};
 ghost use Rattle.std.specs.Bool.{OnFalse, OnTrue};
 ghost use Rattle.proc_table.specs.Slots.{at, is_running, is_running_on, is_runnable};
 ghost use Rattle.kernel_model.specs.Events.{IsFinished, run};
+ghost use Rattle.kernel_events.specs.Harts.{AreCounts};
 ghost use Rattle.kernel_model.specs.History.{IsOwed, IsTask};
 ghost use Rattle.kernel_model.specs.Events.{is_dispatch};
 ghost use Rattle.kernel_threads.specs.Boots.{number_of};
@@ -66,7 +67,7 @@ impl<N: Run, M: Machine> Locked<N, M> {
     ghost use Rattle.run_model.specs.Turns.{IsSpent};
     ghost use Rattle.kernel_model.specs.History.{GoesOn};
     ghost use Rattle.kernel_model.specs.declared.events.Event.TheVariants.{Dispatch, Trap};
-    ghost use Rattle.kernel_threads.specs.declared.sharing.Turn.TheVariants.{Finished, Spent};
+    ghost use Rattle.kernel_threads.specs.declared.sharing.Turn.TheVariants.{Finished, Lost, Spent};
 
     // A kernel in which nothing has happened.
     pub(crate) fn new(
@@ -146,6 +147,7 @@ impl<N: Run, M: Machine> Locked<N, M> {
         ensures event { IfOk result (λ next. IfOk next (λ pid. GoesOn M.call_of M.next_of self.old (Dispatch seat.old.hart pid) self.new)) }
         ensures runs { IfOk result (λ next. IfOk next (λ pid. is_running_on seat.old.hart (at self.new.now.table pid) ≡ true)) }
         ensures no_event { IfOk result (λ next. IfErr next (λ turn. events_of turn ≡ 0)) }
+        ensures found { IfOk result (λ next. IfErr next (λ turn. turn ≢ Lost)) }
         ensures says { IfOk result (λ next. IfErr next (λ turn. Says N.turns seat.old.hart turn self.old.now self.old.schedule)) }
         ensures err { OnErr result ((seat.new ≡ seat.old) × (self.new ≡ self.old)) }
     {
@@ -205,7 +207,9 @@ impl<N: Run, M: Machine> Locked<N, M> {
     // How the run stands now that no hart takes a turn; memory was refused to one of them if `starved`.
     pub(crate) fn verdict(&self, starved: bool) -> Verdict
         ensures finished { result ≡ Verdict.Finished → IsFinished self.now.now }
-        ensures spent { result ≡ Verdict.Spent → IsSpent N.turns self.now.now self.now.schedule }
+        ensures starved { result ≡ Verdict.Starved → starved ≡ true }
+        ensures goes_on { result ≡ Verdict.GoesOn → starved ≡ false }
+        ensures spent { result ≡ Verdict.Spent → IsSpent N.turns self.now.now self.now.schedule × (N.turns < length self.now.schedule + 2) }
     {
         self.kernel.is_paired();
         match self.over() {
@@ -230,6 +234,7 @@ impl<N: Run, M: Machine> Locked<N, M> {
         ensures finished { IsFinished self.now → IsFinishedFrom M.code M.call_of M.next_of N.boot result }
         ensures told { IsTrue result.finished ↔ IsFinished self.now }
         ensures schedule { result.schedule ≡ self.schedule }
+        ensures by_hart { AreCounts result.by_hart result.schedule }
         ensures harts { AreOfHarts N.harts result.schedule }
         ensures turns { length result.schedule ≤ N.turns }
     {

@@ -4,8 +4,8 @@ ghost use Rattle.std.specs.Prelude.{◌≡◌, ◌≤◌, ◌↔◌, IfOk, Err, 
 ghost use Rattle.std.specs.Thread.{IsSend, IsSync};
 ghost use Rattle.script_load.specs.Line.{lines_of};
 ghost use Rattle.kernel_events.specs.Reports.{IsReport, IsRunFrom};
-ghost use Rattle.run_model.specs.ScriptRun.{IsSpentFrom, script_kernel};
-ghost use Rattle.run_model.specs.Turns.{IsSpentBy};
+ghost use Rattle.run_model.specs.ScriptRun.{IsOutOfTurnsFrom, script_kernel};
+ghost use Rattle.run_model.specs.Turns.{RunsOutOfTurns};
 ghost use Rattle.kernel_threads.specs.Boots.{number_of};
 ghost use Rattle.kernel_threads.specs.Events.{AreOfHarts};
 ghost use Rattle.kernel_threads.specs.Ranges.{AreBadHarts, AreBadTurns};
@@ -199,7 +199,7 @@ fn run_kernel<M: Machine + Send, R: Threads + Wait + Clock + Sync, G: Gate + Syn
     ensures turns { IfOk result (λ report. length report.schedule ≤ turns) }
     ensures bad_harts { result ≡ Err BadHarts → AreBadHarts harts }
     ensures bad_turns { result ≡ Err BadTurns → AreBadTurns turns }
-    ensures spent { result ≡ Err Spent → IsSpentBy M.call_of M.next_of kernel.boot turns }
+    ensures spent { result ≡ Err Spent → RunsOutOfTurns M.call_of M.next_of kernel.boot turns }
 {
     run_as::<Brand, M, R, G>(
         rt,
@@ -229,7 +229,7 @@ fn run_named<N: Naming + Send + Sync, R: Threads + Wait + Clock + Sync, G: Gate 
     ensures turns { IfOk result (λ report. length report.schedule ≤ turns) }
     ensures bad_harts { result ≡ Err BadHarts → AreBadHarts harts }
     ensures bad_turns { result ≡ Err BadTurns → AreBadTurns turns }
-    ensures spent { result ≡ Err Spent → IsSpentFrom (script_kernel script.now.profile (lines_of script.now.lines) stdin.now files.now) turns }
+    ensures spent { result ≡ Err Spent → IsOutOfTurnsFrom (script_kernel script.now.profile (lines_of script.now.lines) stdin.now files.now) turns }
 {
     let init = User::<Global, N>::init();
     let Ok(kernel) = Kernel::boot(alloc, init, User::shell(script), stdin, files) else {
@@ -262,7 +262,7 @@ pub fn run_harts<R: Threads + Wait + Clock + Sync, G: Gate + Sync>(
     ensures turns { IfOk result (λ report. length report.schedule ≤ turns) }
     ensures bad_harts { (result ≡ Err BadHarts) ↔ AreBadHarts harts }
     ensures bad_turns { (result ≡ Err BadTurns) ↔ ((AreBadHarts harts → ⊥) × AreBadTurns turns) }
-    ensures spent { result ≡ Err Spent → IsSpentFrom (script_kernel script.now.profile (lines_of script.now.lines) stdin.now files.now) turns }
+    ensures spent { result ≡ Err Spent → IsOutOfTurnsFrom (script_kernel script.now.profile (lines_of script.now.lines) stdin.now files.now) turns }
 {
     if let Some(fault) = range_fault(harts, turns) {
         return Err(fault);

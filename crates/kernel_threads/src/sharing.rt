@@ -1,6 +1,7 @@
 //! A kernel that harts share.
 
-ghost use Rattle.std.specs.Prelude.{◌≡◌, ◌≤◌, ◌+◌, ◌↔◌, IsTrue, IfOk, OnErr, Err, [], length, vec_len};
+ghost use Rattle.std.specs.Prelude.{◌≡◌, ◌≢◌, ◌<◌, ◌≤◌, ◌+◌, ◌↔◌, IsTrue, IfOk, OnErr, Ok, Err, Some, None, [], length, vec_len};
+ghost use Rattle.kernel_events.specs.Harts.{AreCounts};
 ghost use Rattle.kernel_threads.specs.Boots.{number_of};
 ghost use Rattle.kernel_threads.specs.Events.{AreOfHarts};
 ghost use Rattle.kernel_threads.specs.Reports.{IsFinishedFrom, IsSoFarFrom};
@@ -26,7 +27,7 @@ pub enum Turn {
     Finished,
     /// Fewer than two turns are left beside those of the traps that running processes owe.
     Spent,
-    /// No process is Runnable, or the hart still runs one.
+    /// Two such turns are left, and no process is Runnable or the hart still runs one.
     Idle,
     /// A process ran on the hart from one call to the next, and the call was carried out.
     Stepped,
@@ -43,6 +44,7 @@ pub struct Shared<N: Run, M: Machine> {
 impl<N: Run, M: Machine> Shared<N, M> {
     ghost use Rattle.kernel_threads.specs.Ranges.{AreBadHarts, AreBadTurns};
     ghost use Rattle.kernel_threads.specs.declared.faults.RunFault.TheVariants.{BadHarts, BadTurns, Spent};
+    ghost use Rattle.kernel_threads.specs.declared.sharing.Turn.TheVariants.{Lost};
 
     /// Shares a kernel in which nothing has happened, and gives a seat for each of so many harts. `blank` is a new ledger
     /// with a part for each seat.
@@ -139,7 +141,9 @@ impl<N: Run, M: Machine> Shared<N, M> {
     ) -> Result<Option<Turn>, AllocError>
         requires call { call.now ≡ M.call_of (M.view task.old.machine) task.old.reply }
         requires after { M.view after ≡ M.next_of (M.view task.old.machine) task.old.reply }
-        ensures { seat.new.hart ≡ seat.old.hart }
+        ensures hart { seat.new.hart ≡ seat.old.hart }
+        ensures both { result ≡ Ok None → seat.new.events ≡ seat.old.events + 2 }
+        ensures carried { IfOk result (λ over. over ≢ Some Lost → seat.old.events < seat.new.events) }
     {
         let mut guard = self.lock.lock(rt);
         if !guard.trap(seat, task, call, after) {
@@ -160,6 +164,7 @@ impl<N: Run, M: Machine> Shared<N, M> {
         ensures run { IsSoFarFrom M.code M.call_of M.next_of N.boot result }
         ensures finished { IsTrue result.finished → IsFinishedFrom M.code M.call_of M.next_of N.boot result }
         ensures events { length result.schedule ≡ all_events seats.items }
+        ensures by_hart { AreCounts result.by_hart result.schedule }
         ensures harts { AreOfHarts N.harts result.schedule }
         ensures turns { length result.schedule ≤ N.turns }
     {

@@ -7,7 +7,7 @@ use Rattle.fd_table.specs.declared.names.Object.{Object}
 use Rattle.fd_table.specs.declared.names.Object.TheVariants.{Input, Out, Diag, File, PipeRead, PipeWrite}
 use Rattle.fd_table.specs.Entries.{lowest_free_entry}
 use Rattle.fd_table.specs.Descriptors.{entry_of, after_close, close_answer, installed}
-use Rattle.byte_pipe.specs.declared.TheConstants.{PIPE_SIZE}
+use Rattle.byte_pipe.specs.Limits.{pipe_size}
 use Rattle.byte_pipe.specs.PipeState.{PipeState, after_close_read, after_close_write}
 use Rattle.proc_table.specs.declared.states.Channel.{Channel}
 use Rattle.proc_table.specs.declared.states.Channel.TheVariants.{PipeBytes, PipeRoom}
@@ -52,7 +52,7 @@ writer_still t pipes id (Some p) found q d unlike w = writer_by t pipes id p p.r
 
 -- ---- no pipe grows by a close
 
-small_by : (b : Bool) (pipes : Pipes) (id : ℕ) (now : PipeState) → AreSmall pipes → length now.bytes ≤ PIPE_SIZE → AreSmall (if b then with_pipe pipes id now else without_pipe pipes id)
+small_by : (b : Bool) (pipes : Pipes) (id : ℕ) (now : PipeState) → AreSmall pipes → length now.bytes ≤ pipe_size → AreSmall (if b then with_pipe pipes id now else without_pipe pipes id)
 small_by true pipes id now small fits = small_with pipes id now small fits
 small_by false pipes id now small fits = small_without pipes id small
 

@@ -84,3 +84,9 @@ module _ {S : Type 0} (call : S → Reply → Call) (next : S → Reply → S) w
       → run call next (Some (boot_kernel init shell input list)) events notes ≡ Some m → EndsAgree m.entries m.pipes
   every_run_in_step init shell input list events notes m is =
       (subst InStepIf is (run_in_step (Some (boot_kernel init shell input list)) events notes (boot_in_step init shell input list))).ends
+
+  -- and after one event more
+  pub next_in_step : (init shell : S) (input : Bytes) (list : List (Name × Bytes)) (events : List Event) (notes : List Bool) (k : KernelState S) (e : Event) (refused : Bool) (m : KernelState S)
+      → run call next (Some (boot_kernel init shell input list)) events notes ≡ Some k → happens call next k e refused ≡ Some m → EndsAgree m.entries m.pipes
+  next_in_step init shell input list events notes k e refused m ran is =
+      (subst InStepIf is (happens_in_step k e refused (subst InStepIf ran (run_in_step (Some (boot_kernel init shell input list)) events notes (boot_in_step init shell input list))))).ends

@@ -2,7 +2,7 @@
 use Rattle.std.proofs.Common.{◌≡◌, ℕ, zero, suc, ◌+◌, ◌≤◌, List, [], ◌++◌, Bool, true, false, Option, Some, None, length, drop, refl, arith, length-append}
 use Rattle.std.proofs.lemmas.Bool.{ltb-false, leb-false}
 use Rattle.std.specs.Prelude.{if◌then◌else◌, nat_lt, nat_le, ◌==◌, is_none, Result, Ok, Err, min}
-use Rattle.user_calls.specs.declared.block.TheConstants.{BLOCK_SIZE}
+use Rattle.user_calls.specs.Limits.{block_size}
 use Rattle.user_calls.specs.declared.calls.Call.{Call}
 use Rattle.user_calls.specs.declared.calls.Call.TheVariants.{Fork, Exec, Exit, Wait, MakePipe, Read, Write, OpenFile, Close, Dup}
 use Rattle.user_calls.specs.declared.calls.Mode.{Mode}
@@ -40,7 +40,7 @@ use Rattle.kernel_model.specs.Descriptors.{let_go_of, taken_away, closed, closed
 use Rattle.kernel_model.specs.Processes.{fork_into, ended, exit, wait_by}
 use Rattle.kernel_model.specs.Opening.{emptied_if, with_bytes, open_here, open_for_reading, open_for_writing, open_file}
 use Rattle.kernel_model.specs.Reading.{read_file, read_mode, read_by, read_pipe, read_object, read_entry, read_held}
-use Rattle.kernel_model.specs.Writing.{write_file, append_file, write_mode, write_by, write_pipe, write_object, write_entry, write_held}
+use Rattle.kernel_model.specs.Writing.{lacks_memory, write_file, append_file, write_mode, write_by, write_pipe, write_object, write_entry, write_held}
 use Rattle.kernel_model.specs.Events.{acted}
 
 -- a write within the largest size keeps a file small
@@ -196,11 +196,11 @@ module _ {S : Type 0} (pid : ℕ) where
     write_file_files k e name offset bs refused None none a = a
     write_file_files k e name offset bs refused (Some bytes) is a =
         let done : KernelState S = answered (record k { files = with_entry k.files name (written bytes offset bs); entries = advanced k.entries e (length bs) }) pid after Done in
-        let memory : KernelState S = if refused then refused_for k pid after Memory else done in
+        let memory : KernelState S = if lacks_memory refused (length bytes) (offset + length bs) then refused_for k pid after Memory else done in
         let size : KernelState S = if nat_lt max_size (offset + length bs) then refused_for k pid after Size else memory in
         either_by (nat_lt (length bytes) offset) (answered k pid after Refused) size a
         (λ inside. either_by (nat_lt max_size (offset + length bs)) (refused_for k pid after Size) memory a
-        (λ fits. either refused (refused_for k pid after Memory) done a
+        (λ fits. either (lacks_memory refused (length bytes) (offset + length bs)) (refused_for k pid after Memory) done a
         (AreFiles-changed k.files name bytes (written bytes offset bs) a is
         (small_write bytes offset bs (ltb-false (length bytes) offset inside) (small_file k.files name bytes a is) (ltb-false max_size (offset + length bs) fits)))))
 
@@ -208,9 +208,9 @@ module _ {S : Type 0} (pid : ℕ) where
     append_file_files k e name bs refused None none a = a
     append_file_files k e name bs refused (Some bytes) is a =
         let done : KernelState S = answered (record k { files = with_entry k.files name (bytes ++ bs); entries = moved_to k.entries e (length bytes + length bs) }) pid after Done in
-        let memory : KernelState S = if refused then refused_for k pid after Memory else done in
+        let memory : KernelState S = if lacks_memory refused (length bytes) (length bytes + length bs) then refused_for k pid after Memory else done in
         either_by (nat_lt max_size (length bytes + length bs)) (refused_for k pid after Size) memory a
-        (λ fits. either refused (refused_for k pid after Memory) done a
+        (λ fits. either (lacks_memory refused (length bytes) (length bytes + length bs)) (refused_for k pid after Memory) done a
         (AreFiles-changed k.files name bytes (bytes ++ bs) a is (omega (arith, length-append bytes bs, ltb-false max_size (length bytes + length bs) fits))))
 
     write_mode_files : (k : KernelState S) (e offset : ℕ) (name bs : List ℕ) (refused : Bool) (mode : EntryMode) → HasFiles k → HasFiles (write_mode k pid after e name offset bs refused mode)
@@ -230,8 +230,8 @@ module _ {S : Type 0} (pid : ℕ) where
 
     write_object_files : (k : KernelState S) (e offset : ℕ) (bs : List ℕ) (refused : Bool) (object : Object) → HasFiles k → HasFiles (write_object k pid after e offset bs refused object)
     write_object_files k e offset bs refused Input a = a
-    write_object_files k e offset bs refused Out a = either refused (refused_for k pid after Memory) (answered (record k { out = k.out ++ bs }) pid after Done) a a
-    write_object_files k e offset bs refused Diag a = either refused (refused_for k pid after Memory) (answered (record k { diag = k.diag ++ bs }) pid after Done) a a
+    write_object_files k e offset bs refused Out a = either (lacks_memory refused (length k.out) (length k.out + length bs)) (refused_for k pid after Memory) (answered (record k { out = k.out ++ bs }) pid after Done) a a
+    write_object_files k e offset bs refused Diag a = either (lacks_memory refused (length k.diag) (length k.diag + length bs)) (refused_for k pid after Memory) (answered (record k { diag = k.diag ++ bs }) pid after Done) a a
     write_object_files k e offset bs refused (File name mode) a = write_mode_files k e offset name bs refused mode a
     write_object_files k e offset bs refused (PipeRead id) a = a
     write_object_files k e offset bs refused (PipeWrite id) a = write_pipe_files k id (put_of (at k.table pid)) (drop (put_of (at k.table pid)) bs) (pipe_of k.pipes id) a
@@ -250,7 +250,7 @@ module _ {S : Type 0} (pid : ℕ) where
     acted_files k Exit refused a = exit_files k a
     acted_files k Wait refused a = wait_files k (wait_answer k.table pid) a
     acted_files k MakePipe refused a = make_pipe_files k refused a
-    acted_files k (Read fd n) refused a = read_files k (min n BLOCK_SIZE) (entry_of (fds_at k pid) fd) a
+    acted_files k (Read fd n) refused a = read_files k (min n block_size) (entry_of (fds_at k pid) fd) a
     acted_files k (Write fd bs) refused a = write_files k bs refused (entry_of (fds_at k pid) fd) a
     acted_files k (OpenFile name mode) refused a = open_file_files k name mode refused a
     acted_files k (Close fd) refused a = closed_files k fd a

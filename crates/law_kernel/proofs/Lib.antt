@@ -26,4 +26,5 @@ mod Asking
 mod AskCalls
 pub mod AskRuns
 pub mod EntriesLong
+mod ExitCloses
 mod Worked

@@ -2,7 +2,7 @@
 use Rattle.std.proofs.Common.{◌≡◌, ◌≢◌, ◌⊎◌, ℕ, ◌≤◌, [], ◌∷◌, Bool, true, false, Option, Some, length, refl, sym, ap, subst, ◌∙◌, inl, inr, arith}
 use Rattle.std.proofs.lemmas.Bool.{cases_eq, eqb-true}
 use Rattle.std.specs.Prelude.{◌==◌, if◌then◌else◌}
-use Rattle.byte_pipe.specs.declared.TheConstants.{PIPE_SIZE}
+use Rattle.byte_pipe.specs.Limits.{pipe_size}
 use Rattle.byte_pipe.specs.PipeState.{PipeState}
 use Rattle.proc_table.specs.declared.states.Channel.{Channel}
 use Rattle.proc_table.specs.declared.states.Channel.TheVariants.{PipeBytes, PipeRoom, Children}
@@ -50,14 +50,14 @@ new_hides_none (x ∷ rest) new id p is = by (id == x.0) (new_hides_none rest ne
 
 -- ---- no pipe holds too much
 
-pub small_found : (pipes : Pipes) (id : ℕ) (p : PipeState) → AreSmall pipes → pipe_of pipes id ≡ Some p → length p.bytes ≤ PIPE_SIZE
+pub small_found : (pipes : Pipes) (id : ℕ) (p : PipeState) → AreSmall pipes → pipe_of pipes id ≡ Some p → length p.bytes ≤ pipe_size
 small_found [] id p small is = absurd (let z : ⊥ = cc in z)
 small_found (x ∷ rest) id p small is = by (id == x.0) (small_found rest id p small.1) is where
-  by : (b : Bool) → (pipe_of rest id ≡ Some p → length p.bytes ≤ PIPE_SIZE) → (if b then Some x.1 else pipe_of rest id) ≡ Some p → length p.bytes ≤ PIPE_SIZE
-  by true later found = let it : x.1 ≡ p = cc in subst (λ (y : PipeState). length y.bytes ≤ PIPE_SIZE) it small.0
+  by : (b : Bool) → (pipe_of rest id ≡ Some p → length p.bytes ≤ pipe_size) → (if b then Some x.1 else pipe_of rest id) ≡ Some p → length p.bytes ≤ pipe_size
+  by true later found = let it : x.1 ≡ p = cc in subst (λ (y : PipeState). length y.bytes ≤ pipe_size) it small.0
   by false later found = later found
 
-pub small_with : (pipes : Pipes) (id : ℕ) (now : PipeState) → AreSmall pipes → length now.bytes ≤ PIPE_SIZE → AreSmall (with_pipe pipes id now)
+pub small_with : (pipes : Pipes) (id : ℕ) (now : PipeState) → AreSmall pipes → length now.bytes ≤ pipe_size → AreSmall (with_pipe pipes id now)
 small_with [] id now small fits = tt
 small_with (x ∷ rest) id now small fits = by (id == x.0) (small_with rest id now small.1 fits) where
   by : (b : Bool) → AreSmall (with_pipe rest id now) → AreSmall (if b then (x.0, now) ∷ rest else x ∷ with_pipe rest id now)
@@ -72,7 +72,7 @@ small_without (x ∷ rest) id small = by (id == x.0) (small_without rest id smal
   by false later = (small.0, later)
 
 pub small_new : (pipes : Pipes) (id : ℕ) → AreSmall pipes → AreSmall (with_new pipes id)
-small_new [] id small = (let few : length {A = ℕ} [] ≤ PIPE_SIZE = omega arith in few, tt)
+small_new [] id small = (let few : length {A = ℕ} [] ≤ pipe_size = omega arith in few, tt)
 small_new (x ∷ rest) id small = (small.0, small_new rest id small.1)
 
 -- ---- who waits for a pipe

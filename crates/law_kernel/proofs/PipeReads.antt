@@ -3,7 +3,7 @@ use Rattle.std.proofs.Common.{◌≡◌, ℕ, ◌≤◌, List, [], true, Some, l
 use Rattle.std.proofs.lemmas.List.{length-drop}
 use Rattle.std.proofs.lemmas.Bool.{both_ways, eq-eqb}
 use Rattle.user_calls.specs.declared.calls.Reply.TheVariants.{Bytes}
-use Rattle.byte_pipe.specs.declared.TheConstants.{PIPE_SIZE}
+use Rattle.byte_pipe.specs.Limits.{pipe_size}
 use Rattle.byte_pipe.specs.PipeState.{PipeState, after_take}
 use Rattle.proc_table.specs.declared.states.Channel.{Channel}
 use Rattle.proc_table.specs.declared.states.Channel.TheVariants.{PipeBytes, PipeRoom}
@@ -20,7 +20,7 @@ use Rattle.law_kernel.proofs.Slots.{rests, ready_busy, sleep_busy, wake_busy, aw
 pub same_room : (id : ℕ) → same_channel (PipeRoom id) (PipeRoom id) ≡ true
 same_room id = eq-eqb id id refl
 
-no_more_held : (p : PipeState) (n : ℕ) → length p.bytes ≤ PIPE_SIZE → length (after_take p n).bytes ≤ PIPE_SIZE
+no_more_held : (p : PipeState) (n : ℕ) → length p.bytes ≤ pipe_size → length (after_take p n).bytes ≤ pipe_size
 no_more_held p n fits = omega (arith, length-drop n p.bytes, fits)
 
 module _ {S : Type 0} (k : KernelState S) (pid : ℕ) (after : S) (id : ℕ) (busy : IsBusy k.table k.pipes pid) (p : PipeState) (found : pipe_of k.pipes id ≡ Some p) where

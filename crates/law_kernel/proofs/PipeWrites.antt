@@ -4,7 +4,7 @@ use Rattle.std.proofs.lemmas.List.{length-take}
 use Rattle.std.proofs.lemmas.Bool.{both_ways, eq-eqb}
 use Rattle.std.specs.Prelude.{if◌then◌else◌, min}
 use Rattle.user_calls.specs.declared.calls.Reply.TheVariants.{Done}
-use Rattle.byte_pipe.specs.declared.TheConstants.{PIPE_SIZE}
+use Rattle.byte_pipe.specs.Limits.{pipe_size}
 use Rattle.byte_pipe.specs.PipeState.{PipeState, room, appended, after_put}
 use Rattle.proc_table.specs.declared.states.Channel.{Channel}
 use Rattle.proc_table.specs.declared.states.Channel.TheVariants.{PipeBytes, PipeRoom}
@@ -24,14 +24,14 @@ same_bytes id = eq-eqb id id refl
 
 -- ---- how many bytes a pipe holds after a put
 
-no_more_than_fits : (p : PipeState) (xs : List ℕ) → length p.bytes ≤ PIPE_SIZE → length (after_put p xs).bytes ≤ PIPE_SIZE
+no_more_than_fits : (p : PipeState) (xs : List ℕ) → length p.bytes ≤ pipe_size → length (after_put p xs).bytes ≤ pipe_size
 no_more_than_fits p xs fits = omega (arith, length-append p.bytes (appended p xs), few_appended p.reader (room p) xs, fits)
 
 held_after : (p : PipeState) (xs : List ℕ) → p.reader ≡ true → length (after_put p xs).bytes ≡ length p.bytes + min (room p) (length xs)
 held_after p xs reads =
     ap (λ (b : Bool). length (p.bytes ++ (if b then take (room p) xs else []))) reads ∙ omega (arith, length-append p.bytes (take (room p) xs), length-take (room p) xs)
 
-still_full : (p : PipeState) (xs : List ℕ) → length p.bytes ≡ PIPE_SIZE → length (after_put p xs).bytes ≡ PIPE_SIZE
+still_full : (p : PipeState) (xs : List ℕ) → length p.bytes ≡ pipe_size → length (after_put p xs).bytes ≡ pipe_size
 still_full p xs full = omega (arith, length-append p.bytes (appended p xs), few_appended p.reader (room p) xs, full)
 
 -- ---- the write
@@ -44,7 +44,7 @@ module _ {S : Type 0} (k : KernelState S) (pid : ℕ) (after : S) (id : ℕ) (xs
   abbrev AtRest : KernelState S → Type 0
   AtRest m = Rests m.table m.pipes
 
-  fits : length p.bytes ≤ PIPE_SIZE
+  fits : length p.bytes ≤ pipe_size
   fits = small_found k.pipes id p busy.small found
 
   small_now : AreSmall now

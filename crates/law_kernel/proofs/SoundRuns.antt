@@ -81,3 +81,9 @@ module _ {S : Type 0} (call : S → Reply → Call) (next : S → Reply → S) w
   pub every_run_has_files : (init shell : S) (input : Bytes) (list : List (Name × Bytes)) (events : List Event) (notes : List Bool) (m : KernelState S)
       → AreFiles list → run call next (Some (boot_kernel init shell input list)) events notes ≡ Some m → AreFiles m.files
   every_run_has_files init shell input list events notes m are is = (every_run_in_order init shell input list events notes m are is).files
+
+  -- and after one event more
+  pub next_is_sound : (init shell : S) (input : Bytes) (list : List (Name × Bytes)) (events : List Event) (notes : List Bool) (k : KernelState S) (e : Event) (refused : Bool) (m : KernelState S)
+      → AreFiles list → run call next (Some (boot_kernel init shell input list)) events notes ≡ Some k → happens call next k e refused ≡ Some m → IsSound m.table m.entries
+  next_is_sound init shell input list events notes k e refused m are ran is =
+      (subst InOrderIf is (happens_in_order k e refused (every_run_in_order init shell input list events notes k are ran))).sound

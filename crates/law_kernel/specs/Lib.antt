@@ -5,3 +5,4 @@ pub mod Held
 pub mod Flow
 pub mod Asking
 pub mod Limits
+pub mod Exiting

@@ -1,6 +1,6 @@
 -- What each process that sleeps waits for: nothing of it has come yet (`sleep` and `wakeup` of `kernel/proc.c`).
 use Rattle.std.specs.Prelude.{◌≡◌, ⊤, ℕ, ◌≤◌, true, false, [], ◌∷◌, Some, None, length}
-use Rattle.byte_pipe.specs.declared.TheConstants.{PIPE_SIZE}
+use Rattle.byte_pipe.specs.Limits.{pipe_size}
 use Rattle.byte_pipe.specs.PipeState.{PipeState}
 use Rattle.proc_table.specs.declared.states.Channel.{Channel}
 use Rattle.proc_table.specs.declared.states.Channel.TheVariants.{PipeBytes, PipeRoom, Children}
@@ -15,7 +15,7 @@ pub record WaitsForBytes (p : PipeState) : Type 0 where
 
 -- a writer to the pipe has to wait: it is full, and its read end is open
 pub record WaitsForRoom (p : PipeState) : Type 0 where
-  pub filled : length p.bytes ≡ PIPE_SIZE
+  pub filled : length p.bytes ≡ pipe_size
   pub reader : p.reader ≡ true
 
 -- the process has to wait for its children: it has one, and none that is a zombie
@@ -47,7 +47,7 @@ AllWait t pipes = (q : ℕ) (c : Channel) → SleepsOn (at t q) c → Waits t pi
 -- no pipe holds more than it can
 abbrev pub AreSmall : Pipes → Type 0
 AreSmall [] = ⊤
-AreSmall (p ∷ rest) = (length p.1.bytes ≤ PIPE_SIZE) × AreSmall rest
+AreSmall (p ∷ rest) = (length p.1.bytes ≤ pipe_size) × AreSmall rest
 
 -- a process that is there, and no zombie
 pub record Lives {S : Type 0} (x : Slot S) : Type 0 where

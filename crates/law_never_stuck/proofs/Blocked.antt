@@ -1,6 +1,6 @@
 -- Where nobody is awake: what each process waits for, as it is seen, and what a part of the tree does.
 use Rattle.std.proofs.Common.{◌≡◌, ◌⊎◌, ℕ, ◌+◌, ◌≤◌, [], Some, length}
-use Rattle.byte_pipe.specs.declared.TheConstants.{PIPE_SIZE}
+use Rattle.byte_pipe.specs.Limits.{pipe_size}
 use Rattle.script_load.specs.declared.profile.Profile.{Profile}
 use Rattle.user_calls.specs.declared.calls.Call.{Call}
 use Rattle.user_calls.specs.declared.calls.Call.TheVariants.{Fork, Exec, Exit, Wait, MakePipe, Read, Write, OpenFile, Close, Dup}
@@ -22,7 +22,7 @@ Blocked V p d Exit = ⊥
 Blocked V p d Wait = (q : ℕ) → V.slots q ≡ zombie p → ⊥
 Blocked V p d MakePipe = ⊥
 Blocked V p d (Read fd most) = (i : ℕ) × (fd_at d fd ≡ Some (reader i)) × (V.pipes i ≡ []) × IsHeld V (writer i)
-Blocked V p d (Write fd bytes) = (i : ℕ) × (fd_at d fd ≡ Some (writer i)) × (length (V.pipes i) ≡ PIPE_SIZE) × IsHeld V (reader i)
+Blocked V p d (Write fd bytes) = (i : ℕ) × (fd_at d fd ≡ Some (writer i)) × (length (V.pipes i) ≡ pipe_size) × IsHeld V (reader i)
 Blocked V p d (OpenFile name mode) = ⊥
 Blocked V p d (Close fd) = ⊥
 Blocked V p d (Dup fd) = ⊥
@@ -44,7 +44,7 @@ WaitsOut V input = ⊥
 WaitsOut V out = ⊥
 WaitsOut V diag = ⊥
 WaitsOut V (reader i) = ⊥
-WaitsOut V (writer i) = (length (V.pipes i) ≡ PIPE_SIZE) × IsHeld V (reader i)
+WaitsOut V (writer i) = (length (V.pipes i) ≡ pipe_size) × IsHeld V (reader i)
 WaitsOut V (file e) = ⊥
 
 -- a part with a as its input and b as its output is over, or some process of it waits for the one or the other

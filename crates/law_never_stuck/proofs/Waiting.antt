@@ -1,6 +1,6 @@
 -- Where all are blocked, a part is over or waits for its own input or output: by induction on the tree.
 use Rattle.std.proofs.Common.{◌≡◌, ◌⊎◌, inl, inr, ℕ, ◌+◌, ◌≤◌, [], Some, Bool, length, refl, sym, ap, ◌∙◌, subst, arith}
-use Rattle.byte_pipe.specs.declared.TheConstants.{PIPE_SIZE}
+use Rattle.byte_pipe.specs.Limits.{pipe_size}
 use Rattle.mem_files.specs.Name.{Bytes}
 use Rattle.prog_parts.specs.declared.program.Program.{Program}
 use Rattle.std.specs.Prelude.{List}
@@ -140,7 +140,7 @@ module _ (profile : Profile) (V : View) (all : AllBlocked V) where
         on_input (subst (WaitsIn V) (sym z) (empty, held))
     reads fd (inr among) i at_it empty held = absurd (no_end fd (reader i) i (inl refl) among at_it)
 
-    writes : (fd : ℕ) → (fd ≡ 1) ⊎ ((fd ≡ 2) ⊎ Among fd (own_fds owns)) → (i : ℕ) → fd_at h.fds fd ≡ Some (writer i) → length (V.pipes i) ≡ PIPE_SIZE → IsHeld V (reader i) → Waits V a b t
+    writes : (fd : ℕ) → (fd ≡ 1) ⊎ ((fd ≡ 2) ⊎ Among fd (own_fds owns)) → (i : ℕ) → fd_at h.fds fd ≡ Some (writer i) → length (V.pipes i) ≡ pipe_size → IsHeld V (reader i) → Waits V a b t
     writes fd (inl is) i at_it full held =
         let y : Some b ≡ Some (writer i) = sym h.opened.output ∙ ap (fd_at h.fds) (sym is) ∙ at_it in
         let z : b ≡ writer i = cc in

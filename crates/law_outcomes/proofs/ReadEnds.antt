@@ -3,7 +3,7 @@ use Rattle.std.proofs.Common.{◌≡◌, ℕ, List, [], ◌∷◌, Bool, true, f
 use Rattle.std.proofs.lemmas.Bool.{eqb-true, eqb-false}
 use Rattle.std.specs.Prelude.{◌==◌, min, if◌then◌else◌}
 use Rattle.std.proofs.lemmas.List.{nil_from_length, drop_all}
-use Rattle.user_calls.specs.declared.block.TheConstants.{BLOCK_SIZE}
+use Rattle.user_calls.specs.Limits.{block_size}
 use Rattle.user_calls.specs.declared.calls.Call.{Call}
 use Rattle.user_calls.specs.declared.calls.Call.TheVariants.{Read}
 use Rattle.user_calls.specs.declared.calls.Reply.TheVariants.{Bytes as Given}
@@ -88,4 +88,4 @@ module _ {S : Type 0} (k : KernelState S) (pid : ℕ) (after : S) (call : Call) 
   read_held_ends n (Some e) is = read_entry_ends e n (file_at k.entries (Some e)) is
 
   pub read_ends : (fd n : ℕ) → call ≡ Read fd n → Ends (read k pid after fd n)
-  read_ends fd n is = read_held_ends (min n BLOCK_SIZE) (entry_of (fds_at k pid) fd) (λ object held. (fd, n, is, held))
+  read_ends fd n is = read_held_ends (min n block_size) (entry_of (fds_at k pid) fd) (λ object held. (fd, n, is, held))

@@ -23,7 +23,7 @@ use Rattle.kernel_model.specs.declared.events.Full.TheVariants.{Size, Memory}
 use Rattle.kernel_model.specs.KernelState.{KernelState, fds_at, file_at}
 use Rattle.kernel_model.specs.Pipes.{Pipes, pipe_of, with_pipe}
 use Rattle.kernel_model.specs.Replies.{answered, refused_for, sleeps, wakes}
-use Rattle.kernel_model.specs.Writing.{write_file, append_file, write_mode, write_by, write_pipe, write_object, write_entry, write_held, write}
+use Rattle.kernel_model.specs.Writing.{lacks_memory, write_file, append_file, write_mode, write_by, write_pipe, write_object, write_entry, write_held, write}
 use Rattle.law_outcomes.specs.Outcome.{Outcome, IsWrite, object_of, left_of, refused, tells, complains, writes_over, appends, puts_all, puts_part}
 use Rattle.law_outcomes.proofs.ReadEnds.{with_pipe_back}
 use Rattle.law_outcomes.proofs.Ways.{denied, no_room}
@@ -54,20 +54,20 @@ module _ {S : Type 0} (k : KernelState S) (pid : ℕ) (after : S) (call : Call) 
   write_file_ends e name mode offset b memory None is = denied
   write_file_ends e name mode offset b memory (Some bytes) is =
       let done : KernelState S = answered (record k { files = with_entry k.files name (written bytes offset b); entries = advanced k.entries e (length b) }) pid after Done in
-      let rest : KernelState S = if memory then refused_for k pid after Memory else done in
+      let rest : KernelState S = if lacks_memory memory (length bytes) (offset + length b) then refused_for k pid after Memory else done in
       let size : KernelState S = if nat_lt max_size (offset + length b) then refused_for k pid after Size else rest in
       either (nat_lt (length bytes) offset) (answered k pid after Refused) size denied
       (either (nat_lt max_size (offset + length b)) (refused_for k pid after Size) rest (no_room Size)
-      (either memory (refused_for k pid after Memory) done (no_room Memory) (writes_over name mode e b (written bytes offset b) is refl)))
+      (either (lacks_memory memory (length bytes) (offset + length b)) (refused_for k pid after Memory) done (no_room Memory) (writes_over name mode e b (written bytes offset b) is refl)))
 
   append_file_ends : (e : ℕ) (name : List ℕ) (mode : Mode) (b : List ℕ) (memory : Bool) (o : Option (List ℕ)) → IsWrite k pid call (File name mode) b → Ends (append_file k pid after e name b memory o)
   append_file_ends e name mode b memory None is = denied
   append_file_ends e name mode b memory (Some bytes) is =
       let end : ℕ = length bytes + length b in
       let done : KernelState S = answered (record k { files = with_entry k.files name (bytes ++ b); entries = moved_to k.entries e end }) pid after Done in
-      let rest : KernelState S = if memory then refused_for k pid after Memory else done in
+      let rest : KernelState S = if lacks_memory memory (length bytes) end then refused_for k pid after Memory else done in
       either (nat_lt max_size end) (refused_for k pid after Size) rest (no_room Size)
-      (either memory (refused_for k pid after Memory) done (no_room Memory)
+      (either (lacks_memory memory (length bytes) end) (refused_for k pid after Memory) done (no_room Memory)
       (appends name mode e b (bytes ++ b) is (ap (λ (n : ℕ). answered (record k { files = with_entry k.files name (bytes ++ b); entries = moved_to k.entries e n }) pid after Done) (sym (length-append bytes b)))))
 
   write_mode_ends : (e : ℕ) (name : List ℕ) (offset : ℕ) (b : List ℕ) (memory : Bool) (mode : Mode) → IsWrite k pid call (File name mode) b → Ends (write_mode k pid after e name offset b memory mode)
@@ -118,8 +118,8 @@ module _ {S : Type 0} (k : KernelState S) (pid : ℕ) (after : S) (call : Call) 
 
   write_object_ends : (e offset : ℕ) (b : List ℕ) (memory : Bool) (object : Object) → IsWrite k pid call object b → Ends (write_object k pid after e offset b memory object)
   write_object_ends e offset b memory Input is = denied
-  write_object_ends e offset b memory Out is = either memory _ _ (no_room Memory) (tells b is refl)
-  write_object_ends e offset b memory Diag is = either memory _ _ (no_room Memory) (complains b is refl)
+  write_object_ends e offset b memory Out is = either (lacks_memory memory (length k.out) (length k.out + length b)) _ _ (no_room Memory) (tells b is refl)
+  write_object_ends e offset b memory Diag is = either (lacks_memory memory (length k.diag) (length k.diag + length b)) _ _ (no_room Memory) (complains b is refl)
   write_object_ends e offset b memory (File name mode) is = write_mode_ends e name offset b memory mode is
   write_object_ends e offset b memory (PipeRead id) is = denied
   write_object_ends e offset b memory (PipeWrite id) is = write_pipe_ends id b (pipe_of k.pipes id) refl is

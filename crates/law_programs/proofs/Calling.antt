@@ -8,7 +8,7 @@ use Rattle.std.proofs.lemmas.Bool.{or_left, or_right}
 use Rattle.mem_files.specs.Name.{Name, Bytes, is_openable}
 use Rattle.mem_files.specs.Files.{FileMap}
 use Rattle.prog_parts.specs.NameSets.{among}
-use Rattle.user_calls.specs.declared.block.TheConstants.{BLOCK_SIZE}
+use Rattle.user_calls.specs.Limits.{block_size}
 use Rattle.user_calls.specs.declared.calls.Call.{Call}
 use Rattle.user_calls.specs.declared.calls.Call.TheVariants.{Read}
 use Rattle.meaning_model.specs.Inputs.{found}
@@ -28,7 +28,7 @@ short_block : (name : Name) → is_openable (block name) ≡ true → block name
 short_block name e =
     let F : FileMap = λ n. Some [] in
     let has : found F (block name) ≡ Some [] = ap (λ (b : Bool). if b then Some [] else None) e in
-    take_all BLOCK_SIZE name (omega (arith, found_short F name [] has))
+    take_all block_size name (omega (arith, found_short F name [] has))
 
 opens_first : (name : Name) (later : List Name) → is_openable (block name) ≡ true → among (name ∷ later) (block name) ≡ true
 opens_first name later e = ap (λ (n : Name). among (name ∷ later) n) (short_block name e) ∙ or_left (bytes_eq name name) (among later name) (itself name)
@@ -49,7 +49,7 @@ reads_source work (file (suc fd) name later) world is = go (held world.own (suc 
           named = or_right (among later own.name) _ (ap (λ (h : Option OwnFile). is_held h own.name) e ∙ itself own.name);
         }
 
-reads_call : (work : Work) (source : Source) (most : ℕ) (call : Call) (world : World) → IsOpen source world → 1 ≤ most → most ≤ BLOCK_SIZE → call ≡ Read (fd_of source) most → MayCall call (works work source) world
+reads_call : (work : Work) (source : Source) (most : ℕ) (call : Call) (world : World) → IsOpen source world → 1 ≤ most → most ≤ block_size → call ≡ Read (fd_of source) most → MayCall call (works work source) world
 reads_call work source most call world ready some few is = subst (λ (c : Call). MayCall c (works work source) world) (sym is) (some, few, reads_source work source world ready)
 
 writes_call : (state : State) (call : Call) (world : World) → IsWrite 1 call → MayCall call state world

@@ -4,7 +4,7 @@ use Rattle.std.specs.Fmt.{decimal}
 use Rattle.std.proofs.lemmas.List.{length-append, take_all, append-nil}
 use Rattle.std.proofs.lemmas.Fmt.{length-decimal-le_wide}
 use Rattle.mem_files.specs.Name.{Name, Bytes}
-use Rattle.user_calls.specs.declared.block.TheConstants.{BLOCK_SIZE}
+use Rattle.user_calls.specs.Limits.{block_size}
 use Rattle.prog_parts.specs.Wc.{line_ends, words_after, ends_inside, capped}
 use Rattle.user_progs.specs.State.{counting, wc_reads}
 use Rattle.user_progs.specs.Turn.{yields, counts_line, wc_got, block}
@@ -24,7 +24,7 @@ digits_few n small = length-decimal-le_wide 39 n (omega arith) (omega (arith, sm
 
 pub line_whole : (l w c : ℕ) (name : Name) → capped l ≡ l → capped w ≡ w → capped c ≡ c → length name ≤ 14 → block (counts_line l w c name) ≡ counts_line l w c name
 line_whole l w c name el ew ec short =
-    take_all BLOCK_SIZE (counts_line l w c name)
+    take_all block_size (counts_line l w c name)
     (omega (
       arith,
       short,

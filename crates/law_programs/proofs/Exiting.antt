@@ -11,7 +11,7 @@ use Rattle.grep_match.specs.Match.{matches}
 use Rattle.prog_parts.specs.declared.program.Program.{Program}
 use Rattle.prog_parts.specs.declared.program.Program.TheVariants.{Cat, Echo, Grep, Head, Tee as Tee', Wc}
 use Rattle.prog_parts.specs.Head.{head_files, has_wrong_option, is_count, is_option}
-use Rattle.user_calls.specs.declared.block.TheConstants.{BLOCK_SIZE}
+use Rattle.user_calls.specs.Limits.{block_size}
 use Rattle.user_calls.specs.declared.calls.Call.TheVariants.{Exit, Write}
 use Rattle.user_calls.specs.declared.calls.Reply.{Reply}
 use Rattle.prog_parts.specs.Lines.{HasNoLf}
@@ -19,7 +19,7 @@ use Rattle.prog_parts.specs.Grep.{is_whole, tested}
 use Rattle.prog_parts.specs.Head.{line_count}
 use Rattle.prog_parts.specs.Wc.{line_ends}
 use Rattle.user_progs.specs.State.{Filter, copying, heading, counting, searching, Source, standard, file, Work, cat_reads, cat_writes, head_reads, head_writes, wc_reads, wc_writes, grep_reads, grep_writes, Tee, tee_opens, tee_reads, tee_writes, tee_gives, State, begins, echo_word, echo_space, opens, works, closes, tees, told, ended}
-use Rattle.user_progs.specs.Turn.{Answer, yields, denies, strays, Turn, Step, reads, writes, finishes, fails, quits, bytes_in, fd_in, done_in, begun_by, closed_by, turn, turn_by, first_step, work_step, filter_of, name_of, block, opened_by, opens_next, begins_filter, begins_head, begins_program, echo_next, echo_end, cat_got, cat_wrote, head_got, head_goes_on, head_wrote, wc_got, grep_got, grep_goes_on, grep_lines, tee_waits, tee_opens_next, tee_opened, tee_cannot_open, tee_got, tee_gives_next, tee_wrote, tee_turn}
+use Rattle.user_progs.specs.Turn.{Answer, yields, denies, strays, Turn, Step, reads, writes, finishes, fails, quits, bytes_in, fd_in, done_in, closed_by, turn, turn_by, first_step, work_step, filter_of, name_of, block, opened_by, opens_next, begins_filter, begins_head, begins_program, echo_next, echo_end, cat_got, cat_wrote, head_got, head_goes_on, head_wrote, wc_got, grep_got, grep_goes_on, grep_lines, tee_waits, tee_opens_next, tee_opened, tee_cannot_open, tee_got, tee_gives_next, tee_wrote, tee_turn}
 use Rattle.program_model.specs.Tame.{Among}
 use Rattle.program_model.specs.Exits.{calls_on, bytes_told, bytes_read, most_calls, calls_after, calls_in, calls_of_tee, calls_left, tee_width, width}
 use Rattle.user_progs.proofs.Buffer.{at_match, at_other}
@@ -132,7 +132,7 @@ buffer_calls pattern buffer = by_lines (BufferCalls pattern) (no_line_calls patt
 
 -- a byte that is read is at most one LF more in it
 ends_in_block : (bytes : Bytes) → line_ends (block bytes) ≤ line_ends bytes
-ends_in_block bytes = omega (arith, ap line_ends (take-append-drop BLOCK_SIZE bytes), line_ends_more (block bytes) (drop BLOCK_SIZE bytes))
+ends_in_block bytes = omega (arith, ap line_ends (take-append-drop block_size bytes), line_ends_more (block bytes) (drop block_size bytes))
 
 few_ends : (bytes : Bytes) → line_ends bytes ≤ length bytes
 few_ends bytes = count_by-le-length (λ byte. byte == 10) bytes
@@ -249,18 +249,13 @@ program_goes most credit Head arguments wide few = head_goes most credit (has_wr
 program_goes most credit Tee' arguments wide few = tee_next_goes most credit [] arguments (omega (arith, wide)) (omega (arith, few))
 program_goes most credit Wc arguments wide few = filter_goes most credit counting arguments (omega (arith, wide)) (omega (arith, few))
 
-begun_goes : (most credit : ℕ) (program : Program) (arguments : List Bytes) (said : Answer (Unit {0})) → length arguments + 2 ≤ most → 4 * length arguments + 8 ≤ credit → Goes most credit (begun_by program arguments said)
-begun_goes most credit program arguments (yields done) wide few = program_goes most credit program arguments wide few
-begun_goes most credit program arguments denies wide few = inl refl
-begun_goes most credit program arguments strays wide few = inl refl
-
 closed_goes : (most credit : ℕ) (filter : Filter) (later : List Name) (said : Answer (Unit {0})) → 2 ≤ most → 4 * length later + 1 ≤ credit → Goes most credit (closed_by filter later said)
 closed_goes most credit filter later (yields done) wide few = next_goes most credit filter later wide few
 closed_goes most credit filter later denies wide few = inl refl
 closed_goes most credit filter later strays wide few = inl refl
 
 pub turn_goes : (most : ℕ) (state : State) (reply : Reply) → width state ≤ most → Goes most (calls_left state + bytes_told (bytes_in reply) * most) (turn state reply)
-turn_goes most (begins program arguments) reply wide = begun_goes most _ program arguments (done_in reply) wide (omega arith)
+turn_goes most (begins program arguments) reply wide = program_goes most _ program arguments wide (omega arith)
 turn_goes most (echo_word later) reply wide = echo_end_goes most _ later wide (omega arith)
 turn_goes most (echo_space later) reply wide = echo_goes most _ later wide (omega arith)
 turn_goes most (opens filter name later) reply wide = opened_goes most _ filter name later (fd_in reply) wide (omega arith)

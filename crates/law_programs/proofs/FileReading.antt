@@ -11,7 +11,7 @@ use Rattle.prog_parts.specs.declared.program.Program.TheVariants.{Cat, Echo, Gre
 use Rattle.prog_parts.specs.Head.{head_files, has_wrong_option}
 use Rattle.prog_parts.specs.Program.{file_words}
 use Rattle.prog_parts.specs.NameSets.{among}
-use Rattle.user_calls.specs.declared.block.TheConstants.{BLOCK_SIZE}
+use Rattle.user_calls.specs.Limits.{block_size}
 use Rattle.user_calls.specs.declared.calls.Mode.TheVariants.{Input}
 use Rattle.user_calls.specs.declared.calls.Call.{Call}
 use Rattle.user_calls.specs.declared.calls.Call.TheVariants.{Read, Write, OpenFile, Close}
@@ -20,7 +20,7 @@ use Rattle.user_calls.specs.declared.calls.Reply.TheVariants.{Done, Bytes as Byt
 use Rattle.meaning_model.specs.Inputs.{found}
 use Rattle.prog_parts.specs.Head.{line_count}
 use Rattle.user_progs.specs.State.{Filter, copying, heading, counting, searching, Source, standard, file, Work, Tee, tee_opens, tee_reads, tee_writes, tee_gives, State, begins, echo_word, echo_space, opens, works, closes, tees, told, ended}
-use Rattle.user_progs.specs.Turn.{Answer, yields, denies, strays, Step, reads, writes, finishes, fails, quits, bytes_in, fd_in, done_in, block, turn, turn_by, first_step, work_step, filter_of, name_of, fd_of, begun_by, opens_next, begins_filter, begins_head, begins_program, echo_next, echo_end, tee_waits, tee_opens_next, tee_cannot_open, tee_opened, tee_got, tee_wrote, tee_turn}
+use Rattle.user_progs.specs.Turn.{Answer, yields, denies, strays, Step, reads, writes, finishes, fails, quits, bytes_in, fd_in, done_in, block, turn, turn_by, first_step, work_step, filter_of, name_of, fd_of, opens_next, begins_filter, begins_head, begins_program, echo_next, echo_end, tee_waits, tee_opens_next, tee_cannot_open, tee_opened, tee_got, tee_wrote, tee_turn}
 use Rattle.program_model.specs.Alone.{OwnFile, World, is_to_read, held, moved_on, left_of_file, left_at, Takes, MayOpen, May, done_if, after_read, after_call}
 use Rattle.program_model.specs.Waits.{IsOpen, WorkWaits, TeeWaits, Waits}
 use Rattle.program_model.specs.Frame.{is_held, depends_on}
@@ -75,11 +75,6 @@ program_ahead Head arguments own L = head_ahead (has_wrong_option arguments) arg
 program_ahead Tee' arguments own L = omega (arith, tee_next_none [] arguments own L)
 program_ahead Wc arguments own L = filter_ahead counting arguments own L
 
-begun_ahead : (program : Program) (arguments : List Bytes) (said : Answer (Unit {0})) (own : List OwnFile) (L : Sizes) → files_ahead (begun_by program arguments said).next own L ≤ all_sizes (file_words program arguments) L
-begun_ahead program arguments (yields done) own L = program_ahead program arguments own L
-begun_ahead program arguments denies own L = omega arith
-begun_ahead program arguments strays own L = omega arith
-
 -- tee reads no files
 wrote_none : (fds : List ℕ) (at : ℕ) (bytes : Bytes) (said : Answer (Unit {0})) (own : List OwnFile) (L : Sizes) → files_ahead (tee_wrote fds at bytes said).next own L ≤ 0
 wrote_none fds at bytes (yields done) own L = go (nat_lt at (length fds))
@@ -113,7 +108,7 @@ tee_none (tee_gives fds at bytes) reply own L = wrote_none fds (at + 1) bytes (d
 
 -- a call that is refused
 pub refused_ahead : (state : State) (own : List OwnFile) (L : Sizes) → files_ahead (turn state Refused).next own L ≤ files_ahead state own L
-refused_ahead (begins program arguments) own L = omega arith
+refused_ahead (begins program arguments) own L = program_ahead program arguments own L
 refused_ahead (echo_word later) own L = echo_end_none later own L
 refused_ahead (echo_space later) own L = echo_none later own L
 refused_ahead (opens filter name later) own L = omega arith
@@ -190,7 +185,7 @@ opened_less filter name later world reply may = go (found world.files (block nam
     go : (o : Option Bytes) → found F (block name) ≡ o → MayOpen o reply world → Less (opens filter name later) (OpenFile (block name) Input) reply world
     go None e is = subst (λ (r : Reply). Less (opens filter name later) (OpenFile (block name) Input) r world) (sym is) (omega arith)
     go (Some bytes) e (fd, is, new) =
-        let whole : block name ≡ name = take_all BLOCK_SIZE name (omega (arith, found_short F name bytes e)) in
+        let whole : block name ≡ name = take_all block_size name (omega (arith, found_short F name bytes e)) in
         let opened = new_file fd (block name) Input ∷ world.own in
         let size : left_in_file (held opened fd) (sizes F) ≡ sizes F name - 0 =
         ap (λ (t : Bool). left_in_file (if t then Some (new_file fd (block name) Input) else held world.own fd) (sizes F)) (eq-eqb fd fd refl) ∙ ap (λ (n : Name). sizes F n - 0) whole in
@@ -209,7 +204,7 @@ tee_file (tee_gives fds at bytes) call reply world waits = ap (λ (c : Call). fr
 
 pub call_ahead : (state : State) (call : Call) (reply : Reply) (world : World) → Waits state call world → May call reply world → Less state call reply world
 call_ahead (begins program arguments) call reply world waits may =
-    subst (λ (c : Call). Less (begins program arguments) c reply world) (sym waits.0) (omega (arith, begun_ahead program arguments (done_in reply) world.own (sizes world.files)))
+    subst (λ (c : Call). Less (begins program arguments) c reply world) (sym waits.0) (omega (arith, program_ahead program arguments world.own (sizes world.files)))
 call_ahead (echo_word later) call reply world ((bytes, is), short) may =
     let after = after_call call reply world in
     omega (arith, ap (λ (c : Call). from_files c reply) is, echo_end_none later after.own (sizes after.files))

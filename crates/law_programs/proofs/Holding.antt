@@ -11,7 +11,7 @@ use Rattle.prog_parts.specs.declared.program.Program.{Program}
 use Rattle.prog_parts.specs.declared.program.Program.TheVariants.{Cat, Echo, Grep, Head, Tee as Tee', Wc}
 use Rattle.prog_parts.specs.Head.{head_files, has_wrong_option}
 use Rattle.prog_parts.specs.NameSets.{among}
-use Rattle.user_calls.specs.declared.block.TheConstants.{BLOCK_SIZE}
+use Rattle.user_calls.specs.Limits.{block_size}
 use Rattle.user_calls.specs.declared.calls.Mode.TheVariants.{Input, Fresh}
 use Rattle.user_calls.specs.declared.calls.Call.{Call}
 use Rattle.user_calls.specs.declared.calls.Call.TheVariants.{Write, OpenFile}
@@ -19,7 +19,7 @@ use Rattle.user_calls.specs.declared.calls.Reply.{Reply}
 use Rattle.user_calls.specs.declared.calls.Reply.TheVariants.{Fd}
 use Rattle.prog_parts.specs.Head.{line_count}
 use Rattle.user_progs.specs.State.{Filter, copying, heading, counting, searching, Source, standard, file, Tee, tee_opens, tee_reads, tee_writes, tee_gives, State, begins, echo_word, echo_space, opens, works, closes, tees, told, ended}
-use Rattle.user_progs.specs.Turn.{Answer, yields, denies, strays, Turn, Step, reads, writes, finishes, fails, quits, bytes_in, fd_in, done_in, begun_by, closed_by, turn, turn_by, first_step, work_step, filter_of, name_of, fd_of, block, opened_by, opens_next, begins_filter, begins_head, begins_program, echo_next, echo_end, tee_waits, tee_opens_next, tee_got, tee_gives_next, tee_wrote, tee_turn}
+use Rattle.user_progs.specs.Turn.{Answer, yields, denies, strays, Turn, Step, reads, writes, finishes, fails, quits, bytes_in, fd_in, done_in, closed_by, turn, turn_by, first_step, work_step, filter_of, name_of, fd_of, block, opened_by, opens_next, begins_filter, begins_head, begins_program, echo_next, echo_end, tee_waits, tee_opens_next, tee_got, tee_gives_next, tee_wrote, tee_turn}
 use Rattle.program_model.specs.Ahead.{tee_opens_still, still_opens, still_writes}
 use Rattle.program_model.specs.Alone.{OwnFile, World, held, moved_on, MayOpen, May, can_open, after_read, after_file_write, after_write, after_call}
 use Rattle.program_model.specs.Given.{place_or, place_in, AreAt}
@@ -133,7 +133,7 @@ pub tee_next_none : (name : Name) (fds : List ℕ) (names : List Name) (world : 
 tee_next_none name fds [] world none = none
 tee_next_none name fds (current ∷ later) world none = none
 
-program_none : (name : Name) (program : Program) (arguments : List Bytes) (world : World) → HoldsNone name (begins_program program arguments) world
+pub program_none : (name : Name) (program : Program) (arguments : List Bytes) (world : World) → HoldsNone name (begins_program program arguments) world
 program_none name Cat arguments world = filter_none name copying arguments world
 program_none name Echo arguments world = echo_none name arguments world
 program_none name Grep [] world = refl
@@ -141,11 +141,6 @@ program_none name Grep (pattern ∷ names) world = filter_none name (searching p
 program_none name Head arguments world = head_none name (has_wrong_option arguments) arguments world
 program_none name Tee' arguments world = tee_next_none name [] arguments world refl
 program_none name Wc arguments world = filter_none name counting arguments world
-
-begun_none : (name : Name) (program : Program) (arguments : List Bytes) (said : Answer (Unit {0})) (world : World) → HoldsNone name (begun_by program arguments said) world
-begun_none name program arguments (yields done) world = program_none name program arguments world
-begun_none name program arguments denies world = refl
-begun_none name program arguments strays world = refl
 
 closed_none : (name : Name) (filter : Filter) (later : List Name) (said : Answer (Unit {0})) (world : World) → HoldsNone name (closed_by filter later said) world
 closed_none name filter later (yields done) world = next_none name filter later world
@@ -163,7 +158,7 @@ opened_none name filter current later world reply other may = go (can_open (bloc
     go : (o : Option Bytes) → can_open (block current) Input world.files ≡ o → MayOpen o reply world → HoldsNone name (opened_by filter current later (fd_in reply)) (after_call (OpenFile (block current) Input) reply world)
     go None e is = subst (λ (r : Reply). HoldsNone name (opened_by filter current later (fd_in r)) (after_call (OpenFile (block current) Input) r world)) (sym is) refl
     go (Some bytes) e (fd, is, new) =
-        let whole : block current ≡ current = take_all BLOCK_SIZE current (omega (arith, found_short world.files current bytes e)) in
+        let whole : block current ≡ current = take_all block_size current (omega (arith, found_short world.files current bytes e)) in
         subst (λ (r : Reply). HoldsNone name (opened_by filter current later (fd_in r)) (after_call (OpenFile (block current) Input) r world)) (sym is)
         (step_none name (first_step filter) filter (file fd current later) (after_call (OpenFile (block current) Input) (Fd fd) world)
         (ap (λ (h : Option OwnFile). is_held h name) (itself_held fd (new_file fd (block current) Input) world.own refl) ∙ ap (bytes_eq name) whole ∙ other))
@@ -235,7 +230,7 @@ tee_none name (tee_gives fds at bytes) call reply world waits may ahead none =
 
 holds_none : (name : Name) (state : State) (call : Call) (reply : Reply) (world : World) → Waits state call world → May call reply world → still_opens state name ≡ false → holds state world name ≡ false →
     HoldsNone name (turn state reply) (after_call call reply world)
-holds_none name (begins program arguments) call reply world waits may ahead none = begun_none name program arguments (done_in reply) (after_call call reply world)
+holds_none name (begins program arguments) call reply world waits may ahead none = program_none name program arguments (after_call call reply world)
 holds_none name (echo_word later) call reply world waits may ahead none = echo_end_none name later (after_call call reply world)
 holds_none name (echo_space later) call reply world waits may ahead none = echo_none name later (after_call call reply world)
 holds_none name (opens filter current later) call reply world waits may ahead none =

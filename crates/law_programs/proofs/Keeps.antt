@@ -11,7 +11,7 @@ use Rattle.mem_files.specs.Files.{FileMap, bytes_of}
 use Rattle.prog_parts.specs.declared.program.Program.{Program}
 use Rattle.prog_parts.specs.declared.program.Program.TheVariants.{Cat, Echo, Grep, Head, Tee as Tee', Wc}
 use Rattle.prog_parts.specs.Head.{head_files, has_wrong_option}
-use Rattle.user_calls.specs.declared.block.TheConstants.{BLOCK_SIZE}
+use Rattle.user_calls.specs.Limits.{block_size}
 use Rattle.user_calls.specs.declared.calls.Mode.TheVariants.{Input}
 use Rattle.user_calls.specs.declared.calls.Call.{Call}
 use Rattle.user_calls.specs.declared.calls.Call.TheVariants.{Exec, Read, Write, OpenFile, Close}
@@ -124,13 +124,13 @@ none_found : (F : FileMap) (name : Name) → is_openable name ≡ false → foun
 none_found F name e = ap (λ (t : Bool). if t then F name else None) e
 
 pub found_block : (F : FileMap) (name : Name) → found F (block name) ≡ found F name
-found_block F name = go (nat_le (length name) BLOCK_SIZE) refl
+found_block F name = go (nat_le (length name) block_size) refl
   where
-    go : (fits : Bool) → nat_le (length name) BLOCK_SIZE ≡ fits → found F (block name) ≡ found F name
-    go true e = let few : length name ≤ BLOCK_SIZE = grind (arith, nat_tests) in ap (λ (n : Name). found F n) (take_all BLOCK_SIZE name few)
+    go : (fits : Bool) → nat_le (length name) block_size ≡ fits → found F (block name) ≡ found F name
+    go true e = let few : length name ≤ block_size = grind (arith, nat_tests) in ap (λ (n : Name). found F n) (take_all block_size name few)
     go false e =
-        let many : BLOCK_SIZE < length name = grind (arith, nat_tests) in
-        none_found F (block name) (too_long (block name) (omega (arith, length-take BLOCK_SIZE name)))
+        let many : block_size < length name = grind (arith, nat_tests) in
+        none_found F (block name) (too_long (block name) (omega (arith, length-take block_size name)))
         ∙ sym (none_found F name (too_long name (omega (arith, many))))
 
 -- a file that is found has a short name
@@ -229,7 +229,7 @@ echo_kept : (arguments : List Bytes) (world : World) → AreShort arguments → 
 echo_kept [] world short = refl
 echo_kept (argument ∷ later) world short =
     same_value _ _ world.input world.input world.files
-    (echo_step argument later ∙ ap (λ (a : Bytes). a ++ echo_rest later) (sym (take_all BLOCK_SIZE argument short.0)))
+    (echo_step argument later ∙ ap (λ (a : Bytes). a ++ echo_rest later) (sym (take_all block_size argument short.0)))
     refl
 
 echo_end_kept : (later : List Bytes) (world : World) → fixed (echo_rest later) world.input world.files ≡ left_of (echo_end later) 0 world

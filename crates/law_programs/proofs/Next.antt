@@ -8,7 +8,7 @@ use Rattle.prog_parts.specs.Head.{head_files, has_wrong_option}
 use Rattle.user_calls.specs.declared.calls.Reply.{Reply}
 use Rattle.prog_parts.specs.Head.{line_count}
 use Rattle.user_progs.specs.State.{Filter, copying, heading, counting, searching, Source, standard, file, Work, Tee, State, begins, echo_word, echo_space, opens, works, closes, tees, told, ended}
-use Rattle.user_progs.specs.Turn.{Answer, yields, denies, strays, Step, reads, writes, finishes, fails, quits, fd_in, done_in, turn, turn_by, first_step, work_step, filter_of, name_of, opened_by, closed_by, opens_next, begins_filter, begins_head, begins_program, begun_by, echo_next, echo_end, tee_opens_next, tee_turn}
+use Rattle.user_progs.specs.Turn.{Answer, yields, denies, strays, Step, reads, writes, finishes, fails, quits, fd_in, done_in, turn, turn_by, first_step, work_step, filter_of, name_of, opened_by, closed_by, opens_next, begins_filter, begins_head, begins_program, echo_next, echo_end, tee_opens_next, tee_turn}
 
 pub record Goes (Q : State → Type 0) : Type 0 where
   pub ends : Q ended
@@ -57,11 +57,6 @@ module _ (Q : State → Type 0) (goes : Goes Q) where
   program_next tee Tee' arguments = tee arguments
   program_next tee Wc arguments = filter_next counting arguments
 
-  begun_next : ((names : List Name) → Q (tee_opens_next [] names).next) → (program : Program) (arguments : List Bytes) (said : Answer (Unit {0})) → Q (begun_by program arguments said).next
-  begun_next tee program arguments (yields done) = program_next tee program arguments
-  begun_next tee program arguments denies = goes.ends
-  begun_next tee program arguments strays = goes.ends
-
   opened_next : (filter : Filter) (name : Name) (later : List Name) (said : Answer ℕ) → Q (opened_by filter name later said).next
   opened_next filter name later (yields fd) = step_next (first_step filter) filter (file fd name later)
   opened_next filter name later denies = goes.tells
@@ -73,7 +68,7 @@ module _ (Q : State → Type 0) (goes : Goes Q) where
   closed_next filter later strays = goes.ends
 
   pub turn_next : ((names : List Name) → Q (tee_opens_next [] names).next) → (state : State) (reply : Reply) → ((tee : Tee) → state ≡ tees tee → Q (tee_turn tee reply).next) → Q (turn state reply).next
-  turn_next first (begins program arguments) reply tee = begun_next first program arguments (done_in reply)
+  turn_next first (begins program arguments) reply tee = program_next first program arguments
   turn_next first (echo_word later) reply tee = echo_end_next later
   turn_next first (echo_space later) reply tee = echo_word_next later
   turn_next first (opens filter name later) reply tee = opened_next filter name later (fd_in reply)

@@ -208,7 +208,7 @@ call_less told call reply world (fd, some, low, (bytes, is)) may =
 call_less ended call reply world waits may = absurd (subst (λ (c : Call). May c reply world) waits may)
 
 refused_takes : (state : State) (call : Call) (world : World) → Waits state call world → takes (turn state Refused).next world ≤ takes state world
-refused_takes (begins program arguments) call world waits = omega arith
+refused_takes (begins program arguments) call world waits = program_takes program arguments world
 refused_takes (echo_word later) call world waits = echo_end_takes later world
 refused_takes (echo_space later) call world waits = echo_takes later world
 refused_takes (opens filter name later) call world waits = omega arith

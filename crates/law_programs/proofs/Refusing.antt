@@ -16,9 +16,9 @@ use Rattle.program_model.specs.Frame.{holds, holds_to_write, depends_on, may_cha
 use Rattle.program_model.specs.Fits.{Fits}
 use Rattle.program_model.specs.Refusals.{IsTold, PassesOrTells}
 use Rattle.law_programs.proofs.Next.{turn_next}
-use Rattle.law_programs.proofs.Waiting.{StepWaits, buffer_waits, tells_wait, turn_waits, echo_waits, echo_end_waits}
+use Rattle.law_programs.proofs.Waiting.{StepWaits, buffer_waits, tells_wait, turn_waits, echo_waits, echo_end_waits, program_waits}
 use Rattle.law_programs.proofs.Shrinking.{opens_shrink, writes_shrink}
-use Rattle.law_programs.proofs.Holding.{step_none, echo_none, echo_end_none, tee_next_none, written_held}
+use Rattle.law_programs.proofs.Holding.{step_none, echo_none, echo_end_none, tee_next_none, program_none, written_held}
 use Rattle.meaning_model.proofs.Bools.{not_left, not_right}
 
 -- nothing is changed
@@ -56,7 +56,7 @@ tee_refused (tee_writes fds bytes) world = tells_wait (codes "tee: write error\n
 tee_refused (tee_gives fds at bytes) world = tells_wait (codes "tee: write error\n") world
 
 pub waits_refused : (state : State) (call : Call) (world : World) → Waits state call world → Waits (turn state Refused).next (turn state Refused).call world
-waits_refused (begins program arguments) call world waits = refl
+waits_refused (begins program arguments) call world waits = program_waits program arguments world waits.1
 waits_refused (echo_word later) call world waits = echo_end_waits later world waits.1
 waits_refused (echo_space later) call world waits = echo_waits later world waits.1
 waits_refused (opens filter name later) call world waits = tells_wait (name_of_program filter ++ (codes ": cannot open " ++ (name ++ 10 ∷ []))) world
@@ -90,7 +90,7 @@ tee_holds_none name (tee_writes fds bytes) world = refl
 tee_holds_none name (tee_gives fds at bytes) world = refl
 
 holds_refused : (name : Name) (state : State) (world : World) → holds state world name ≡ false → holds (turn state Refused).next world name ≡ false
-holds_refused name (begins program arguments) world none = refl
+holds_refused name (begins program arguments) world none = program_none name program arguments world
 holds_refused name (echo_word later) world none = echo_end_none name later world
 holds_refused name (echo_space later) world none = echo_none name later world
 holds_refused name (opens filter current later) world none = refl

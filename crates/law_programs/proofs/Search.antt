@@ -10,7 +10,7 @@ use Rattle.grep_match.specs.Match.{matches}
 use Rattle.prog_parts.specs.Lines.{HasNoLf}
 use Rattle.prog_parts.specs.Grep.{is_whole, tested, with_ends, grep_out, grep_left}
 use Rattle.prog_parts.proofs.Cuts.{all_tail}
-use Rattle.user_calls.specs.declared.block.TheConstants.{BLOCK_SIZE}
+use Rattle.user_calls.specs.Limits.{block_size}
 use Rattle.user_progs.specs.State.{searching, grep_reads}
 use Rattle.user_progs.specs.Turn.{yields, Step, reads, finishes, block, grep_lines, grep_goes_on, grep_got}
 use Rattle.program_model.specs.Alone.{Takes}
@@ -129,7 +129,7 @@ line_kept pattern name left line rest none whole again few = go (matches pattern
               ap (grep_out pattern) after
               ∙ out_line pattern line (rest ++ left) none whole is
               ∙ sym (append_assoc line (10 ∷ []) (grep_out pattern (rest ++ left)))
-              ∙ ap (λ (z : Bytes). z ++ grep_out pattern (rest ++ left)) (sym (take_all BLOCK_SIZE (line ++ 10 ∷ []) (omega (arith, few, size, length-append line (10 ∷ [])))));
+              ∙ ap (λ (z : Bytes). z ++ grep_out pattern (rest ++ left)) (sym (take_all block_size (line ++ 10 ∷ []) (omega (arith, few, size, length-append line (10 ∷ [])))));
           rest = ap grep_left after ∙ ap (λ (z : Bytes). drop 1023 z) (untested_line line (rest ++ left) none whole);
         })
     go false is =
@@ -161,7 +161,7 @@ grep_kept pattern kept name left (byte ∷ bytes) nothing few is =
     let b = byte ∷ bytes in
     let more = drop (length b) left in
     let size : length (kept ++ b) ≤ 1023 = omega (arith, few, is.few, length-append kept b) in
-    let whole : block (kept ++ b) ≡ kept ++ b = take_all BLOCK_SIZE (kept ++ b) (omega (arith, size)) in
+    let whole : block (kept ++ b) ≡ kept ++ b = take_all block_size (kept ++ b) (omega (arith, size)) in
     let all : kept ++ left ≡ (kept ++ b) ++ more = ap (λ (z : Bytes). kept ++ z) (left_over (1023 - length kept) left b is) ∙ sym (append_assoc kept b more) in
     let done = buffer_kept pattern name more (kept ++ b) size in
     subst (λ (z : Bytes). Kept (searching pattern) (grep_goes_on pattern z) name (grep_out pattern (kept ++ left)) (grep_left (kept ++ left)) more) (sym whole)

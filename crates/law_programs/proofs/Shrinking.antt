@@ -11,7 +11,7 @@ use Rattle.user_calls.specs.declared.calls.Call.TheVariants.{Write}
 use Rattle.user_calls.specs.declared.calls.Reply.{Reply}
 use Rattle.prog_parts.specs.Head.{line_count}
 use Rattle.user_progs.specs.State.{Filter, copying, heading, counting, searching, Source, standard, file, Tee, tee_opens, tee_reads, tee_writes, tee_gives, State, begins, echo_word, echo_space, opens, works, closes, tees, told, ended}
-use Rattle.user_progs.specs.Turn.{Answer, yields, denies, strays, Step, reads, writes, finishes, fails, quits, begun_by, closed_by, bytes_in, fd_in, done_in, turn, turn_by, first_step, work_step, filter_of, name_of, opened_by, opens_next, begins_filter, begins_head, begins_program, echo_next, echo_end, tee_waits, tee_opens_next, tee_opened, tee_cannot_open, tee_got, tee_gives_next, tee_wrote, tee_turn}
+use Rattle.user_progs.specs.Turn.{Answer, yields, denies, strays, Step, reads, writes, finishes, fails, quits, closed_by, bytes_in, fd_in, done_in, turn, turn_by, first_step, work_step, filter_of, name_of, opened_by, opens_next, begins_filter, begins_head, begins_program, echo_next, echo_end, tee_waits, tee_opens_next, tee_opened, tee_cannot_open, tee_got, tee_gives_next, tee_wrote, tee_turn}
 use Rattle.program_model.specs.Ahead.{source_opens, tee_opens_still, still_opens, still_writes, source_uses, still_uses}
 use Rattle.meaning_model.proofs.Bools.{not_left, not_right}
 
@@ -121,18 +121,13 @@ begins_within name Head arguments = reader name _ _ _ _ (head_within name argume
 begins_within name Tee' arguments = tee_next_within name [] arguments
 begins_within name Wc arguments = reader name _ _ _ _ (filter_within name false (program_uses_input Wc arguments) counting arguments (λ none. ap is_empty none))
 
-begun_within : (name : Name) (program : Program) (arguments : List Bytes) (said : Answer (Unit {0})) → Within name (still_opens (begins program arguments) name) (still_writes (begins program arguments) name) (program_uses_input program arguments) (begun_by program arguments said).next
-begun_within name program arguments (yields done) = begins_within name program arguments
-begun_within name program arguments denies = none_left name _ _ _ ended refl refl refl
-begun_within name program arguments strays = none_left name _ _ _ ended refl refl refl
-
 closed_within : (name : Name) (writing uses : Bool) (filter : Filter) (later : List Name) (said : Answer (Unit {0})) → Within name (among later name) writing uses (closed_by filter later said).next
 closed_within name writing uses filter later (yields done) = next_within name writing uses filter later
 closed_within name writing uses filter later denies = none_left name _ writing uses ended refl refl refl
 closed_within name writing uses filter later strays = none_left name _ writing uses ended refl refl refl
 
 turn_within : (name : Name) (state : State) (reply : Reply) → Within name (still_opens state name) (still_writes state name) (still_uses state) (turn state reply).next
-turn_within name (begins program arguments) reply = begun_within name program arguments (done_in reply)
+turn_within name (begins program arguments) reply = begins_within name program arguments
 turn_within name (echo_word later) reply = echo_end_within name _ _ _ later
 turn_within name (echo_space later) reply = echo_within name _ _ _ later
 turn_within name (opens filter current later) reply = opened_within name _ _ filter current later (fd_in reply)

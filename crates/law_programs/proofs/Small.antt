@@ -12,7 +12,7 @@ use Rattle.user_calls.specs.declared.calls.Reply.{Reply}
 use Rattle.prog_parts.specs.Grep.{tested}
 use Rattle.prog_parts.specs.Head.{line_count}
 use Rattle.user_progs.specs.State.{Filter, copying, heading, counting, searching, Source, standard, file, Work, cat_reads, cat_writes, head_reads, head_writes, wc_reads, wc_writes, grep_reads, grep_writes, Tee, tee_opens, tee_reads, tee_writes, tee_gives, State, begins, echo_word, echo_space, opens, works, closes, tees, told, ended}
-use Rattle.user_progs.specs.Turn.{Answer, yields, denies, strays, Turn, Step, reads, writes, finishes, fails, quits, bytes_in, fd_in, done_in, begun_by, closed_by, turn, turn_by, first_step, work_step, filter_of, name_of, block, tells, opened_by, opens_next, begins_filter, begins_head, begins_program, echo_next, echo_end, cat_got, cat_wrote, head_got, head_goes_on, head_wrote, wc_got, grep_got, grep_lines, tee_waits, tee_opens_next, tee_opened, tee_cannot_open, tee_got, tee_gives_next, tee_wrote, tee_turn}
+use Rattle.user_progs.specs.Turn.{Answer, yields, denies, strays, Turn, Step, reads, writes, finishes, fails, quits, bytes_in, fd_in, done_in, closed_by, turn, turn_by, first_step, work_step, filter_of, name_of, block, tells, opened_by, opens_next, begins_filter, begins_head, begins_program, echo_next, echo_end, cat_got, cat_wrote, head_got, head_goes_on, head_wrote, wc_got, grep_got, grep_lines, tee_waits, tee_opens_next, tee_opened, tee_cannot_open, tee_got, tee_gives_next, tee_wrote, tee_turn}
 use Rattle.program_model.specs.Exits.{bytes_told}
 use Rattle.program_model.specs.Blocks.{WritesBlock, HoldsBlock}
 
@@ -140,11 +140,6 @@ program_small Head arguments = head_begins_small (has_wrong_option arguments) ar
 program_small Tee' arguments = tee_next_small [] arguments
 program_small Wc arguments = filter_small counting arguments
 
-begun_small : (program : Program) (arguments : List Bytes) (said : Answer (Unit {0})) → Small (begun_by program arguments said)
-begun_small program arguments (yields done) = program_small program arguments
-begun_small program arguments denies = (tt, tt)
-begun_small program arguments strays = (tt, tt)
-
 closed_small : (filter : Filter) (later : List Name) (said : Answer (Unit {0})) → Small (closed_by filter later said)
 closed_small filter later (yields done) = next_small filter later
 closed_small filter later denies = (tt, tt)
@@ -189,7 +184,7 @@ tee_small (tee_writes fds bytes) reply s h = wrote_small fds 0 bytes (done_in re
 tee_small (tee_gives fds at bytes) reply s h = wrote_small fds (at + 1) bytes (done_in reply) s
 
 pub turn_small : (state : State) (reply : Reply) → HoldsBlock state → bytes_told (bytes_in reply) ≤ 1024 → Small (turn state reply)
-turn_small (begins program arguments) reply s h = begun_small program arguments (done_in reply)
+turn_small (begins program arguments) reply s h = program_small program arguments
 turn_small (echo_word later) reply s h = echo_end_small later
 turn_small (echo_space later) reply s h = echo_small later
 turn_small (opens filter name later) reply s h = opened_small filter name later (fd_in reply)

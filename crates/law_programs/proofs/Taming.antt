@@ -8,7 +8,7 @@ use Rattle.prog_parts.specs.declared.program.Program.{Program}
 use Rattle.prog_parts.specs.declared.program.Program.TheVariants.{Cat, Echo, Grep, Head, Tee as Tee', Wc}
 use Rattle.prog_parts.specs.Program.{file_words, program_uses_input, is_empty}
 use Rattle.prog_parts.specs.Head.{head_files, has_wrong_option}
-use Rattle.user_calls.specs.declared.block.TheConstants.{BLOCK_SIZE}
+use Rattle.user_calls.specs.Limits.{block_size}
 use Rattle.user_calls.specs.declared.calls.Mode.TheVariants.{Input, Fresh}
 use Rattle.user_calls.specs.declared.calls.Call.{Call}
 use Rattle.user_calls.specs.declared.calls.Call.TheVariants.{OpenFile, Write}
@@ -16,12 +16,12 @@ use Rattle.user_calls.specs.declared.calls.Reply.{Reply}
 use Rattle.prog_parts.specs.Grep.{tested}
 use Rattle.prog_parts.specs.Head.{line_count}
 use Rattle.user_progs.specs.State.{Filter, copying, heading, counting, searching, Source, standard, file, Work, cat_reads, cat_writes, head_reads, head_writes, wc_reads, wc_writes, grep_reads, grep_writes, Tee, tee_opens, tee_reads, tee_writes, tee_gives, State, begins, echo_word, echo_space, opens, works, closes, tees, told, ended}
-use Rattle.user_progs.specs.Turn.{Answer, yields, denies, strays, Turn, Step, reads, writes, finishes, fails, quits, bytes_in, fd_in, done_in, begun_by, closed_by, turn, turn_by, first_step, work_step, filter_of, name_of, block, opened_by, opens_next, begins_filter, begins_head, begins_program, echo_next, echo_end, cat_got, cat_wrote, head_got, head_goes_on, head_wrote, wc_got, grep_got, grep_lines, grep_keeps, tee_waits, tee_opens_next, tee_opened, tee_cannot_open, tee_got, tee_gives_next, tee_wrote, tee_turn}
+use Rattle.user_progs.specs.Turn.{Answer, yields, denies, strays, Turn, Step, reads, writes, finishes, fails, quits, bytes_in, fd_in, done_in, closed_by, turn, turn_by, first_step, work_step, filter_of, name_of, block, opened_by, opens_next, begins_filter, begins_head, begins_program, echo_next, echo_end, cat_got, cat_wrote, head_got, head_goes_on, head_wrote, wc_got, grep_got, grep_lines, grep_keeps, tee_waits, tee_opens_next, tee_opened, tee_cannot_open, tee_got, tee_gives_next, tee_wrote, tee_turn}
 use Rattle.program_model.specs.Tame.{Among, mode_of, IsTame, and_opened, opened_after, AreTame}
 
 -- a step reads or writes at least one byte, and no more than a call moves
 abbrev Asks : Step → Type 0
-Asks (reads most work) = (1 ≤ most) × (most ≤ BLOCK_SIZE)
+Asks (reads most work) = (1 ≤ most) × (most ≤ block_size)
 Asks (writes bytes work) = Unit {0}
 Asks finishes = Unit {0}
 Asks (fails message) = Unit {0}
@@ -287,10 +287,5 @@ begins_tame Wc arguments = filter_tame Wc arguments counting arguments refl (λ 
 pub always_tame : (program : Program) (arguments : List Bytes) (first : Reply) (replies : List Reply) →
     AreTame program arguments (turn (begins program arguments) first).next (turn (begins program arguments) first).call [] replies
 always_tame program arguments first replies =
-    let begun = begun_tame program arguments (done_in first) in
-    along_tame program arguments [] (begun_by program arguments (done_in first)).next (begun_by program arguments (done_in first)).call replies begun.0 begun.1
-  where
-    begun_tame : (program : Program) (arguments : List Bytes) (said : Answer (Unit {0})) → TurnTame program arguments [] (begun_by program arguments said)
-    begun_tame program arguments (yields done) = begins_tame program arguments
-    begun_tame program arguments denies = (tt, tt)
-    begun_tame program arguments strays = (tt, tt)
+    let begun = begins_tame program arguments in
+    along_tame program arguments [] (begins_program program arguments).next (begins_program program arguments).call replies begun.0 begun.1

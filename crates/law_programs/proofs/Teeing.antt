@@ -8,7 +8,7 @@ use Rattle.std.proofs.Math.Seq.{drop-cons, take-suc}
 use Rattle.mem_files.specs.Name.{Name, Bytes, is_openable}
 use Rattle.mem_files.specs.Files.{FileMap, with_file, bytes_of}
 use Rattle.mem_files.specs.Overlay.{written}
-use Rattle.user_calls.specs.declared.block.TheConstants.{BLOCK_SIZE}
+use Rattle.user_calls.specs.Limits.{block_size}
 use Rattle.user_calls.specs.declared.calls.Mode.{Mode}
 use Rattle.user_calls.specs.declared.calls.Mode.TheVariants.{Fresh}
 use Rattle.user_calls.specs.declared.calls.Call.TheVariants.{Write, OpenFile}
@@ -97,13 +97,13 @@ refused fds name later world e at =
 
 -- a name that is cut by a block can't be opened, in part or whole
 block_name : (name : Name) → (block name ≡ name) ⊎ ((is_openable (block name) ≡ false) × (is_openable name ≡ false))
-block_name name = go (nat_le (length name) BLOCK_SIZE) refl
+block_name name = go (nat_le (length name) block_size) refl
   where
-    go : (fits : Bool) → nat_le (length name) BLOCK_SIZE ≡ fits → (block name ≡ name) ⊎ ((is_openable (block name) ≡ false) × (is_openable name ≡ false))
-    go true e = let few : length name ≤ BLOCK_SIZE = grind (arith, nat_tests) in inl (take_all BLOCK_SIZE name few)
+    go : (fits : Bool) → nat_le (length name) block_size ≡ fits → (block name ≡ name) ⊎ ((is_openable (block name) ≡ false) × (is_openable name ≡ false))
+    go true e = let few : length name ≤ block_size = grind (arith, nat_tests) in inl (take_all block_size name few)
     go false e =
-        let many : BLOCK_SIZE < length name = grind (arith, nat_tests) in
-        inr (too_long (block name) (omega (arith, length-take BLOCK_SIZE name)), too_long name (omega (arith, many)))
+        let many : block_size < length name = grind (arith, nat_tests) in
+        inr (too_long (block name) (omega (arith, length-take block_size name)), too_long name (omega (arith, many)))
 
 -- what holds of a turn and the world after each reply to an open holds after this one
 pub by_open : (Q : Turn → World → Type 0) (fds : List ℕ) (name : Name) (later : List Name) (world : World) (reply : Reply) → length fds + length later < 16 →

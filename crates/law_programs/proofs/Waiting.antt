@@ -10,7 +10,7 @@ use Rattle.grep_match.specs.Match.{matches}
 use Rattle.prog_parts.specs.Lines.{HasNoLf}
 use Rattle.prog_parts.specs.Grep.{is_whole, tested}
 use Rattle.prog_parts.specs.Wc.{line_ends, words_after}
-use Rattle.user_calls.specs.declared.block.TheConstants.{BLOCK_SIZE}
+use Rattle.user_calls.specs.Limits.{block_size}
 use Rattle.user_progs.proofs.Buffer.{at_match, at_other}
 use Rattle.law_programs.proofs.Search.{by_lines}
 use Rattle.law_programs.proofs.Counting.{capped_again}
@@ -27,7 +27,7 @@ use Rattle.user_calls.specs.declared.calls.Reply.{Reply}
 use Rattle.user_calls.specs.declared.calls.Reply.TheVariants.{Done, Bytes as Bytes', Fd, Refused}
 use Rattle.prog_parts.specs.Head.{line_count}
 use Rattle.user_progs.specs.State.{Filter, copying, heading, counting, searching, Source, standard, file, Work, cat_reads, cat_writes, head_reads, head_writes, wc_reads, wc_writes, grep_reads, grep_writes, Tee, tee_opens, tee_reads, tee_writes, tee_gives, State, begins, echo_word, echo_space, opens, works, closes, tees, told, ended}
-use Rattle.user_progs.specs.Turn.{Answer, yields, denies, strays, Turn, Step, reads, writes, finishes, fails, quits, tells, name_of_program, bytes_in, fd_in, done_in, turn, turn_by, first_step, work_step, filter_of, fd_of, block, opened_by, closed_by, begun_by, opens_next, begins_filter, begins_head, begins_program, echo_next, echo_end, cat_got, cat_wrote, head_got, head_goes_on, head_wrote, wc_got, grep_got, grep_goes_on, grep_lines, name_of, tee_opened, tee_turn}
+use Rattle.user_progs.specs.Turn.{Answer, yields, denies, strays, Turn, Step, reads, writes, finishes, fails, quits, tells, name_of_program, bytes_in, fd_in, done_in, turn, turn_by, first_step, work_step, filter_of, fd_of, block, opened_by, closed_by, opens_next, begins_filter, begins_head, begins_program, echo_next, echo_end, cat_got, cat_wrote, head_got, head_goes_on, head_wrote, wc_got, grep_got, grep_goes_on, grep_lines, name_of, tee_opened, tee_turn}
 use Rattle.program_model.specs.Alone.{OwnFile, World, held, moved_on, MayOpen, may_write, done_if, May, can_open, after_read, after_write, after_call}
 use Rattle.program_model.specs.Waits.{AreShort, BeginsShort, IsWrite, IsOpenToRead, IsOpen, WorkWaits, TeeWaits, Waits}
 
@@ -103,7 +103,7 @@ grep_got_waits : (pattern kept bytes : Bytes) → length kept < 1023 → length 
 grep_got_waits pattern kept [] room few = tt
 grep_got_waits pattern kept (byte ∷ bytes) room few =
     let size : length (kept ++ byte ∷ bytes) ≤ 1023 = omega (arith, room, few, length-append kept (byte ∷ bytes)) in
-    subst (λ (z : Bytes). StepWaits (grep_goes_on pattern z)) (sym (take_all BLOCK_SIZE (kept ++ byte ∷ bytes) (omega (arith, size)))) (buffer_waits pattern (kept ++ byte ∷ bytes) size)
+    subst (λ (z : Bytes). StepWaits (grep_goes_on pattern z)) (sym (take_all block_size (kept ++ byte ∷ bytes) (omega (arith, size)))) (buffer_waits pattern (kept ++ byte ∷ bytes) size)
 
 pub first_waits : (filter : Filter) → StepWaits (first_step filter)
 first_waits copying = λ fd. refl
@@ -162,7 +162,7 @@ pub echo_end_waits : (later : List Bytes) (world : World) → AreShort later →
 echo_end_waits [] world short = (1, omega arith, omega arith, (_, refl))
 echo_end_waits (argument ∷ later) world short = ((_, refl), short)
 
-program_waits : (program : Program) (arguments : List Bytes) (world : World) → BeginsShort program arguments → TurnWaits (begins_program program arguments) world
+pub program_waits : (program : Program) (arguments : List Bytes) (world : World) → BeginsShort program arguments → TurnWaits (begins_program program arguments) world
 program_waits Cat arguments world short = filter_waits copying arguments world
 program_waits Echo arguments world short = echo_waits arguments world short
 program_waits Grep [] world short = tells_wait (codes "usage: grep pattern [file ...]\n") world
@@ -170,11 +170,6 @@ program_waits Grep (pattern ∷ names) world short = filter_waits (searching pat
 program_waits Head arguments world short = head_waits (has_wrong_option arguments) arguments world
 program_waits Tee' arguments world short = tee_next_waits [] arguments world (omega (arith, short)) tt tt
 program_waits Wc arguments world short = filter_waits counting arguments world
-
-begun_waits : (program : Program) (arguments : List Bytes) (said : Answer (Unit {0})) (world : World) → BeginsShort program arguments → TurnWaits (begun_by program arguments said) world
-begun_waits program arguments (yields done) world short = program_waits program arguments world short
-begun_waits program arguments denies world short = refl
-begun_waits program arguments strays world short = refl
 
 closed_waits : (filter : Filter) (later : List Name) (said : Answer (Unit {0})) (world : World) → TurnWaits (closed_by filter later said) world
 closed_waits filter later (yields done) world = next_waits filter later world
@@ -186,7 +181,7 @@ opened_open : (fd : ℕ) (name : Name) (later : List Name) (world : World) (byte
     IsOpen (file fd name later) (after_call (OpenFile (block name) Input) (Fd fd) world)
 opened_open fd name later world bytes e high =
     let short = found_short world.files name bytes e in
-    (high, short, subst (IsOpenToRead name) (sym (ap (λ (t : Bool). if t then Some (new_file fd (block name) Input) else held world.own fd) (eq-eqb fd fd refl))) (take_all BLOCK_SIZE name (omega (arith, short)), refl))
+    (high, short, subst (IsOpenToRead name) (sym (ap (λ (t : Bool). if t then Some (new_file fd (block name) Input) else held world.own fd) (eq-eqb fd fd refl))) (take_all block_size name (omega (arith, short)), refl))
 
 opened_waits : (filter : Filter) (name : Name) (later : List Name) (o : Option Bytes) (reply : Reply) (world : World) → can_open (block name) Input world.files ≡ o → MayOpen o reply world →
     TurnWaits (opened_by filter name later (fd_in reply)) (after_call (OpenFile (block name) Input) reply world)
@@ -281,7 +276,7 @@ tee_waits_on (tee_gives fds at bytes) call reply world (is, inside, distinct, (p
 
 pub waits_on : (state : State) (call : Call) (reply : Reply) (world : World) → Waits state call world → May call reply world →
     Waits (turn state reply).next (turn state reply).call (after_call call reply world)
-waits_on (begins program arguments) call reply world waits may = begun_waits program arguments (done_in reply) (after_call call reply world) waits.1
+waits_on (begins program arguments) call reply world waits may = program_waits program arguments (after_call call reply world) waits.1
 waits_on (echo_word later) call reply world waits may = echo_end_waits later (after_call call reply world) waits.1
 waits_on (echo_space later) call reply world waits may = echo_waits later (after_call call reply world) waits.1
 waits_on (opens filter name later) call reply world waits may =

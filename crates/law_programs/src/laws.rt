@@ -6,7 +6,7 @@ ghost use Rattle.mem_files.specs.Name.{Name, Bytes};
 ghost use Rattle.mem_files.specs.Files.{FileMap};
 ghost use Rattle.prog_parts.specs.declared.program.Program.{Program};
 ghost use Rattle.user_calls.specs.declared.calls.Call.{Call};
-ghost use Rattle.user_calls.specs.declared.block.TheConstants.{BLOCK_SIZE};
+ghost use Rattle.user_calls.specs.Limits.{block_size};
 ghost use Rattle.user_calls.specs.declared.calls.Call.TheVariants.{Exit, Write};
 ghost use Rattle.user_calls.specs.declared.calls.Reply.{Reply};
 ghost use Rattle.user_calls.specs.declared.calls.Reply.TheVariants.{Refused};
@@ -110,8 +110,8 @@ pub fn what_it_reads_of_files_was_ahead()
 
 /// No call of a program writes more bytes than a call moves, and `tee` holds no more, if no reply gives more.
 pub fn a_call_writes_a_block_at_most()
-    ensures writes { (state : State) (reply : Reply) → HoldsBlock state → bytes_told (bytes_in reply) ≤ BLOCK_SIZE → WritesBlock (call_of state reply) }
-    ensures holds { (state : State) (reply : Reply) → HoldsBlock state → bytes_told (bytes_in reply) ≤ BLOCK_SIZE → HoldsBlock (next_of state reply) }
+    ensures writes { (state : State) (reply : Reply) → HoldsBlock state → bytes_told (bytes_in reply) ≤ block_size → WritesBlock (call_of state reply) }
+    ensures holds { (state : State) (reply : Reply) → HoldsBlock state → bytes_told (bytes_in reply) ≤ block_size → HoldsBlock (next_of state reply) }
 {}
 
 /// No write of a program that runs alone is refused: it writes to descriptors 1 and 2, and to files that it opened to write and

@@ -8,7 +8,7 @@ use Rattle.mem_files.specs.Name.{Bytes}
 use Rattle.mem_files.specs.Files.{FileMap, with_file, bytes_of}
 use Rattle.mem_files.specs.Overlay.{written}
 use Rattle.script_load.specs.declared.profile.Profile.{Profile}
-use Rattle.user_calls.specs.declared.block.TheConstants.{BLOCK_SIZE}
+use Rattle.user_calls.specs.Limits.{block_size}
 use Rattle.user_calls.specs.declared.calls.Call.{Call}
 use Rattle.user_calls.specs.declared.calls.Call.TheVariants.{Read, Write, Close}
 use Rattle.user_calls.specs.declared.calls.Mode.{Mode}
@@ -97,7 +97,7 @@ module _ (profile : Profile) (V W : View) (a b old : Entry) (parent p : ℕ) (ev
         (ap (λ h. read_reply most (left_of_file h V.files)) o.held_is ∙ ap (λ m. read_reply most (if is_to_read m then Some (drop o.owned.own.at (bytes_of (V.files o.owned.own.name))) else None)) mode ∙ ap (λ l. Bytes' (take most l)) bytes)
         (moved_files (suc fd) (length c) owns) refl refl
 
-    pub reads_own : most ≤ BLOCK_SIZE → (g : Before (Read (suc fd) most)) → Afterwards (Read (suc fd) most)
+    pub reads_own : most ≤ block_size → (g : Before (Read (suc fd) most)) → Afterwards (Read (suc fd) most)
     reads_own few g = by o.owned.own.mode refl effect
       where
         e : ℕ

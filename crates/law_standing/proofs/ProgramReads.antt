@@ -7,7 +7,7 @@ use Rattle.std.proofs.lemmas.List.{take-append-drop, length-take}
 use Rattle.mem_files.specs.Name.{Bytes}
 use Rattle.mem_files.specs.Files.{bytes_of}
 use Rattle.script_load.specs.declared.profile.Profile.{Profile}
-use Rattle.user_calls.specs.declared.block.TheConstants.{BLOCK_SIZE}
+use Rattle.user_calls.specs.Limits.{block_size}
 use Rattle.user_calls.specs.declared.calls.Call.TheVariants.{Read, Write}
 use Rattle.user_calls.specs.declared.calls.Reply.TheVariants.{Bytes as Bytes'}
 use Rattle.user_progs.specs.State.{State}
@@ -27,7 +27,7 @@ none_left zero left some e = absurd (omega (arith, some))
 none_left (suc most) [] some e = refl
 none_left (suc most) (byte ∷ left) some e = absurd (let z : ⊥ = cc in z)
 
-pub at_most : (most : ℕ) → most ≤ BLOCK_SIZE → min most BLOCK_SIZE ≡ most
+pub at_most : (most : ℕ) → most ≤ block_size → min most block_size ≡ most
 at_most most le = omega (arith, le)
 
 -- only a write is put in part
@@ -101,7 +101,7 @@ module _ (profile : Profile) (V W : View) (b old : Entry) (parent p : ℕ) (ev :
       (λ k l. change.places k (λ is. absurd (omega (arith, l, g.apart k, same_self k, ap (λ n. same k n) is))))
       (record { others = λ k na nb lt none. (change.pipes k, change.places k (λ is. absurd (omega (arith, na, same_self k, ap (λ n. same k n) is)))); input_stays = λ n. change.input; out_stays = λ n. change.out })
 
-pub reads_standard : (profile : Profile) (V W : View) (a b old : Entry) (parent p : ℕ) (ev : IsCall V W p) (next : State) (put : ℕ) (owns : List Owned) (most : ℕ) (some : 1 ≤ most) → most ≤ BLOCK_SIZE → (g : Before profile V W a b old parent p ev next put owns most some) → Afterwards profile V W a b old parent p ev next put owns most some
+pub reads_standard : (profile : Profile) (V W : View) (a b old : Entry) (parent p : ℕ) (ev : IsCall V W p) (next : State) (put : ℕ) (owns : List Owned) (most : ℕ) (some : 1 ≤ most) → most ≤ block_size → (g : Before profile V W a b old parent p ev next put owns most some) → Afterwards profile V W a b old parent p ev next put owns most some
 reads_standard profile V W a b old parent p ev next put owns most some few g = by a g (effect g)
   where
     effect : (g : Before profile V W a b old parent p ev next put owns most some) → ReadsAt V W p parent (program_act (goes_on.waiting (Read 0 most) next)) g.has.fds most (Some a)

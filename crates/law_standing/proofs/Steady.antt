@@ -11,7 +11,7 @@ use Rattle.user_calls.specs.declared.calls.Call.TheVariants.{Write}
 use Rattle.user_calls.specs.declared.calls.Reply.{Reply}
 use Rattle.user_calls.specs.declared.calls.Reply.TheVariants.{Done, Refused}
 use Rattle.user_progs.specs.State.{Filter, copying, heading, counting, searching, Source, standard, file, Work, cat_reads, cat_writes, head_reads, head_writes, wc_reads, wc_writes, grep_reads, grep_writes, Tee, tee_opens, tee_reads, tee_writes, tee_gives, State, begins, echo_word, echo_space, opens, works, closes, tees, told, ended}
-use Rattle.user_progs.specs.Turn.{Turn, Answer, yields, denies, strays, Step, reads, writes, finishes, fails, quits, bytes_in, fd_in, done_in, exits, tells, block, echo_next, echo_end, opens_next, after_source, turn_by, filter_of, name_of, name_of_program, work_step, first_step, cat_got, cat_wrote, head_goes_on, head_got, head_wrote, wc_got, grep_lines, grep_got, begins_filter, begins_head, begins_grep, tee_waits, tee_opens_next, tee_cannot_open, tee_opened, tee_got, tee_gives_next, tee_wrote, tee_turn, opened_by, closed_by, begins_program, begun_by, turn}
+use Rattle.user_progs.specs.Turn.{Turn, Answer, yields, denies, strays, Step, reads, writes, finishes, fails, quits, bytes_in, fd_in, done_in, exits, tells, block, echo_next, echo_end, opens_next, after_source, turn_by, filter_of, name_of, name_of_program, work_step, first_step, cat_got, cat_wrote, head_goes_on, head_got, head_wrote, wc_got, grep_lines, grep_got, begins_filter, begins_head, begins_grep, tee_waits, tee_opens_next, tee_cannot_open, tee_opened, tee_got, tee_gives_next, tee_wrote, tee_turn, opened_by, closed_by, begins_program, turn}
 use Rattle.process_model.specs.Own.{HoldsSome, IsSteady}
 
 exits_steady : IsSteady exits
@@ -198,13 +198,8 @@ program_steady Head arguments = head_steady (has_wrong_option arguments) argumen
 program_steady Tee' arguments = tee_next_steady [] arguments
 program_steady Wc arguments = filter_steady counting arguments
 
-begun_steady : (program : Program) (arguments : List Bytes) (got : Answer (Unit {0})) → IsSteady (begun_by program arguments got)
-begun_steady program arguments (yields done) = program_steady program arguments
-begun_steady program arguments denies = exits_steady
-begun_steady program arguments strays = exits_steady
-
 pub steady_next : (state : State) (reply : Reply) → HoldsSome state → IsSteady (turn state reply)
-steady_next (begins program arguments) reply h = begun_steady program arguments (done_in reply)
+steady_next (begins program arguments) reply h = program_steady program arguments
 steady_next (echo_word later) reply h = echo_end_steady later
 steady_next (echo_space later) reply h = echo_steady later
 steady_next (opens filter name later) reply h = opened_steady filter name later (fd_in reply)

@@ -12,7 +12,7 @@ use Rattle.user_calls.specs.declared.calls.Call.TheVariants.{Write}
 use Rattle.user_calls.specs.declared.calls.Reply.{Reply}
 use Rattle.meaning_model.specs.Programs.{echo_out}
 use Rattle.user_progs.specs.State.{Filter, copying, heading, counting, searching, standard, file, Work, cat_reads, cat_writes, head_reads, head_writes, wc_reads, wc_writes, grep_reads, grep_writes, Tee, tee_opens, tee_reads, tee_writes, tee_gives, State, begins, echo_word, echo_space, opens, works, closes, tees, told, ended}
-use Rattle.user_progs.specs.Turn.{Answer, yields, denies, strays, bytes_in, fd_in, done_in, begun_by, closed_by, turn, first_step, work_step, filter_of, name_of, opened_by, opens_next, begins_filter, begins_head, begins_program, echo_next, echo_end, tee_waits, tee_opens_next, tee_opened, tee_cannot_open, tee_got, tee_gives_next, tee_wrote, tee_turn}
+use Rattle.user_progs.specs.Turn.{Answer, yields, denies, strays, bytes_in, fd_in, done_in, closed_by, turn, first_step, work_step, filter_of, name_of, opened_by, opens_next, begins_filter, begins_head, begins_program, echo_next, echo_end, tee_waits, tee_opens_next, tee_opened, tee_cannot_open, tee_got, tee_gives_next, tee_wrote, tee_turn}
 use Rattle.program_model.specs.Exits.{bytes_told}
 use Rattle.program_model.specs.Still.{echo_rest}
 use Rattle.law_tree_ends.proofs.WorkBytes.{Pays, block_few, step_bytes, IsOf, step_pays, head_goes_pays, work_pays}
@@ -147,18 +147,13 @@ begin_more Head arguments r more few = few
 begin_more Tee' arguments r more few = mul-le-mul_right (length arguments + 1) few
 begin_more Wc arguments r more few = omega arith
 
-begun_pays : (program : Program) (arguments : List Bytes) (said : Answer (Unit {0})) (r : ℕ) → Pays r (begin_bytes program arguments r) (begun_by program arguments said)
-begun_pays program arguments (yields done) r = program_pays program arguments r
-begun_pays program arguments denies r = omega arith
-begun_pays program arguments strays r = omega arith
-
 closed_pays : (filter : Filter) (later : List Name) (said : Answer (Unit {0})) (r : ℕ) → Pays r (passes filter r + for_each filter * length later) (closed_by filter later said)
 closed_pays filter later (yields done) r = next_pays filter later r
 closed_pays filter later denies r = omega arith
 closed_pays filter later strays r = omega arith
 
 pub turn_pays : (state : State) (reply : Reply) (r more : ℕ) → more + bytes_told (bytes_in reply) ≤ r → Pays more (later_bytes state r) (turn state reply)
-turn_pays (begins program arguments) reply r more few = omega (arith, begun_pays program arguments (done_in reply) more, begin_more program arguments r more (omega (arith, few)))
+turn_pays (begins program arguments) reply r more few = omega (arith, program_pays program arguments more, begin_more program arguments r more (omega (arith, few)))
 turn_pays (echo_word later) reply r more few = echo_end_pays later more
 turn_pays (echo_space later) reply r more few = echo_pays later more
 turn_pays (opens filter name later) reply r more few = omega (arith, opened_pays filter name later (fd_in reply) more, passes_more filter r more (omega (arith, few)))

@@ -6,7 +6,7 @@ use Rattle.mem_files.specs.Name.{Name, Bytes}
 use Rattle.grep_match.specs.Match.{matches}
 use Rattle.prog_parts.specs.Grep.{is_whole, tested}
 use Rattle.prog_parts.specs.Lines.{HasNoLf}
-use Rattle.user_calls.specs.declared.block.TheConstants.{BLOCK_SIZE}
+use Rattle.user_calls.specs.Limits.{block_size}
 use Rattle.user_calls.specs.declared.calls.Reply.{Reply}
 use Rattle.user_progs.specs.State.{Filter, heading, searching, Source, standard, file, Work, cat_reads, cat_writes, head_reads, head_writes, wc_reads, wc_writes, grep_reads, grep_writes}
 use Rattle.user_progs.specs.Turn.{Answer, yields, denies, strays, Turn, Step, reads, writes, finishes, fails, quits, bytes_in, done_in, turn, turn_by, work_step, filter_of, block, cat_got, cat_wrote, head_got, head_goes_on, head_wrote, wc_got, counts_line, grep_got, grep_goes_on, grep_lines}
@@ -20,10 +20,10 @@ abbrev pub Pays : ℕ → ℕ → Turn → Type 0
 Pays r credit turn = call_bytes turn.call 0 + later_bytes turn.next r ≤ credit
 
 pub block_few : (bytes : Bytes) → length (block bytes) ≤ length bytes
-block_few bytes = omega (arith, length-take BLOCK_SIZE bytes)
+block_few bytes = omega (arith, length-take block_size bytes)
 
-pub block_most : (bytes : Bytes) → length (block bytes) ≤ BLOCK_SIZE
-block_most bytes = omega (arith, length-take BLOCK_SIZE bytes)
+pub block_most : (bytes : Bytes) → length (block bytes) ≤ block_size
+block_most bytes = omega (arith, length-take block_size bytes)
 
 -- the work on one input
 

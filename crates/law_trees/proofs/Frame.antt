@@ -9,11 +9,12 @@ use Rattle.mem_files.specs.Files.{FileMap, bytes_of, no_files}
 use Rattle.conflict_check.specs.Names.{names, writes, uses_input}
 use Rattle.script_load.specs.declared.profile.Profile.{Profile}
 use Rattle.meaning_model.specs.Meaning.{meaning}
+use Rattle.meaning_model.specs.Met.{met_names}
 use Rattle.program_model.specs.Ahead.{still_writes}
 use Rattle.program_model.specs.Frame.{depends_on, holds_to_write, may_change}
 use Rattle.law_programs.proofs.Elsewhere.{depends_alike, depends_first, waits_agree, fits_elsewhere}
 use Rattle.tree_model.specs.Residual.{Running, alone, Residual, done, todo, running, seq, piped, unopened, from, into, left_names, left_writes, left_uses}
-use Rattle.tree_model.specs.Final.{final}
+use Rattle.tree_model.specs.Final.{final, left_met}
 use Rattle.tree_model.specs.Tidy.{IsThere, IsTidy}
 use Rattle.law_trees.proofs.Bools.{back}
 use Rattle.law_trees.proofs.Parts.{named_self, patched_other, pipe_files, alike_patch}
@@ -67,7 +68,7 @@ module _ (profile : Profile) where
   pub right_tidy : (c : Bool) (X : Residual) (q : Bytes) (Y : Residual) (i : Bytes) (F : FileMap) → IsTidy (piped c X q Y) F → IsTidy Y (final profile X i F).files
   right_tidy c X q Y i F h = tidy_agree Y F (final profile X i F).files (λ m g. sym (only X i F m h.0 (apart (left_writes X m) (left_names Y m) (h.2 m) g))) h.1
 
-  pub frame : (N : Name → Type 0) (X : Residual) (i : Bytes) (F G : FileMap) → IsTidy X F → ((n : Name) → left_names X n ≡ true → N n) → Agree N F G → Alike N (final profile X i F) (final profile X i G)
+  pub frame : (N : Name → Type 0) (X : Residual) (i : Bytes) (F G : FileMap) → IsTidy X F → ((n : Name) → left_names X n ≡ true → N n) → Agree N F G → Alike N (final profile X i F) (final profile X i G) (left_met profile X i F) (left_met profile X i G)
   frame N done i F G h sub a = alike_nothing N i F G a
   frame N (todo T) i F G h sub a = tree_frame profile N T i F G h.1 sub a
   frame N (running run) i F G h sub a = run_frame N run i F G h sub a
@@ -76,18 +77,18 @@ module _ (profile : Profile) where
       let v = final profile X i F in
       let w = final profile X i G in
       let b = tree_frame profile N B v.rest v.files w.files h.1.1 (λ n e. sub n (or_right (left_names X n) (names B n) e)) a.files in
-      alike_seq N (names B) (uses_input B) v w _ _ a (alike_then N (meaning profile B) v.rest w.rest v.files w.files a.rest b)
+      alike_seq N (names B) (uses_input B) v w _ _ a (alike_then N (meaning profile B) (met_names profile B) v.rest w.rest v.files w.files a.rest b)
   frame N (piped c X q Y) i F G h sub g =
       let a = frame N X i F G h.0 (λ n e. sub n (or_left (left_names X n) (left_names Y n) e)) g in
       let v = final profile X i F in
       let w = final profile X i G in
       let b = frame N Y (q ++ v.out) v.files w.files (right_tidy c X q Y i F h) (λ n e. sub n (or_right (left_names X n) (left_names Y n) e)) a.files in
-      alike_pipe N c (left_writes X) (left_uses X) v w _ _ a (alike_then N (λ o. final profile Y (q ++ o)) v.out w.out v.files w.files a.out b)
+      alike_pipe N c (left_writes X) (left_uses X) v w _ _ a (alike_then N (λ o. final profile Y (q ++ o)) (λ o. left_met profile Y (q ++ o)) v.out w.out v.files w.files a.out b)
   frame N (unopened m f T) i F G h sub a = tree_frame profile N (redir m f T) i F G h.1 sub a
   frame N (from f at X) i F G h sub g =
       let e = g.at f (sub f (named_self f (left_names X f))) in
       let a = frame N X (drop at (bytes_of (F f))) F G h.0 (λ n e. sub n (or_right (bytes_eq n f) (left_names X n) e)) g in
-      alike_from N i _ _ (alike_then N (λ o. final profile X (drop at (bytes_of o))) (F f) (G f) F G e a)
+      alike_from N i _ _ (alike_then N (λ o. final profile X (drop at (bytes_of o))) (λ o. left_met profile X (drop at (bytes_of o))) (F f) (G f) F G e a)
   frame N (into f at X) i F G h sub g =
       let a = frame N X i F G h.0 (λ n e. sub n (or_right (bytes_eq n f) (left_names X n) e)) g in
       alike_patch N f at (final profile X i F) (final profile X i G) a

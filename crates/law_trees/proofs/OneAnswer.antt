@@ -5,7 +5,7 @@ use mathlib.Core.Path.{transport}
 use Rattle.std.proofs.lemmas.Bool.{false_from_ne_true}
 use Rattle.mem_files.specs.Name.{Bytes}
 use Rattle.mem_files.specs.Files.{FileMap}
-use Rattle.prog_parts.specs.NameSets.{no_names}
+use Rattle.prog_parts.specs.NameSets.{Names, no_names}
 use Rattle.script_load.specs.declared.profile.Profile.{Profile}
 use Rattle.script_load.specs.Line.{ScriptLine}
 use Rattle.meaning_model.specs.Value.{Value, nothing}
@@ -14,7 +14,7 @@ use Rattle.meaning_model.specs.Settled.{IsSettledScript}
 use Rattle.meaning_model.proofs.NothingMet.{meets_nothing}
 use Rattle.tree_model.specs.Residual.{done}
 use Rattle.tree_model.specs.Step.{Choice, step}
-use Rattle.tree_model.specs.Final.{final}
+use Rattle.tree_model.specs.Final.{final, left_met}
 use Rattle.tree_model.specs.Tidy.{HasShortCommands}
 use Rattle.tree_model.specs.Runs.{Stage, first_stage, Goes, Reaches, reached, goes_on, next_stage, after_steps, IsOnWay, Agrees}
 use Rattle.law_trees.proofs.Bools.{not_both}
@@ -23,9 +23,9 @@ use Rattle.law_trees.proofs.Joins.{keeps_refl}
 use Rattle.law_trees.proofs.Keep.{keeps}
 use Rattle.law_trees.proofs.Smaller.{refused_closed}
 use Rattle.law_trees.proofs.StepTidy.{step_tidy}
-use Rattle.law_trees.proofs.Values.{Keeps}
+use Rattle.law_trees.proofs.Values.{Keeps, KeepsLeft}
 
-keeps_on : (a b : Bytes) (u v w : Value) → Keeps a u v → Keeps b v w → Keeps (a ++ b) u w
+keeps_on : (a b : Bytes) (u v w : Value) {m k : Names} → Keeps a u v m → Keeps b v w k → Keeps (a ++ b) u w k
 keeps_on a b u v w k l = record {
   out = k.out ∙ ap (λ x. a ++ x) l.out ∙ sym (append_assoc a b w.out);
   files = record { at = λ n e. k.files.at n e ∙ l.files.at n (k.soft n e) };
@@ -41,10 +41,10 @@ module _ (profile : Profile) where
   next_on v x c h =
       let m = step profile x.left c false true x.input x.files in
       let whole = append-nil x.input in
-      let k = keeps profile x.left c false true x.input [] x.files h.tidy (λ e. refl) (λ n. ap (λ j. (final profile x.left j x.files).met n) whole ∙ h.kept.met n)
+      let k = keeps profile x.left c false true x.input [] x.files h.tidy (λ e. refl) (λ n. ap (λ j. left_met profile x.left j x.files n) whole ∙ h.kept.met n)
       (false_from_ne_true m.refused (λ e. not_both false (refused_closed profile x.left c false true x.input x.files e) refl)) in
-      let k2 : Keeps m.wrote (final profile x.left x.input x.files) (final profile m.next (drop m.took x.input) m.files) =
-      transport (λ z. Keeps m.wrote (final profile x.left (whole z) x.files) (final profile m.next (append-nil (drop m.took x.input) z) m.files)) k in
+      let k2 : KeepsLeft profile m.wrote x.left x.input x.files m.next (drop m.took x.input) m.files =
+      transport (λ z. KeepsLeft profile m.wrote x.left (whole z) x.files m.next (append-nil (drop m.took x.input) z) m.files) k in
       record { tidy = step_tidy profile x.left c false true x.input x.files h.tidy; kept = keeps_on x.out m.wrote v _ _ h.kept k2 }
 
   pub run_on : (v : Value) (cs : List Choice) (x : Stage) → IsOnWay profile v x → IsOnWay profile v (after_steps profile cs x)
@@ -70,5 +70,5 @@ module _ (profile : Profile) where
 
   pub done_agrees : (v : Value) (x : Stage) → IsOnWay profile v x → x.left ≡ done → Agrees x v
   done_agrees v x h ends =
-      let k : Keeps x.out v (nothing x.input x.files) = subst (λ r. Keeps x.out v (final profile r x.input x.files)) ends h.kept in
+      let k : Keeps x.out v (nothing x.input x.files) no_names = subst (λ r. Keeps x.out v (final profile r x.input x.files) (left_met profile r x.input x.files)) ends h.kept in
       record { out = sym (k.out ∙ append-nil x.out); files = λ n e. sym (k.files.at n e); rest = λ e. sym (k.rest e) }

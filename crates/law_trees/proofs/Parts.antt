@@ -7,8 +7,9 @@ use Rattle.sh_tree.specs.declared.tree.Mode.{Mode}
 use Rattle.sh_tree.specs.declared.tree.Mode.TheVariants.{Input, Fresh, Over}
 use Rattle.mem_files.specs.Name.{Name, Bytes, is_openable}
 use Rattle.mem_files.specs.Files.{FileMap, with_file, bytes_of}
-use Rattle.prog_parts.specs.NameSets.{Names}
+use Rattle.prog_parts.specs.NameSets.{Names, no_names}
 use Rattle.meaning_model.specs.Inputs.{found}
+use Rattle.meaning_model.specs.Met.{input_met}
 use Rattle.meaning_model.specs.Value.{Value, into_value}
 use Rattle.meaning_model.specs.Meaning.{input_value, output_value, opened}
 use Rattle.law_programs.proofs.Framing.{itself}
@@ -25,26 +26,26 @@ agree_opened N Input F G f nf h = h
 agree_opened N Fresh F G f nf h = agree_with N F G f [] [] h refl
 agree_opened N Over F G f nf h = agree_with N F G f (bytes_of (F f)) (bytes_of (G f)) h (ap bytes_of (h.at f nf))
 
-pub alike_into : (N : Name → Type 0) (f : Name) (b c : Bytes) (v w : Value) → b ≡ c → Alike N v w → Alike N (into_value f b v) (into_value f c w)
+pub alike_into : (N : Name → Type 0) (f : Name) (b c : Bytes) (v w : Value) {m k : Names} → b ≡ c → Alike N v w m k → Alike N (into_value f b v) (into_value f c w) m k
 alike_into N f b c v w e a = record { out = refl; rest = a.rest; files = agree_with N v.files w.files f b c a.files e; loose = a.loose; soft = a.soft; met = a.met }
 
 pub agree_patched : (N : Name → Type 0) (F G : FileMap) (f : Name) (at : Position) (o o' : Bytes) → Agree N F G → o ≡ o' → Agree N (patched F f at o) (patched G f at o')
 agree_patched N F G f at o o' h e = record { at = λ n hn t. if bytes_eq n f then patch (h.at n hn t) at (e t) else h.at n hn t }
 
-pub alike_patch : (N : Name → Type 0) (f : Name) (at : Position) (v w : Value) → Alike N v w → Alike N (patch_value f at v) (patch_value f at w)
+pub alike_patch : (N : Name → Type 0) (f : Name) (at : Position) (v w : Value) {m k : Names} → Alike N v w m k → Alike N (patch_value f at v) (patch_value f at w) m k
 alike_patch N f at v w a = record { out = refl; rest = a.rest; files = agree_patched N v.files w.files f at v.out w.out a.files a.out; loose = a.loose; soft = a.soft; met = a.met }
 
 pub found_same : (f : Name) (F G : FileMap) → F f ≡ G f → found F f ≡ found G f
 found_same f F G e = λ t. if is_openable f then e t else None
 
-pub alike_input : (N : Name → Type 0) (b c : Option Bytes) (i : Bytes) (F G : FileMap) (k l : Bytes → Value) → b ≡ c → Agree N F G → ((x : Bytes) → Alike N (k x) (l x)) → Alike N (input_value b i F k) (input_value c i G l)
-alike_input N b c i F G k l e h a = subst (λ x. Alike N (input_value b i F k) (input_value x i G l)) e (go b)
+pub alike_input : (N : Name → Type 0) (b c : Option Bytes) (i : Bytes) (F G : FileMap) (k l : Bytes → Value) (m n : Bytes → Names) → b ≡ c → Agree N F G → ((x : Bytes) → Alike N (k x) (l x) (m x) (n x)) → Alike N (input_value b i F k) (input_value c i G l) (input_met b m) (input_met c n)
+alike_input N b c i F G k l m n e h a = subst (λ x. Alike N (input_value b i F k) (input_value x i G l) (input_met b m) (input_met x n)) e (go b)
   where
-    go : (b : Option Bytes) → Alike N (input_value b i F k) (input_value b i G l)
+    go : (b : Option Bytes) → Alike N (input_value b i F k) (input_value b i G l) (input_met b m) (input_met b n)
     go None = alike_nothing N i F G h
     go (Some b) = alike_from N i (k b) (l b) (a b)
 
-pub alike_output : (N : Name → Type 0) (t : Bool) (i : Bytes) (F G : FileMap) (v w : Value) → Agree N F G → Alike N v w → Alike N (output_value t i F v) (output_value t i G w)
+pub alike_output : (N : Name → Type 0) (t : Bool) (i : Bytes) (F G : FileMap) (v w : Value) {m k : Names} → Agree N F G → Alike N v w m k → Alike N (output_value t i F v) (output_value t i G w) (if t then m else no_names) (if t then k else no_names)
 alike_output N false i F G v w h a = alike_nothing N i F G h
 alike_output N true i F G v w h a = a
 

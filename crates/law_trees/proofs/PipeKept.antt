@@ -8,7 +8,7 @@ use Rattle.meaning_model.specs.Meaning.{meaning}
 use Rattle.program_model.specs.Alone.{to_out}
 use Rattle.tree_model.specs.Residual.{Residual, running, seq, piped, from, left_names, left_writes, left_uses, keeps_0, keeps_1}
 use Rattle.tree_model.specs.Step.{Move, Choice, here, on_left, on_right, left_move, step}
-use Rattle.tree_model.specs.Final.{piped_value, final}
+use Rattle.tree_model.specs.Final.{piped_value, final, pipe_met, left_met}
 use Rattle.tree_model.specs.Tidy.{IsTidy}
 use Rattle.law_trees.proofs.Bools.{back as back_to}
 use Rattle.law_trees.proofs.Effects.{act_lost}
@@ -18,10 +18,10 @@ use Rattle.law_trees.proofs.Smaller.{smaller, refused_closed}
 use Rattle.law_trees.proofs.StepFrame.{named, step_frame, step_only, step_unused}
 use Rattle.law_trees.proofs.StepTidy.{step_tidy}
 use Rattle.law_trees.proofs.Unused.{closed_0, free, soft}
-use Rattle.law_trees.proofs.Values.{Agree, Alike, AlikeMove, Keeps, alike_then}
+use Rattle.law_trees.proofs.Values.{Agree, Alike, AlikeMove, Keeps, KeepsLeft, alike_then}
 use Rattle.mem_files.specs.Name.{Name, Bytes}
 use Rattle.mem_files.specs.Files.{FileMap, bytes_of}
-use Rattle.prog_parts.specs.NameSets.{Names}
+use Rattle.prog_parts.specs.NameSets.{Names, both}
 use Rattle.script_load.specs.declared.profile.Profile.{Profile}
 use Rattle.meaning_model.specs.Value.{Value}
 use Rattle.meaning_model.proofs.Bools.{apart, not_right}
@@ -38,9 +38,9 @@ pipe_out : (b : Bool) (ws : Names) (us : Bool) (v w : Value) → (piped_value b 
 pipe_out false ws us v w = refl
 pipe_out true ws us v w = refl
 
-pub pipe_bad_right : (b : Bool) (ws : Names) (us : Bool) (v x : Value) (n : Name) → (piped_value b ws us v x).met n ≡ false → x.met n ≡ false
-pipe_bad_right false ws us v x n e = not_right (v.met n) (x.met n) e
-pipe_bad_right true ws us v x n e = e
+pub right_unmet : (b : Bool) (m k : Names) → ((n : Name) → pipe_met b m k n ≡ false) → (n : Name) → k n ≡ false
+right_unmet false m k e n = not_right (m n) (k n) (e n)
+right_unmet true m k e n = e n
 
 same_files : (X Y : Residual) (V V2 M1 : FileMap) (n : Name) → (left_writes X n ≡ true → left_names Y n ≡ false) → (left_writes Y n ≡ false → M1 n ≡ V n) → (left_writes Y n ≡ false → V n ≡ V2 n) → (left_writes X n ≡ false → M1 n ≡ V2 n) → M1 n ≡ V2 n
 same_files X Y V V2 M1 n h f g k = go (left_writes X n) refl
@@ -72,21 +72,22 @@ module _ (profile : Profile) where
   refused_out X (on_left c) cl en i t F h e = cc
   refused_out X (on_right c) cl en i t F h e = cc
 
-  left_kept : (X Y : Residual) (q : Bytes) (w : Bytes) (v v' : Value) (X' : Residual) → IsTidy Y v.files → Keeps w v v' → ((n : Name) → v.soft n ≡ true → left_names Y n ≡ false) → ((n : Name) → (piped_value false (left_writes X) (left_uses X) v (final profile Y (q ++ v.out) v.files)).met n ≡ false) → ((n : Name) → left_writes X n ≡ false → left_writes X' n ≡ false) → (left_uses X ≡ false → left_uses X' ≡ false) → Keeps [] (piped_value false (left_writes X) (left_uses X) v (final profile Y (q ++ v.out) v.files)) (piped_value false (left_writes X') (left_uses X') v' (final profile Y ((q ++ w) ++ v'.out) v'.files))
+  left_kept : (X Y : Residual) (q : Bytes) (w : Bytes) (v v' : Value) (X' : Residual) {m' : Names} → IsTidy Y v.files → Keeps w v v' m' → ((n : Name) → v.soft n ≡ true → left_names Y n ≡ false) → ((n : Name) → left_met profile Y (q ++ v.out) v.files n ≡ false) → ((n : Name) → left_writes X n ≡ false → left_writes X' n ≡ false) → (left_uses X ≡ false → left_uses X' ≡ false) → Keeps [] (piped_value false (left_writes X) (left_uses X) v (final profile Y (q ++ v.out) v.files)) (piped_value false (left_writes X') (left_uses X') v' (final profile Y ((q ++ w) ++ v'.out) v'.files)) (both m' (left_met profile Y ((q ++ w) ++ v'.out) v'.files))
   left_kept X Y q w v v' X' d k sn b lw lu =
       let a = frame profile (λ n. v.soft n ≡ false) Y (q ++ v.out) v.files v'.files d (λ n e. apart (v.soft n) (left_names Y n) (sn n) e) k.files in
       let e : q ++ v.out ≡ (q ++ w) ++ v'.out = ap (λ x. q ++ x) k.out ∙ sym (append_assoc q w v'.out) in
-      keeps_left (left_writes X) (left_writes X') (left_uses X) (left_uses X') w v v' _ _ k b lw lu (alike_then (λ n. v.soft n ≡ false) (λ j. final profile Y j) (q ++ v.out) ((q ++ w) ++ v'.out) v.files v'.files e a)
+      keeps_left (left_writes X) (left_writes X') (left_uses X) (left_uses X') w v v' _ _ k b lw lu (alike_then (λ n. v.soft n ≡ false) (final profile Y) (left_met profile Y) (q ++ v.out) ((q ++ w) ++ v'.out) v.files v'.files e a)
 
-  pub lost_kept : (b : Bool) (X X' Y : Residual) (q q' : Bytes) (v v' : Value) → IsTidy Y v.files → keeps_0 Y ≡ false → ((n : Name) → left_writes X n ≡ true → left_names Y n ≡ false) → ((n : Name) → (piped_value b (left_writes X) (left_uses X) v (final profile Y (q ++ v.out) v.files)).met n ≡ false) → ((n : Name) → left_writes X n ≡ false → left_writes X' n ≡ false) → (left_uses X ≡ false → left_uses X' ≡ false) → (b ≡ false → is_empty v.out ≡ false) → (left_uses X ≡ false → v.rest ≡ v'.rest) → Agree (λ n. left_writes X n ≡ false) v.files v'.files → Keeps [] (piped_value b (left_writes X) (left_uses X) v (final profile Y (q ++ v.out) v.files)) (piped_value true (left_writes X') (left_uses X') v' (final profile Y (q' ++ v'.out) v'.files))
+  pub lost_kept : (b : Bool) (X X' Y : Residual) (q q' : Bytes) (v v' : Value) → IsTidy Y v.files → keeps_0 Y ≡ false → ((n : Name) → left_writes X n ≡ true → left_names Y n ≡ false) → ((n : Name) → left_met profile Y (q ++ v.out) v.files n ≡ false) → ((n : Name) → left_writes X n ≡ false → left_writes X' n ≡ false) → (left_uses X ≡ false → left_uses X' ≡ false) → (b ≡ false → is_empty v.out ≡ false) → (left_uses X ≡ false → v.rest ≡ v'.rest) → Agree (λ n. left_writes X n ≡ false) v.files v'.files → Keeps [] (piped_value b (left_writes X) (left_uses X) v (final profile Y (q ++ v.out) v.files)) (piped_value true (left_writes X') (left_uses X') v' (final profile Y (q' ++ v'.out) v'.files)) (left_met profile Y (q' ++ v'.out) v'.files)
   lost_kept b X X' Y q q' v v' d c h bad lw lu out rest files =
       let j = q ++ v.out in
       let a = frame profile (λ n. left_writes X n ≡ false) Y j v.files v'.files d (λ n e. apart (left_writes X n) (left_names Y n) (h n) e) files in
-      let p = (closed_0 profile Y j (q' ++ v'.out) v'.files c).same in
+      let g = closed_0 profile Y j (q' ++ v'.out) v'.files c in
+      let p = g.same in
       let r : (final profile Y j v.files).rest ≡ j = ap (λ x. x.rest) (closed_0 profile Y j j v.files c).same in
       keeps_lost b (left_writes X) (left_writes X') (left_uses X) (left_uses X') v v' (final profile Y j v.files) (final profile Y (q' ++ v'.out) v'.files) bad lw lu
       (λ e. or_left (not (is_empty (final profile Y j v.files).rest)) (final profile Y j v.files).loose (ap (λ z. not (is_empty z)) r ∙ ap not (some_behind q v.out (out e)))) rest
-      (a.out ∙ ap (λ x. x.out) p) (record { at = λ n e. a.files.at n e ∙ ap (λ x. x.files n) p }) (a.soft ∙ ap (λ x. x.soft) p) (a.met ∙ ap (λ x. x.met) p)
+      (a.out ∙ ap (λ x. x.out) p) (record { at = λ n e. a.files.at n e ∙ ap (λ x. x.files n) p }) (a.soft ∙ ap (λ x. x.soft) p) (a.met ∙ g.met)
 
   pub rest_kept : (X : Residual) (c : Choice) (cl en : Bool) (i t : Bytes) (F : FileMap) → IsTidy X F → left_uses X ≡ false → (final profile X (i ++ t) F).rest ≡ (final profile (step profile X c cl en i F).next (drop (step profile X c cl en i F).took i ++ t) (step profile X c cl en i F).files).rest
   rest_kept X c cl en i t F d e =
@@ -100,7 +101,7 @@ module _ (profile : Profile) where
         only profile X j F n d e ∙ sym (step_only profile X c cl en i F n d e) ∙ sym (only profile (step profile X c cl en i F).next k (step profile X c cl en i F).files n (step_tidy profile X c cl en i F d) ((smaller profile X c cl en i F d).writes n e));
   }
 
-  pub left_step : (X : Residual) (q : Bytes) (Y : Residual) (c : Choice) (en : Bool) (i t : Bytes) (F : FileMap) → IsTidy (piped false X q Y) F → ((n : Name) → (final profile (piped false X q Y) (i ++ t) F).met n ≡ false) → ((step profile X c (not (keeps_0 Y)) en i F).refused ≡ false → Keeps (step profile X c (not (keeps_0 Y)) en i F).wrote (final profile X (i ++ t) F) (final profile (step profile X c (not (keeps_0 Y)) en i F).next (drop (step profile X c (not (keeps_0 Y)) en i F).took i ++ t) (step profile X c (not (keeps_0 Y)) en i F).files)) → Keeps [] (final profile (piped false X q Y) (i ++ t) F) (final profile (left_move false q Y (step profile X c (not (keeps_0 Y)) en i F)).next (drop (step profile X c (not (keeps_0 Y)) en i F).took i ++ t) (step profile X c (not (keeps_0 Y)) en i F).files)
+  pub left_step : (X : Residual) (q : Bytes) (Y : Residual) (c : Choice) (en : Bool) (i t : Bytes) (F : FileMap) → IsTidy (piped false X q Y) F → ((n : Name) → left_met profile Y (q ++ (final profile X (i ++ t) F).out) (final profile X (i ++ t) F).files n ≡ false) → ((step profile X c (not (keeps_0 Y)) en i F).refused ≡ false → KeepsLeft profile (step profile X c (not (keeps_0 Y)) en i F).wrote X (i ++ t) F (step profile X c (not (keeps_0 Y)) en i F).next (drop (step profile X c (not (keeps_0 Y)) en i F).took i ++ t) (step profile X c (not (keeps_0 Y)) en i F).files) → KeepsLeft profile [] (piped false X q Y) (i ++ t) F (left_move false q Y (step profile X c (not (keeps_0 Y)) en i F)).next (drop (step profile X c (not (keeps_0 Y)) en i F).took i ++ t) (step profile X c (not (keeps_0 Y)) en i F).files
   left_step X q Y c en i t F h b k = go m.refused refl
     where
       m : Move Residual
@@ -116,7 +117,7 @@ module _ (profile : Profile) where
       d = right_tidy profile false X q Y (i ++ t) F h
 
       Goal : Bool → Type 0
-      Goal r = Keeps [] (final profile (piped false X q Y) (i ++ t) F) (piped_value r (left_writes m.next) (left_uses m.next) v' (final profile Y ((q ++ m.wrote) ++ v'.out) v'.files))
+      Goal r = Keeps [] (final profile (piped false X q Y) (i ++ t) F) (piped_value r (left_writes m.next) (left_uses m.next) v' (final profile Y ((q ++ m.wrote) ++ v'.out) v'.files)) (pipe_met r (left_met profile m.next (drop m.took i ++ t) m.files) (left_met profile Y ((q ++ m.wrote) ++ v'.out) v'.files))
 
       go : (r : Bool) → m.refused ≡ r → Goal m.refused
       go false e =
@@ -128,7 +129,7 @@ module _ (profile : Profile) where
           subst Goal (sym e) (lost_kept false X m.next Y q (q ++ m.wrote) v v' d (not-true (keeps_0 Y) (refused_closed profile X c z en i F e)) h.2 b s.writes s.uses (λ g. refused_out X c z en i t F h.0 e) (rest_kept X c z en i t F h.0) (files_kept X c z en i (i ++ t) (drop m.took i ++ t) F h.0))
 
   -- what the left side gives after a step of the right side, and what this step makes of the files that the left side leaves
-  pub right_alike : (l : Bool) (X : Residual) (q : Bytes) (Y : Residual) (c : Choice) (cl : Bool) (j : Bytes) (F : FileMap) → IsTidy (piped l X q Y) F → Alike (λ n. left_writes Y n ≡ false) (final profile X j F) (final profile X j (step profile Y c cl (not (keeps_1 X)) q F).files)
+  pub right_alike : (l : Bool) (X : Residual) (q : Bytes) (Y : Residual) (c : Choice) (cl : Bool) (j : Bytes) (F : FileMap) → IsTidy (piped l X q Y) F → Alike (λ n. left_writes Y n ≡ false) (final profile X j F) (final profile X j (step profile Y c cl (not (keeps_1 X)) q F).files) (left_met profile X j F) (left_met profile X j (step profile Y c cl (not (keeps_1 X)) q F).files)
   right_alike l X q Y c cl j F h =
       frame profile (λ n. left_writes Y n ≡ false) X j F (step profile Y c cl (not (keeps_1 X)) q F).files h.0 (λ n e. apart (left_writes Y n) (left_names X n) (h.3 n) e) (record { at = λ n e. sym (step_only profile Y c cl (not (keeps_1 X)) q F n h.1 e) })
 
@@ -143,7 +144,7 @@ module _ (profile : Profile) where
       let quiet = λ (n : Name) (e : left_writes X n ≡ false). sym (bs.files.at n e) ∙ sym (only profile X j m.files n dx e) in
       fun_ext (λ n. same_files X Y v.files (final profile X j m.files).files m1.files n (h.2 n) (λ e. step_only profile Y c cl z q v.files n (right_tidy profile l X q Y j F h) e) ((right_alike l X q Y c cl j F h).files.at n) (quiet n))
 
-  pub right_step : (l : Bool) (X : Residual) (q : Bytes) (Y : Residual) (c : Choice) (cl : Bool) (i t : Bytes) (F : FileMap) → IsTidy (piped l X q Y) F → ((n : Name) → (final profile (piped l X q Y) (i ++ t) F).met n ≡ false) → Keeps (step profile Y c cl (not (keeps_1 X)) q (final profile X (i ++ t) F).files).wrote (final profile Y (q ++ (final profile X (i ++ t) F).out) (final profile X (i ++ t) F).files) (final profile (step profile Y c cl (not (keeps_1 X)) q (final profile X (i ++ t) F).files).next (drop (step profile Y c cl (not (keeps_1 X)) q (final profile X (i ++ t) F).files).took q ++ (final profile X (i ++ t) F).out) (step profile Y c cl (not (keeps_1 X)) q (final profile X (i ++ t) F).files).files) → Keeps (step profile Y c cl (not (keeps_1 X)) q F).wrote (final profile (piped l X q Y) (i ++ t) F) (final profile (piped l X (drop (step profile Y c cl (not (keeps_1 X)) q F).took q) (step profile Y c cl (not (keeps_1 X)) q F).next) (i ++ t) (step profile Y c cl (not (keeps_1 X)) q F).files)
+  pub right_step : (l : Bool) (X : Residual) (q : Bytes) (Y : Residual) (c : Choice) (cl : Bool) (i t : Bytes) (F : FileMap) → IsTidy (piped l X q Y) F → ((n : Name) → left_met profile (piped l X q Y) (i ++ t) F n ≡ false) → KeepsLeft profile (step profile Y c cl (not (keeps_1 X)) q (final profile X (i ++ t) F).files).wrote Y (q ++ (final profile X (i ++ t) F).out) (final profile X (i ++ t) F).files (step profile Y c cl (not (keeps_1 X)) q (final profile X (i ++ t) F).files).next (drop (step profile Y c cl (not (keeps_1 X)) q (final profile X (i ++ t) F).files).took q ++ (final profile X (i ++ t) F).out) (step profile Y c cl (not (keeps_1 X)) q (final profile X (i ++ t) F).files).files → KeepsLeft profile (step profile Y c cl (not (keeps_1 X)) q F).wrote (piped l X q Y) (i ++ t) F (piped l X (drop (step profile Y c cl (not (keeps_1 X)) q F).took q) (step profile Y c cl (not (keeps_1 X)) q F).next) (i ++ t) (step profile Y c cl (not (keeps_1 X)) q F).files
   right_step l X q Y c cl i t F h b k =
       let z = not (keeps_1 X) in
       let m = step profile Y c cl z q F in
@@ -155,6 +156,6 @@ module _ (profile : Profile) where
       let w = sym bs.wrote in
       let nx = sym bs.next in
       let tk = sym bs.took in
-      let k2 : Keeps m.wrote (final profile Y (q ++ v.out) v.files) (final profile m.next (drop m.took q ++ v2.out) v2.files) =
-      transport (λ z. Keeps (w z) (final profile Y (q ++ v.out) v.files) (final profile (nx z) (drop (tk z) q ++ a.out z) (fs z))) k in
-      keeps_right l (left_writes X) (left_uses X) m.wrote v v2 (final profile Y (q ++ v.out) v.files) (final profile m.next (drop m.took q ++ v2.out) v2.files) b a k2
+      let k2 : KeepsLeft profile m.wrote Y (q ++ v.out) v.files m.next (drop m.took q ++ v2.out) v2.files =
+      transport (λ z. KeepsLeft profile (w z) Y (q ++ v.out) v.files (nx z) (drop (tk z) q ++ a.out z) (fs z)) k in
+      keeps_right l (left_writes X) (left_uses X) m.wrote v v2 (final profile Y (q ++ v.out) v.files) (final profile m.next (drop m.took q ++ v2.out) v2.files) _ (left_met profile Y (q ++ v.out) v.files) b a k2

@@ -17,10 +17,11 @@ use Rattle.tree_model.specs.Step.{Move}
 use Rattle.tree_model.specs.Moving.{IsPlain, Does, Moves, is_done, goes, may_read, may_put, may_end_write}
 use Rattle.tree_model.specs.Runs.{Stage, Goes, Reaches, reached, goes_on}
 use Rattle.tree_model.specs.Tidy.{IsTidy}
+use Rattle.tree_model.specs.AsksItsOwn.{AsksItsOwn}
 use Rattle.law_trees.proofs.Chosen.{chosen}
 use Rattle.law_trees.proofs.Moving.{moves}
 use Rattle.law_trees.proofs.Smaller.{smaller}
-use Rattle.law_trees.proofs.StepFrame.{step_only}
+use Rattle.law_trees.proofs.StepFrame.{own_only, step_only}
 use Rattle.law_trees.proofs.StepTidy.{step_tidy}
 use Rattle.meaning_model.proofs.Bools.{not_left, not_right}
 
@@ -111,6 +112,19 @@ module _ (profile : Profile) where
   after meets_end s tidy = after_with [] s (refl, refl) tidy
   after (puts bytes) s tidy = after_with [] s tt tidy
   after refused s tidy = after_with [] s refl tidy
+
+  only_with : {X X' : Residual} {F G : FileMap} {l : Label} (i : Bytes) → Steps profile X F l X' G → IsMet l true true i → AsksItsOwn X → (n : Name) → left_writes X n ≡ false → G n ≡ F n
+  only_with {X} {X'} {F} {G} {l} i s met own n e =
+      let a = chosen profile true true i s met in
+      subst (λ (m : Move Residual). m.files n ≡ F n) a.1 (own_only profile X a.0 true true i F n own e)
+
+  -- a step by the rules of what asks its own changes only what may be written
+  pub rule_only : {X X' : Residual} {F G : FileMap} (l : Label) → Steps profile X F l X' G → AsksItsOwn X → (n : Name) → left_writes X n ≡ false → G n ≡ F n
+  rule_only silent s own = only_with [] s tt own
+  rule_only (takes bytes) s own = only_with bytes s ([], sym (append-nil bytes)) own
+  rule_only meets_end s own = only_with [] s (refl, refl) own
+  rule_only (puts bytes) s own = only_with [] s tt own
+  rule_only refused s own = only_with [] s refl own
 
   -- along a run
   abbrev pub IsSound : Stage → Type 0

@@ -11,14 +11,16 @@ use Rattle.mem_files.proofs.Overlays.{written_start, written_end, written_none, 
 use Rattle.conflict_check.specs.Names.{names, writes}
 use Rattle.script_load.specs.declared.profile.Profile.TheVariants.{Xv6, Append}
 use Rattle.meaning_model.specs.Inputs.{found}
+use Rattle.prog_parts.specs.NameSets.{no_names}
+use Rattle.meaning_model.specs.Met.{input_met, met_names}
 use Rattle.meaning_model.specs.Value.{from_value}
 use Rattle.meaning_model.specs.Meaning.{input_value, output_value, opened, over_end, at_end, written_value, meaning}
 use Rattle.law_programs.proofs.Keeps.{found_is}
-use Rattle.tree_model.specs.Residual.{Residual, done, from, into, Position, at_byte, at_file_end, byte_in, moved_on, left_names, left_writes}
+use Rattle.tree_model.specs.Residual.{Residual, done, unopened, from, into, Position, at_byte, at_file_end, byte_in, moved_on, left_names, left_writes}
 use Rattle.tree_model.specs.Begin.{over_start, start_at, open_from, open_into, opens_file}
 use Rattle.tree_model.specs.Rules.{patch, patched}
 use Rattle.tree_model.specs.Step.{from_end, into_end}
-use Rattle.tree_model.specs.Final.{patch_value, final}
+use Rattle.tree_model.specs.Final.{patch_value, final, left_met}
 use Rattle.tree_model.specs.Tidy.{HasShortCommands, IsTidyTree, IsTidy}
 use Rattle.law_trees.proofs.Bools.{not_both}
 use Rattle.law_trees.proofs.Frame.{tidy_agree, only, frame}
@@ -26,7 +28,7 @@ use Rattle.law_trees.proofs.Joins.{keeps_refl}
 use Rattle.law_trees.proofs.Parts.{patched_other}
 use Rattle.law_trees.proofs.StepFrame.{tree_named, named}
 use Rattle.law_trees.proofs.TreeFrame.{tree_only}
-use Rattle.law_trees.proofs.Values.{Alike, Keeps}
+use Rattle.law_trees.proofs.Values.{Alike, Keeps, KeepsLeft}
 use Rattle.std.specs.Str.{bytes_eq}
 use Rattle.std.proofs.lemmas.Bool.{false_from_ne_true, cond-false, cond-true}
 use Rattle.mem_files.specs.Name.{Name, Bytes}
@@ -73,7 +75,7 @@ module _ (profile : Profile) where
       let o : opened Over f F n ≡ Some (bytes_of (F f)) = cond-true (bytes_eq n f) (Some (bytes_of (F f))) (F n) e in
       ap Some (over_self profile (bytes_of (F f)) b) ∙ sym (ap (λ x. patch x (over_start profile) b) o)
 
-  open_kept : (m : Mode) (f : Name) (T : Tree) (i : Bytes) (F : FileMap) → IsOut m → HasShortCommands T → names T f ≡ false → ((n : Name) → (meaning profile T i (opened m f F)).met n ≡ false) → Keeps [] (written_value profile m f F (meaning profile T i (opened m f F))) (patch_value f (start_at profile m) (meaning profile T i (opened m f F)))
+  open_kept : (m : Mode) (f : Name) (T : Tree) (i : Bytes) (F : FileMap) → IsOut m → HasShortCommands T → names T f ≡ false → ((n : Name) → met_names profile T i (opened m f F) n ≡ false) → Keeps [] (written_value profile m f F (meaning profile T i (opened m f F))) (patch_value f (start_at profile m) (meaning profile T i (opened m f F))) (met_names profile T i (opened m f F))
   open_kept m f T i F out s nf b = record {
     out = refl;
     files = record { at = λ n e. go n (bytes_eq n f) refl };
@@ -94,7 +96,7 @@ module _ (profile : Profile) where
           let fs : u.files n ≡ opened m f F n = tree_only profile T i (opened m f F) n s un in
           cond-true (bytes_eq n f) (Some (at_end profile m (bytes_of (F f)) u.out)) (u.files n) e ∙ opened_self m F f n out e u.out ∙ ap (λ x. patch x (start_at profile m) u.out) (sym fs) ∙ sym (cond-true (bytes_eq n f) (patch (u.files n) (start_at profile m) u.out) (u.files n) e)
 
-  pub into_kept : (X : Residual) (f : Name) (at : Position) (w i j : Bytes) (F M : FileMap) (X' : Residual) → IsTidy X F → IsTidy X' M → left_names X f ≡ false → left_names X' f ≡ false → ((n : Name) → left_writes X n ≡ false → M n ≡ F n) → Keeps w (final profile X i F) (final profile X' j M) → Keeps [] (patch_value f at (final profile X i F)) (patch_value f (moved_on at (length w)) (final profile X' j (patched M f at w)))
+  pub into_kept : (X : Residual) (f : Name) (at : Position) (w i j : Bytes) (F M : FileMap) (X' : Residual) → IsTidy X F → IsTidy X' M → left_names X f ≡ false → left_names X' f ≡ false → ((n : Name) → left_writes X n ≡ false → M n ≡ F n) → KeepsLeft profile w X i F X' j M → KeepsLeft profile [] (into f at X) i F (into f (moved_on at (length w)) X') j (patched M f at w)
   into_kept X f at w i j F M X' d d' nf nf' mf k = record {
     out = refl;
     files = record { at = λ n e. go n e (bytes_eq n f) refl };
@@ -119,7 +121,7 @@ module _ (profile : Profile) where
       unnamed : (n : Name) → left_names X' n ≡ true → bytes_eq n f ≡ false
       unnamed n e = false_from_ne_true (bytes_eq n f) (λ g. not_both (left_names X' f) (subst (λ x. left_names X' x ≡ true) (same_name n f g) e) nf')
 
-      a : Alike (λ n. bytes_eq n f ≡ false) (final profile X' j M) (final profile X' j (patched M f at w))
+      a : Alike (λ n. bytes_eq n f ≡ false) (final profile X' j M) (final profile X' j (patched M f at w)) (left_met profile X' j M) (left_met profile X' j (patched M f at w))
       a = frame profile (λ n. bytes_eq n f ≡ false) X' j M (patched M f at w) d' unnamed (record { at = λ n e. sym (patched_other M f n at w e) })
 
       d2 : IsTidy X' (patched M f at w)
@@ -137,26 +139,26 @@ module _ (profile : Profile) where
           let o : v.out ≡ w ++ v2.out = k.out ∙ ap (λ x. w ++ x) a.out in
           cond-true (bytes_eq n f) (patch (v.files n) at v.out) (v.files n) e ∙ (λ t. patch (first t) at (o t)) ∙ patch_twice (F n) at w v2.out ∙ ap (λ x. patch x (moved_on at (length w)) v2.out) (sym second) ∙ sym (cond-true (bytes_eq n f) (patch (v2.files n) (moved_on at (length w)) v2.out) (v2.files n) e)
 
-  pub from_ends : (f : Name) (at : ℕ) (X : Residual) (i : Bytes) (F : FileMap) → ((n : Name) → (final profile (from f at X) i F).met n ≡ false) → Keeps [] (final profile (from f at X) i F) (final profile (from_end f at X) i F)
+  pub from_ends : (f : Name) (at : ℕ) (X : Residual) (i : Bytes) (F : FileMap) → ((n : Name) → left_met profile (from f at X) i F n ≡ false) → KeepsLeft profile [] (from f at X) i F (from_end f at X) i F
   from_ends f at done i F b = keeps_refl _ b
   from_ends f at X i F b = keeps_refl _ b
 
-  pub into_ends : (f : Name) (at : Position) (X : Residual) (i : Bytes) (F : FileMap) → ((n : Name) → (final profile (into f at X) i F).met n ≡ false) → Keeps [] (final profile (into f at X) i F) (final profile (into_end f at X) i F)
+  pub into_ends : (f : Name) (at : Position) (X : Residual) (i : Bytes) (F : FileMap) → ((n : Name) → left_met profile (into f at X) i F n ≡ false) → KeepsLeft profile [] (into f at X) i F (into_end f at X) i F
   into_ends f at done i F b = record { out = refl; files = record { at = λ n e. cond_same (bytes_eq n f) (patch (F n) at []) (F n) (patch_none (F n) at) }; rest = λ e. refl; loose = λ e. refl; soft = λ n e. refl; met = λ n. refl }
   into_ends f at X i F b = keeps_refl _ b
 
-  input_kept : (x : Option Bytes) (f : Name) (T : Tree) (i : Bytes) (F : FileMap) → found F f ≡ x → ((n : Name) → (input_value x i F (λ b. meaning profile T b F)).met n ≡ false) → Keeps [] (input_value x i F (λ b. meaning profile T b F)) (final profile (open_from x f T F).next i (open_from x f T F).files)
+  input_kept : (x : Option Bytes) (f : Name) (T : Tree) (i : Bytes) (F : FileMap) → found F f ≡ x → ((n : Name) → input_met x (λ b. met_names profile T b F) n ≡ false) → Keeps [] (input_value x i F (λ b. meaning profile T b F)) (final profile (open_from x f T F).next i (open_from x f T F).files) (left_met profile (open_from x f T F).next i (open_from x f T F).files)
   input_kept None f T i F e b = keeps_refl _ b
   input_kept (Some y) f T i F e b =
-      let R : Bytes → Type 0 = λ z. Keeps [] (from_value i (meaning profile T y F)) (from_value i (meaning profile T (drop 0 z) F)) in
+      let R : Bytes → Type 0 = λ z. Keeps [] (from_value i (meaning profile T y F)) (from_value i (meaning profile T (drop 0 z) F)) (met_names profile T (drop 0 z) F) in
       subst R (sym (ap bytes_of (found_is F f y e))) (keeps_refl (from_value i (meaning profile T y F)) b)
 
-  output_kept : (o : Bool) (m : Mode) (f : Name) (T : Tree) (i : Bytes) (F : FileMap) → IsOut m → HasShortCommands T → names T f ≡ false → ((n : Name) → (output_value o i F (written_value profile m f F (meaning profile T i (opened m f F)))).met n ≡ false) → Keeps [] (output_value o i F (written_value profile m f F (meaning profile T i (opened m f F)))) (final profile (open_into profile o m f T F).next i (open_into profile o m f T F).files)
+  output_kept : (o : Bool) (m : Mode) (f : Name) (T : Tree) (i : Bytes) (F : FileMap) → IsOut m → HasShortCommands T → names T f ≡ false → ((n : Name) → (if o then met_names profile T i (opened m f F) else no_names) n ≡ false) → Keeps [] (output_value o i F (written_value profile m f F (meaning profile T i (opened m f F)))) (final profile (open_into profile o m f T F).next i (open_into profile o m f T F).files) (left_met profile (open_into profile o m f T F).next i (open_into profile o m f T F).files)
   output_kept false m f T i F out s nf b = keeps_refl _ b
   output_kept true m f T i F out s nf b = open_kept m f T i F out s nf b
 
   -- a redirection opens its file
-  pub opens_kept : (m : Mode) (f : Name) (T : Tree) (i : Bytes) (F : FileMap) → IsTidyTree (redir m f T) → ((n : Name) → (meaning profile (redir m f T) i F).met n ≡ false) → Keeps [] (meaning profile (redir m f T) i F) (final profile (opens_file profile m f T F).next i (opens_file profile m f T F).files)
+  pub opens_kept : (m : Mode) (f : Name) (T : Tree) (i : Bytes) (F : FileMap) → IsTidyTree (redir m f T) → ((n : Name) → met_names profile (redir m f T) i F n ≡ false) → KeepsLeft profile [] (unopened m f T) i F (opens_file profile m f T F).next i (opens_file profile m f T F).files
   opens_kept Input f T i F h b = input_kept (found F f) f T i F refl b
   opens_kept Fresh f T i F h b = output_kept (is_openable f) Fresh f T i F tt h.1 h.0.0 b
   opens_kept Over f T i F h b = output_kept (is_openable f) Over f T i F tt h.1 h.0.0 b

@@ -6,6 +6,7 @@ use Rattle.std.proofs.lemmas.Bool.{ne_eqb}
 use Rattle.std.proofs.lemmas.List.{length-take}
 use Rattle.mem_files.specs.Name.{Bytes}
 use Rattle.mem_files.specs.Files.{FileMap}
+use Rattle.prog_parts.specs.NameSets.{no_names}
 use Rattle.script_load.specs.declared.profile.Profile.{Profile}
 use Rattle.user_calls.specs.declared.calls.Call.{Call}
 use Rattle.user_calls.specs.declared.calls.Call.TheVariants.{Fork, Exec, Exit, Wait, MakePipe, Read, Write, OpenFile, Close, Dup}
@@ -28,16 +29,16 @@ use Rattle.tree_model.specs.Tidy.{IsTidy}
 use Rattle.law_trees.proofs.Acting.{waits_over, fits_over, run_calls}
 use Rattle.law_trees.proofs.Calls.{over, is_exit, is_read, is_write, takes_some, takes_end, may_reply, reply_over, same_after}
 use Rattle.law_trees.proofs.Running.{run_firm}
-use Rattle.law_trees.proofs.Values.{Keeps}
+use Rattle.law_trees.proofs.Values.{Keeps, KeepsLeft}
 
 module _ (profile : Profile) (run : Running) (F : FileMap) (tidy : IsTidy (running run) F) where
   -- its move over the first bytes of an input that has more
   abbrev Kept : Bytes → Bytes → Move (Option Running) → Type 0
-  Kept i more m = Keeps m.wrote (run_value run (i ++ more) F) (final profile (run_left m.next) (drop m.took i ++ more) m.files)
+  Kept i more m = KeepsLeft profile m.wrote (running run) (i ++ more) F (run_left m.next) (drop m.took i ++ more) m.files
 
   -- the call is answered
   answered : (reply : Reply) (own : List OwnFile) (j k : Bytes) (G : FileMap) → May run.turn.call reply (world_of run j F) → after_call run.turn.call reply (world_of run j F) ≡ over own k G →
-      Keeps (drop run.put (to_out run.turn.call)) (run_value run j F) (run_value (record { turn = turn run.turn.next reply; own = own; put = 0 }) k G)
+      Keeps (drop run.put (to_out run.turn.call)) (run_value run j F) (run_value (record { turn = turn run.turn.next reply; own = own; put = 0 }) k G) no_names
   answered reply own j k G may is =
       let kept : still run.turn.next (world_of run j F) ≡ left_of (turn run.turn.next reply) 0 (over own k G) =
       call_kept run.turn.next run.turn.call reply (world_of run j F) (waits_over run j F tidy) (fits_over run j F tidy) may ∙ ap (λ x. left_of (turn run.turn.next reply) 0 x) is in
@@ -48,21 +49,20 @@ module _ (profile : Profile) (run : Running) (F : FileMap) (tidy : IsTidy (runni
         rest = λ e. ap (λ v. v.rest) kept;
         loose = λ e. firm.loose;
         soft = λ n e. firm.soft n;
-        met = firm.met;
+        met = λ n. refl;
       }
 
   -- it waits on
   waits_on : (i more : Bytes) → Kept i more (record { wrote = []; refused = false; took = 0; next = Some run; files = F })
   waits_on i more =
-      let firm = run_firm run (i ++ more) F in
-      record { out = refl; files = record { at = λ n e. refl }; rest = λ e. refl; loose = λ e. e; soft = λ n e. e; met = firm.met }
+      record { out = refl; files = record { at = λ n e. refl }; rest = λ e. refl; loose = λ e. e; soft = λ n e. e; met = λ n. refl }
 
   no_bytes : (most : ℕ) → run.turn.call ≡ Read 0 most → drop run.put (to_out run.turn.call) ≡ []
   no_bytes most is = ap (λ c. drop run.put (to_out c)) is ∙ drop-nil run.put
 
-  read_bytes : (most : ℕ) (bytes j k : Bytes) → run.turn.call ≡ Read 0 most → Takes most j bytes → drop (length bytes) j ≡ k → Keeps [] (run_value run j F) (run_value (resumed run (Bytes' bytes)) k F)
+  read_bytes : (most : ℕ) (bytes j k : Bytes) → run.turn.call ≡ Read 0 most → Takes most j bytes → drop (length bytes) j ≡ k → Keeps [] (run_value run j F) (run_value (resumed run (Bytes' bytes)) k F) no_names
   read_bytes most bytes j k is takes cut =
-      subst (λ z. Keeps z (run_value run j F) (run_value (resumed run (Bytes' bytes)) k F)) (no_bytes most is)
+      subst (λ z. Keeps z (run_value run j F) (run_value (resumed run (Bytes' bytes)) k F) no_names) (no_bytes most is)
       (answered (Bytes' bytes) run.own j k F (subst (λ c. May c (Bytes' bytes) (world_of run j F)) (sym is) (bytes, refl, takes))
       (ap (λ c. after_call c (Bytes' bytes) (world_of run j F)) is ∙ ap (λ z. over run.own z F) cut))
 
@@ -82,17 +82,16 @@ module _ (profile : Profile) (run : Running) (F : FileMap) (tidy : IsTidy (runni
   out_of : (bytes : Bytes) → run.turn.call ≡ Write 1 bytes → drop run.put (to_out run.turn.call) ≡ drop run.put bytes
   out_of bytes is = ap (λ c. drop run.put (to_out c)) is
 
-  write_done : (bytes j : Bytes) → run.turn.call ≡ Write 1 bytes → Keeps (drop run.put bytes) (run_value run j F) (run_value (resumed run Done) j F)
+  write_done : (bytes j : Bytes) → run.turn.call ≡ Write 1 bytes → Keeps (drop run.put bytes) (run_value run j F) (run_value (resumed run Done) j F) no_names
   write_done bytes j is =
-      subst (λ z. Keeps z (run_value run j F) (run_value (resumed run Done) j F)) (out_of bytes is)
+      subst (λ z. Keeps z (run_value run j F) (run_value (resumed run Done) j F) no_names) (out_of bytes is)
       (answered Done run.own j j F (subst (λ c. May c Done (world_of run j F)) (sym is) refl) (ap (λ c. after_call c Done (world_of run j F)) is))
 
   kept_put : (bytes now later i more : Bytes) → run.turn.call ≡ Write 1 bytes → drop run.put bytes ≡ now ++ later → Kept i more (put_some run now later F)
   kept_put bytes now [] i more is parts =
-      subst (λ z. Keeps z (run_value run (i ++ more) F) (run_value (resumed run Done) (i ++ more) F)) (parts ∙ append-nil now) (write_done bytes (i ++ more) is)
+      subst (λ z. Keeps z (run_value run (i ++ more) F) (run_value (resumed run Done) (i ++ more) F) no_names) (parts ∙ append-nil now) (write_done bytes (i ++ more) is)
   kept_put bytes now (b ∷ later) i more is parts =
       let on : Running = record run { put = run.put + length now } in
-      let firm = run_firm on (i ++ more) F in
       let after : drop (run.put + length now) bytes ≡ b ∷ later = sym (drop-drop (length now) run.put bytes) ∙ ap (drop (length now)) parts ∙ drop-append_seam now (b ∷ later) in
       let rest = (still run.turn.next (world_of run (i ++ more) F)).out in
       let split : drop run.put (to_out run.turn.call) ≡ now ++ drop (run.put + length now) (to_out run.turn.call) =
@@ -103,12 +102,12 @@ module _ (profile : Profile) (run : Running) (F : FileMap) (tidy : IsTidy (runni
         rest = λ e. refl;
         loose = λ e. e;
         soft = λ n e. e;
-        met = firm.met;
+        met = λ n. refl;
       }
 
   kept_write : (bytes left : Bytes) (count : ℕ) (cl : Bool) (i more : Bytes) → run.turn.call ≡ Write 1 bytes → drop run.put bytes ≡ left → (write_output run left count cl F).refused ≡ false → Kept i more (write_output run left count cl F)
   kept_write bytes [] count cl i more is left r =
-      subst (λ z. Keeps z (run_value run (i ++ more) F) (run_value (resumed run Done) (i ++ more) F)) left (write_done bytes (i ++ more) is)
+      subst (λ z. Keeps z (run_value run (i ++ more) F) (run_value (resumed run Done) (i ++ more) F) no_names) left (write_done bytes (i ++ more) is)
   kept_write bytes (byte ∷ rest) zero true i more is left r = cc
   kept_write bytes (byte ∷ rest) zero false i more is left r = waits_on i more
   kept_write bytes (byte ∷ rest) (suc count) cl i more is left r =
@@ -136,7 +135,7 @@ module _ (profile : Profile) (run : Running) (F : FileMap) (tidy : IsTidy (runni
       let reply = answer run F in
       let may = subst (λ r. May call r (world_of run j F)) (reply_over call run.own j [] F kind) (may_reply call run.turn.next (world_of run j F) (run_calls run j F tidy) kind) in
       let same = same_after run.own [] j F call reply in
-      subst (λ z. Keeps z (run_value run j F) (run_value (replied run reply F) j (files_after run reply F))) (ap (drop run.put) (asks_no_out call kind) ∙ drop-nil run.put)
+      subst (λ z. Keeps z (run_value run j F) (run_value (replied run reply F) j (files_after run reply F)) no_names) (ap (drop run.put) (asks_no_out call kind) ∙ drop-nil run.put)
       (answered reply (replied run reply F).own j j (files_after run reply F) may (λ t. over (sym same.own t) (same.input kind t) (sym same.files t)))
 
   kept_exit : (i more : Bytes) → run.turn.call ≡ Exit → Kept i more (record { wrote = []; refused = false; took = 0; next = None; files = F })
@@ -145,7 +144,7 @@ module _ (profile : Profile) (run : Running) (F : FileMap) (tidy : IsTidy (runni
       let over_now = has_ended run.turn.next (world_of run (i ++ more) F) w in
       let whole : run_value run (i ++ more) F ≡ left_of (record { call = Exit; next = ended }) run.put (world_of run (i ++ more) F) =
       (λ t. left_of (record { call = is t; next = over_now t }) run.put (world_of run (i ++ more) F)) in
-      subst (λ v. Keeps [] v (final profile (run_left None) (i ++ more) F)) (sym whole)
+      subst (λ v. Keeps [] v (final profile (run_left None) (i ++ more) F) no_names) (sym whole)
       (record { out = ap (λ z. z ++ []) (drop-nil run.put); files = record { at = λ n e. refl }; rest = λ e. refl; loose = λ e. refl; soft = λ n e. refl; met = λ n. refl })
 
   pub act_kept : (count : ℕ) (cl en : Bool) (i more : Bytes) → (en ≡ true → more ≡ []) → (acts run count cl en i F).refused ≡ false → Kept i more (acts run count cl en i F)

@@ -6,13 +6,14 @@ use Rattle.std.proofs.lemmas.Bool.{or_from}
 use Rattle.mem_files.specs.Name.{Name, Bytes}
 use Rattle.mem_files.specs.Files.{FileMap, no_files}
 use Rattle.prog_parts.specs.declared.program.Program.{Program}
-use Rattle.prog_parts.specs.NameSets.{among}
+use Rattle.prog_parts.specs.NameSets.{Names, no_names, among}
 use Rattle.prog_parts.specs.Program.{program_of, program_uses_input}
 use Rattle.prog_parts.specs.Words.{by_program, files_read, files_written, words_use_input}
 use Rattle.conflict_check.specs.Names.{words_read, words_write}
 use Rattle.user_calls.specs.declared.calls.Call.TheVariants.{Exec}
 use Rattle.meaning_model.specs.Firm.{IsFirm}
 use Rattle.meaning_model.specs.Programs.{words_value, program_value}
+use Rattle.meaning_model.specs.Value.{Value}
 use Rattle.user_progs.specs.State.{begins}
 use Rattle.program_model.specs.Ahead.{still_opens, still_writes}
 use Rattle.program_model.specs.Alone.{to_out}
@@ -25,13 +26,13 @@ use Rattle.law_programs.proofs.Unused.{unused}
 use Rattle.script_load.specs.declared.profile.Profile.{Profile}
 use Rattle.tree_model.specs.Residual.{Running, world_of, alone, running, left_names, left_writes, left_uses}
 use Rattle.tree_model.specs.Begin.{run_left, begun, begun_words}
-use Rattle.tree_model.specs.Final.{run_value, final}
+use Rattle.tree_model.specs.Final.{run_value, final, left_met}
 use Rattle.tree_model.specs.Tidy.{IsShortCommand, IsTidy}
 use Rattle.law_trees.proofs.Acting.{waits_over}
 use Rattle.law_trees.proofs.Values.{Agree, Alike, alike_nothing}
 
 pub run_firm : (run : Running) (i : Bytes) (F : FileMap) → IsFirm (run_value run i F)
-run_firm run i F = let h = still_firm run.turn.next (world_of run i F) in record { loose = h.loose; soft = h.soft; met = h.met }
+run_firm run i F = let h = still_firm run.turn.next (world_of run i F) in record { loose = h.loose; soft = h.soft }
 
 -- which files a program depends on follows from its own files, whatever the input and the files hold
 depends_bare : (run : Running) (i : Bytes) (F : FileMap) (n : Name) → depends_on run.turn.next (world_of run i F) n ≡ left_names (running run) n
@@ -50,7 +51,7 @@ run_only run i F n tidy none =
     ap (λ v. v.files n) (still_at run i F F tidy (λ n e. refl))
     ∙ ap (λ (b : Bool). if b then (still run.turn.next (world_of run i F)).files n else F n) (changes_bare run i F n ∙ none)
 
-pub run_frame : (N : Name → Type 0) (run : Running) (i : Bytes) (F G : FileMap) → IsTidy (running run) F → ((n : Name) → left_names (running run) n ≡ true → N n) → Agree N F G → Alike N (run_value run i F) (run_value run i G)
+pub run_frame : (N : Name → Type 0) (run : Running) (i : Bytes) (F G : FileMap) → IsTidy (running run) F → ((n : Name) → left_names (running run) n ≡ true → N n) → Agree N F G → Alike N (run_value run i F) (run_value run i G) no_names no_names
 run_frame N run i F G tidy sub h =
     let same = still_at run i F G tidy (λ n e. h.at n (sub n e)) in
     let first = drop run.put (to_out run.turn.call) in
@@ -60,7 +61,7 @@ run_frame N run i F G tidy sub h =
       files = record { at = λ n e. only n (may_change run.turn.next (world_of run i F) n) refl e ∙ sym (ap (λ v. v.files n) same) };
       loose = sym (ap (λ v. v.loose) same);
       soft = sym (ap (λ v. v.soft) same);
-      met = sym (ap (λ v. v.met) same);
+      met = refl;
     }
   where
     only : (n : Name) (b : Bool) → may_change run.turn.next (world_of run i F) n ≡ b → N n →
@@ -76,13 +77,13 @@ pub run_named : (run : Running) (n : Name) → left_names (running run) n ≡ fa
 run_named run n e = depends_first run.turn.next (alone run no_files) n e
 
 -- a simple command as its program begins
-pub begin_value : (profile : Profile) (words : List Bytes) (i : Bytes) (F : FileMap) → words_value words i F ≡ final profile (run_left (begun_words words)) i F
-begin_value profile [] i F = refl
-begin_value profile (word ∷ arguments) i F = go (program_of word)
+pub begin_left : (profile : Profile) (words : List Bytes) (i : Bytes) (F : FileMap) (P : Value → Names → Type 0) → P (words_value words i F) no_names → P (final profile (run_left (begun_words words)) i F) (left_met profile (run_left (begun_words words)) i F)
+begin_left profile [] i F P h = h
+begin_left profile (word ∷ arguments) i F P h = go (program_of word) h
   where
-    go : (found : Option Program) → program_value found arguments i F ≡ final profile (run_left (begun found arguments)) i F
-    go None = refl
-    go (Some program) = refl
+    go : (found : Option Program) → P (program_value found arguments i F) no_names → P (final profile (run_left (begun found arguments)) i F) (left_met profile (run_left (begun found arguments)) i F)
+    go None h = h
+    go (Some program) h = h
 
 pub begin_tidy : (words : List Bytes) (F : FileMap) → IsShortCommand words → IsTidy (run_left (begun_words words)) F
 begin_tidy [] F short = tt
@@ -121,11 +122,11 @@ or_end : (b : Bool) → (b || false) ≡ true → b ≡ true
 or_end true e = refl
 or_end false e = e
 
-pub words_frame : (N : Name → Type 0) (words : List Bytes) (i : Bytes) (F G : FileMap) → IsShortCommand words → ((n : Name) → (words_read words n || words_write words n) ≡ true → N n) → Agree N F G → Alike N (words_value words i F) (words_value words i G)
+pub words_frame : (N : Name → Type 0) (words : List Bytes) (i : Bytes) (F G : FileMap) → IsShortCommand words → ((n : Name) → (words_read words n || words_write words n) ≡ true → N n) → Agree N F G → Alike N (words_value words i F) (words_value words i G) no_names no_names
 words_frame N [] i F G short sub agree = alike_nothing N i F G agree
 words_frame N (word ∷ arguments) i F G short sub agree = go (program_of word) sub
   where
-    go : (found : Option Program) → ((n : Name) → (among (by_program files_read [] found arguments) n || among (by_program files_written [] found arguments) n) ≡ true → N n) → Alike N (program_value found arguments i F) (program_value found arguments i G)
+    go : (found : Option Program) → ((n : Name) → (among (by_program files_read [] found arguments) n || among (by_program files_written [] found arguments) n) ≡ true → N n) → Alike N (program_value found arguments i F) (program_value found arguments i G) no_names no_names
     go None sub = alike_nothing N i F G agree
     go (Some program) sub =
         run_frame N (record { turn = record { call = Exec true; next = begins program arguments }; own = []; put = 0 }) i F G ((refl, short program), tt) (λ n e. sub n (or_end (still_opens (begins program arguments) n) e)) agree

@@ -1,6 +1,6 @@
 -- A step depends on the files that what is left names, changes those that it may write, and takes nothing of an input that it
 -- doesn't use.
-use Rattle.std.proofs.Common.{◌≡◌, ℕ, ◌+◌, Bool, true, false, [], ◌++◌, Option, Some, None, length, drop, refl, sym, ap, ◌∙◌, subst}
+use Rattle.std.proofs.Common.{◌≡◌, ℕ, zero, suc, ◌+◌, Bool, true, false, [], ◌++◌, Option, Some, None, length, drop, refl, sym, ap, ◌∙◌, subst}
 use Rattle.std.specs.Prelude.{◌||◌, not}
 use Rattle.std.specs.Str.{bytes_eq}
 use Rattle.std.proofs.lemmas.Bool.{or_left, or_right, or_from}
@@ -11,13 +11,19 @@ use Rattle.mem_files.specs.Name.{Name, Bytes, is_openable}
 use Rattle.mem_files.specs.Files.{FileMap, bytes_of, no_files}
 use Rattle.conflict_check.specs.Names.{words_read, words_write, names, writes, uses_input}
 use Rattle.script_load.specs.declared.profile.Profile.{Profile}
+use Rattle.user_calls.specs.declared.calls.Call.{Call}
+use Rattle.user_calls.specs.declared.calls.Call.TheVariants.{Fork, Exec, Exit, Wait, MakePipe, Read, Write, OpenFile, Close, Dup}
+use Rattle.user_progs.specs.State.{State}
+use Rattle.program_model.specs.Alone.{World}
+use Rattle.program_model.specs.Calls.{MayCall}
 use Rattle.meaning_model.specs.Inputs.{found}
-use Rattle.law_programs.proofs.Elsewhere.{depends_alike, changes_alike}
+use Rattle.law_programs.proofs.Elsewhere.{elsewhere, depends_alike, changes_alike}
 use Rattle.tree_model.specs.Residual.{alone, Residual, done, todo, running, seq, piped, unopened, from, into, moved_on, left_names, left_writes, left_uses, keeps_0, keeps_1}
 use Rattle.tree_model.specs.Begin.{run_left, unfolded, start_at, open_from, open_into, opens_file}
 use Rattle.tree_model.specs.Rules.{is_gap}
 use Rattle.tree_model.specs.Step.{Move, quiet, open_move, Choice, here, on_left, on_right, seq_end, piped_end, from_end, into_end, from_move, into_move, step}
 use Rattle.tree_model.specs.Tidy.{IsTidy}
+use Rattle.tree_model.specs.AsksItsOwn.{AsksItsOwn}
 use Rattle.law_trees.proofs.Acting.{run_calls}
 use Rattle.law_trees.proofs.CallFrame.{act_frame}
 use Rattle.law_trees.proofs.Effects.{act_only, act_unused}
@@ -45,6 +51,35 @@ named (piped b X q Y) n e = or_from (left_writes X n) (left_writes Y n) (named X
 named (unopened m f T) n e = tree_named (redir m f T) n e
 named (from f at X) n e = named X n (not_right (bytes_eq n f) (left_names X n) e)
 named (into f at X) n e = or_from (bytes_eq n f) (left_writes X n) (not_left (bytes_eq n f) (left_names X n) e) (named X n (not_right (bytes_eq n f) (left_names X n) e))
+
+-- what a program may call follows from its state and its open files
+pub may_elsewhere : (call : Call) (state : State) (w : World) (i : Bytes) (G : FileMap) → MayCall call state w → MayCall call state (elsewhere w i G)
+may_elsewhere Fork state w i G may = may
+may_elsewhere (Exec is_known) state w i G may = may
+may_elsewhere Exit state w i G may = may
+may_elsewhere Wait state w i G may = may
+may_elsewhere MakePipe state w i G may = may
+may_elsewhere (Read zero most) state w i G may = may
+may_elsewhere (Read (suc fd) most) state w i G may =
+    let own = may.2 in (may.0, may.1, record { own = own.own; held = own.held; mode = own.mode; named = depends_alike state w i G own.own.name ∙ own.named })
+may_elsewhere (Write zero bytes) state w i G may = may
+may_elsewhere (Write (suc zero) bytes) state w i G may = may
+may_elsewhere (Write (suc (suc zero)) bytes) state w i G may = may
+may_elsewhere (Write (suc (suc (suc fd))) bytes) state w i G may =
+    record { own = may.own; held = may.held; mode = may.mode; named = changes_alike state w i G may.own.name ∙ may.named }
+may_elsewhere (OpenFile name mode) state w i G may = may
+may_elsewhere (Close fd) state w i G may = may
+may_elsewhere (Dup fd) state w i G may = may
+
+pub tidy_asks : (X : Residual) (F : FileMap) → IsTidy X F → AsksItsOwn X
+tidy_asks done F d = tt
+tidy_asks (todo T) F d = tt
+tidy_asks (running run) F d = may_elsewhere run.turn.call run.turn.next (alone run F) [] no_files (run_calls run [] F d)
+tidy_asks (seq X T) F d = tidy_asks X F d.0
+tidy_asks (piped b X q Y) F d = (tidy_asks X F d.0, tidy_asks Y F d.1)
+tidy_asks (unopened m f T) F d = tt
+tidy_asks (from f at X) F d = tidy_asks X F d.0
+tidy_asks (into f at X) F d = tidy_asks X F d.0
 
 -- a step among other files that agree on the names
 alike_stay : (N : Name → Type 0) (X : Residual) (F G : FileMap) → Agree N F G → AlikeMove N (quiet X F) (quiet X G)
@@ -126,17 +161,20 @@ module _ (profile : Profile) where
   opens_only Fresh f T F n e = into_only (is_openable f) Fresh f T F n (not_left (bytes_eq n f) (writes T n) e)
   opens_only Over f T F n e = into_only (is_openable f) Over f T F n (not_left (bytes_eq n f) (writes T n) e)
 
-  pub step_only : (X : Residual) (c : Choice) (cl en : Bool) (i : Bytes) (F : FileMap) (n : Name) → IsTidy X F → left_writes X n ≡ false → (step profile X c cl en i F).files n ≡ F n
-  step_only (running run) (here k) cl en i F n d e = act_only run k cl en i F n (run_calls run [] F d) (sym (changes_alike run.turn.next (alone run F) [] no_files n) ∙ e)
-  step_only (seq X T) (on_left c) cl en i F n d e = step_only X c cl en i F n d.0 (not_left (left_writes X n) (writes T n) e)
-  step_only (piped b X q Y) (on_left c) cl en i F n d e = step_only X c (not (keeps_0 Y)) en i F n d.0 (not_left (left_writes X n) (left_writes Y n) e)
-  step_only (piped b X q Y) (on_right c) cl en i F n d e = step_only Y c cl (not (keeps_1 X)) q F n d.1 (not_right (left_writes X n) (left_writes Y n) e)
-  step_only (unopened m f T) c cl en i F n d e = opens_only m f T F n e
-  step_only (from f at X) (on_left c) cl en i F n d e = step_only X c cl true (drop at (bytes_of (F f))) F n d.0 e
-  step_only (into f at X) (on_left c) cl en i F n d e =
+  pub own_only : (X : Residual) (c : Choice) (cl en : Bool) (i : Bytes) (F : FileMap) (n : Name) → AsksItsOwn X → left_writes X n ≡ false → (step profile X c cl en i F).files n ≡ F n
+  own_only (running run) (here k) cl en i F n d e = act_only run k cl en i F n (may_elsewhere run.turn.call run.turn.next (alone run no_files) [] F d) (sym (changes_alike run.turn.next (alone run F) [] no_files n) ∙ e)
+  own_only (seq X T) (on_left c) cl en i F n d e = own_only X c cl en i F n d (not_left (left_writes X n) (writes T n) e)
+  own_only (piped b X q Y) (on_left c) cl en i F n d e = own_only X c (not (keeps_0 Y)) en i F n d.0 (not_left (left_writes X n) (left_writes Y n) e)
+  own_only (piped b X q Y) (on_right c) cl en i F n d e = own_only Y c cl (not (keeps_1 X)) q F n d.1 (not_right (left_writes X n) (left_writes Y n) e)
+  own_only (unopened m f T) c cl en i F n d e = opens_only m f T F n e
+  own_only (from f at X) (on_left c) cl en i F n d e = own_only X c cl true (drop at (bytes_of (F f))) F n d e
+  own_only (into f at X) (on_left c) cl en i F n d e =
       let m = step profile X c (is_gap (F f) at) en i F in
-      patched_other m.files f n at m.wrote (not_left (bytes_eq n f) (left_writes X n) e) ∙ step_only X c (is_gap (F f) at) en i F n d.0 (not_right (bytes_eq n f) (left_writes X n) e)
-  step_only X c cl en i F n d e = refl
+      patched_other m.files f n at m.wrote (not_left (bytes_eq n f) (left_writes X n) e) ∙ own_only X c (is_gap (F f) at) en i F n d (not_right (bytes_eq n f) (left_writes X n) e)
+  own_only X c cl en i F n d e = refl
+
+  pub step_only : (X : Residual) (c : Choice) (cl en : Bool) (i : Bytes) (F : FileMap) (n : Name) → IsTidy X F → left_writes X n ≡ false → (step profile X c cl en i F).files n ≡ F n
+  step_only X c cl en i F n d e = own_only X c cl en i F n (tidy_asks X F d) e
 
   -- what it takes of the input
   pub step_unused : (X : Residual) (c : Choice) (cl en : Bool) (i : Bytes) (F : FileMap) → IsTidy X F → left_uses X ≡ false → (step profile X c cl en i F).took ≡ 0

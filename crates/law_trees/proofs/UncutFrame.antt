@@ -10,19 +10,20 @@ use Rattle.mem_files.specs.Files.{FileMap, bytes_of}
 use Rattle.prog_parts.specs.Program.{is_empty}
 use Rattle.conflict_check.specs.Names.{names, uses_input}
 use Rattle.script_load.specs.declared.profile.Profile.{Profile}
-use Rattle.meaning_model.specs.Firm.{IsFirm}
+use Rattle.prog_parts.specs.NameSets.{Names}
+use Rattle.meaning_model.specs.Met.{met_names}
 use Rattle.meaning_model.specs.Inputs.{found}
 use Rattle.meaning_model.specs.Meaning.{meaning, opened}
 use Rattle.meaning_model.specs.Value.{Value, is_cut}
 use Rattle.tree_model.specs.Residual.{Residual, done, todo, running, seq, piped, unopened, from, into, left_names, left_writes, left_uses}
-use Rattle.tree_model.specs.Final.{final}
+use Rattle.tree_model.specs.Final.{final, left_met}
 use Rattle.tree_model.specs.Tidy.{HasShortCommands, IsTidy}
 use Rattle.tree_model.specs.Uncut.{IsUncut}
 use Rattle.law_trees.proofs.Frame.{right_tidy, frame}
 use Rattle.law_trees.proofs.Parts.{agree_opened, found_same, named_self}
 use Rattle.law_trees.proofs.Running.{run_firm}
 use Rattle.law_trees.proofs.TreeFrame.{tree_frame}
-use Rattle.law_trees.proofs.Uncut.{firm_nothing, firm_seq, firm_pipe, uncut_firm}
+use Rattle.law_trees.proofs.Uncut.{StandsFirm, of_firm, firm_nothing, firm_seq, firm_pipe, uncut_firm}
 use Rattle.law_trees.proofs.Values.{Agree, Alike, alike_then}
 
 -- no pipe of what is left lost a write, and none will be cut
@@ -40,20 +41,20 @@ IsUncutLeft profile (unopened mode file body) input F = IsUncut profile (redir m
 IsUncutLeft profile (from file at X) input F = IsUncutLeft profile X (drop at (bytes_of (F file))) F
 IsUncutLeft profile (into file at X) input F = IsUncutLeft profile X input F
 
-cut_same : (N : Name → Type 0) (v w : Value) → Alike N v w → is_cut v ≡ false → is_cut w ≡ false
+cut_same : (N : Name → Type 0) (v w : Value) {m k : Names} → Alike N v w m k → is_cut v ≡ false → is_cut w ≡ false
 cut_same N v w a e = sym (λ t. not (is_empty (a.rest t)) || a.loose t) ∙ e
 
 module _ (profile : Profile) where
-  pub left_firm : (X : Residual) (i : Bytes) (F : FileMap) → IsUncutLeft profile X i F → IsFirm (final profile X i F)
+  pub left_firm : (X : Residual) (i : Bytes) (F : FileMap) → IsUncutLeft profile X i F → StandsFirm (final profile X i F) (left_met profile X i F)
   left_firm done i F h = firm_nothing i F
   left_firm (todo T) i F h = uncut_firm profile T i F h
-  left_firm (running run) i F h = run_firm run i F
+  left_firm (running run) i F h = of_firm _ (run_firm run i F)
   left_firm (seq X T) i F h =
       let v = final profile X i F in
-      firm_seq (names T) (uses_input T) v (meaning profile T v.rest v.files) (left_firm X i F h.0) (uncut_firm profile T v.rest v.files h.1)
+      firm_seq (names T) (uses_input T) v (meaning profile T v.rest v.files) _ _ (left_firm X i F h.0) (uncut_firm profile T v.rest v.files h.1)
   left_firm (piped false X q Y) i F h =
       let v = final profile X i F in
-      firm_pipe (left_writes X) (left_uses X) v (final profile Y (q ++ v.out) v.files) h.3 (left_firm X i F h.1) (left_firm Y (q ++ v.out) v.files h.2)
+      firm_pipe (left_writes X) (left_uses X) v (final profile Y (q ++ v.out) v.files) _ _ h.3 (left_firm X i F h.1) (left_firm Y (q ++ v.out) v.files h.2)
   left_firm (piped true X q Y) i F h = let never : true ≡ false = h.0 in cc
   left_firm (unopened m f T) i F h = uncut_firm profile (redir m f T) i F h
   left_firm (from f at X) i F h = let g = left_firm X (drop at (bytes_of (F f))) F h in record { loose = refl; soft = g.soft; met = g.met }
@@ -90,7 +91,7 @@ module _ (profile : Profile) where
       let b = tree_frame profile N B v.out v.files w.files s.1 (λ n e. sub n (or_right (names A n) (names B n) e)) a.files in (
         tree_uncut N A i F G s.0 (λ n e. sub n (or_left (names A n) (names B n) e)) g h.0,
         subst (λ j. IsUncut profile B j w.files) a.out (tree_uncut N B v.out v.files w.files s.1 (λ n e. sub n (or_right (names A n) (names B n) e)) a.files h.1),
-        cut_same N _ _ (alike_then N (meaning profile B) v.out w.out v.files w.files a.out b) h.2,
+        cut_same N _ _ (alike_then N (meaning profile B) (met_names profile B) v.out w.out v.files w.files a.out b) h.2,
       )
 
   pub left_uncut : (N : Name → Type 0) (X : Residual) (i : Bytes) (F G : FileMap) → IsTidy X F → ((n : Name) → left_names X n ≡ true → N n) → Agree N F G → IsUncutLeft profile X i F → IsUncutLeft profile X i G
@@ -114,7 +115,7 @@ module _ (profile : Profile) where
         h.0,
         left_uncut N X i F G d.0 (λ n e. sub n (or_left (left_names X n) (left_names Y n) e)) g h.1,
         subst (λ o. IsUncutLeft profile Y (q ++ o) w.files) a.out (left_uncut N Y (q ++ v.out) v.files w.files dy subY a.files h.2),
-        cut_same N _ _ (alike_then N (λ o. final profile Y (q ++ o)) v.out w.out v.files w.files a.out b) h.3,
+        cut_same N _ _ (alike_then N (λ o. final profile Y (q ++ o)) (λ o. left_met profile Y (q ++ o)) v.out w.out v.files w.files a.out b) h.3,
       )
   left_uncut N (unopened m f T) i F G d sub g h = tree_uncut N (redir m f T) i F G d.1 sub g h
   left_uncut N (from f at X) i F G d sub g h =

@@ -8,9 +8,11 @@ ghost use Rattle.script_load.specs.Line.{ScriptLine};
 ghost use Rattle.script_load.specs.Script.{IsScript};
 ghost use Rattle.meaning_model.specs.Firm.{IsFirm};
 ghost use Rattle.meaning_model.specs.Meaning.{meaning, script_meaning, script_tree};
+ghost use Rattle.meaning_model.specs.Met.{met_names};
 ghost use Rattle.meaning_model.specs.Settled.{IsSettledScript};
 ghost use Rattle.meaning_model.specs.Value.{Value};
 ghost use Rattle.sh_tree.specs.Tree.{Tree};
+ghost use Rattle.tree_model.specs.AsksItsOwn.{AsksItsOwn};
 ghost use Rattle.tree_model.specs.Moving.{IsPlain, Moves};
 ghost use Rattle.tree_model.specs.Residual.{Residual, done, left_names, left_writes, piped};
 ghost use Rattle.tree_model.specs.Rules.{IsMet, Label, Steps, is_refused, put_out, silent, taken};
@@ -26,16 +28,19 @@ pub fn each_rule_is_a_choice()
 {}
 
 /// The two sides of a pipe commute: a step of the left side, as an open, a read or a write of a file, and then one of the right
-/// side give the same as these two in the other order, since in a clear tree neither side writes a file that the other
-/// names.
+/// side give the same as these two in the other order, where neither side writes a file that the other names, as in a clear
+/// tree. Its commands may be of any length: only each program that runs must wait for a call that its state may make, as in
+/// what is tidy.
 pub fn steps_of_the_two_sides_commute()
-    ensures sides { (profile : Profile) (X NextX Y NextY : Residual) (F G H : FileMap) (left right : Label) → IsTidy X F → IsTidy Y F
+    ensures sides { (profile : Profile) (X NextX Y NextY : Residual) (F G H : FileMap) (left right : Label) → AsksItsOwn X → AsksItsOwn Y
         → ((name : Name) → left_writes X name ≡ true → left_names Y name ≡ false) → ((name : Name) → left_writes Y name ≡ true → left_names X name ≡ false)
         → Steps profile X F left NextX G → Steps profile Y G right NextY H
         → (K : FileMap) × Steps profile Y F right NextY K × Steps profile X K left NextX H }
-    ensures pipe { (profile : Profile) (lost : Bool) (bytes : Bytes) (X NextX Y NextY : Residual) (F G H : FileMap) → IsTidy (piped lost X bytes Y) F
+    ensures pipe { (profile : Profile) (lost : Bool) (bytes : Bytes) (X NextX Y NextY : Residual) (F G H : FileMap) → AsksItsOwn X → AsksItsOwn Y
+        → ((name : Name) → left_writes X name ≡ true → left_names Y name ≡ false) → ((name : Name) → left_writes Y name ≡ true → left_names X name ≡ false)
         → Steps profile X F silent NextX G → Steps profile Y G silent NextY H
         → (K : FileMap) × Steps profile (piped lost X bytes Y) F silent (piped lost X bytes NextY) K × Steps profile (piped lost X bytes NextY) K silent (piped lost NextX bytes NextY) H }
+    ensures tidy { (X : Residual) (F : FileMap) → IsTidy X F → AsksItsOwn X }
 {}
 
 /// A settled script begins on the way to its meaning, and each step stays on it: what is left is tidy, and what was written
@@ -83,10 +88,11 @@ pub fn a_run_goes_on_until_all_is_done()
 {}
 
 /// The plain case, where each right side of a pipe reads its input to the end, so that no pipe is cut: nothing is soft or loose,
-/// so a clear script without `&` is settled; in none of its runs a write is refused to the left side of a pipe; and each run
+/// and no name is met, so a clear script without `&` is settled; in none of its runs a write is refused to the left side of a pipe; and each run
 /// that is done gives the output, every file and the rest of the input of the recursive meaning.
 pub fn where_no_pipe_is_cut_nothing_depends_on_the_order()
     ensures firm { (profile : Profile) (tree : Tree) (input : Bytes) (F : FileMap) → IsUncut profile tree input F → IsFirm (meaning profile tree input F) }
+    ensures meets_nothing { (profile : Profile) (tree : Tree) (input : Bytes) (F : FileMap) → IsUncut profile tree input F → (name : Name) → met_names profile tree input F name ≡ false }
     ensures settled { (profile : Profile) (lines : List ScriptLine) (input : Bytes) (F : FileMap) → IsUncutScript profile lines input F → IsSettledScript profile lines input F }
     ensures unrefused { (profile : Profile) (lines : List ScriptLine) (input : Bytes) (F : FileMap) (last : Stage) → IsUncutScript profile lines input F → HasShortCommands (script_tree lines)
         → Reaches profile (first_stage (script_tree lines) input F) last → has_lost last.left ≡ false }

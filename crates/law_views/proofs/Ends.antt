@@ -3,7 +3,7 @@ use Rattle.std.proofs.Common.{◌≡◌, ℕ, zero, suc, ◌+◌, ◌≤◌, Boo
 use Rattle.std.specs.Prelude.{option_map, count_by}
 use Rattle.std.proofs.lemmas.Bool.{eq-eqb}
 use Rattle.byte_pipe.specs.PipeState.{PipeState}
-use Rattle.byte_pipe.specs.declared.TheConstants.{PIPE_SIZE}
+use Rattle.byte_pipe.specs.Limits.{pipe_size}
 use Rattle.fd_table.specs.declared.names.Object.{Object}
 use Rattle.fd_table.specs.declared.names.Object.TheVariants.{Input, Out, Diag, File, PipeRead, PipeWrite}
 use Rattle.fd_table.specs.Entries.{OpenFile, entry_at}
@@ -86,7 +86,7 @@ module _ (g : Names) (k : KernelState User) (settled : IsConsistent k) (shows : 
       let none : tally (write_end_open (pipe_of k.pipes id)) ≡ 0 = ap (λ o. tally (write_end_open o)) found ∙ ap tally off in
       absurd (omega (arith, some, none, settled.ends.writers id))
 
-  pub small : (id : ℕ) (p : PipeState) → pipe_of k.pipes id ≡ Some p → length p.bytes ≤ PIPE_SIZE
+  pub small : (id : ℕ) (p : PipeState) → pipe_of k.pipes id ≡ Some p → length p.bytes ≤ pipe_size
   small id p found = small_found k.pipes id p settled.rests.small found
 
   some_pipe : (end : Option PipeState → Bool) → end None ≡ false → (o : Option PipeState) → 1 ≤ tally (end o) → (p : PipeState) × (o ≡ Some p)

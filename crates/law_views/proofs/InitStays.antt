@@ -3,7 +3,7 @@ use Rattle.std.proofs.Common.{◌≡◌, ◌≢◌, ℕ, zero, suc, ◌+◌, [],
 use Rattle.std.proofs.lemmas.Bool.{both_ways, and_parts}
 use Rattle.std.proofs.Math.ListN.{set}
 use Rattle.std.specs.Prelude.{if◌then◌else◌, nat_lt, nat_le, ◌==◌, is_none, is_some, Result, Ok, Err, min}
-use Rattle.user_calls.specs.declared.block.TheConstants.{BLOCK_SIZE}
+use Rattle.user_calls.specs.Limits.{block_size}
 use Rattle.user_calls.specs.declared.calls.Call.{Call}
 use Rattle.user_calls.specs.declared.calls.Call.TheVariants.{Fork, Exec, Exit, Wait, MakePipe, Read, Write, OpenFile, Close, Dup}
 use Rattle.user_calls.specs.declared.calls.Mode.{Mode}
@@ -43,7 +43,7 @@ use Rattle.kernel_model.specs.Descriptors.{let_go, let_go_of, taken_away, closed
 use Rattle.kernel_model.specs.Processes.{fork_into, ended, wait_by}
 use Rattle.kernel_model.specs.Opening.{emptied_if, with_bytes, open_here, open_for_reading, open_for_writing, open_file}
 use Rattle.kernel_model.specs.Reading.{read_file, read_mode, read_by, read_pipe, read_object, read_entry, read_held}
-use Rattle.kernel_model.specs.Writing.{write_file, append_file, write_mode, write_by, write_pipe, write_object, write_entry, write_held}
+use Rattle.kernel_model.specs.Writing.{lacks_memory, write_file, append_file, write_mode, write_by, write_pipe, write_object, write_entry, write_held}
 use Rattle.kernel_model.specs.Events.{acted}
 use Rattle.law_kernel.specs.Sleeping.{IsFamily}
 use Rattle.sh_machine.specs.State.{User}
@@ -232,20 +232,20 @@ module _ (p : ℕ) (up : 0 ≢ p) where
     file_write k e name offset b refused (Some bytes) =
         let now = record k { files = with_entry k.files name (written bytes offset b); entries = advanced k.entries e (length b) } in
         let done : KernelState User = answered now p after Done in
-        let memory : KernelState User = if refused then refused_for k p after Memory else done in
+        let memory : KernelState User = if lacks_memory refused (length bytes) (offset + length b) then refused_for k p after Memory else done in
         let size : KernelState User = if nat_lt max_size (offset + length b) then refused_for k p after Size else memory in
         either k (nat_lt (length bytes) offset) (answered k p after Refused) size (answers k k _ refl)
         (either k (nat_lt max_size (offset + length b)) (refused_for k p after Size) memory (answers k k _ refl)
-        (either k refused (refused_for k p after Memory) done (answers k k _ refl) (answers k now _ refl)))
+        (either k (lacks_memory refused (length bytes) (offset + length b)) (refused_for k p after Memory) done (answers k k _ refl) (answers k now _ refl)))
 
     end_write : (k : KernelState User) (e : ℕ) (name b : Bytes) (refused : Bool) (o : Option Bytes) → Same k (append_file k p after e name b refused o)
     end_write k e name b refused None = answers k k _ refl
     end_write k e name b refused (Some bytes) =
         let now = record k { files = with_entry k.files name (bytes ++ b); entries = moved_to k.entries e (length bytes + length b) } in
         let done : KernelState User = answered now p after Done in
-        let memory : KernelState User = if refused then refused_for k p after Memory else done in
+        let memory : KernelState User = if lacks_memory refused (length bytes) (length bytes + length b) then refused_for k p after Memory else done in
         either k (nat_lt max_size (length bytes + length b)) (refused_for k p after Size) memory (answers k k _ refl)
-        (either k refused (refused_for k p after Memory) done (answers k k _ refl) (answers k now _ refl))
+        (either k (lacks_memory refused (length bytes) (length bytes + length b)) (refused_for k p after Memory) done (answers k k _ refl) (answers k now _ refl))
 
     mode_write : (k : KernelState User) (e : ℕ) (name : Bytes) (offset : ℕ) (b : Bytes) (refused : Bool) (mode : EntryMode) → Same k (write_mode k p after e name offset b refused mode)
     mode_write k e name offset b refused ForReading = answers k k _ refl
@@ -264,8 +264,8 @@ module _ (p : ℕ) (up : 0 ≢ p) where
 
     object_write : (k : KernelState User) (e offset : ℕ) (b : Bytes) (refused : Bool) (o : Object) → Same k (write_object k p after e offset b refused o)
     object_write k e offset b refused Input = answers k k _ refl
-    object_write k e offset b refused Out = either k refused (refused_for k p after Memory) (answered (record k { out = k.out ++ b }) p after Done) (answers k k _ refl) (answers k (record k { out = k.out ++ b }) _ refl)
-    object_write k e offset b refused Diag = either k refused (refused_for k p after Memory) (answered (record k { diag = k.diag ++ b }) p after Done) (answers k k _ refl) (answers k (record k { diag = k.diag ++ b }) _ refl)
+    object_write k e offset b refused Out = either k (lacks_memory refused (length k.out) (length k.out + length b)) (refused_for k p after Memory) (answered (record k { out = k.out ++ b }) p after Done) (answers k k _ refl) (answers k (record k { out = k.out ++ b }) _ refl)
+    object_write k e offset b refused Diag = either k (lacks_memory refused (length k.diag) (length k.diag + length b)) (refused_for k p after Memory) (answered (record k { diag = k.diag ++ b }) p after Done) (answers k k _ refl) (answers k (record k { diag = k.diag ++ b }) _ refl)
     object_write k e offset b refused (File name mode) = mode_write k e name offset b refused mode
     object_write k e offset b refused (PipeRead id) = answers k k _ refl
     object_write k e offset b refused (PipeWrite id) = pipe_write k id (put_of (at k.table p)) (drop (put_of (at k.table p)) b) (pipe_of k.pipes id)
@@ -298,7 +298,7 @@ module _ (p : ℕ) (up : 0 ≢ p) where
       call_same Exit refused = either k (p == 0) (answered k p after Refused) (ended p (closed_below k p DESCRIPTORS)) (answers k k _ refl) (exit_stays (closed_below k p DESCRIPTORS).table ∙ below_same k k DESCRIPTORS refl)
       call_same Wait refused = wait_same (wait_answer k.table p)
       call_same MakePipe refused = pipe_same k refused
-      call_same (Read fd n) refused = held_read k (min n BLOCK_SIZE) (entry_of (fds_at k p) fd)
+      call_same (Read fd n) refused = held_read k (min n block_size) (entry_of (fds_at k p) fd)
       call_same (Write fd b) refused = held_write k b refused (entry_of (fds_at k p) fd)
       call_same (OpenFile name mode) refused = open_call k name mode refused
       call_same (Close fd) refused = answers k (closed k p fd) _ (close_same k k fd (entry_of (fds_at k p) fd) refl)

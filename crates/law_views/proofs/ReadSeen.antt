@@ -9,7 +9,7 @@ use Rattle.mem_files.specs.Files.{files}
 use Rattle.byte_pipe.specs.declared.Take.{Take}
 use Rattle.byte_pipe.specs.declared.Take.TheVariants.{Got, Empty, End}
 use Rattle.byte_pipe.specs.PipeState.{PipeState, take_answer, after_take}
-use Rattle.user_calls.specs.declared.block.TheConstants.{BLOCK_SIZE}
+use Rattle.user_calls.specs.Limits.{block_size}
 use Rattle.user_calls.specs.declared.calls.Call.{Call}
 use Rattle.user_calls.specs.declared.calls.Call.TheVariants.{Read}
 use Rattle.user_calls.specs.declared.calls.Mode.{Mode}
@@ -225,10 +225,10 @@ module _ (g : Names) (k : KernelState User) (p : ℕ) (q : Process User) (up : p
       pub reads_call : (fd most : ℕ) → Called (read (counted k) p next fd most) (Read fd most)
       reads_call fd most =
           let same = during.fds_are g k p q up is alive shows in
-          let z = by_entry (min most BLOCK_SIZE) fd (entry_of q.fds fd) refl in
-          let R : Descriptors → KernelState User = λ d. read_held (counted k) p next (min most BLOCK_SIZE) (entry_of d fd) in
+          let z = by_entry (min most block_size) fd (entry_of q.fds fd) refl in
+          let R : Descriptors → KernelState User = λ d. read_held (counted k) p next (min most block_size) (entry_of d fd) in
           subst (λ d. Called (R d) (Read fd most)) (sym same) (record {
             names = z.names;
             shows = z.shown;
-            effect = subst (λ x. Rattle.process_model.specs.Effect.ReadsAt (view g k) (view z.names (R q.fds)) p parent (during.act g k p q) (fds_seen g.name q.fds) (min most BLOCK_SIZE) x) (sym (seen_fd g.name q.fds fd)) z.effect;
+            effect = subst (λ x. Rattle.process_model.specs.Effect.ReadsAt (view g k) (view z.names (R q.fds)) p parent (during.act g k p q) (fds_seen g.name q.fds) (min most block_size) x) (sym (seen_fd g.name q.fds fd)) z.effect;
           })

@@ -12,7 +12,7 @@ use Rattle.mem_files.specs.Listing.{with_entry, max_size}
 use Rattle.mem_files.proofs.Places.{files-with_entry}
 use Rattle.mem_files.proofs.Kept.{at_name}
 use Rattle.std.specs.Str.{bytes_eq}
-use Rattle.byte_pipe.specs.declared.TheConstants.{PIPE_SIZE}
+use Rattle.byte_pipe.specs.Limits.{pipe_size}
 use Rattle.byte_pipe.specs.declared.Put.{Put}
 use Rattle.byte_pipe.specs.declared.Put.TheVariants.{Took, Full as NoRoom, Closed}
 use Rattle.byte_pipe.specs.PipeState.{PipeState, room, put_answer, appended, after_put}
@@ -34,7 +34,7 @@ use Rattle.kernel_model.specs.KernelState.{KernelState, fds_at}
 use Rattle.kernel_model.specs.Pipes.{pipe_of, with_pipe}
 use Rattle.kernel_model.specs.Modes.{entry_mode}
 use Rattle.kernel_model.specs.Replies.{answered, refused_for, sleeps, wakes}
-use Rattle.kernel_model.specs.Writing.{write_file, append_file, write_mode, write_by, write_pipe, write_object, write_entry, write_held, write}
+use Rattle.kernel_model.specs.Writing.{lacks_memory, write_file, append_file, write_mode, write_by, write_pipe, write_object, write_entry, write_held, write}
 use Rattle.kernel_model.specs.Events.{counted}
 use Rattle.sh_machine.specs.State.{User}
 use Rattle.process_model.specs.Seen.{Entry, input, out, diag, reader, file, Place, Seen, fds_seen, live, Names, view}
@@ -65,7 +65,7 @@ module _ (g : Names) (k : KernelState User) (p : ℕ) (q : Process User) (up : p
 
   -- ---- to a pipe
 
-  module _ (b : Bytes) (id : ℕ) (pp : PipeState) (found : pipe_of k.pipes id ≡ Some pp) (few : length pp.bytes ≤ PIPE_SIZE) (nobody : pp.reader ≡ false → NoHolder (view g k) (reader id)) where
+  module _ (b : Bytes) (id : ℕ) (pp : PipeState) (found : pipe_of k.pipes id ≡ Some pp) (few : length pp.bytes ≤ pipe_size) (nobody : pp.reader ≡ false → NoHolder (view g k) (reader id)) where
     abbrev left : Bytes
     left = drop q.put b
 
@@ -84,14 +84,14 @@ module _ (g : Names) (k : KernelState User) (p : ℕ) (q : Process User) (up : p
     now_shows : Shows h k.entries (with_pipe k.pipes id now) (files k.files) (k.events + 1 + 1)
     now_shows = shows_bytes g k.entries k.pipes (files k.files) (k.events + 1 + 1) id pp now found (during.later_shows g k p q up is alive shows)
 
-    fits_by : (c : Bool) → length (pp.bytes ++ (if c then take (room pp) left else [])) ≤ PIPE_SIZE
+    fits_by : (c : Bool) → length (pp.bytes ++ (if c then take (room pp) left else [])) ≤ pipe_size
     fits_by true =
-        let size : PIPE_SIZE ≡ 512 = refl in
+        let size : pipe_size ≡ 512 = refl in
         omega (arith, size, few, length-append {A = ℕ} pp.bytes (take (512 - length pp.bytes) left), length-take {A = ℕ} (512 - length pp.bytes) left)
     fits_by false = omega (arith, few, length-append {A = ℕ} pp.bytes [])
 
-    fits : length (h.pipes id) ≤ PIPE_SIZE
-    fits = subst (λ (l : List ℕ). length l ≤ PIPE_SIZE) (sym (bytes_here g id now.bytes)) (fits_by pp.reader)
+    fits : length (h.pipes id) ≤ pipe_size
+    fits = subst (λ (l : List ℕ). length l ≤ pipe_size) (sym (bytes_here g id now.bytes)) (fits_by pp.reader)
 
     gives : (c : List ℕ) → appended pp left ≡ c → h.pipes id ≡ g.pipes id ++ c
     gives c e = bytes_here g id now.bytes ∙ ap (λ l. pp.bytes ++ l) e ∙ ap (λ l. l ++ c) (sym holds)
@@ -285,14 +285,14 @@ module _ (g : Names) (k : KernelState User) (p : ℕ) (q : Process User) (up : p
           by_memory inside false full = written_over inside
 
           by_size : nat_lt (length held) f.offset ≡ false → (c : Bool)
-              → (if c then refused_for (counted k) p next Size else (if refused then refused_for (counted k) p next Memory else answered (record (counted k) { files = with_entry k.files name (written held f.offset b); entries = advanced k.entries e (length b) }) p next Done)).full ≡ None
-              → Over' (if c then refused_for (counted k) p next Size else (if refused then refused_for (counted k) p next Memory else answered (record (counted k) { files = with_entry k.files name (written held f.offset b); entries = advanced k.entries e (length b) }) p next Done))
+              → (if c then refused_for (counted k) p next Size else (if lacks_memory refused (length held) (f.offset + length b) then refused_for (counted k) p next Memory else answered (record (counted k) { files = with_entry k.files name (written held f.offset b); entries = advanced k.entries e (length b) }) p next Done)).full ≡ None
+              → Over' (if c then refused_for (counted k) p next Size else (if lacks_memory refused (length held) (f.offset + length b) then refused_for (counted k) p next Memory else answered (record (counted k) { files = with_entry k.files name (written held f.offset b); entries = advanced k.entries e (length b) }) p next Done))
           by_size inside true full = absurd (is_marked k.full Size full)
-          by_size inside false full = by_memory inside refused full
+          by_size inside false full = by_memory inside (lacks_memory refused (length held) (f.offset + length b)) full
 
           by_gap : (c : Bool) → nat_lt (length held) f.offset ≡ c
-              → (if c then answered (counted k) p next Refused else (if nat_lt max_size (f.offset + length b) then refused_for (counted k) p next Size else (if refused then refused_for (counted k) p next Memory else answered (record (counted k) { files = with_entry k.files name (written held f.offset b); entries = advanced k.entries e (length b) }) p next Done))).full ≡ None
-              → Over' (if c then answered (counted k) p next Refused else (if nat_lt max_size (f.offset + length b) then refused_for (counted k) p next Size else (if refused then refused_for (counted k) p next Memory else answered (record (counted k) { files = with_entry k.files name (written held f.offset b); entries = advanced k.entries e (length b) }) p next Done)))
+              → (if c then answered (counted k) p next Refused else (if nat_lt max_size (f.offset + length b) then refused_for (counted k) p next Size else (if lacks_memory refused (length held) (f.offset + length b) then refused_for (counted k) p next Memory else answered (record (counted k) { files = with_entry k.files name (written held f.offset b); entries = advanced k.entries e (length b) }) p next Done))).full ≡ None
+              → Over' (if c then answered (counted k) p next Refused else (if nat_lt max_size (f.offset + length b) then refused_for (counted k) p next Size else (if lacks_memory refused (length held) (f.offset + length b) then refused_for (counted k) p next Memory else answered (record (counted k) { files = with_entry k.files name (written held f.offset b); entries = advanced k.entries e (length b) }) p next Done)))
           by_gap true gap full = leaves_gap gap
           by_gap false inside full = by_size inside (nat_lt max_size (f.offset + length b)) full
 
@@ -318,10 +318,10 @@ module _ (g : Names) (k : KernelState User) (p : ℕ) (q : Process User) (up : p
           by_memory true full = absurd (is_marked k.full Memory full)
           by_memory false full = written_behind
 
-          by_size : (c : Bool) → (if c then refused_for (counted k) p next Size else (if refused then refused_for (counted k) p next Memory else answered (record (counted k) { files = with_entry k.files name (held ++ b); entries = moved_to k.entries e (length held + length b) }) p next Done)).full ≡ None
-              → Behind' (if c then refused_for (counted k) p next Size else (if refused then refused_for (counted k) p next Memory else answered (record (counted k) { files = with_entry k.files name (held ++ b); entries = moved_to k.entries e (length held + length b) }) p next Done))
+          by_size : (c : Bool) → (if c then refused_for (counted k) p next Size else (if lacks_memory refused (length held) (length held + length b) then refused_for (counted k) p next Memory else answered (record (counted k) { files = with_entry k.files name (held ++ b); entries = moved_to k.entries e (length held + length b) }) p next Done)).full ≡ None
+              → Behind' (if c then refused_for (counted k) p next Size else (if lacks_memory refused (length held) (length held + length b) then refused_for (counted k) p next Memory else answered (record (counted k) { files = with_entry k.files name (held ++ b); entries = moved_to k.entries e (length held + length b) }) p next Done))
           by_size true full = absurd (is_marked k.full Size full)
-          by_size false full = by_memory refused full
+          by_size false full = by_memory (lacks_memory refused (length held) (length held + length b)) full
 
     -- the file is there
     module _ (there : is_some (files k.files name) ≡ true) (refused : Bool) where
@@ -352,7 +352,7 @@ module _ (g : Names) (k : KernelState User) (p : ℕ) (q : Process User) (up : p
 
   -- ---- to any object
 
-  module _ (small : (id : ℕ) (pp : PipeState) → pipe_of k.pipes id ≡ Some pp → length pp.bytes ≤ PIPE_SIZE) (ends : (id : ℕ) (pp : PipeState) → pipe_of k.pipes id ≡ Some pp → pp.reader ≡ false → NoHolder (view g k) (reader id)) (there_is : (e id : ℕ) (f : OpenFile) → entry_at k.entries e ≡ Some f → f.object ≡ PipeWrite id → (pp : PipeState) × (pipe_of k.pipes id ≡ Some pp)) (refused : Bool) where
+  module _ (small : (id : ℕ) (pp : PipeState) → pipe_of k.pipes id ≡ Some pp → length pp.bytes ≤ pipe_size) (ends : (id : ℕ) (pp : PipeState) → pipe_of k.pipes id ≡ Some pp → pp.reader ≡ false → NoHolder (view g k) (reader id)) (there_is : (e id : ℕ) (f : OpenFile) → entry_at k.entries e ≡ Some f → f.object ≡ PipeWrite id → (pp : PipeState) × (pipe_of k.pipes id ≡ Some pp)) (refused : Bool) where
     file_by : (b : Bytes) (e : ℕ) (f : OpenFile) (name : Name) (mode : EntryMode) → entry_at k.entries e ≡ Some f → f.object ≡ File name mode → (z : IsFile g (files k.files) (k.events + 1) (g.name e) name mode f.offset) → (way : Mode) → (g.places z.id).mode ≡ way → (write_mode (counted k) p next e name f.offset b refused mode).full ≡ None → Writes' (write_mode (counted k) p next e name f.offset b refused mode) b (Some (file z.id))
     file_by b e f name mode entry ob z ToRead way full =
         subst (λ w. Writes' (write_mode (counted k) p next e name f.offset b refused w) b (Some (file z.id))) (ap entry_mode (sym way) ∙ z.moded)
@@ -373,7 +373,7 @@ module _ (g : Names) (k : KernelState User) (p : ℕ) (q : Process User) (up : p
     by_object : (b : Bytes) (e : ℕ) (f : OpenFile) (o : Object) → entry_at k.entries e ≡ Some f → f.object ≡ o → IsNamed g (files k.files) (k.events + 1) (g.name e) o f.offset → (write_object (counted k) p next e f.offset b refused o).full ≡ None → Writes' (write_object (counted k) p next e f.offset b refused o) b (Some (g.name e))
     by_object b e f Input entry ob n full = subst (λ x. Writes' (answered (counted k) p next Refused) b (Some x)) (sym n) (denied b (Some input) (λ r. r))
     by_object b e f (PipeRead id) entry ob n full = subst (λ x. Writes' (answered (counted k) p next Refused) b (Some x)) (sym n.0) (denied b (Some (reader id)) (λ r. r))
-    by_object b e f Out entry ob n full = subst (λ x. Writes' (write_object (counted k) p next e f.offset b refused Out) b (Some x)) (sym n) (by refused full)
+    by_object b e f Out entry ob n full = subst (λ x. Writes' (write_object (counted k) p next e f.offset b refused Out) b (Some x)) (sym n) (by (lacks_memory refused (length k.out) (length k.out + length b)) full)
       where
         by : (c : Bool) → (if c then refused_for (counted k) p next Memory else answered (record (counted k) { out = k.out ++ b }) p next Done).full ≡ None → Writes' (if c then refused_for (counted k) p next Memory else answered (record (counted k) { out = k.out ++ b }) p next Done) b (Some out)
         by true full = absurd (is_marked k.full Memory full)
@@ -382,7 +382,7 @@ module _ (g : Names) (k : KernelState User) (p : ℕ) (q : Process User) (up : p
           shown = during.later_shows g k p q up is alive shows;
           effect = (during.answer_sets g k p q up is alive shows g (record (counted k) { out = k.out ++ b }) q.fds Done refl own (others_refl g.name k.table p), refl, record { pipes = λ i. refl; places = λ i. refl; files = refl; input = refl });
         }
-    by_object b e f Diag entry ob n full = subst (λ x. Writes' (write_object (counted k) p next e f.offset b refused Diag) b (Some x)) (sym n) (by refused full)
+    by_object b e f Diag entry ob n full = subst (λ x. Writes' (write_object (counted k) p next e f.offset b refused Diag) b (Some x)) (sym n) (by (lacks_memory refused (length k.diag) (length k.diag + length b)) full)
       where
         by : (c : Bool) → (if c then refused_for (counted k) p next Memory else answered (record (counted k) { diag = k.diag ++ b }) p next Done).full ≡ None → Writes' (if c then refused_for (counted k) p next Memory else answered (record (counted k) { diag = k.diag ++ b }) p next Done) b (Some diag)
         by true full = absurd (is_marked k.full Memory full)

@@ -16,7 +16,7 @@ use Rattle.meaning_model.specs.Tee.{are_openable}
 use Rattle.meaning_model.specs.Value.{Value, fixed}
 
 pub is_firm : (out rest : Bytes) (F : FileMap) → IsFirm (fixed out rest F)
-is_firm out rest F = record { loose = refl; soft = λ n. refl; met = λ n. refl }
+is_firm out rest F = record { loose = refl; soft = λ n. refl }
 
 pub firm_if : (b : Bool) (v w : Value) → IsFirm v → IsFirm w → IsFirm (if b then v else w)
 firm_if true v w h g = h

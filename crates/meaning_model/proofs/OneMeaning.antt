@@ -5,7 +5,7 @@ use Rattle.sh_tree.specs.declared.tree.Mode.TheVariants.{Input, Fresh, Over}
 use Rattle.sh_tree.specs.Tree.{Tree, exec, redir, pipe, list, back}
 use Rattle.mem_files.specs.Name.{Bytes, is_openable}
 use Rattle.mem_files.specs.Files.{FileMap}
-use Rattle.conflict_check.specs.Names.{names, writes, uses_input}
+use Rattle.conflict_check.specs.Names.{writes, uses_input}
 use Rattle.script_load.specs.declared.profile.Profile.TheVariants.{Xv6, Append}
 use Rattle.meaning_model.specs.Inputs.{found}
 use Rattle.meaning_model.specs.Meaning.{input_value, opened, output_value, written_value, meaning}
@@ -31,6 +31,6 @@ one_meaning (pipe left right) input F none =
 one_meaning (list left right) input F none =
     let first = one_meaning left input F (or_parts (has_over left) (has_over right) none).0 in
     let second = λ (v : Value). one_meaning right v.rest v.files (or_parts (has_over left) (has_over right) none).1 in
-    ap (λ v. seq_value (names right) (uses_input right) v (meaning Xv6 right v.rest v.files)) first
-    ∙ ap (λ w. seq_value (names right) (uses_input right) (meaning Append left input F) w) (second (meaning Append left input F))
+    ap (λ v. seq_value v (meaning Xv6 right v.rest v.files)) first
+    ∙ ap (λ w. seq_value (meaning Append left input F) w) (second (meaning Append left input F))
 one_meaning (back body) input F none = one_meaning body input F none

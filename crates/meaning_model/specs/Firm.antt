@@ -6,4 +6,3 @@ use Rattle.meaning_model.specs.Value.{Value}
 pub record IsFirm (value : Value) : Type 0 where
   pub loose : value.loose ≡ false
   pub soft : (name : Name) → value.soft name ≡ false
-  pub met : (name : Name) → value.met name ≡ false

@@ -2,6 +2,7 @@ pub mod Firm
 pub mod Inputs
 pub mod Limits
 pub mod Meaning
+pub mod Met
 pub mod Over
 pub mod Programs
 pub mod Settled

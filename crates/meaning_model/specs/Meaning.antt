@@ -6,7 +6,7 @@ use Rattle.sh_tree.specs.Tree.{Tree, exec, redir, pipe, list, back}
 use Rattle.mem_files.specs.Name.{Name, Bytes, is_openable}
 use Rattle.mem_files.specs.Files.{FileMap, with_file, bytes_of}
 use Rattle.mem_files.specs.Overlay.{overlay}
-use Rattle.conflict_check.specs.Names.{names, writes, uses_input}
+use Rattle.conflict_check.specs.Names.{writes, uses_input}
 use Rattle.script_load.specs.declared.profile.Profile.{Profile}
 use Rattle.script_load.specs.declared.profile.Profile.TheVariants.{Xv6, Append}
 use Rattle.script_load.specs.Line.{ScriptLine, command, bad, cd}
@@ -47,8 +47,7 @@ meaning profile (pipe left right) input F =
     pipe_value (writes left) (uses_input left) (meaning profile left input F)
     (meaning profile right (meaning profile left input F).out (meaning profile left input F).files)
 meaning profile (list left right) input F =
-    seq_value (names right) (uses_input right) (meaning profile left input F)
-    (meaning profile right (meaning profile left input F).rest (meaning profile left input F).files)
+    seq_value (meaning profile left input F) (meaning profile right (meaning profile left input F).rest (meaning profile left input F).files)
 meaning profile (back body) input F = meaning profile body input F
 
 -- a line as a command: one that is no command does nothing

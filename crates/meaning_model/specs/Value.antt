@@ -16,27 +16,23 @@ pub record Value : Type 0 where
   pub loose : Bool
   -- names of files whose bytes may depend on the order
   pub soft : Names
-  -- names by which a later command meets such a file; every name, if it meets such an input. Of a
-  -- settled script there are none (a law says so), which a proof along the steps of a run can keep
-  pub met : Names
 
 -- a command that wrote this, left this unread and leaves these files, whatever the order
 abbrev pub fixed : Bytes → Bytes → FileMap → Value
-fixed out rest F = record { out = out; rest = rest; files = F; loose = false; soft = no_names; met = no_names }
+fixed out rest F = record { out = out; rest = rest; files = F; loose = false; soft = no_names }
 
 -- nothing is done
 abbrev pub nothing : Bytes → FileMap → Value
 nothing input F = fixed [] input F
 
--- one command, and then one that has these names and so uses its input
-abbrev pub seq_value : Names → Bool → Value → Value → Value
-seq_value names uses first second = record {
+-- one command, and then another
+abbrev pub seq_value : Value → Value → Value
+seq_value first second = record {
   out = first.out ++ second.out;
   rest = second.rest;
   files = second.files;
   loose = first.loose || second.loose;
   soft = both first.soft second.soft;
-  met = λ name. first.met name || second.met name || (first.soft name && names name) || (first.loose && uses);
 }
 
 -- the right side of a pipe leaves some of its input unread, or may
@@ -51,7 +47,6 @@ pipe_value writes uses left right = record {
   files = right.files;
   loose = left.loose || (is_cut right && uses);
   soft = λ name. left.soft name || right.soft name || (is_cut right && writes name);
-  met = both left.met right.met;
 }
 
 -- a command under <: the input outside is left whole, and nothing of it is loose

@@ -9,25 +9,26 @@ ghost use Rattle.script_load.specs.declared.profile.Profile.TheVariants.{Xv6, Ap
 ghost use Rattle.script_load.specs.Line.{ScriptLine};
 ghost use Rattle.meaning_model.specs.Firm.{IsFirm};
 ghost use Rattle.meaning_model.specs.Meaning.{meaning, script_meaning, script_tree};
+ghost use Rattle.meaning_model.specs.Met.{met_names};
 ghost use Rattle.meaning_model.specs.Over.{has_over};
 ghost use Rattle.meaning_model.specs.Programs.{words_value};
 ghost use Rattle.meaning_model.specs.Settled.{IsSettled, IsSettledScript};
 
 /// What a simple command gives doesn't depend on the order in which processes run: it leaves nothing
-/// loose, has no soft names and meets none.
+/// loose and has no soft names.
 pub fn a_simple_command_is_firm()
     ensures { (words : List Bytes) (input : Bytes) (F : FileMap) → IsFirm (words_value words input F) }
 {}
 
 /// In a settled tree no command meets a soft file or a loose input, and no name outside it is soft.
 pub fn a_settled_tree_meets_nothing()
-    ensures met { (profile : Profile) (tree : Tree) (outside : Names) (input : Bytes) (F : FileMap) → IsSettled profile tree outside input F → (name : Name) → (meaning profile tree input F).met name ≡ false }
+    ensures met { (profile : Profile) (tree : Tree) (outside : Names) (input : Bytes) (F : FileMap) → IsSettled profile tree outside input F → (name : Name) → met_names profile tree input F name ≡ false }
     ensures soft { (profile : Profile) (tree : Tree) (outside : Names) (input : Bytes) (F : FileMap) → IsSettled profile tree outside input F → (name : Name) → outside name ≡ true → (meaning profile tree input F).soft name ≡ false }
 {}
 
 /// In a settled script no command meets a soft file or a loose input.
 pub fn a_settled_script_meets_nothing()
-    ensures { (profile : Profile) (lines : List ScriptLine) (input : Bytes) (F : FileMap) → IsSettledScript profile lines input F → (name : Name) → (script_meaning profile lines input F).met name ≡ false }
+    ensures { (profile : Profile) (lines : List ScriptLine) (input : Bytes) (F : FileMap) → IsSettledScript profile lines input F → (name : Name) → met_names profile (script_tree lines) input F name ≡ false }
 {}
 
 /// A script without `>>` has one meaning under both profiles.

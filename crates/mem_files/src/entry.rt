@@ -1,4 +1,4 @@
-ghost use Rattle.std.specs.Prelude.{◌≡◌, ◌-◌, ◌≤◌, ◌++◌, ◌↔◌, IsTrue, true, length, take, drop, min, IfOk, OnOk, OnErr};
+ghost use Rattle.std.specs.Prelude.{◌≡◌, ◌+◌, ◌-◌, ◌<◌, ◌≤◌, ◌++◌, ◌↔◌, IsTrue, true, length, take, drop, min, IfOk, OnOk, OnErr};
 ghost use Rattle.mem_files.specs.Name.{is_openable};
 ghost use Rattle.mem_files.specs.Overlay.{overlay, written};
 
@@ -59,9 +59,12 @@ impl<A: Allocator> Entry<A> {
         requires { at ≤ length self.old.1 }
         ensures ok { OnOk result (self.new ≡ (self.old.0, written self.old.1 at bytes.now)) }
         ensures err { OnErr result (self.new ≡ self.old) }
+        ensures grows { OnErr result (length self.old.1 < at + length bytes.now) }
     {
         let inside = bytes.len().min(self.bytes.len() - at);
-        self.bytes.extend_from_slice(&bytes[inside..])?;
+        if inside < bytes.len() {
+            self.bytes.extend_from_slice(&bytes[inside..])?;
+        }
         self.bytes[at..at + inside].copy_from_slice(&bytes[..inside]);
         Ok(())
     }
@@ -69,7 +72,11 @@ impl<A: Allocator> Entry<A> {
     pub fn append(&mut self, bytes: &[u8]) -> Result<(), AllocError>
         ensures ok { OnOk result (self.new ≡ (self.old.0, self.old.1 ++ bytes.now)) }
         ensures err { OnErr result (self.new ≡ self.old) }
+        ensures grows { OnErr result (0 < length bytes.now) }
     {
+        if bytes.is_empty() {
+            return Ok(());
+        }
         self.bytes.extend_from_slice(bytes)
     }
 

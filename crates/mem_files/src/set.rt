@@ -104,8 +104,9 @@ impl<A: Allocator> Files<A> {
     ///
     /// In this order, each with nothing changed: `Missing` where there is no file of that name; `Gap`
     /// where `at` is past the end of the file; `FullSize` where `at` plus the number of bytes is
-    /// more than 274,432; `Memory`. `kernel/fs.c`'s `writei` refuses the second and third too. That
-    /// all the bytes are refused, and not only those that don't fit, is own.
+    /// more than 274,432; `Memory`, which can come only where the file would grow. `kernel/fs.c`'s
+    /// `writei` refuses the second and third too. That all the bytes are refused, and not only those
+    /// that don't fit, is own.
     pub fn write_at(&mut self, name: &[u8], at: usize, bytes: &[u8]) -> Result<(), FilesFault>
         ensures holds { OnOk result (Holds self.old self.new name.now
             (written (bytes_of (files self.old name.now)) at bytes.now)) }
@@ -114,6 +115,8 @@ impl<A: Allocator> Files<A> {
             ↔ IsSomeAnd (files self.old name.now) (λ old. length old < at) }
         ensures full_size { IsErrOf result FilesFault.FullSize
             ↔ IsSomeAnd (files self.old name.now) (λ old. (at ≤ length old) × (max_size < at + length bytes.now)) }
+        ensures memory { IsErrOf result FilesFault.Memory
+            → IsSomeAnd (files self.old name.now) (λ old. length old < at + length bytes.now) }
         ensures never { (result ≢ Err FilesFault.BadName) × (result ≢ Err FilesFault.FullFiles) }
         ensures same { OnErr result (self.new ≡ self.old) }
     {
@@ -135,13 +138,14 @@ impl<A: Allocator> Files<A> {
     /// that many appends are linear work (own: xv6 has no call that appends).
     ///
     /// In this order, each with nothing changed: `Missing` where there is no file of that name; `FullSize` where the
-    /// file would have more than 274,432 bytes; `Memory`.
+    /// file would have more than 274,432 bytes; `Memory`, which can come only where there are bytes.
     pub fn append(&mut self, name: &[u8], bytes: &[u8]) -> Result<usize, FilesFault>
         ensures holds { OnOk result (Holds self.old self.new name.now (bytes_of (files self.old name.now) ++ bytes.now)) }
         ensures size { IfOk result (λ size. size ≡ length (bytes_of (files self.old name.now)) + length bytes.now) }
         ensures missing { IsErrOf result FilesFault.Missing ↔ (files self.old name.now ≡ None) }
         ensures full_size { IsErrOf result FilesFault.FullSize
             ↔ IsSomeAnd (files self.old name.now) (λ old. max_size < length old + length bytes.now) }
+        ensures memory { IsErrOf result FilesFault.Memory → 0 < length bytes.now }
         ensures never { (result ≢ Err FilesFault.BadName) × (result ≢ Err FilesFault.FullFiles) × (result ≢ Err FilesFault.Gap) }
         ensures same { OnErr result (self.new ≡ self.old) }
     {

@@ -3,8 +3,8 @@ use Rattle.std.specs.Prelude.{◌≡◌, ◌≢◌, ℕ, ◌+◌, ◌≤◌, ◌
 use Rattle.mem_files.specs.Name.{Name, Bytes, is_openable}
 use Rattle.mem_files.specs.Files.{FileMap, with_file}
 use Rattle.mem_files.specs.Overlay.{written}
-use Rattle.byte_pipe.specs.declared.TheConstants.{PIPE_SIZE}
-use Rattle.user_calls.specs.declared.block.TheConstants.{BLOCK_SIZE}
+use Rattle.byte_pipe.specs.Limits.{pipe_size}
+use Rattle.user_calls.specs.Limits.{block_size}
 use Rattle.user_calls.specs.declared.calls.Call.{Call}
 use Rattle.user_calls.specs.declared.calls.Call.TheVariants.{Fork, Exec, Exit, Wait, MakePipe, Read, Write, OpenFile, Close, Dup}
 use Rattle.user_calls.specs.declared.calls.Mode.{Mode}
@@ -231,10 +231,10 @@ ReadsAt V W p parent act d most (Some (file e)) = ReadsFile V W p parent act d m
 -- write: to a pipe all that is left, or a part and then p sleeps; refused where no process holds its read end; nothing where it
 -- is full
 pub data WritesPipe (V W : View) (p parent put : ℕ) (act : Act) (d : Fds) (bytes : Bytes) (i : ℕ) : Type 0 where
-  puts_all : W.pipes i ≡ V.pipes i ++ drop put bytes → length (W.pipes i) ≤ PIPE_SIZE → PipeChanges V W i
+  puts_all : W.pipes i ≡ V.pipes i ++ drop put bytes → length (W.pipes i) ≤ pipe_size → PipeChanges V W i
       → Sets V W p (answered parent act Done d) → WritesPipe V W p parent put act d bytes i
   puts_some : (now later : Bytes) → drop put bytes ≡ now ++ later → 1 ≤ length now → 1 ≤ length later
-      → W.pipes i ≡ V.pipes i ++ now → length (W.pipes i) ≤ PIPE_SIZE → PipeChanges V W i
+      → W.pipes i ≡ V.pipes i ++ now → length (W.pipes i) ≤ pipe_size → PipeChanges V W i
       → Sets V W p (live parent act (put + length now) d) → WritesPipe V W p parent put act d bytes i
   has_no_reader : 1 ≤ length (drop put bytes) → NoHolder V (reader i) → Answers V W p parent act Refused d → WritesPipe V W p parent put act d bytes i
   finds_it_full : 1 ≤ length (drop put bytes) → Quiet V W → W.asleep p ≡ true → WritesPipe V W p parent put act d bytes i
@@ -276,7 +276,7 @@ EffectBy V W p parent put act d (Exec found) = Answers V W p parent act (if foun
 EffectBy V W p parent put act d Exit = Exits V W p parent
 EffectBy V W p parent put act d Wait = WaitsFor V W p parent act d
 EffectBy V W p parent put act d MakePipe = MakesPipe V W p parent act d
-EffectBy V W p parent put act d (Read fd most) = ReadsAt V W p parent act d (min most BLOCK_SIZE) (fd_at d fd)
+EffectBy V W p parent put act d (Read fd most) = ReadsAt V W p parent act d (min most block_size) (fd_at d fd)
 EffectBy V W p parent put act d (Write fd bytes) = WritesAt V W p parent put act d bytes (fd_at d fd)
 EffectBy V W p parent put act d (OpenFile name mode) = OpensNamed V W p parent act d name mode (is_openable name)
 EffectBy V W p parent put act d (Close fd) = ClosesAt V W p parent act d fd (fd_at d fd)

@@ -2,7 +2,7 @@
 use Rattle.std.specs.Prelude.{◌≡◌, ℕ, suc, ◌+◌, ◌*◌, ◌<◌, ◌≤◌, true, if◌then◌else◌, [], ◌++◌, length, drop}
 use Rattle.mem_files.specs.Name.{Bytes}
 use Rattle.mem_files.specs.Files.{FileMap, bytes_of}
-use Rattle.byte_pipe.specs.declared.TheConstants.{PIPE_SIZE}
+use Rattle.byte_pipe.specs.Limits.{pipe_size}
 use Rattle.script_load.specs.declared.profile.Profile.{Profile}
 use Rattle.user_calls.specs.declared.calls.Mode.TheVariants.{Input as ToRead}
 use Rattle.tree_model.specs.Residual.{Residual}
@@ -111,7 +111,7 @@ Puts V W F input c = ⊥
 Puts V W F out c = (W.out ≡ V.out ++ c) × (W.files ≡ F)
 Puts V W F diag c = ⊥
 Puts V W F (reader i) c = ⊥
-Puts V W F (writer i) c = (W.pipes i ≡ V.pipes i ++ c) × (length (W.pipes i) ≤ PIPE_SIZE) × (W.files ≡ F)
+Puts V W F (writer i) c = (W.pipes i ≡ V.pipes i ++ c) × (length (W.pipes i) ≤ pipe_size) × (W.files ≡ F)
 Puts V W F (file e) c =
     (W.places e ≡ further (V.places e) (length c))
     × (is_gap (V.files (V.places e).name) (position_of (V.places e)) ≡ true → c ≡ [])

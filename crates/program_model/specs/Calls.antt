@@ -3,7 +3,7 @@ use Rattle.std.specs.Prelude.{◌≡◌, ℕ, zero, suc, ◌≤◌, Bool, true, 
 use Rattle.std.specs.Option.{is_some}
 use Rattle.mem_files.specs.Name.{Name, is_openable}
 use Rattle.prog_parts.specs.NameSets.{Names}
-use Rattle.user_calls.specs.declared.block.TheConstants.{BLOCK_SIZE}
+use Rattle.user_calls.specs.Limits.{block_size}
 use Rattle.user_calls.specs.declared.calls.Mode.{Mode}
 use Rattle.user_calls.specs.declared.calls.Mode.TheVariants.{Input, Fresh, Over, Append}
 use Rattle.user_calls.specs.declared.calls.Call.{Call}
@@ -45,7 +45,7 @@ MayCall (Exec is_known) state world = is_known ≡ true
 MayCall Exit state world = Unit {0}
 MayCall Wait state world = ⊥
 MayCall MakePipe state world = ⊥
-MayCall (Read fd most) state world = (1 ≤ most) × (most ≤ BLOCK_SIZE) × ReadsOpen fd state world
+MayCall (Read fd most) state world = (1 ≤ most) × (most ≤ block_size) × ReadsOpen fd state world
 MayCall (Write fd bytes) state world = WritesOpen fd state world
 MayCall (OpenFile name mode) state world = OpensAhead mode name state
 MayCall (Close fd) state world = is_some (held world.own fd) ≡ true

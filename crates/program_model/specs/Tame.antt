@@ -4,7 +4,7 @@ use Rattle.mem_files.specs.Name.{Bytes}
 use Rattle.prog_parts.specs.declared.program.Program.{Program}
 use Rattle.prog_parts.specs.declared.program.Program.TheVariants.{Cat, Echo, Grep, Head, Tee, Wc}
 use Rattle.prog_parts.specs.Program.{file_words, program_uses_input}
-use Rattle.user_calls.specs.declared.block.TheConstants.{BLOCK_SIZE}
+use Rattle.user_calls.specs.Limits.{block_size}
 use Rattle.user_calls.specs.declared.calls.Mode.{Mode}
 use Rattle.user_calls.specs.declared.calls.Mode.TheVariants.{Input, Fresh}
 use Rattle.user_calls.specs.declared.calls.Call.{Call}
@@ -36,7 +36,7 @@ IsTame program arguments opened Exit = Unit {0}
 IsTame program arguments opened Wait = ⊥
 IsTame program arguments opened MakePipe = ⊥
 IsTame program arguments opened (Read fd most) =
-    (1 ≤ most) × (most ≤ BLOCK_SIZE) × (((fd ≡ 0) × (program_uses_input program arguments ≡ true)) ⊎ Among fd opened)
+    (1 ≤ most) × (most ≤ block_size) × (((fd ≡ 0) × (program_uses_input program arguments ≡ true)) ⊎ Among fd opened)
 IsTame program arguments opened (Write fd bytes) = (fd ≡ 1) ⊎ ((fd ≡ 2) ⊎ Among fd opened)
 IsTame program arguments opened (OpenFile name mode) =
     (mode ≡ mode_of program) × ((word : Bytes) × Among word (file_words program arguments) × (name ≡ block word))

@@ -4,7 +4,7 @@ use Rattle.std.specs.Option.{is_some}
 use Rattle.mem_files.specs.Name.{Name, Bytes}
 use Rattle.prog_parts.specs.declared.program.Program.{Program}
 use Rattle.prog_parts.specs.declared.program.Program.TheVariants.{Cat, Echo, Grep, Head, Tee as Tee', Wc}
-use Rattle.user_calls.specs.declared.block.TheConstants.{BLOCK_SIZE}
+use Rattle.user_calls.specs.Limits.{block_size}
 use Rattle.user_calls.specs.declared.calls.Mode.TheVariants.{Input, Fresh}
 use Rattle.user_calls.specs.declared.calls.Call.{Call}
 use Rattle.user_calls.specs.declared.calls.Call.TheVariants.{Exec, Exit, Read, Write, OpenFile, Close}
@@ -18,7 +18,7 @@ use Rattle.program_model.specs.Given.{AreAt, AreDistinct}
 -- words that one call can write whole
 abbrev pub AreShort : List Bytes → Type 0
 AreShort [] = Unit {0}
-AreShort (word ∷ words) = (length word ≤ BLOCK_SIZE) × AreShort words
+AreShort (word ∷ words) = (length word ≤ block_size) × AreShort words
 
 -- the call writes to this descriptor
 abbrev pub IsWrite : ℕ → Call → Type 0

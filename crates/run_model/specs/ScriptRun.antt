@@ -1,5 +1,5 @@
 -- The runs of a script.
-use Rattle.std.specs.Prelude.{◌≡◌, ℕ, Bool, false, List, Some, None}
+use Rattle.std.specs.Prelude.{◌<◌, ◌+◌, length, ◌≡◌, ℕ, Bool, false, List, Some, None}
 use Rattle.mem_files.specs.Name.{Name, Bytes}
 use Rattle.mem_files.specs.Files.{files}
 use Rattle.mem_files.specs.Listing.{AreFiles}
@@ -16,7 +16,7 @@ use Rattle.kernel_model.specs.declared.events.Event.{Event}
 use Rattle.kernel_model.specs.KernelState.{KernelState}
 use Rattle.kernel_model.specs.Boot.{boot_kernel}
 use Rattle.kernel_model.specs.Events.{run}
-use Rattle.run_model.specs.Turns.{IsSpentBy}
+use Rattle.run_model.specs.Turns.{IsSpentBy, RunsOutOfTurns}
 
 -- the kernel at the start of a script on this input and these files: init, and the top shell before the first line
 abbrev pub script_kernel : Profile → List ScriptLine → Bytes → List (Name × Bytes) → KernelState User
@@ -54,3 +54,10 @@ meaning_of r = script_meaning r.profile r.lines r.input (files r.files)
 -- some run from this kernel spends so many turns
 abbrev pub IsSpentFrom : KernelState User → ℕ → Type 0
 IsSpentFrom start turns = IsSpentBy call_of next_of start turns
+
+-- and leaves fewer than two of them; or does so where nothing was full in it
+abbrev pub IsOutOfTurnsFrom : KernelState User → ℕ → Type 0
+IsOutOfTurnsFrom start turns = RunsOutOfTurns call_of next_of start turns
+
+abbrev pub IsOutOfTurnsIfRoomy : KernelState User → ℕ → Type 0
+IsOutOfTurnsIfRoomy start turns = (s : IsSpentFrom start turns) × (s.last.full ≡ None → turns < length s.events + 2)

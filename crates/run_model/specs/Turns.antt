@@ -21,3 +21,7 @@ pub record IsSpentBy {S : Type 0} (call : S → Reply → Call) (next : S → Re
   pub last : KernelState S
   pub runs : run call next (Some start) events notes ≡ Some last
   pub spent : IsSpent turns last events
+
+-- some run from this kernel spends so many turns, and leaves fewer than two of them
+abbrev pub RunsOutOfTurns : {S : Type 0} → (S → Reply → Call) → (S → Reply → S) → KernelState S → ℕ → Type 0
+RunsOutOfTurns call next start turns = (s : IsSpentBy call next start turns) × (turns < length s.events + 2)

@@ -214,10 +214,13 @@ bytes a\n: write 1 "a\n"
 refused: read 0 1023
 "#;
 
-// Each last reply is one that the call can't get.
+// Each last reply is one that the call can't get. The first one begins a program, whatever it is.
 const STRAYS: &str = r"
 cat
-start: exit
+start: read 0 512
+
+wc
+refused: read 0 512
 
 cat
 done: *

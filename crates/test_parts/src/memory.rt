@@ -1,5 +1,4 @@
-//! Calls to which memory is refused: each is made on heaps that grow by 16 bytes, so that each of its allocations in turn is the
-//! first that finds no room. It tells so, and keeps no memory.
+//! Calls of which one request for memory is refused, each in turn: it is told where one is, and nowhere else, and no memory is kept.
 
 use crate::texts::words_of;
 use kernel_pipes::Pipes;
@@ -12,6 +11,13 @@ use sh_tree::{ParseFault, copy_in, parse, same};
 use std::alloc::{AllocError, Allocator, Global};
 use std::fmt::Debug;
 use std::test::Fail;
+use test_heap::RefusingHeap;
+
+// Far more requests than any of the calls makes.
+const MOST: u64 = 1000;
+
+// More than any of the calls needs at one time.
+const ROOM: usize = 1 << 16;
 
 const EACH_NODE: &[u8] = b"(a b ; c) < f | (d &) >> g ; e > h i";
 
@@ -126,43 +132,48 @@ fn are_enough<A: Allocator + Copy>(alloc: Global, memory: A, call: &str) -> Resu
     }
 }
 
-// Whether a heap of so many blocks of 16 bytes is enough for the call, which gives all back.
-fn are_blocks_enough(alloc: Global, blocks: usize, call: &str) -> Result<bool, Fail> {
-    let heap = LocalHeap::new(alloc, blocks.saturating_mul(16))?;
-    let are_enough = are_enough(alloc, &heap, call)?;
-    if heap.used() != 0 {
+// Whether the call is refused memory, where the request after so many is; it is told so exactly then, and all is given back.
+fn is_refused_after(alloc: Global, granted: u64, call: &str) -> Result<bool, Fail> {
+    let room = LocalHeap::new(alloc, ROOM)?;
+    let heap = RefusingHeap::new(&room);
+    heap.refuse_after(granted);
+    let is_enough = are_enough(alloc, &heap, call)?;
+    if is_enough != heap.is_due() {
+        return Err(Fail::from("a refused request isn't told"));
+    }
+    if room.used() != 0 {
         return Err(Fail::from("memory is kept"));
     }
-    Ok(are_enough)
+    Ok(!is_enough)
 }
 
-// On how many heaps of up to so many blocks the call was refused memory.
-fn refusals(alloc: Global, most: usize, call: &str) -> Result<usize, Fail> {
-    let mut refused = 0;
-    for blocks in 1..most {
-        if !are_blocks_enough(alloc, blocks, call)? {
-            refused = blocks;
+// How many requests the call makes, each of which is refused in turn.
+fn refusals(alloc: Global, call: &str) -> Result<u64, Fail> {
+    for granted in 0..MOST {
+        if !is_refused_after(alloc, granted, call)? {
+            return Ok(granted);
         }
     }
-    Ok(refused)
+    Ok(MOST)
 }
 
-// A call, and how many heaps it is refused at least.
+// A call, and how many requests it makes at least: a list of tokens; a node for each word, redirection, pipe, list and `&` of a line,
+// twice; a line each; a pipe each; and the file that a command is given, and its output.
 const CALLS: &str = "tokens 1
-trees 100
-script 1
-pipes 172
-tee new 1
-wc p 1
-grep b 1
-head -1 1
-cat p 1
+trees 16
+script 3
+pipes 5
+tee new 2
+wc p 2
+grep b 2
+head -1 2
+cat p 2
 ";
 
 fn is_refused(alloc: Global, row: &str) -> Result<bool, Fail> {
     let (call, least) = row.rsplit_once(' ').unwrap_or((row, ""));
-    let refused = refusals(alloc, 800, call)?;
-    Ok(least.parse::<usize>()? < refused && refused < 799)
+    let refused = refusals(alloc, call)?;
+    Ok(least.parse::<u64>()? <= refused && refused < MOST)
 }
 
 #[test]
@@ -172,16 +183,16 @@ fn refused_memory_is_told(rt: HostRuntime) -> Result<(), Fail> {
             return Err(Fail::new(row));
         }
     }
-    assert!(rt; refusals(rt.alloc(), 100, "fault")? < 99);
+    assert!(rt; refusals(rt.alloc(), "fault")? < MOST);
     Ok(())
 }
 
 #[test]
 fn refused_calls_on_files_are_told(rt: HostRuntime) -> Result<(), Fail> {
-    let files = refusals(rt.alloc(), 256, "files")?;
+    let files = refusals(rt.alloc(), "files")?;
     for call in "copy,put,put over,create,write,append".split(',') {
-        let refused = refusals(rt.alloc(), 256, call)?;
-        assert!(rt; files < refused && refused < 255, "{call}");
+        let refused = refusals(rt.alloc(), call)?;
+        assert!(rt; files < refused && refused < MOST, "{call}");
     }
     Ok(())
 }

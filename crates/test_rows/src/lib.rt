@@ -21,6 +21,12 @@ pub fn field<'a>(row: &'a str, name: &str) -> Option<&'a str> {
     None
 }
 
+/// Whether each field of the row has one of these names, which spaces separate.
+pub fn are_fields(row: &str, names: &str) -> bool {
+    row.lines()
+        .all(|line| names.split(' ').any(|name| name == named(line)))
+}
+
 /// The name of a field's line.
 pub fn named(line: &str) -> &str {
     match line.split_once(' ') {

@@ -5,10 +5,11 @@ use bumpalo::Bump;
 use kernel_events::{Event, Report};
 use kernel_runs::{replay, run_one};
 use mem_files::Files;
+use plain_run::{Plain, plain};
 use script_load::load;
 use std::alloc::Global;
 use std::test::Fail;
-use test_rows::{bytes_of, field, named, rows, value};
+use test_rows::{are_fields, bytes_of, field, named, rows, value};
 
 const ROWS: &str = r"
 script echo a > x > y
@@ -57,12 +58,31 @@ fn run_elsewhere(alloc: Global, text: &str, given: &Files<Global>) -> Result<Rep
     Ok(run_one(alloc, &script, &[], given, TURNS)?)
 }
 
-// Whether both runs of the row's script leave the same, which is what it tells.
+// The meaning of a script in an arena.
+fn mean_in_arena(alloc: Global, text: &str, given: &Files<Global>) -> Result<Plain<Global>, Fail> {
+    let arena = Bump::new(alloc);
+    let script = load(&arena, text.as_bytes())?;
+    Ok(plain(alloc, &script, &[], given)?)
+}
+
+// Whether the meaning is what the row tells.
+fn is_meant(alloc: Global, means: &Plain<Global>, row: &str) -> Result<bool, Fail> {
+    let out = bytes_of(alloc, field(row, "out").unwrap_or(""))?;
+    let is_written = means.out.as_slice() == out.as_slice();
+    Ok(is_written && means.settled && are_left(alloc, &means.files, row)?)
+}
+
+// Whether both runs of the row's script leave the same, which is what it tells, and what the script means.
 fn runs_as_any(alloc: Global, given: &Files<Global>, row: &str) -> Result<bool, Fail> {
+    if !are_fields(row, "script out left") {
+        return Err(Fail::from("a field has another name"));
+    }
     let text = field(row, "script").ok_or("no script")?;
+    let means = mean_in_arena(alloc, text, given)?;
     let report = run_in_arena(alloc, text, given)?;
     let elsewhere = run_elsewhere(alloc, text, given)?;
-    Ok(report.same(&elsewhere) && is_left(alloc, &report, row)?)
+    let is_left = is_left(alloc, &report, row)? && is_meant(alloc, &means, row)?;
+    Ok(report.same(&elsewhere) && is_left)
 }
 
 #[test]

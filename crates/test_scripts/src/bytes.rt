@@ -3,15 +3,19 @@
 //! `\n`, `\t`, `\v`, `\f`, `\r` and `\0` are what they are in C, and `\\`, `\{` and `\}` the sign behind the backslash; `{3 ab}` is
 //! `ababab`, and `{big}` the text of that name. Everything else stands for itself.
 
+use crate::rows::Field;
 use anyhow::{Context, Result, bail};
 use std::alloc::{AllocError, Global};
+use std::cell::Cell;
 use test_rows::{named, value};
 
-// A long text and its name.
+/// A long text, its name, the number of its line, and whether a row takes it.
 #[derive(Drop)]
-struct Text<'a> {
-    name: &'a str,
+pub(crate) struct Text<'a> {
+    pub(crate) line: usize,
+    pub(crate) name: &'a str,
     bytes: Vec<u8>,
+    is_taken: Cell<bool>,
 }
 
 /// The long texts of a file.
@@ -30,20 +34,35 @@ impl<'a> Texts<'a> {
     }
 
     /// Adds the text whose name begins the field, and whose bytes stand behind it.
-    pub(crate) fn add(&mut self, field: &'a str) -> Result<()> {
-        let name = named(field);
+    pub(crate) fn add(&mut self, field: &Field<'a>) -> Result<()> {
+        let name = named(field.value);
         if name == "any" || self.get(name.as_bytes()).is_some() {
             bail!("the name {name:?} is taken");
         }
-        let bytes = self.bytes_of(value(field))?;
-        self.list.push(Text { name, bytes })?;
+        let bytes = self.bytes_of(value(field.value))?;
+        self.list.push(Text {
+            line: field.line,
+            name,
+            bytes,
+            is_taken: Cell::new(false),
+        })?;
         Ok(())
     }
 
+    /// The texts that no row takes.
+    pub(crate) fn untaken(&self) -> Result<Vec<&Text<'a>>, AllocError> {
+        let mut untaken = Vec::new(self.alloc);
+        for text in &self.list {
+            if !text.is_taken.get() {
+                untaken.push(text)?;
+            }
+        }
+        Ok(untaken)
+    }
+
     // The text of this name.
-    fn get(&self, name: &[u8]) -> Option<&[u8]> {
-        let text = self.list.iter().find(|text| text.name.as_bytes() == name)?;
-        Some(text.bytes.as_slice())
+    fn get(&self, name: &[u8]) -> Option<&Text<'a>> {
+        self.list.iter().find(|text| text.name.as_bytes() == name)
     }
 
     /// The bytes that a field stands for.
@@ -89,7 +108,8 @@ impl<'a> Texts<'a> {
             Some(place) => repeat(self.alloc, &mut reading.bytes, inside, place),
             None => {
                 let text = self.get(inside).context("no text has this name")?;
-                reading.bytes.extend_from_slice(text)?;
+                text.is_taken.set(true);
+                reading.bytes.extend_from_slice(text.bytes.as_slice())?;
                 Ok(())
             }
         }

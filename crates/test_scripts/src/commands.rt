@@ -4,7 +4,7 @@ use crate::bytes::Texts;
 use crate::compared::{Shown, expect_bytes};
 use crate::driving::{Fails, Told, tell};
 use crate::host::Store;
-use crate::rows::{Row, check_names};
+use crate::rows::{Row, Sheet, check_names};
 use anyhow::{Context, Result, bail};
 use std::alloc::Global;
 use std::sync::Wait;
@@ -19,12 +19,31 @@ const FIELDS: &str = "words status out or err file input input_of no_input absen
 pub(crate) fn run_row(
     rt: &(impl AllocGlobal + Threads + Wait + Clock + Sync),
     texts: &Texts<'_>,
+    sheet: &Sheet<'_>,
     row: &Row<'_>,
 ) -> Result<usize> {
     check_names(row, &[FIELDS])?;
     let store = store_of(rt.alloc(), texts, row)?;
     let wanted = wanted_of(rt.alloc(), texts, row)?;
-    run_lines(rt, texts, row, (&store, &wanted))
+    let runs = run_lines(rt, texts, row, (&store, &wanted))?;
+    take_fields(sheet, row, &store)?;
+    Ok(runs)
+}
+
+// The row takes its fields, but for files and an input that no run read; those of the row itself have to be read.
+fn take_fields(sheet: &Sheet<'_>, row: &Row<'_>, store: &Store) -> Result<()> {
+    for field in row.fields() {
+        if store.is_read(field) {
+            sheet.take(field);
+        } else if row.is_own(field) {
+            bail!(
+                "no run reads what the field {:?} gives: {:?}",
+                field.name,
+                named(field.value)
+            );
+        }
+    }
+    Ok(())
 }
 
 // The files and the standard input of a row.

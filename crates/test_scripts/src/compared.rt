@@ -37,3 +37,16 @@ pub(crate) fn expect_bytes(what: &str, bytes: &[u8], wanted: &[u8]) -> Result<()
     let wanted = Shown(wanted.get(place..).unwrap_or(&[]));
     bail!("{what} from byte {place} on: {bytes}, not {wanted}")
 }
+
+/// The same where others are right too.
+pub(crate) fn expect_one(
+    what: &str,
+    bytes: &[u8],
+    wanted: &[u8],
+    others: &[Vec<u8>],
+) -> Result<()> {
+    if others.iter().any(|other| other.as_slice() == bytes) {
+        return Ok(());
+    }
+    expect_bytes(what, bytes, wanted)
+}

@@ -2,25 +2,31 @@
 
 ghost use Rattle.std.specs.Prelude.{◌≤◌, None, IfOk, vec_len};
 
+use crate::rows::Field;
 use anyhow::{Context, Result, bail};
 use std::alloc::Global;
+use std::cell::Cell;
 use std::io::{self, Write};
+use test_rows::named;
 use xvsh_read::{Host, HostFault};
 
-// A file of the host.
+// A file of the host, and whether it was read.
 #[derive(Drop)]
 struct Held {
     path: String,
     bytes: Vec<u8>,
+    is_read: Cell<bool>,
 }
 
-/// What a host gives: its files, its standard input, and what it gives for every other path.
+/// What a host gives: its files, its standard input, and what it gives for every other path; and which of these were read.
 #[derive(Drop)]
 pub(crate) struct Store {
     alloc: Global,
     files: Vec<Held>,
     input: Result<Vec<u8>, HostFault>,
     absent: Result<(), HostFault>,
+    is_input_read: Cell<bool>,
+    is_absent_read: Cell<bool>,
 }
 
 impl Store {
@@ -31,16 +37,23 @@ impl Store {
             files: Vec::new(alloc),
             input: Ok(Vec::new(alloc)),
             absent: Err(HostFault::Unreadable),
+            is_input_read: Cell::new(false),
+            is_absent_read: Cell::new(false),
         }
     }
 
     /// Adds a file at a path at which there is none.
     pub(crate) fn add(&mut self, path: &str, bytes: Vec<u8>) -> Result<()> {
-        if self.get(path).is_some() {
+        if self.held(path).is_some() {
             bail!("the file {path:?} stands twice");
         }
         let path = String::from_str(self.alloc, path)?;
-        self.files.push(Held { path, bytes })?;
+        let is_read = Cell::new(false);
+        self.files.push(Held {
+            path,
+            bytes,
+            is_read,
+        })?;
         Ok(())
     }
 
@@ -60,10 +73,29 @@ impl Store {
         }
     }
 
-    /// The bytes of the file at a path.
-    pub(crate) fn get(&self, path: &str) -> Option<&[u8]> {
-        let held = self.files.iter().find(|held| held.path.as_str() == path)?;
+    // The file at a path.
+    fn held(&self, path: &str) -> Option<&Held> {
+        self.files.iter().find(|held| held.path.as_str() == path)
+    }
+
+    // The bytes of the file at a path, which are read.
+    fn read(&self, path: &str) -> Option<&[u8]> {
+        let held = self.held(path)?;
+        held.is_read.set(true);
         Some(held.bytes.as_slice())
+    }
+
+    /// Whether what a field gives was read; a field that gives nothing isn't to be read.
+    pub(crate) fn is_read(&self, field: &Field<'_>) -> bool {
+        match field.name {
+            "file" => match self.held(named(field.value)) {
+                Some(held) => held.is_read.get(),
+                None => false,
+            },
+            "input" | "input_of" | "no_input" => self.is_input_read.get(),
+            "absent" => self.is_absent_read.get(),
+            _ => true,
+        }
     }
 
     /// From now on this is standard input, or why it can't be read.
@@ -73,7 +105,7 @@ impl Store {
 
     /// From now on standard input holds what the file at this path does.
     pub(crate) fn set_input_of(&mut self, path: &str) -> Result<()> {
-        let bytes = self.get(path).context("standard input is no file")?;
+        let bytes = self.read(path).context("standard input is no file")?;
         self.input = Ok(Vec::from_slice(self.alloc, bytes)?);
         Ok(())
     }
@@ -94,6 +126,7 @@ impl Host for Lent<'_> {
     ghost file = { λ _ _. None };
 
     fn read_input(&mut self, alloc: Global, limit: usize) -> Result<Vec<u8>, HostFault> {
+        self.0.is_input_read.set(true);
         match &self.0.input {
             Ok(bytes) => bounded(alloc, bytes.as_slice(), limit),
             Err(fault) => Err(*fault),
@@ -101,9 +134,10 @@ impl Host for Lent<'_> {
     }
 
     fn read_path(&mut self, alloc: Global, path: &str, limit: usize) -> Result<Vec<u8>, HostFault> {
-        match self.0.get(path) {
+        match self.0.read(path) {
             Some(bytes) => bounded(alloc, bytes, limit),
             None => {
+                self.0.is_absent_read.set(true);
                 self.0.absent?;
                 Ok(Vec::new(alloc))
             }

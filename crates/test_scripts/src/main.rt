@@ -23,7 +23,7 @@ mod waits;
 mod ways;
 
 use crate::bytes::Texts;
-use crate::rows::{Row, Sheet, read};
+use crate::rows::{Field, Row, Sheet, read};
 use anyhow::{Result, bail};
 use std::alloc::AllocError;
 use std::fmt::Display;
@@ -96,11 +96,12 @@ impl<'a> Tally<'a> {
 fn run_row(
     rt: &(impl AllocGlobal + Threads + Wait + Clock + Sync),
     texts: &Texts<'_>,
+    sheet: &Sheet<'_>,
     row: &Row<'_>,
 ) -> Result<usize> {
     match (row.has("words"), row.has("script")) {
-        (true, false) => commands::run_row(rt, texts, row),
-        (false, true) => scripts::run_row(rt, texts, row),
+        (true, false) => commands::run_row(rt, texts, sheet, row),
+        (false, true) => scripts::run_row(rt, texts, sheet, row),
         (true, true) => bail!("the row has words and a script"),
         (false, false) => bail!("the row has no words and no script"),
     }
@@ -109,12 +110,39 @@ fn run_row(
 fn run_rows(
     rt: &(impl AllocGlobal + Print + Threads + Wait + Clock + Sync),
     texts: &Texts<'_>,
-    rows: &[Row<'_>],
+    sheet: &Sheet<'_>,
     tally: &mut Tally<'_>,
 ) -> io::Result<()> {
-    for row in rows {
-        let ran = run_row(rt, texts, row);
+    for row in &sheet.rows {
+        let ran = run_row(rt, texts, sheet, row);
         tally.take(rt, row.line, ran)?;
+    }
+    Ok(())
+}
+
+// Tells of the fields of tables, and of the texts, that no row took.
+fn tell_untaken(
+    rt: &(impl AllocGlobal + Print),
+    texts: &Texts<'_>,
+    sheet: &Sheet<'_>,
+    tally: &mut Tally<'_>,
+) -> io::Result<()> {
+    for shared in &sheet.shared {
+        if !shared.is_taken.get() {
+            let Field { line, name, .. } = shared.field;
+            tally.fail(
+                rt,
+                line,
+                format_args!("no row of the table takes its field {name:?}"),
+            )?;
+        }
+    }
+    for text in texts.untaken()? {
+        tally.fail(
+            rt,
+            text.line,
+            format_args!("no row takes the text {:?}", text.name),
+        )?;
     }
     Ok(())
 }
@@ -126,9 +154,9 @@ fn texts_of<'a>(
     tally: &mut Tally<'_>,
 ) -> io::Result<Texts<'a>> {
     let mut texts = Texts::new(rt.alloc());
-    for (line, field) in &sheet.texts {
+    for field in &sheet.texts {
         if let Err(error) = texts.add(field) {
-            tally.fail(rt, *line, format_args!("{error:#}"))?;
+            tally.fail(rt, field.line, format_args!("{error:#}"))?;
         }
     }
     for wrong in &sheet.wrong {
@@ -143,7 +171,8 @@ fn run_sheet(
     tally: &mut Tally<'_>,
 ) -> io::Result<()> {
     let texts = texts_of(rt, sheet, tally)?;
-    run_rows(rt, &texts, sheet.rows.as_slice(), tally)
+    run_rows(rt, &texts, sheet, tally)?;
+    tell_untaken(rt, &texts, sheet, tally)
 }
 
 // Runs the rows of a file, and tells whether all is right.

@@ -1,7 +1,7 @@
 //! Runs of a script by the program, on a host in memory.
 
 use crate::bytes::number_of;
-use crate::compared::{Shown, expect_bytes};
+use crate::compared::{Shown, expect_bytes, expect_one};
 use crate::driving::{Fails, Told, tell};
 use crate::host::Store;
 use crate::scripts::{Given, Held, Wanted, is_named};
@@ -192,18 +192,22 @@ fn expect_again(again: &Told, told: &Told, events: &[u8]) -> Result<()> {
 
 // The diagnostics are the row's, and then a line tells what was full, if anything was.
 fn expect_errors(alloc: Global, wanted: &Wanted<'_>, told: &Told) -> Result<()> {
-    let Some(err) = &wanted.err else {
-        return Ok(());
-    };
     let full = wanted.marks.full;
     let line = if full.is_empty() {
         String::new(alloc)
     } else {
         format!(in alloc; "xvsh: full {full}\n")?
     };
-    let mut all = Vec::from_slice(alloc, err.as_slice())?;
-    all.extend_from_slice(line.as_bytes())?;
-    expect_bytes("standard error", told.err.as_slice(), all.as_slice())
+    let err = told.err.as_slice();
+    let Some(diag) = err.strip_suffix(line.as_bytes()) else {
+        return expect_bytes("the end of standard error", err, line.as_bytes());
+    };
+    expect_one(
+        "standard error",
+        diag,
+        wanted.err.as_slice(),
+        wanted.other_errs.as_slice(),
+    )
 }
 
 fn run_strict(

@@ -5,12 +5,14 @@
 
 use anyhow::{Result, bail};
 use std::alloc::{AllocError, Global};
+use std::cell::Cell;
 use std::mem;
 use test_rows::{named, value};
 
-/// A field: its name, and what stands behind the space after it.
+/// A field: the number of its line, its name, and what stands behind the space after it.
 #[derive(Clone, Copy)]
 pub(crate) struct Field<'a> {
+    pub(crate) line: usize,
     pub(crate) name: &'a str,
     pub(crate) value: &'a str,
 }
@@ -31,8 +33,9 @@ impl<'a> Row<'a> {
     }
 
     // Adds the field of a line.
-    fn push(&mut self, line: &'a str) -> Result<(), AllocError> {
+    fn push(&mut self, number: usize, line: &'a str) -> Result<(), AllocError> {
         self.fields.push(Field {
+            line: number,
             name: named(line),
             value: value(line),
         })?;
@@ -44,7 +47,7 @@ impl<'a> Row<'a> {
         Some(self.fields.first()?.name)
     }
 
-    /// The fields, in their order.
+    /// The fields, in their order: those of the row itself, and then those of its table.
     pub(crate) fn fields(&self) -> &[Field<'a>] {
         self.fields.as_slice()
     }
@@ -61,7 +64,7 @@ impl<'a> Row<'a> {
     fn is_twice(&self, field: &Field<'_>) -> bool {
         match field.name {
             "file" | "left" => self.count_of(field) > 1,
-            "words" | "or" => false,
+            "words" | "or" | "or_err" => false,
             name => self.count(name) > 1,
         }
     }
@@ -93,6 +96,11 @@ impl<'a> Row<'a> {
         })
     }
 
+    /// Whether a field stands in the row itself, and not in its table.
+    pub(crate) fn is_own(&self, field: &Field<'_>) -> bool {
+        field.line >= self.line
+    }
+
     // Adds the fields of a table that this row hasn't got itself.
     fn complete(&mut self, table: &[Field<'a>]) -> Result<(), AllocError> {
         let own = self.fields.len();
@@ -112,12 +120,31 @@ pub(crate) struct Wrong {
     pub(crate) why: &'static str,
 }
 
-/// What a file holds: its rows, its long texts, each with the number of its line, and what is wrong with it.
+/// A field of a table, and whether one of the table's rows takes it.
+#[derive(Drop)]
+pub(crate) struct Shared<'a> {
+    pub(crate) field: Field<'a>,
+    pub(crate) is_taken: Cell<bool>,
+}
+
+/// What a file holds: its rows, the fields of its tables, its long texts, and what is wrong with it.
 #[derive(Drop)]
 pub(crate) struct Sheet<'a> {
     pub(crate) rows: Vec<Row<'a>>,
-    pub(crate) texts: Vec<(usize, &'a str)>,
+    pub(crate) shared: Vec<Shared<'a>>,
+    pub(crate) texts: Vec<Field<'a>>,
     pub(crate) wrong: Vec<Wrong>,
+}
+
+impl Sheet<'_> {
+    /// A row takes the field: it is one of the row itself, or of its table.
+    pub(crate) fn take(&self, field: &Field<'_>) {
+        for shared in &self.shared {
+            if shared.field.line == field.line {
+                shared.is_taken.set(true);
+            }
+        }
+    }
 }
 
 // Reads a file line by line.
@@ -127,10 +154,9 @@ struct Reader<'a> {
     sheet: Sheet<'a>,
     // The row of which the lines are read.
     row: Row<'a>,
-    // The table that the row stands in, how many rows stand in it, and its fields that none of them has taken.
+    // The table that the row stands in, and how many rows stand in it.
     table: Row<'a>,
     rows: usize,
-    unused: Vec<Field<'a>>,
 }
 
 impl<'a> Reader<'a> {
@@ -139,13 +165,13 @@ impl<'a> Reader<'a> {
             alloc,
             sheet: Sheet {
                 rows: Vec::new(alloc),
+                shared: Vec::new(alloc),
                 texts: Vec::new(alloc),
                 wrong: Vec::new(alloc),
             },
             row: Row::new(alloc),
             table: Row::new(alloc),
             rows: 0,
-            unused: Vec::new(alloc),
         }
     }
 
@@ -159,7 +185,7 @@ impl<'a> Reader<'a> {
         if self.row.fields.is_empty() {
             self.row.line = number;
         }
-        self.row.push(line)
+        self.row.push(number, line)
     }
 
     fn end_row(&mut self) -> Result<(), AllocError> {
@@ -173,8 +199,6 @@ impl<'a> Reader<'a> {
     }
 
     fn take_row(&mut self, mut row: Row<'a>) -> Result<(), AllocError> {
-        let own = row.fields.len();
-        self.unused.retain(|field| row.hides(own, field));
         row.complete(self.table.fields())?;
         self.rows = self.rows.saturating_add(1);
         self.sheet.rows.push(row)?;
@@ -186,37 +210,39 @@ impl<'a> Reader<'a> {
         self.rows = 0;
         self.table = Row::new(self.alloc);
         self.table.line = row.line;
-        self.unused.clear();
         for field in row.fields().iter().skip(1) {
             if field.name == "text" {
-                self.sheet.texts.push((row.line, field.value))?;
+                self.sheet.texts.push(*field)?;
             } else {
-                self.table.fields.push(*field)?;
-                self.unused.push(*field)?;
+                self.share(*field)?;
             }
         }
         Ok(())
     }
 
+    // Adds a field to the table.
+    fn share(&mut self, field: Field<'a>) -> Result<(), AllocError> {
+        self.table.fields.push(field)?;
+        self.sheet.shared.push(Shared {
+            field,
+            is_taken: Cell::new(false),
+        })?;
+        Ok(())
+    }
+
     fn end_table(&mut self) -> Result<(), AllocError> {
         if self.table.line != 0 && self.rows == 0 {
-            self.tell(self.table.line, "this table has no rows")
-        } else if !self.unused.is_empty() {
-            self.tell(
-                self.table.line,
-                "a field of this table holds for none of its rows",
-            )
-        } else {
-            Ok(())
+            self.tell(self.table.line, "this table has no rows")?;
         }
+        Ok(())
     }
 
     fn take_texts(&mut self, row: &Row<'a>) -> Result<(), AllocError> {
         for field in row.fields() {
             if field.name != "text" {
-                self.tell(row.line, "among texts stands another field")?;
+                self.tell(field.line, "among texts stands another field")?;
             }
-            self.sheet.texts.push((row.line, field.value))?;
+            self.sheet.texts.push(*field)?;
         }
         Ok(())
     }

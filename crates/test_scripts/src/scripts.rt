@@ -2,7 +2,7 @@
 
 use crate::bytes::Texts;
 use crate::means::{expect_meaning, expect_size, meaning};
-use crate::rows::{Row, check_names};
+use crate::rows::{Row, Sheet, check_names};
 use crate::{programs, ways};
 use anyhow::{Context, Result, bail};
 use mem_files::{Files, MAX_FILES};
@@ -49,10 +49,15 @@ impl Held {
         }
     }
 
+    // Whether the row tells what the script means.
+    fn is_meant(self) -> bool {
+        matches!(self, Held::All | Held::Meaning)
+    }
+
     // The fields that such a row may have besides.
     fn fields(self) -> &'static str {
         match self {
-            Held::All => "out left err rest soft drawn",
+            Held::All => "out left err or_err rest soft drawn",
             Held::Meaning => "out left rest soft not_settled",
             Held::Verdict => "soft not_settled",
             Held::Size => "too_large",
@@ -96,8 +101,9 @@ pub(crate) struct Marks<'a> {
 pub(crate) struct Wanted<'a> {
     pub(crate) marks: Marks<'a>,
     pub(crate) out: Vec<u8>,
-    /// The diagnostics of a run by processes, unless they may be any.
-    pub(crate) err: Option<Vec<u8>>,
+    /// The diagnostics of a run by processes, and others that are right too.
+    pub(crate) err: Vec<u8>,
+    pub(crate) other_errs: Vec<Vec<u8>>,
     /// What of the input is left unread.
     pub(crate) rest: Vec<u8>,
     pub(crate) files: Files<Global>,
@@ -109,6 +115,15 @@ fn has(row: &Row<'_>, name: &str) -> Result<bool> {
         None => Ok(false),
         Some("") => Ok(true),
         Some(other) => bail!("the field {name:?} has no value: {other:?}"),
+    }
+}
+
+// The words of a field; none where the row hasn't got it.
+fn words_of<'a>(row: &Row<'a>, name: &str) -> Result<&'a str> {
+    match row.value(name) {
+        None => Ok(""),
+        Some("") => bail!("the field {name:?} has no value"),
+        Some(words) => Ok(words),
     }
 }
 
@@ -126,9 +141,9 @@ fn marks_of<'a>(row: &Row<'a>) -> Result<Marks<'a>> {
         held,
         appends: has(row, "append")?,
         is_settled: !has(row, "not_settled")?,
-        soft: row.value("soft").unwrap_or(""),
+        soft: words_of(row, "soft")?,
         is_too_large: has(row, "too_large")?,
-        full: row.value("full").unwrap_or(""),
+        full: words_of(row, "full")?,
         has_last_slot: has(row, "last_slot")?,
         drawn: drawn
             .parse::<u64>()
@@ -202,36 +217,61 @@ fn wanted_of<'a>(
     alloc: Global,
     texts: &Texts<'_>,
     row: &Row<'a>,
-    given: &Files<Global>,
+    given: &Given,
 ) -> Result<Wanted<'a>> {
     let marks = marks_of(row)?;
     let out = bytes_of(texts, row, "out")?;
-    let err = err_of(texts, row)?;
-    let rest = bytes_of(texts, row, "rest")?;
-    let files = left_of(alloc, texts, row, given)?;
+    let err = bytes_of(texts, row, "err")?;
+    let other_errs = other_errs_of(alloc, texts, row)?;
+    let rest = rest_of(texts, row, marks.held, given.input.as_slice())?;
+    let files = left_of(alloc, texts, row, &given.files)?;
     Ok(Wanted {
         marks,
         out,
         err,
+        other_errs,
         rest,
         files,
     })
 }
 
-fn err_of(texts: &Texts<'_>, row: &Row<'_>) -> Result<Option<Vec<u8>>> {
-    if row.value("err") == Some("*") {
-        return Ok(None);
+fn other_errs_of(alloc: Global, texts: &Texts<'_>, row: &Row<'_>) -> Result<Vec<Vec<u8>>> {
+    let mut others = Vec::new(alloc);
+    for field in row.fields() {
+        if field.name == "or_err" {
+            others.push(texts.bytes_of(field.value)?)?;
+        }
     }
-    Ok(Some(bytes_of(texts, row, "err")?))
+    Ok(others)
 }
 
-// The files that are left: those that were given, but for those that the row tells.
+// What is left of the input: a row that is held to its meaning tells it exactly where there is an input.
+fn rest_of(texts: &Texts<'_>, row: &Row<'_>, held: Held, input: &[u8]) -> Result<Vec<u8>> {
+    let is_told = row.has("rest");
+    if is_told && input.is_empty() {
+        bail!("the field \"rest\" tells of no input");
+    }
+    if !is_told && !input.is_empty() && held.is_meant() {
+        bail!("the field \"rest\" is missing");
+    }
+    bytes_of(texts, row, "rest")
+}
+
+// The files that are left: those that were given, but for those that the row tells, each of which differs.
 fn left_of(
     alloc: Global,
     texts: &Texts<'_>,
     row: &Row<'_>,
     given: &Files<Global>,
 ) -> Result<Files<Global>> {
+    for field in row.fields() {
+        let name = named(field.value).as_bytes();
+        if field.name == "left"
+            && given.get(name) == Some(texts.bytes_of(value(field.value))?.as_slice())
+        {
+            bail!("the file {:?} is given as it is left", named(field.value));
+        }
+    }
     let mut files = given.copy(alloc)?;
     put_fields(&mut files, texts, row, "left")?;
     Ok(files)
@@ -246,10 +286,14 @@ pub(crate) fn is_named(list: &str, name: &[u8]) -> bool {
 pub(crate) fn run_row(
     rt: &(impl AllocGlobal + Threads + Wait + Clock + Sync),
     texts: &Texts<'_>,
+    sheet: &Sheet<'_>,
     row: &Row<'_>,
 ) -> Result<usize> {
     let given = given_of(rt.alloc(), texts, row)?;
-    let wanted = wanted_of(rt.alloc(), texts, row, &given.files)?;
+    let wanted = wanted_of(rt.alloc(), texts, row, &given)?;
+    for field in row.fields() {
+        sheet.take(field);
+    }
     let runs = run_by_calls(rt, &given, &wanted)?;
     Ok(runs.saturating_add(programs::run_all(rt, &given, &wanted)?))
 }

@@ -1,7 +1,7 @@
 //! Runs of a script by its processes, by calls of the libraries.
 
 use crate::agreeing::agree;
-use crate::compared::expect_bytes;
+use crate::compared::{expect_bytes, expect_one};
 use crate::drivers::Order;
 use crate::means::expect_files;
 use crate::runs::{Driver, run_by};
@@ -156,9 +156,12 @@ fn expect_whole(
     if !are_all_counted(report) {
         bail!("the harts' events aren't those of the schedule");
     }
-    if let Some(err) = &wanted.err {
-        expect_bytes("diagnostics", report.diag.as_slice(), err.as_slice())?;
-    }
+    expect_one(
+        "diagnostics",
+        report.diag.as_slice(),
+        wanted.err.as_slice(),
+        wanted.other_errs.as_slice(),
+    )?;
     if !replays(alloc, given, report)? {
         bail!("a replay of the schedule leaves something else");
     }

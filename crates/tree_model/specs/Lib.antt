@@ -12,3 +12,4 @@ pub mod Uncut
 pub mod ProgramBytes
 pub mod Bound
 pub mod Ends
+pub mod AsksItsOwn

@@ -4,7 +4,7 @@ use Rattle.std.specs.Prelude.{ℕ, zero, suc, ◌+◌, ◌-◌, ◌*◌, List, l
 use Rattle.mem_files.specs.Name.{Bytes}
 use Rattle.prog_parts.specs.declared.program.Program.{Program}
 use Rattle.prog_parts.specs.declared.program.Program.TheVariants.{Cat, Echo, Grep, Head, Tee as Tee', Wc}
-use Rattle.user_calls.specs.declared.block.TheConstants.{BLOCK_SIZE}
+use Rattle.user_calls.specs.Limits.{block_size}
 use Rattle.user_calls.specs.declared.calls.Call.{Call}
 use Rattle.user_calls.specs.declared.calls.Call.TheVariants.{Fork, Exec, Exit, Wait, MakePipe, Read, Write, OpenFile, Close, Dup}
 use Rattle.meaning_model.specs.Programs.{echo_out}
@@ -41,7 +41,7 @@ passes (searching pattern) r = r
 abbrev pub for_each : Filter → ℕ
 for_each copying = 0
 for_each (heading lines) = 0
-for_each counting = BLOCK_SIZE
+for_each counting = block_size
 for_each (searching pattern) = 0
 
 abbrev pub inputs_after : Source → ℕ
@@ -53,7 +53,7 @@ work_bytes cat_reads r = r
 work_bytes cat_writes r = r
 work_bytes (head_reads lines wanted) r = r
 work_bytes (head_writes lines wanted) r = r
-work_bytes (wc_reads lines words count inside) r = BLOCK_SIZE
+work_bytes (wc_reads lines words count inside) r = block_size
 work_bytes wc_writes r = 0
 work_bytes (grep_reads pattern kept) r = length kept + r
 work_bytes (grep_writes pattern rest) r = length rest + r
@@ -71,7 +71,7 @@ begin_bytes Echo arguments r = length (echo_out arguments)
 begin_bytes Grep arguments r = r
 begin_bytes Head arguments r = r
 begin_bytes Tee' arguments r = r * (length arguments + 1)
-begin_bytes Wc arguments r = BLOCK_SIZE * (length arguments + 1)
+begin_bytes Wc arguments r = block_size * (length arguments + 1)
 
 -- what is written after the call that is waited for
 abbrev pub later_bytes : State → ℕ → ℕ

@@ -8,7 +8,7 @@ use Rattle.meaning_model.specs.Value.{Value}
 use Rattle.tree_model.specs.Residual.{Residual, todo}
 use Rattle.tree_model.specs.Step.{Choice, step}
 use Rattle.tree_model.specs.Rules.{Label, Steps, IsMet, taken, put_out}
-use Rattle.tree_model.specs.Final.{final}
+use Rattle.tree_model.specs.Final.{final, left_met}
 use Rattle.tree_model.specs.Tidy.{IsTidy}
 use Rattle.tree_model.specs.Kept.{Keeps}
 
@@ -49,10 +49,10 @@ after_steps profile [] stage = stage
 after_steps profile (c ∷ cs) stage = after_steps profile cs (next_stage profile stage c)
 
 -- a stage on the way from a command of this value: tidy, and what it wrote so far followed by what it still gives keeps the
--- value
+-- value, and meets no name
 pub record IsOnWay (profile : Profile) (value : Value) (stage : Stage) : Type 0 where
   pub tidy : IsTidy stage.left stage.files
-  pub kept : Keeps stage.out value (final profile stage.left stage.input stage.files)
+  pub kept : Keeps stage.out value (final profile stage.left stage.input stage.files) (left_met profile stage.left stage.input stage.files)
 
 -- the output of a value, its files but for soft names, and what it leaves of the input, unless that is loose
 pub record Agrees (stage : Stage) (value : Value) : Type 0 where

@@ -1,7 +1,7 @@
 //! The bytes that one call moves.
 
 ghost use Rattle.std.specs.Prelude.{◌≡◌, ◌≤◌, ◌↔◌, IsTrue, [], ◌++◌, length, take};
-ghost use Rattle.user_calls.specs.declared.block.TheConstants.{BLOCK_SIZE};
+ghost use Rattle.user_calls.specs.Limits.{block_size};
 
 use arrayvec::ArrayVec;
 use std::marker::Model;
@@ -17,13 +17,13 @@ pub struct Block {
 
 impl Model for Block {
     ghost use Rattle.std.specs.Prelude.{List, ℕ, ◌≤◌, length};
-    ghost use Rattle.user_calls.specs.declared.block.TheConstants.{BLOCK_SIZE};
+    ghost use Rattle.user_calls.specs.Limits.{block_size};
 
     ghost Value = { List ℕ };
 
     ghost view = { λ b. b.bytes.items };
 
-    ghost invariant = { λ b. length b.bytes.items ≤ BLOCK_SIZE };
+    ghost invariant = { λ b. length b.bytes.items ≤ block_size };
 }
 
 impl Block {
@@ -38,7 +38,7 @@ impl Block {
 
     /// A block of the first 1,024 of these bytes, or of all of them where there are fewer (own).
     pub fn from_slice(bytes: &[u8]) -> Self
-        ensures { result ≡ take BLOCK_SIZE bytes.now }
+        ensures { result ≡ take block_size bytes.now }
     {
         let mut block = Block::new();
         block.append(bytes);
@@ -47,7 +47,7 @@ impl Block {
 
     /// Adds these bytes behind those that are there; what goes past 1,024 bytes is left out (own).
     pub fn append(&mut self, bytes: &[u8])
-        ensures { self.new ≡ take BLOCK_SIZE (self.old ++ bytes.now) }
+        ensures { self.new ≡ take block_size (self.old ++ bytes.now) }
     {
         let fitting = bytes.len().min(self.bytes.remaining_capacity());
         let _ = self.bytes.try_extend_from_slice(&bytes[..fitting]);
@@ -56,7 +56,7 @@ impl Block {
     /// The bytes, borrowed (own).
     pub fn as_slice(&self) -> &[u8]
         ensures bytes { result.now ≡ self.now }
-        ensures fits { length self.now ≤ BLOCK_SIZE }
+        ensures fits { length self.now ≤ block_size }
     {
         self.bytes.as_slice()
     }

@@ -5,7 +5,7 @@ use Rattle.mem_files.specs.Name.{Name, Bytes}
 use Rattle.prog_parts.specs.declared.program.Program.{Program}
 use Rattle.prog_parts.specs.declared.program.Program.TheVariants.{Cat, Echo, Grep, Head, Tee as Tee', Wc}
 use Rattle.prog_parts.specs.Head.{head_files, has_wrong_option}
-use Rattle.user_calls.specs.declared.block.TheConstants.{BLOCK_SIZE}
+use Rattle.user_calls.specs.Limits.{block_size}
 use Rattle.user_calls.specs.declared.calls.Mode.TheVariants.{Input, Fresh}
 use Rattle.user_calls.specs.declared.calls.Call.{Call}
 use Rattle.user_calls.specs.declared.calls.Call.TheVariants.{Exit, Read, Write, OpenFile, Close}
@@ -47,7 +47,7 @@ fd_in (Fd fd) = yields fd
 fd_in (Ends reader writer) = strays
 fd_in Refused = denies
 
--- to a write or a close, and to the call that began the program
+-- to a write or a close
 abbrev pub done_in : Reply → Answer (Unit {0})
 done_in Start = strays
 done_in Child = strays
@@ -59,7 +59,7 @@ done_in Refused = denies
 
 -- as many bytes as one call moves
 abbrev pub block : Bytes → Bytes
-block bytes = take BLOCK_SIZE bytes
+block bytes = take block_size bytes
 
 abbrev pub exits : Turn
 exits = record { call = Exit; next = ended }
@@ -287,16 +287,10 @@ begins_program Head arguments = begins_head (has_wrong_option arguments) argumen
 begins_program Tee' arguments = tee_opens_next [] arguments
 begins_program Wc arguments = begins_filter counting arguments
 
--- a program begins once the call that found it is done
-abbrev pub begun_by : Program → List Bytes → Answer (Unit {0}) → Turn
-begun_by program arguments (yields done) = begins_program program arguments
-begun_by program arguments denies = exits
-begun_by program arguments strays = exits
-
 -- what a program does with the reply to its call; one that such a call can't get makes it exit, unless the program
--- ignores all replies to the call
+-- ignores all replies to the call. It begins at any reply (the call that found the program is always answered Done)
 abbrev pub turn : State → Reply → Turn
-turn (begins program arguments) reply = begun_by program arguments (done_in reply)
+turn (begins program arguments) reply = begins_program program arguments
 turn (echo_word later) reply = echo_end later
 turn (echo_space later) reply = echo_next later
 turn (opens filter name later) reply = opened_by filter name later (fd_in reply)

@@ -1,7 +1,7 @@
 //! `user/grep.c`: the lines of each input that match the pattern. Its buffer of 1,024 bytes holds at most 1,023.
 
 ghost use Rattle.std.specs.Prelude.{◌≡◌, ◌≤◌, length};
-ghost use Rattle.user_calls.specs.declared.block.TheConstants.{BLOCK_SIZE};
+ghost use Rattle.user_calls.specs.Limits.{block_size};
 ghost use Rattle.user_progs.specs.Turn.{grep_got, grep_goes_on, grep_keeps, begins_grep, bytes_in};
 ghost use Rattle.user_progs.specs.View.{step_of, turn_of};
 
@@ -15,7 +15,7 @@ use user_calls::{Block, Reply};
 
 // Keeps these bytes, in which there is no line to test.
 fn keeps<'t>(pattern: &'t [u8], kept: &[u8]) -> Step<'t>
-    requires { length kept.now ≤ BLOCK_SIZE }
+    requires { length kept.now ≤ block_size }
     ensures { step_of result ≡ grep_keeps pattern.now kept.now }
 {
     if kept.len() >= BUFFER {
@@ -29,7 +29,7 @@ fn keeps<'t>(pattern: &'t [u8], kept: &[u8]) -> Step<'t>
 
 // Writes the first line of these bytes that is tested and matches, or reads on.
 pub fn goes_on<'t>(pattern: &'t [u8], buffer: &[u8]) -> Step<'t>
-    requires { length buffer.now ≤ BLOCK_SIZE }
+    requires { length buffer.now ≤ block_size }
     ensures { step_of result ≡ grep_goes_on pattern.now buffer.now }
 {
     let mut rest = buffer;

@@ -88,10 +88,7 @@ fn turn<'t, A: Allocator>(at: &At<'t, A>, reply: &Reply) -> Turn<'t, A>
     ensures { turn_of result ≡ turn (at_of at.now) reply.now }
 {
     match at {
-        At::Begins(program, arguments) => match reply {
-            Reply::Done => return begins(*program, arguments),
-            _ => {}
-        },
+        At::Begins(program, arguments) => return begins(*program, arguments),
         At::EchoWord(later) => return echo::end(later),
         At::EchoSpace(later) => return echo::next(later),
         At::Opens(filter, name, later) => return filter::opened(*filter, name, later, reply),

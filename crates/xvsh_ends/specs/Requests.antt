@@ -1,5 +1,5 @@
 -- What the program is asked for, and how it ends, by what is known of its console.
-use Rattle.std.specs.Prelude.{ℕ, Bool, true, false}
+use Rattle.std.specs.Prelude.{◌≢◌, ℕ, Bool, true, false, IsTrue}
 use Rattle.xvsh_read.specs.Console.{Known}
 use Rattle.xvsh_runs.specs.declared.request.RunRequest.{RunRequest}
 use Rattle.xvsh_runs.specs.declared.request.ReplayRequest.{ReplayRequest}
@@ -36,6 +36,15 @@ asked (Replay request) = replay_asked request
 asked (Plain request) = plain_asked request
 asked (Check request) = check_asked request.counts_turns request
 asked (Explain request) = explain_asked request
+
+-- this holds, unless the status is one with which a request may have written its result: 0; 1, where an output took no more;
+-- 3 of a strict run, of a check and of notes; and 4 of a run by processes, where something was full
+abbrev pub UnlessWritten : Request → ℕ → Type 0 → Type 0
+UnlessWritten (Run request) status same = status ≢ 0 → status ≢ 1 → (IsTrue request.is_strict → status ≢ 3) → status ≢ 4 → same
+UnlessWritten (Replay request) status same = status ≢ 0 → status ≢ 1 → status ≢ 4 → same
+UnlessWritten (Plain request) status same = status ≢ 0 → status ≢ 1 → (IsTrue request.is_strict → status ≢ 3) → same
+UnlessWritten (Check request) status same = status ≢ 0 → status ≢ 1 → status ≢ 3 → same
+UnlessWritten (Explain request) status same = status ≢ 0 → status ≢ 1 → status ≢ 3 → same
 
 -- the program ends with this status after what was asked, by what is known of its console before and after
 abbrev pub EndsAt : Known → Known → Asked → ℕ → Type 0

@@ -1,5 +1,5 @@
 //! How a run by processes ends, and a replay.
-ghost use Rattle.std.specs.Prelude.{◌≡◌, ◌≢◌, true, false};
+ghost use Rattle.std.specs.Prelude.{◌≡◌, ◌≢◌, true, false, IsTrue};
 ghost use Rattle.xvsh_read.specs.Console.{known};
 ghost use Rattle.xvsh_ends.specs.Requests.{EndsAt, replay_asked, run_asked};
 
@@ -49,7 +49,7 @@ pub fn end_run<R: Threads + Wait + Clock + Sync, H: Host, W: Write, E: Write>(
     console: &mut Console<H, W, E>,
 ) -> u8
     ensures ends { let seen = known H.input H.file W.contents E.contents in EndsAt (seen console.old) (seen console.new) (run_asked request.now.is_strict request.now) result }
-    ensures nothing_written { result ≢ 0 → result ≢ 1 → result ≢ 3 → result ≢ 4 → console.new.out ≡ console.old.out }
+    ensures nothing_written { result ≢ 0 → result ≢ 1 → (IsTrue request.now.is_strict → result ≢ 3) → result ≢ 4 → console.new.out ≡ console.old.out }
 {
     if request.is_strict {
         end_strict(rt, alloc, request, console)

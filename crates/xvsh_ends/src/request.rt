@@ -1,7 +1,7 @@
 //! What the program is asked for, and how it ends.
-ghost use Rattle.std.specs.Prelude.{◌≡◌, ◌≢◌};
+ghost use Rattle.std.specs.Prelude.{◌≡◌};
 ghost use Rattle.xvsh_read.specs.Console.{known};
-ghost use Rattle.xvsh_ends.specs.Requests.{EndsAt, asked};
+ghost use Rattle.xvsh_ends.specs.Requests.{EndsAt, UnlessWritten, asked};
 
 use crate::checks::{end_check, end_explain};
 use crate::plain::end_plain;
@@ -39,7 +39,7 @@ pub fn end_request<R: Threads + Wait + Clock + Sync, H: Host, W: Write, E: Write
     console: &mut Console<H, W, E>,
 ) -> u8
     ensures ends { let seen = known H.input H.file W.contents E.contents in EndsAt (seen console.old) (seen console.new) (asked request.now) result }
-    ensures nothing_written { result ≢ 0 → result ≢ 1 → result ≢ 3 → result ≢ 4 → console.new.out ≡ console.old.out }
+    ensures nothing_written { UnlessWritten request.now result (console.new.out ≡ console.old.out) }
 {
     match request {
         Request::Run(run) => end_run(rt, alloc, run, console),

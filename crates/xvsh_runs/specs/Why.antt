@@ -26,37 +26,25 @@ use Rattle.xvsh_runs.specs.declared.fault.ProcessFault.{ProcessFault}
 use Rattle.xvsh_runs.specs.declared.fault.ProcessFault.TheVariants.{Common, BadHarts, BadTurns, Spent, SharedInput, NoEvent, NotRunnable, NotRunning, Unfinished}
 use Rattle.xvsh_runs.specs.declared.replaying.TheConstants.{MAX_SCHEDULE}
 
--- no run from this kernel on so many harts in so many turns is written: some run spends them, the harts or they are out of
--- range, or the run can't be written
-abbrev pub IsHartsFault : KernelState User → ℕ → ℕ → ProcessFault → Type 0
-IsHartsFault start harts turns (Common fault) = IsTellFault fault
-IsHartsFault start harts turns BadHarts = AreBadHarts harts
-IsHartsFault start harts turns BadTurns = AreBadTurns turns
-IsHartsFault start harts turns Spent = IsSpentFrom start turns
-IsHartsFault start harts turns SharedInput = ⊥
-IsHartsFault start harts turns (NoEvent path line) = ⊥
-IsHartsFault start harts turns (NotRunnable number pid) = ⊥
-IsHartsFault start harts turns (NotRunning number pid hart) = ⊥
-IsHartsFault start harts turns (Unfinished count) = ⊥
+-- why no run from this kernel on so many harts in so many turns is written: the run can't be written, the harts or the turns
+-- are out of range, or some run spends the turns
+pub data IsHartsFault (start : KernelState User) (harts turns : ℕ) : ProcessFault → Type 0 where
+  untold : {fault : Fault} → IsTellFault fault → IsHartsFault start harts turns (Common fault)
+  harts_out_of_range : AreBadHarts harts → IsHartsFault start harts turns BadHarts
+  turns_out_of_range : AreBadTurns turns → IsHartsFault start harts turns BadTurns
+  turns_spent : IsSpentFrom start turns → IsHartsFault start harts turns Spent
 
--- the bytes of a schedule at a path are not read as events: a line is none
-abbrev pub IsLinesFault : Path → Bytes → ProcessFault → Type 0
-IsLinesFault path bytes (Common fault) = IsTellFault fault
-IsLinesFault path bytes BadHarts = ⊥
-IsLinesFault path bytes BadTurns = ⊥
-IsLinesFault path bytes Spent = ⊥
-IsLinesFault path bytes SharedInput = ⊥
-IsLinesFault path bytes (NoEvent at line) = (at.now ≡ path) × IsNoEventAt bytes line
-IsLinesFault path bytes (NotRunnable number pid) = ⊥
-IsLinesFault path bytes (NotRunning number pid hart) = ⊥
-IsLinesFault path bytes (Unfinished count) = ⊥
+-- why the bytes of a schedule at a path are not read as events: they can't be kept, or a line is none
+pub data IsLinesFault (path : Path) (bytes : Bytes) : ProcessFault → Type 0 where
+  unkept : {fault : Fault} → IsTellFault fault → IsLinesFault path bytes (Common fault)
+  no_event : {at : Bor Path} {line : ℕ} → at.now ≡ path → IsNoEventAt bytes line → IsLinesFault path bytes (NoEvent at line)
 
 -- the event of this number, counted from 1
 abbrev pub IsEventAt : List Event → ℕ → Event → Type 0
 IsEventAt events number event = slice_get events (number - 1) ≡ Some event
 
--- no run from this kernel by these events is written: an event can't take place, the run isn't finished then, or it can't be
--- written
+-- why no run from this kernel by these events is written: it can't be written, an event can't take place, or the run isn't
+-- finished then
 abbrev pub IsEventsFault : KernelState User → List Event → ProcessFault → Type 0
 IsEventsFault start events (Common fault) = IsTellFault fault
 IsEventsFault start events BadHarts = ⊥

@@ -6,7 +6,7 @@ ghost use Rattle.kernel_model.specs.KernelState.{KernelState};
 ghost use Rattle.kernel_events.specs.Reports.{IsRunFrom};
 ghost use Rattle.kernel_runs.specs.Refused.{IsReplayFault};
 ghost use Rattle.schedule_lines.specs.EventLines.{AreLinesOf};
-ghost use Rattle.xvsh_read.specs.declared.fault.Fault.TheVariants.{Unwritten};
+ghost use Rattle.xvsh_read.specs.declared.fault.Fault.TheVariants.{Memory, Unwritten};
 ghost use Rattle.xvsh_read.specs.Console.{known};
 ghost use Rattle.xvsh_runs.specs.Kernels.{kernel_of};
 ghost use Rattle.xvsh_runs.specs.Runs.{DidReplay};
@@ -41,7 +41,8 @@ fn events_of<'a>(alloc: Global, path: &'a str, bytes: &[u8]) -> Result<Vec<Event
 // The fault of a replay of these events, with the process and the hart of the event that couldn't take place.
 fn fault_of<'a>(events: &[Event], fault: ReplayFault) -> ProcessFault<'a>
     requires { (start : KernelState User) × IsReplayFault start events.now fault }
-    ensures { (start : KernelState User) → IsReplayFault start events.now fault → IsEventsFault start events.now result }
+    ensures told { (start : KernelState User) → IsReplayFault start events.now fault → IsEventsFault start events.now result }
+    ensures memory { result ≡ ProcessFault.Common Memory → fault ≡ ReplayFault.Memory }
 {
     match fault {
         ReplayFault::NotRunnable(number) => match events.get(number - 1) {

@@ -6,7 +6,7 @@ use Rattle.sh_machine.specs.State.{User}
 use Rattle.script_load.specs.Line.{lines_of}
 use Rattle.kernel_model.specs.KernelState.{KernelState}
 use Rattle.kernel_events.specs.Reports.{IsRunFrom}
-use Rattle.run_model.specs.ScriptRun.{IsSpentFrom}
+use Rattle.run_model.specs.ScriptRun.{IsOutOfTurnsFrom}
 use Rattle.run_model.proofs.Scripts.{script_boot}
 use Rattle.kernel_threads.proofs.Users.{user_send}
 use Rattle.kernel_threads.proofs.running.run_named.Goals as goal
@@ -22,4 +22,4 @@ returns-clause-run g c =
 pub returns-clause-spent : goal.returns-clause-spent
 returns-clause-spent g c = λ is.
     let script = c.args.script.now in
-    subst (λ (k : KernelState User). IsSpentFrom k c.args.turns) (script_boot script.profile (lines_of script.lines) c.args.stdin.now c.args.files.now _ _ c.in-Ok.kernel c.init-init.ensures c.shell.ensures c.in-Ok.ensures) (c.run_kernel.ensures.spent is)
+    subst (λ (k : KernelState User). IsOutOfTurnsFrom k c.args.turns) (script_boot script.profile (lines_of script.lines) c.args.stdin.now c.args.files.now _ _ c.in-Ok.kernel c.init-init.ensures c.shell.ensures c.in-Ok.ensures) (c.run_kernel.ensures.spent is)

@@ -1,6 +1,6 @@
 -- The parts of the message follow each other.
 use Rattle.std.proofs.Common.{◌≡◌, ◌∙◌, ◌++◌, ap, append_assoc, take, List, ℕ}
-use Rattle.user_calls.specs.declared.block.TheConstants.{BLOCK_SIZE}
+use Rattle.user_calls.specs.Limits.{block_size}
 use Rattle.user_progs.proofs.Blocks.{cut_again}
 use Rattle.sh_machine.proofs.message.within.Goals as goal
 
@@ -10,5 +10,5 @@ cut_twice n a b c = cut_again n (take n a ++ b) c ∙ ap (λ z. take n z) (appen
 pub returns : goal.returns
 returns c =
     c.append-2.ensures
-    ∙ ap (λ (m : List ℕ). take BLOCK_SIZE (m ++ c.args.after.now)) (c.append.ensures ∙ ap (λ (m : List ℕ). take BLOCK_SIZE (m ++ c.args.text.now)) c.from_slice-message.ensures)
-    ∙ cut_twice BLOCK_SIZE c.args.before.now c.args.text.now c.args.after.now
+    ∙ ap (λ (m : List ℕ). take block_size (m ++ c.args.after.now)) (c.append.ensures ∙ ap (λ (m : List ℕ). take block_size (m ++ c.args.text.now)) c.from_slice-message.ensures)
+    ∙ cut_twice block_size c.args.before.now c.args.text.now c.args.after.now

@@ -2,7 +2,7 @@
 use Rattle.std.proofs.Common.{◌≡◌, ◌∙◌, ◌++◌, [], ◌∷◌, take, sym, ap, arith}
 use Rattle.std.proofs.lemmas.List.{take_all}
 use Rattle.mem_files.specs.Name.{Bytes}
-use Rattle.user_calls.specs.declared.block.TheConstants.{BLOCK_SIZE}
+use Rattle.user_calls.specs.Limits.{block_size}
 use Rattle.user_progs.specs.State.{grep_writes}
 use Rattle.user_progs.specs.Turn.{writes, block}
 use Rattle.user_progs.proofs.Blocks.{cut_again}
@@ -21,8 +21,8 @@ returns-then-is_match c =
     let after = c.in-Some.after.now in
     let fewer = shorter line after c.loop-line.rest.now c.in-Some.ensures.some in
     let out : c.append.new.self ≡ block (line ++ 10 ∷ []) =
-    c.append.ensures ∙ ap (λ (o : Bytes). take BLOCK_SIZE (o ++ 10 ∷ [])) c.from_slice-out.ensures ∙ cut_again BLOCK_SIZE line (10 ∷ []) in
-    let rest : c.from_slice.result ≡ after = c.from_slice.ensures ∙ take_all BLOCK_SIZE after (omega (arith, fewer, c.loop-line.invariant.1)) in
+    c.append.ensures ∙ ap (λ (o : Bytes). take block_size (o ++ 10 ∷ [])) c.from_slice-out.ensures ∙ cut_again block_size line (10 ∷ []) in
+    let rest : c.from_slice.result ≡ after = c.from_slice.ensures ∙ take_all block_size after (omega (arith, fewer, c.loop-line.invariant.1)) in
     (λ i. writes (out i) (grep_writes c.args.pattern.now (rest i)))
     ∙ sym (at_match c.args.pattern.now line after c.loop-line.rest.now c.in-Some.ensures.line c.in-Some.ensures.some (sym c.is_whole.ensures ∙ c.if-not-is_whole.false) (sym c.is_match.ensures.test ∙ c.if-is_match.true))
     ∙ c.loop-line.invariant.0

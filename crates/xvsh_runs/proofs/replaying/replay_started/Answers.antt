@@ -7,4 +7,4 @@ use Rattle.xvsh_runs.proofs.replaying.replay_started.Goals as goal
 pub returns-in-Err-clause-fault : goal.returns-in-Err-clause-fault
 returns-in-Err-clause-fault c =
     let start = c.args.start.now in
-    subst (λ stdin. IsEventsFault (script_kernel start.script.profile (lines_of start.script.lines) stdin start.files) c.args.events.now c.fault_of.result) c.as_slice.ensures.value (c.fault_of.ensures _ c.in-Err.ensures.fault)
+    subst (λ stdin. IsEventsFault (script_kernel start.script.profile (lines_of start.script.lines) stdin start.files) c.args.events.now c.fault_of.result) c.as_slice.ensures.value (c.fault_of.ensures.told _ c.in-Err.ensures.fault)

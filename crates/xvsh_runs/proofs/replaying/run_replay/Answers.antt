@@ -6,7 +6,7 @@ use Rattle.kernel_events.specs.Reports.{IsRunFrom}
 use Rattle.run_model.specs.ScriptRun.{script_kernel}
 use Rattle.schedule_lines.specs.EventLines.{AreLinesOf}
 use Rattle.xvsh_read.proofs.Faults.{at_fault}
-use Rattle.xvsh_runs.specs.Why.{shared, no_schedule, no_start_after, no_replay, IsBytesFault}
+use Rattle.xvsh_runs.specs.Why.{shared, no_schedule, no_start_after, no_replay, unkept, IsBytesFault}
 use Rattle.xvsh_runs.proofs.Moved.{both, begins, begin_fault}
 use Rattle.xvsh_runs.proofs.Written.{is_written}
 use Rattle.xvsh_runs.proofs.replaying.run_replay.Goals as goal
@@ -44,7 +44,7 @@ returns-in_err-write_report-clause-fault g c =
     let start = c.in_ok-start.start in
     let lines = lines_of start.script.lines in
     let starts = begins (g.H.Host.input c.args.console.now.host) (g.H.Host.input c.read.new.host) (g.H.Host.file c.args.console.now.host) (g.H.Host.file c.read.new.host) c.args.request.now.schedule.now c.args.request.now.source.script.now c.eq-is_taken.result c.eq-is_taken.ensures c.read.ensures.files_stay c.read.ensures.input_stays one c.args.request.now.source.files.now lines start.files start.stdin.items c.in_ok-start.ensures.prepared in
-    at_fault c.from_residual-in_err-write_report.result _ _ c.from_residual-in_err-write_report.ensures.1 (no_replay c.in_ok-bytes.bytes.items lines start.files start.stdin.items c.in_ok-bytes.ensures.bytes starts (inl c.in_err-write_report.ensures.fault))
+    at_fault c.from_residual-in_err-write_report.result _ _ c.from_residual-in_err-write_report.ensures.1 (no_replay c.in_ok-bytes.bytes.items lines start.files start.stdin.items c.in_ok-bytes.ensures.bytes starts (inl (unkept c.in_err-write_report.ensures.fault)))
 
 pub returns-clause-ran : goal.returns-clause-ran
 returns-clause-ran g c =

@@ -44,3 +44,7 @@ returns-clause-ran g c =
       };
       settled = subst (λ profile. IsTrue c.in_ok-is_settled.is_settled ↔ IsSettledScript profile lines stdin (files given)) same c.in_ok-is_settled.ensures.settled;
     }
+
+pub returns-in_err-full-clause-refusal : goal.returns-in_err-full-clause-refusal
+returns-in_err-full-clause-refusal g c =
+    at_fault c.from_residual-in_err-full.result _ _ c.from_residual-in_err-full.ensures.1 c.in_err-full.ensures.refusal

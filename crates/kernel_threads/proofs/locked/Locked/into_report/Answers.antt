@@ -21,5 +21,8 @@ returns-clause-finished g c = λ finished.
 pub returns-clause-harts : goal.returns-clause-harts
 returns-clause-harts g c = subst (AreOfHarts g.N.Run.harts) (sym c.into_report.ensures.schedule) c.self.invariant.3
 
+pub returns-clause-by_hart : goal.returns-clause-by_hart
+returns-clause-by_hart g c = rw c.into_report.ensures.schedule c.into_report.ensures.by_hart
+
 pub returns-clause-told : goal.returns-clause-told
 returns-clause-told g c = rw (← c.self.view_is) c.into_report.ensures.finished
