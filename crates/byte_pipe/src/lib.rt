@@ -4,7 +4,7 @@
 //! Here a call never waits: it moves what it can, returns how much, and the caller decides when to try again (own).
 #![tactic(auto)]
 
-ghost use Rattle.std.specs.Prelude.{◌≡◌, ◌≤◌, length, IfOk};
+ghost use Rattle.std.specs.Prelude.{◌≡◌, ◌≤◌, ◌+◌, ◌++◌, length, take, IfOk};
 ghost use Rattle.byte_pipe.specs.Limits.{pipe_size};
 
 pub mod laws;
@@ -110,10 +110,41 @@ impl<A: Allocator> Pipe<A> {
         ensures after { self.new ≡ after_take self.old (length buffer.old) }
         ensures within { length self.new.bytes ≤ pipe_size }
     {
-        if self.ring.is_empty() {
+        let answer = self.would_take(buffer.len());
+        self.ring.read_into(buffer);
+        answer
+    }
+
+    /// What `take` would return of a buffer of `count` bytes (own).
+    pub fn would_take(&self, count: usize) -> Take
+        ensures { result ≡ take_answer self.now count }
+    {
+        let held = self.ring.len();
+        if held == 0 {
             return if self.writer { Take::Empty } else { Take::End };
         }
-        Take::Got(self.ring.read_into(buffer))
+        Take::Got(held.min(count))
+    }
+
+    /// The oldest `count` bytes, or all where there are fewer, where they lie, in two parts (own).
+    pub fn first_bytes(&self, count: usize) -> (&[u8], &[u8])
+        ensures value { result.0.now ++ result.1.now ≡ take count self.now.bytes }
+        ensures within { length result.0.now + length result.1.now ≤ count }
+    {
+        let (front, back) = self.ring.as_slices();
+        let from_front = count.min(front.len());
+        let from_back = (count - from_front).min(back.len());
+        (&front[..from_front], &back[..from_back])
+    }
+
+    /// Takes the oldest `count` bytes, or all where there are fewer, without moving them: `first_bytes` gave them before
+    /// (`piperead`).
+    pub fn skip(&mut self, count: usize)
+        ensures after { self.new ≡ after_take self.old count }
+        ensures within { length self.new.bytes ≤ pipe_size }
+    {
+        let held = self.ring.len();
+        self.ring.truncate_front(held - count.min(held));
     }
 
     /// Closes the read end: from now on a put of bytes returns `Closed` (`pipeclose`).

@@ -1,1 +1,2 @@
 mod InUse
+mod Turns

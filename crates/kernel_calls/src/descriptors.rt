@@ -1,6 +1,6 @@
 //! close and dup, and the descriptors of a process (xv6's `kernel/sysfile.c` and `file.c`).
 
-ghost use Rattle.std.specs.Prelude.{◌≡◌, true};
+ghost use Rattle.std.specs.Prelude.{◌≡◌, IfSome, true};
 ghost use Rattle.fd_table.specs.Descriptors.{dup_answer, entry_of, lowest_free};
 ghost use Rattle.fd_table.specs.Entries.{free_count};
 ghost use Rattle.proc_table.specs.Slots.{at, is_running};
@@ -11,40 +11,35 @@ ghost use Rattle.kernel_model.specs.Descriptors.{close, copied, dup, with_open};
 use fd_table::{Entry, FdFault, Object};
 use kernel_model::Full;
 use kernel_state::State;
-use proc_table::Pid;
+use proc_table::{Answer, Pid};
 use std::alloc::Allocator;
-use user_calls::{Machine, Reply};
+use user_calls::Machine;
 
 // `sys_close`.
-pub(crate) fn close<M: Machine, A: Allocator>(
-    state: &mut State<M, A>,
-    pid: Pid,
-    after: M,
-    fd: usize,
-)
+pub(crate) fn close<M: Machine, A: Allocator>(state: &mut State<M, A>, pid: Pid, fd: usize)
     requires runs { is_running (at state.old.table pid) ≡ true }
     requires sound { IsSound state.old.table state.old.entries }
-    ensures { state.new ≡ close state.old pid (M.view after) fd }
+    ensures { IfSome (at state.old.table pid) (λ p. state.new ≡ close state.old pid (M.next_of p.machine p.reply) fd) }
 {
-    let reply = if state.close_one(pid, fd) {
-        Reply::Done
+    let answer = if state.close_one(pid, fd) {
+        Answer::Done
     } else {
-        Reply::Refused
+        Answer::Refused
     };
-    state.answer(pid, after, reply);
+    state.answer(pid, answer);
 }
 
 // `sys_dup`.
-pub(crate) fn dup<M: Machine, A: Allocator>(state: &mut State<M, A>, pid: Pid, after: M, fd: usize)
+pub(crate) fn dup<M: Machine, A: Allocator>(state: &mut State<M, A>, pid: Pid, fd: usize)
     requires runs { is_running (at state.old.table pid) ≡ true }
     requires sound { IsSound state.old.table state.old.entries }
-    ensures { state.new ≡ dup state.old pid (M.view after) fd }
+    ensures { IfSome (at state.old.table pid) (λ p. state.new ≡ dup state.old pid (M.next_of p.machine p.reply) fd) }
 {
     match dup_fd(state, pid, fd) {
-        Ok(fd) => state.answer(pid, after, Reply::Fd(fd)),
-        Err(FdFault::BadFd) => state.answer(pid, after, Reply::Refused),
-        Err(FdFault::FullFds) => state.refuse(pid, after, Full::Fds),
-        Err(FdFault::FullOpen) => state.refuse(pid, after, Full::Open),
+        Ok(fd) => state.answer(pid, Answer::Fd(fd)),
+        Err(FdFault::BadFd) => state.answer(pid, Answer::Refused),
+        Err(FdFault::FullFds) => state.refuse(pid, Full::Fds),
+        Err(FdFault::FullOpen) => state.refuse(pid, Full::Open),
     }
 }
 

@@ -1,6 +1,7 @@
 //! open (xv6's `sys_open`).
 
-ghost use Rattle.std.specs.Prelude.{◌≡◌, is_some, true};
+ghost use Rattle.std.specs.Prelude.{◌≡◌, IfSome, is_some, true};
+ghost use Rattle.proc_table.specs.Answers.{reply_of};
 ghost use Rattle.proc_table.specs.Slots.{at, is_running};
 ghost use Rattle.mem_files.specs.Name.{is_openable};
 ghost use Rattle.mem_files.specs.Files.{files};
@@ -13,41 +14,39 @@ use fd_table::{Mode as EntryMode, Name, Object};
 use kernel_model::{Full, Memory};
 use kernel_state::State;
 use mem_files::{FilesFault, is_openable};
-use proc_table::Pid;
+use proc_table::{Answer, Pid};
 use std::alloc::Allocator;
-use user_calls::{Block, Machine, Mode, Reply};
+use user_calls::{Machine, Mode};
 
 // Opens the file, which is there, in this mode.
 pub(crate) fn open_here<M: Machine, A: Allocator>(
     state: &mut State<M, A>,
     pid: Pid,
-    after: M,
     name: Name,
     mode: Mode,
 )
     requires runs { is_running (at state.old.table pid) ≡ true }
-    ensures { state.new ≡ open_here state.old pid (M.view after) name mode }
+    ensures { IfSome (at state.old.table pid) (λ p. state.new ≡ open_here state.old pid (M.next_of p.machine p.reply) name mode) }
 {
     let fd = free_fd(state, pid);
     open_object(state, pid, Object::File(name, entry_mode(mode)));
-    state.answer(pid, after, open_reply(fd));
+    state.answer(pid, open_reply(fd));
 }
 
 // A missing file is refused.
 pub(crate) fn open_for_reading<M: Machine, A: Allocator>(
     state: &mut State<M, A>,
     pid: Pid,
-    after: M,
     name: Name,
     mode: Mode,
 )
     requires runs { is_running (at state.old.table pid) ≡ true }
-    ensures { state.new ≡ open_for_reading state.old pid (M.view after) name mode (files state.old.files name) }
+    ensures { IfSome (at state.old.table pid) (λ p. state.new ≡ open_for_reading state.old pid (M.next_of p.machine p.reply) name mode (files state.old.files name)) }
 {
     if state.files.get(name.as_slice()).is_some() {
-        open_here(state, pid, after, name, mode);
+        open_here(state, pid, name, mode);
     } else {
-        state.answer(pid, after, Reply::Refused);
+        state.answer(pid, Answer::Refused);
     }
 }
 
@@ -55,33 +54,32 @@ pub(crate) fn open_for_reading<M: Machine, A: Allocator>(
 pub(crate) fn open_file<M: Machine, A: Allocator + Copy>(
     state: &mut State<M, A>,
     pid: Pid,
-    after: M,
-    name: &Block,
+    name: &[u8],
     mode: Mode,
 ) -> Memory
     requires runs { is_running (at state.old.table pid) ≡ true }
-    ensures { state.new ≡ open_file state.old pid (M.view after) name.now mode (is_refused result) }
+    ensures { IfSome (at state.old.table pid) (λ p. state.new ≡ open_file state.old pid (M.next_of p.machine p.reply) name.now mode (is_refused result)) }
 {
     if state.entries.free_count() == 0 {
-        state.refuse(pid, after, Full::Open);
+        state.refuse(pid, Full::Open);
         return Memory::Found;
     }
     if free_fd(state, pid).is_none() {
-        state.refuse(pid, after, Full::Fds);
+        state.refuse(pid, Full::Fds);
         return Memory::Found;
     }
-    if !is_openable(name.as_slice()) {
-        state.answer(pid, after, Reply::Refused);
+    if !is_openable(name) {
+        state.answer(pid, Answer::Refused);
         return Memory::Found;
     }
-    let Some(name) = Name::new(name.as_slice()) else {
+    let Some(name) = Name::new(name) else {
         unreachable!()
     };
     if reads(mode) {
-        open_for_reading(state, pid, after, name, mode);
+        open_for_reading(state, pid, name, mode);
         Memory::Found
     } else {
-        open_for_writing(state, pid, after, name, mode)
+        open_for_writing(state, pid, name, mode)
     }
 }
 
@@ -89,30 +87,29 @@ pub(crate) fn open_file<M: Machine, A: Allocator + Copy>(
 pub(crate) fn open_for_writing<M: Machine, A: Allocator + Copy>(
     state: &mut State<M, A>,
     pid: Pid,
-    after: M,
     name: Name,
     mode: Mode,
 ) -> Memory
     requires runs { is_running (at state.old.table pid) ≡ true }
     requires openable { is_openable name ≡ true }
-    ensures { state.new ≡ open_for_writing state.old pid (M.view after) name mode (is_refused result) (files state.old.files name) }
+    ensures { IfSome (at state.old.table pid) (λ p. state.new ≡ open_for_writing state.old pid (M.next_of p.machine p.reply) name mode (is_refused result) (files state.old.files name)) }
 {
     if state.files.get(name.as_slice()).is_some() {
         empty_if(state, empties(mode), name.as_slice());
-        open_here(state, pid, after, name, mode);
+        open_here(state, pid, name, mode);
         return Memory::Found;
     }
     match state.files.create(name.as_slice()) {
         Ok(()) => {
-            open_here(state, pid, after, name, mode);
+            open_here(state, pid, name, mode);
             Memory::Found
         }
         Err(FilesFault::FullFiles) => {
-            state.refuse(pid, after, Full::Files);
+            state.refuse(pid, Full::Files);
             Memory::Found
         }
         Err(FilesFault::Memory) => {
-            state.refuse(pid, after, Full::Memory);
+            state.refuse(pid, Full::Memory);
             Memory::Refused
         }
         Err(_) => unreachable!(),
@@ -136,12 +133,12 @@ pub(crate) fn empty_if<M: Machine, A: Allocator + Copy>(
 }
 
 // The reply to an open, by its descriptor.
-fn open_reply(fd: Option<usize>) -> Reply
-    ensures { result ≡ open_reply fd }
+fn open_reply(fd: Option<usize>) -> Answer
+    ensures { reply_of result ≡ open_reply fd }
 {
     match fd {
-        Some(fd) => Reply::Fd(fd),
-        None => Reply::Refused,
+        Some(fd) => Answer::Fd(fd),
+        None => Answer::Refused,
     }
 }
 

@@ -17,27 +17,26 @@ use fd_table::{Entry, Mode as EntryMode, Object};
 use kernel_model::{Full, Memory};
 use kernel_state::State;
 use mem_files::FilesFault;
-use proc_table::{Channel, Pid};
+use proc_table::{Answer, Channel, Pid};
 use std::alloc::{AllocError, Allocator};
-use user_calls::{Machine, Reply};
+use user_calls::Machine;
 
 // `sys_write`. Returns whether memory was refused, which can be only where a file or an output grows.
 pub(crate) fn write<M: Machine, A: Allocator>(
     state: &mut State<M, A>,
     pid: Pid,
-    after: M,
     fd: usize,
     bytes: &[u8],
 ) -> Memory
     requires runs { is_running (at state.old.table pid) ≡ true }
     requires sound { IsSound state.old.table state.old.entries }
     requires few { length bytes.now ≤ 1024 }
-    ensures { state.new ≡ write state.old pid (M.view after) fd bytes.now (is_refused result) }
+    ensures { IfSome (at state.old.table pid) (λ p. state.new ≡ write state.old pid (M.next_of p.machine p.reply) fd bytes.now (is_refused result)) }
 {
     match entry(state, pid, fd) {
-        Some(entry) => write_held(state, pid, after, entry, bytes),
+        Some(entry) => write_held(state, pid, entry, bytes),
         None => {
-            state.answer(pid, after, Reply::Refused);
+            state.answer(pid, Answer::Refused);
             Memory::Found
         }
     }
@@ -59,7 +58,6 @@ fn append<A: Allocator>(to: &mut Vec<u8, A>, bytes: &[u8]) -> Result<(), AllocEr
 pub(crate) fn write_held<M: Machine, A: Allocator>(
     state: &mut State<M, A>,
     pid: Pid,
-    after: M,
     entry: Entry,
     bytes: &[u8],
 ) -> Memory
@@ -67,47 +65,47 @@ pub(crate) fn write_held<M: Machine, A: Allocator>(
     requires in_use { IsInUse state.old.entries entry }
     requires small { offset_of (entry_at state.old.entries entry) ≤ max_size }
     requires few { length bytes.now ≤ 1024 }
-    ensures { IfSome (entry_at state.old.entries entry) (λ f. state.new ≡ write_object state.old pid (M.view after) entry f.offset bytes.now (is_refused result) f.object) }
+    ensures { IfSome (at state.old.table pid) (λ p. IfSome (entry_at state.old.entries entry) (λ f. state.new ≡ write_object state.old pid (M.next_of p.machine p.reply) entry f.offset bytes.now (is_refused result) f.object)) }
 {
     match state.entries.object(entry) {
         Object::Out => {
             if append(&mut state.out, bytes).is_ok() {
-                state.procs.ready(pid, after, Reply::Done);
+                state.procs.answer(pid, Answer::Done);
                 Memory::Found
             } else {
-                state.refuse(pid, after, Full::Memory);
+                state.refuse(pid, Full::Memory);
                 Memory::Refused
             }
         }
         Object::Diag => {
             if append(&mut state.diag, bytes).is_ok() {
-                state.procs.ready(pid, after, Reply::Done);
+                state.procs.answer(pid, Answer::Done);
                 Memory::Found
             } else {
-                state.refuse(pid, after, Full::Memory);
+                state.refuse(pid, Full::Memory);
                 Memory::Refused
             }
         }
-        Object::File(_, EntryMode::Fresh) => write_file(state, pid, after, entry, bytes),
-        Object::File(_, EntryMode::Over) => write_file(state, pid, after, entry, bytes),
-        Object::File(_, EntryMode::Append) => append_file(state, pid, after, entry, bytes),
+        Object::File(_, EntryMode::Fresh) => write_file(state, pid, entry, bytes),
+        Object::File(_, EntryMode::Over) => write_file(state, pid, entry, bytes),
+        Object::File(_, EntryMode::Append) => append_file(state, pid, entry, bytes),
         Object::PipeWrite(name) => {
             let name = *name;
             let put = state.procs.put(pid);
             let from = put.min(bytes.len());
-            write_pipe(state, pid, after, name, put, &bytes[from..]);
+            write_pipe(state, pid, name, put, &bytes[from..]);
             Memory::Found
         }
         Object::File(_, EntryMode::Input) => {
-            state.procs.ready(pid, after, Reply::Refused);
+            state.procs.answer(pid, Answer::Refused);
             Memory::Found
         }
         Object::PipeRead(_) => {
-            state.procs.ready(pid, after, Reply::Refused);
+            state.procs.answer(pid, Answer::Refused);
             Memory::Found
         }
         Object::Input => {
-            state.procs.ready(pid, after, Reply::Refused);
+            state.procs.answer(pid, Answer::Refused);
             Memory::Found
         }
     }
@@ -118,25 +116,24 @@ pub(crate) fn write_held<M: Machine, A: Allocator>(
 pub(crate) fn write_pipe<M: Machine, A: Allocator>(
     state: &mut State<M, A>,
     pid: Pid,
-    after: M,
     name: u64,
     put: usize,
     left: &[u8],
 )
     requires runs { is_running (at state.old.table pid) ≡ true }
     requires few { 0 < length left.now → put + length left.now ≤ 1024 }
-    ensures { state.new ≡ write_pipe state.old pid (M.view after) name put left.now (pipe_of state.old.pipes name) }
+    ensures { IfSome (at state.old.table pid) (λ p. state.new ≡ write_pipe state.old pid (M.next_of p.machine p.reply) name put left.now (pipe_of state.old.pipes name)) }
 {
     match state.pipes.put(name, left) {
-        None => state.procs.ready(pid, after, Reply::Refused),
-        Some(Put::Closed) => state.procs.ready(pid, after, Reply::Refused),
+        None => state.procs.answer(pid, Answer::Refused),
+        Some(Put::Closed) => state.procs.answer(pid, Answer::Refused),
         Some(Put::Full) => {
             state.procs.sleep(pid, Channel::PipeRoom(name), put);
             state.procs.wakeup(Channel::PipeBytes(name));
         }
         Some(Put::Took(count)) => {
             if count == left.len() {
-                state.procs.ready(pid, after, Reply::Done);
+                state.procs.answer(pid, Answer::Done);
             } else {
                 state.procs.sleep(pid, Channel::PipeRoom(name), put + count);
             }
@@ -150,7 +147,6 @@ pub(crate) fn write_pipe<M: Machine, A: Allocator>(
 pub(crate) fn write_file<M: Machine, A: Allocator>(
     state: &mut State<M, A>,
     pid: Pid,
-    after: M,
     entry: Entry,
     bytes: &[u8],
 ) -> Memory
@@ -159,7 +155,7 @@ pub(crate) fn write_file<M: Machine, A: Allocator>(
     requires small { offset_of (entry_at state.old.entries entry) ≤ max_size }
     requires few { length bytes.now ≤ 1024 }
     requires file { IsFile (entry_at state.old.entries entry) }
-    ensures { IfFile (entry_at state.old.entries entry) (λ name offset. state.new ≡ write_file state.old pid (M.view after) entry name offset bytes.now (is_refused result) (files state.old.files name)) }
+    ensures { IfSome (at state.old.table pid) (λ p. IfFile (entry_at state.old.entries entry) (λ name offset. state.new ≡ write_file state.old pid (M.next_of p.machine p.reply) entry name offset bytes.now (is_refused result) (files state.old.files name))) }
 {
     let offset = state.entries.offset(entry);
     let Object::File(name, _) = state.entries.object(entry) else {
@@ -171,19 +167,19 @@ pub(crate) fn write_file<M: Machine, A: Allocator>(
     {
         Ok(()) => {
             state.entries.advance(entry, bytes.len() as u64);
-            state.procs.ready(pid, after, Reply::Done);
+            state.procs.answer(pid, Answer::Done);
             Memory::Found
         }
         Err(FilesFault::FullSize) => {
-            state.refuse(pid, after, Full::Size);
+            state.refuse(pid, Full::Size);
             Memory::Found
         }
         Err(FilesFault::Memory) => {
-            state.refuse(pid, after, Full::Memory);
+            state.refuse(pid, Full::Memory);
             Memory::Refused
         }
         Err(_) => {
-            state.procs.ready(pid, after, Reply::Refused);
+            state.procs.answer(pid, Answer::Refused);
             Memory::Found
         }
     }
@@ -194,14 +190,13 @@ pub(crate) fn write_file<M: Machine, A: Allocator>(
 pub(crate) fn append_file<M: Machine, A: Allocator>(
     state: &mut State<M, A>,
     pid: Pid,
-    after: M,
     entry: Entry,
     bytes: &[u8],
 ) -> Memory
     requires runs { is_running (at state.old.table pid) ≡ true }
     requires in_use { IsInUse state.old.entries entry }
     requires file { IsFile (entry_at state.old.entries entry) }
-    ensures { IfFile (entry_at state.old.entries entry) (λ name offset. state.new ≡ append_file state.old pid (M.view after) entry name bytes.now (is_refused result) (files state.old.files name)) }
+    ensures { IfSome (at state.old.table pid) (λ p. IfFile (entry_at state.old.entries entry) (λ name offset. state.new ≡ append_file state.old pid (M.next_of p.machine p.reply) entry name bytes.now (is_refused result) (files state.old.files name))) }
 {
     let Object::File(name, _) = state.entries.object(entry) else {
         unreachable!()
@@ -209,19 +204,19 @@ pub(crate) fn append_file<M: Machine, A: Allocator>(
     match state.files.append(name.as_slice(), bytes) {
         Ok(size) => {
             state.entries.move_to(entry, size as u64);
-            state.procs.ready(pid, after, Reply::Done);
+            state.procs.answer(pid, Answer::Done);
             Memory::Found
         }
         Err(FilesFault::FullSize) => {
-            state.refuse(pid, after, Full::Size);
+            state.refuse(pid, Full::Size);
             Memory::Found
         }
         Err(FilesFault::Memory) => {
-            state.refuse(pid, after, Full::Memory);
+            state.refuse(pid, Full::Memory);
             Memory::Refused
         }
         Err(_) => {
-            state.procs.ready(pid, after, Reply::Refused);
+            state.procs.answer(pid, Answer::Refused);
             Memory::Found
         }
     }

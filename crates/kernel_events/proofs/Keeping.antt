@@ -70,11 +70,12 @@ given_runs h (Some p) ready = eq-eqb h h refl
 pub runs_there : {S : Type 0} (t : Table S) (pid h : ℕ) → is_runnable (at t pid) ≡ true → is_running_on h (at (dispatched t pid h) pid) ≡ true
 runs_there t pid h ready = ap (is_running_on h) (written (with_status (Running h)) refl t pid) ∙ given_runs h (at t pid) ready
 
-module _ {S : Type 0} (call : S → Reply → Call) (next : S → Reply → S) (k : KernelState S) (h pid : ℕ) (c : Call) (after : S) (refused : Bool) where
-  trap_by : (x : Slot S) → is_running_on h x ≡ true → IfSome x (λ p. c ≡ call p.machine p.reply) → IfSome x (λ p. after ≡ next p.machine p.reply) → (if is_running_on h x then trapped call next k pid x refused else None) ≡ Some (acted (counted k) pid after c refused)
+module _ {S : Type 0} (call : S → Reply → Call) (next : S → Reply → S) (k new : KernelState S) (h pid : ℕ) (c : Call) (refused : Bool) where
+  trap_by : (x : Slot S) → is_running_on h x ≡ true → IfSome x (λ p. c ≡ call p.machine p.reply) → IfSome x (λ p. new ≡ acted (counted k) pid (next p.machine p.reply) c refused) → (if is_running_on h x then trapped call next k pid x refused else None) ≡ Some new
   trap_by None runs called went = absurd (let z : ⊥ = cc in z)
-  trap_by (Some p) runs called went = ap (λ (b : Bool). if b then trapped call next k pid (Some p) refused else None) runs ∙ (λ i. Some (acted (counted k) pid (sym went i) (sym called i) refused))
+  trap_by (Some p) runs called went =
+      ap (λ (b : Bool). if b then trapped call next k pid (Some p) refused else None) runs ∙ (λ i. Some (acted (counted k) pid (next p.machine p.reply) (sym called i) refused)) ∙ ap Some (sym went)
 
-  -- the trap of a process that runs there, by the call that it makes and its machine after it
-  pub trap_goes : is_running_on h (at k.table pid) ≡ true → IfSome (at k.table pid) (λ p. c ≡ call p.machine p.reply) → IfSome (at k.table pid) (λ p. after ≡ next p.machine p.reply) → happens call next k (Trap h pid) refused ≡ Some (acted (counted k) pid after c refused)
+  -- the trap of a process that runs there, by the call that it makes and the kernel after it
+  pub trap_goes : is_running_on h (at k.table pid) ≡ true → IfSome (at k.table pid) (λ p. c ≡ call p.machine p.reply) → IfSome (at k.table pid) (λ p. new ≡ acted (counted k) pid (next p.machine p.reply) c refused) → happens call next k (Trap h pid) refused ≡ Some new
   trap_goes runs called went = trap_by (at k.table pid) runs called went

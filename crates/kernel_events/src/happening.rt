@@ -39,9 +39,7 @@ impl<M: Machine, A: Allocator + Copy> Kernel<M, A> {
         let Some(slot) = self.state.found_on(hart, pid) else {
             return false;
         };
-        let mut twin = self.state.twin(slot);
-        let call = self.state.run(slot, &mut twin);
-        self.carry_out(hart, slot, &call, twin);
+        self.carry_out(hart, slot, None);
         true
     }
 }

@@ -20,7 +20,7 @@ use proc_table::Pid;
 use std::alloc::{AllocError, Allocator};
 use std::marker::Model;
 use std::snapshot::Snapshot;
-use user_calls::{Call, Machine, Ran};
+use user_calls::{Call, CallSlot, Machine, Ran};
 
 /// The trap is not one that the kernel waits for.
 #[derive(Debug, Drop)]
@@ -35,6 +35,8 @@ pub struct Kernel<M: Machine, A: Allocator> {
     pub(crate) state: State<M, A>,
     pub(crate) log: Log<A>,
     boot: Snapshot<State<M, A>>,
+    // The call that is carried out, or was last.
+    call: CallSlot,
 }
 
 impl<M: Machine, A: Allocator> Model for Kernel<M, A> {
@@ -267,7 +269,12 @@ impl<M: Machine, A: Allocator + Copy> Kernel<M, A> {
         let state = State::boot(alloc, init, shell, stdin, files)?;
         let boot = Snapshot::of(&state);
         let log = Log::new(alloc, alloc);
-        Ok(Kernel { state, log, boot })
+        Ok(Kernel {
+            state,
+            log,
+            boot,
+            call: CallSlot::new(),
+        })
     }
 
     /// The call of a process that runs on the hart is carried out, given the run of the machine and the reply that its
@@ -283,8 +290,7 @@ impl<M: Machine, A: Allocator + Copy> Kernel<M, A> {
         if !self.state.is_owed(hart, pid, &ran) {
             return Err(Stranger);
         }
-        let (call, after) = ran.into_parts();
-        self.carry_out(hart, pid, &call, after);
+        self.carry_out(hart, pid, Some(ran.call()));
         Ok(())
     }
 
@@ -311,20 +317,20 @@ impl<M: Machine, A: Allocator + Copy> Kernel<M, A> {
         {
             return Err(Stranger);
         }
-        self.carry_out(hart, task.pid, call, after);
+        self.carry_out(hart, task.pid, Some(call));
         Ok(())
     }
 
-    // The call of the process, which runs on the hart, is carried out, with its machine after it.
-    pub(crate) fn carry_out(&mut self, hart: u8, pid: Pid, call: &Call, after: M)
+    // The call of the process, which runs on the hart, is carried out: it is given, or its machine is asked for it.
+    pub(crate) fn carry_out(&mut self, hart: u8, pid: Pid, given: Option<&Call>)
         requires runs { is_running_on hart (at self.old.now.table pid) ≡ true }
-        requires call { IfSome (at self.old.now.table pid) (λ p. call.now ≡ M.call_of p.machine p.reply) }
-        requires after { IfSome (at self.old.now.table pid) (λ p. M.view after ≡ M.next_of p.machine p.reply) }
+        requires given { IfSome given (λ call. IfSome (at self.old.now.table pid) (λ p. call.now ≡ M.call_of p.machine p.reply)) }
         ensures event { GoesOn M.call_of M.next_of self.old (Trap hart pid) self.new }
         ensures running { count_by is_running self.new.now.table + 1 ≡ count_by is_running self.old.now.table }
     {
         self.log.fits();
-        let memory = trap(&mut self.state, pid, call, after);
+        write_call(&self.state, pid, given, &mut self.call);
+        let memory = trap(&mut self.state, pid, &self.call);
         self.log.write(Event::Trap(hart, pid.index()), memory);
     }
 
@@ -345,10 +351,25 @@ impl<M: Machine, A: Allocator + Copy> Kernel<M, A> {
         let Some(pid) = self.dispatch_next(hart)? else {
             return Ok(false);
         };
-        let mut twin = self.state.twin(pid);
-        let call = self.state.run(pid, &mut twin);
-        self.carry_out(hart, pid, &call, twin);
+        self.carry_out(hart, pid, None);
         Ok(true)
+    }
+}
+
+// Writes the call of the process: the one that is given, or the one that its machine makes.
+fn write_call<M: Machine, A: Allocator>(
+    state: &State<M, A>,
+    pid: Pid,
+    given: Option<&Call>,
+    call: &mut CallSlot,
+)
+    requires runs { is_running (at state.now.table pid) ≡ true }
+    requires given { IfSome given (λ made. IfSome (at state.now.table pid) (λ p. made.now ≡ M.call_of p.machine p.reply)) }
+    ensures { IfSome (at state.now.table pid) (λ p. call.new ≡ M.call_of p.machine p.reply) }
+{
+    match given {
+        Some(made) => call.set(made),
+        None => state.ask(pid, call),
     }
 }
 

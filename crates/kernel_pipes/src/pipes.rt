@@ -1,8 +1,8 @@
 //! All pipes of which an end is open.
 
-ghost use Rattle.std.specs.Prelude.{◌≡◌, ◌<◌, ◌≤◌, ◌||◌, if◌then◌else◌, [], IfSome, OnErr, OnOk, None, Some, length, option_map, remove, take};
+ghost use Rattle.std.specs.Prelude.{◌≡◌, ℕ, ◌<◌, ◌≤◌, ◌+◌, ◌++◌, ◌||◌, if◌then◌else◌, [], IfSome, List, OnErr, OnOk, None, Some, length, option_map, remove, take};
 ghost use Rattle.std.specs.Borrow.{Lends, sem};
-ghost use Rattle.user_calls.specs.Limits.{block_size};
+ghost use Rattle.byte_pipe.specs.declared.Take.{Take};
 ghost use Rattle.byte_pipe.specs.PipeState.{put_answer, take_answer};
 ghost use Rattle.byte_pipe.specs.contracts.Pipe.{the_row as pipe_row};
 ghost use Rattle.kernel_model.specs.Pipes.{pipe_of, put_into, reader_gone, taken_from, with_new, writer_gone};
@@ -11,14 +11,12 @@ ghost use Rattle.kernel_pipes.specs.Placed.{IsPlaced, placed, with_placed};
 ghost use Rattle.kernel_pipes.specs.Status.{status_of};
 
 use crate::PipeStatus;
-use crate::blocks::take_block;
 use crate::named::{Named, place_of};
 use crate::status::status_of;
 use byte_pipe::{Pipe, Put, Take};
 use slab::Slab;
 use std::alloc::{AllocError, Allocator};
 use std::marker::Model;
-use user_calls::Block;
 
 /// The pipes of which an end is open, each under its name (own).
 ///
@@ -56,17 +54,28 @@ impl<A: Allocator> Pipes<A> {
         Some(self.pipe_mut(at).put(bytes))
     }
 
-    /// Takes at most `count` bytes from the pipe of that name (`piperead`): the result of `Pipe::take`, and the bytes;
-    /// `None` where there is no such pipe.
-    pub fn take(&mut self, name: u64, count: usize) -> Option<(Take, Block)>
-        requires { count ≤ block_size }
-        ensures answer { result ≡ option_map (λ p. (take_answer p count, take count p.bytes)) (pipe_of self.old name) }
-        ensures after { self.new ≡ taken_from self.old name count (pipe_of self.old name) }
+    /// What a take of at most `count` bytes from the pipe of that name returns, and the bytes that it gives, in the two
+    /// parts in which they lie; `None` where there is no such pipe (own).
+    pub fn peek(&self, name: u64, count: usize) -> Option<(Take, &[u8], &[u8])>
+        ensures value { option_map {U = Take × List ℕ} (λ r. (r.0, r.1.now ++ r.2.now)) result ≡ option_map (λ p. (take_answer p count, take count p.bytes)) (pipe_of self.now name) }
+        ensures within { IfSome result (λ r. length r.1.now + length r.2.now ≤ count) }
     {
         let Some(at) = self.place(name) else {
             return None;
         };
-        Some(take_block(self.pipe_mut(at), count))
+        let pipe = self.pipe(at);
+        let (first, second) = pipe.first_bytes(count);
+        Some((pipe.would_take(count), first, second))
+    }
+
+    /// Takes at most `count` bytes from the pipe of that name, if there is one (`piperead`); `peek` gave them before.
+    pub fn skip(&mut self, name: u64, count: usize)
+        ensures { self.new ≡ taken_from self.old name count (pipe_of self.old name) }
+    {
+        let Some(at) = self.place(name) else {
+            return;
+        };
+        self.pipe_mut(at).skip(count);
     }
 
     /// How full the pipe of that name is, and which of its ends are open; `None` where there is no such pipe (own).

@@ -16,7 +16,7 @@ use kernel_model::Full;
 use mem_files::Files;
 use proc_table::{HARTS, Pid, State as SlotState};
 use std::alloc::Allocator;
-use user_calls::{Call, Machine, Ran, Reply};
+use user_calls::{CallSlot, Machine, Ran, Reply};
 
 /// A process to run on a hart: its slot, a copy of its machine, and the reply that the machine takes next (own).
 #[derive(Drop)]
@@ -88,27 +88,17 @@ impl<M: Machine, A: Allocator> State<M, A> {
     {
         Task {
             pid,
-            machine: self.twin(pid),
-            reply: self.procs.reply(pid).twin(),
+            machine: self.procs.machine(pid).twin(),
+            reply: self.procs.reply(pid).to_reply(),
         }
     }
 
-    /// A copy of the process's machine (own).
-    pub fn twin(&self, pid: Pid) -> M
+    /// Writes the call that the process makes (own).
+    pub fn ask(&self, pid: Pid, call: &mut CallSlot)
         requires { is_running (at self.now.table pid) ≡ true }
-        ensures { IfSome (at self.now.table pid) (λ p. M.view result ≡ p.machine) }
+        ensures { IfSome (at self.now.table pid) (λ p. call.new ≡ M.call_of p.machine p.reply) }
     {
-        self.procs.machine(pid).twin()
-    }
-
-    /// The call that the process makes, found by running `twin`, a copy of its machine (own).
-    pub fn run(&self, pid: Pid, twin: &mut M) -> Call
-        requires runs { is_running (at self.now.table pid) ≡ true }
-        requires twin { IfSome (at self.now.table pid) (λ p. M.view twin.old ≡ p.machine) }
-        ensures call { IfSome (at self.now.table pid) (λ p. result ≡ M.call_of p.machine p.reply) }
-        ensures after { IfSome (at self.now.table pid) (λ p. M.view twin.new ≡ M.next_of p.machine p.reply) }
-    {
-        twin.run(self.procs.reply(pid))
+        self.procs.ask(pid, call);
     }
 
     /// Whether the process runs on the hart, with this machine and this reply (own).

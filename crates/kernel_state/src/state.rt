@@ -1,6 +1,7 @@
 //! The state, and how a call ends.
 
-ghost use Rattle.std.specs.Prelude.{◌≡◌, true};
+ghost use Rattle.std.specs.Prelude.{◌≡◌, IfSome, true};
+ghost use Rattle.proc_table.specs.Answers.{reply_of};
 ghost use Rattle.proc_table.specs.Slots.{at, is_running};
 
 use crate::unread::Unread;
@@ -8,10 +9,10 @@ use fd_table::OpenFiles;
 use kernel_model::Full;
 use kernel_pipes::Pipes;
 use mem_files::Files;
-use proc_table::{Pid, Procs};
+use proc_table::{Answer, Pid, Procs};
 use std::alloc::Allocator;
 use std::marker::Model;
-use user_calls::{Machine, Reply};
+use user_calls::Machine;
 
 /// The state of a kernel whose programs are machines `M`.
 ///
@@ -51,22 +52,23 @@ impl<M: Machine, A: Allocator> Model for State<M, A> {
 impl<M: Machine, A: Allocator> State<M, A> {
     ghost use Rattle.kernel_model.specs.Replies.{answered, refused_for};
 
-    /// Ends a call of the running process with this reply: it is Runnable, with `after` as its machine (`yield`).
-    pub fn answer(&mut self, pid: Pid, after: M, reply: Reply)
+    /// Ends a call of the running process with this reply: its machine goes on past the call where it lies, and it is
+    /// Runnable (`yield`).
+    pub fn answer(&mut self, pid: Pid, answer: Answer)
         requires { is_running (at self.old.table pid) ≡ true }
-        ensures { self.new ≡ answered self.old pid (M.view after) reply }
+        ensures { IfSome (at self.old.table pid) (λ p. self.new ≡ answered self.old pid (M.next_of p.machine p.reply) (reply_of answer)) }
     {
-        self.procs.ready(pid, after, reply);
+        self.procs.answer(pid, answer);
     }
 
     /// Ends a call with `Refused`, because `full` has no room; it is kept if this is the first such refusal (own).
-    pub fn refuse(&mut self, pid: Pid, after: M, full: Full)
+    pub fn refuse(&mut self, pid: Pid, full: Full)
         requires { is_running (at self.old.table pid) ≡ true }
-        ensures { self.new ≡ refused_for self.old pid (M.view after) full }
+        ensures { IfSome (at self.old.table pid) (λ p. self.new ≡ refused_for self.old pid (M.next_of p.machine p.reply) full) }
     {
         if self.full.is_none() {
             self.full = Some(full);
         }
-        self.procs.ready(pid, after, Reply::Refused);
+        self.procs.answer(pid, Answer::Refused);
     }
 }

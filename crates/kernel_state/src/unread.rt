@@ -1,12 +1,10 @@
 //! The standard input that hasn't been read yet.
 
-ghost use Rattle.std.specs.Prelude.{◌≡◌, ◌≤◌, drop, take};
-ghost use Rattle.user_calls.specs.Limits.{block_size};
+ghost use Rattle.std.specs.Prelude.{◌≡◌, ◌≤◌, drop, length, take};
 
-use kernel_pipes::first_block;
+use kernel_pipes::first_bytes;
 use std::alloc::Allocator;
 use std::marker::Model;
-use user_calls::Block;
 
 /// The standard input, of which the first bytes may have been read (own). Contracts see the others.
 #[derive(Drop)]
@@ -33,14 +31,18 @@ impl<A: Allocator> Unread<A> {
         Unread { bytes, read: 0 }
     }
 
-    /// Reads the next `n` bytes, or all where there are fewer (`consoleread`).
-    pub fn read(&mut self, n: usize) -> Block
-        requires { n ≤ block_size }
-        ensures block { result ≡ take n self.old }
-        ensures after { self.new ≡ drop n self.old }
+    /// The next `n` bytes, or all where there are fewer, where they lie (own).
+    pub fn first(&self, n: usize) -> &[u8]
+        ensures value { result.now ≡ take n self.now }
+        ensures within { length result.now ≤ n }
     {
-        let block = first_block(&self.bytes[self.read..], n);
+        first_bytes(&self.bytes[self.read..], n)
+    }
+
+    /// Reads past the next `n` bytes, or all where there are fewer (`consoleread`); `first` gave them before.
+    pub fn skip(&mut self, n: usize)
+        ensures { self.new ≡ drop n self.old }
+    {
         self.read += n.min(self.bytes.len() - self.read);
-        block
     }
 }

@@ -11,6 +11,7 @@ use Rattle.std.proofs.Crossing.{crosses}
 use Rattle.std.proofs.sync.ledger.Book.TheSendSync as BookSends
 use Rattle.std.proofs.sync.ledger.Share.TheSendSync as ShareSends
 use Rattle.std.proofs.sync.Mutex.TheSendSync as MutexSends
+use Rattle.user_calls.proofs.slots.CallSlot.TheSendSync as CallSlotSends
 use Rattle.user_calls.specs.declared.machine.Machine as Machine
 use Rattle.kernel_state.specs.contracts.state.State as State
 use Rattle.kernel_state.proofs.state.State.TheSendSync as StateSends
@@ -38,7 +39,7 @@ module _ (M A S : RattleType) (g : Machine.Ghosts M.Denot S.Denot) (a : Allocato
       recorded_send (Inside.the_field M A S g a).row _ _ (Inside.the_type M A S g a).to_one (
       struct_send (Declared.shape (Inside.the_type M A S g a)) (
         StateSends.the_send M A S g a m h f,
-        (LogSends.the_send A a h f, (snapshot_send (State.the_row M A S g a), tt)),
+        (LogSends.the_send A a h f, (snapshot_send (State.the_row M A S g a), (CallSlotSends.the_send, tt))),
       )))
 
 module _ (N M S : RattleType) (r : Run.Ghosts N.Denot) (l : Ledger.Ghosts N.Denot) (g : Machine.Ghosts M.Denot S.Denot) where

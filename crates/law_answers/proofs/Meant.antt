@@ -1,7 +1,6 @@
--- A finished run of a settled script that was written is the script's meaning written.
-use Rattle.std.proofs.Common.{◌≡◌, Bool, List, Option, Some, None, sym, ap, ◌∙◌, subst, append-nil}
+-- A finished run of a settled script prints the script's meaning.
+use Rattle.std.proofs.Common.{◌≡◌, Bool, List, Option, None, sym, ap, ◌∙◌, append-nil}
 use Rattle.std.specs.Borrow.{Bor}
-use Rattle.std.specs.Io.KnownBytes.{Appends}
 use Rattle.mem_files.specs.Name.{Name, Bytes}
 use Rattle.mem_files.specs.Files.{files}
 use Rattle.mem_files.specs.Listing.{AreFiles}
@@ -20,25 +19,25 @@ use Rattle.law_standing.proofs.RunsEnd.{finished_means}
 use Rattle.run_model.specs.ScriptRun.{script_kernel}
 use Rattle.xvsh_read.specs.Path.{Path}
 use Rattle.xvsh_read.specs.Starting.{Starts}
-use Rattle.xvsh_runs.specs.Lists.{IsWritten, run_text}
+use Rattle.xvsh_runs.specs.Lists.{Prints, run_text}
 use Rattle.xvsh_runs.specs.declared.report.Lists.{Lists}
-use Rattle.law_answers.specs.Written.{WritesValue}
+use Rattle.law_answers.specs.Written.{IsValueText}
 
-module _ (profile : Profile) (lines : List ScriptLine) (stdin : Bytes) (given : List (Name × Bytes)) (settled : IsSettledScript profile lines stdin (files given)) (events : List Event) (lists : Lists) (out out' err err' : Option Bytes) (wrote : IsWritten (script_kernel profile lines stdin given) events lists None out out' err err') where
-  writes_value : AreFiles given → HasShortCommands (script_tree lines) → WritesValue (script_meaning profile lines stdin (files given)) lists events out out'
-  writes_value are short =
+module _ (profile : Profile) (lines : List ScriptLine) (stdin : Bytes) (given : List (Name × Bytes)) (settled : IsSettledScript profile lines stdin (files given)) (events : List Event) (lists : Lists) (text diag : Bytes) (gave : Prints (script_kernel profile lines stdin given) events lists None text diag) where
+  value_text : AreFiles given → HasShortCommands (script_tree lines) → IsValueText (script_meaning profile lines stdin (files given)) lists events text
+  value_text are short =
       let value = script_meaning profile lines stdin (files given) in
       let first = shell profile (top Begins lines) in
-      let agrees = finished_means profile lines stdin given events wrote.notes wrote.last are settled short wrote.runs (sym wrote.marked) wrote.finished in
-      let writes = subst (λ text. Appends out out' (run_text lists text wrote.last.files events)) agrees.out wrote.writes in
+      let agrees = finished_means profile lines stdin given events gave.notes gave.last are settled short gave.runs (sym gave.marked) gave.finished in
+      let prints : text ≡ run_text lists value.out gave.last.files events = gave.prints ∙ ap (λ out. run_text lists out gave.last.files events) agrees.out in
       record {
-        left = wrote.last.files;
-        are = every_run_has_files call_of next_of init first stdin given events wrote.notes wrote.last are wrote.runs;
+        left = gave.last.files;
+        are = every_run_has_files call_of next_of init first stdin given events gave.notes gave.last are gave.runs;
         same = agrees.files;
-        writes = writes;
-        alone = λ none. subst (Appends out out') (append-nil value.out) (subst (λ l. Appends out out' (run_text l value.out wrote.last.files events)) none writes);
+        prints = prints;
+        alone = λ none. prints ∙ ap (λ l. run_text l value.out gave.last.files events) none ∙ append-nil value.out;
       }
 
   -- whatever the host states, and whether standard input was taken before
-  pub means : (input : Option Bytes) (file : Path → Option Bytes) (is_taken : Bool) (script : Path) (paths : List (Bor Path)) → Starts input file is_taken script paths lines given stdin → WritesValue (script_meaning profile lines stdin (files given)) lists events out out'
-  means input file is_taken script paths starts = writes_value starts.are (script_short starts.loaded.bytes lines starts.loaded.cut)
+  pub means : (input : Option Bytes) (file : Path → Option Bytes) (is_taken : Bool) (script : Path) (paths : List (Bor Path)) → Starts input file is_taken script paths lines given stdin → IsValueText (script_meaning profile lines stdin (files given)) lists events text
+  means input file is_taken script paths starts = value_text starts.are (script_short starts.loaded.bytes lines starts.loaded.cut)

@@ -1,5 +1,5 @@
 -- A strict run that ends with status 0 wrote the meaning of a settled script, and two of them wrote the same.
-use Rattle.std.proofs.Common.{ℕ, true, false, List, Option, None, refl}
+use Rattle.std.proofs.Common.{◌≡◌, ℕ, true, false, List, Option, None, refl, sym, ◌∙◌, subst}
 use Rattle.std.specs.Borrow.{Bor}
 use Rattle.std.specs.Io.KnownBytes.{Appends}
 use Rattle.mem_files.specs.Name.{Bytes}
@@ -12,14 +12,14 @@ use Rattle.xvsh_runs.specs.declared.report.Lists.{Lists}
 use Rattle.xvsh_ends.specs.Ends.{Ends, asks_strict}
 use Rattle.xvsh_runs.specs.Strict.{RanStrict}
 use Rattle.law_answers.specs.Told.{IsTold}
-use Rattle.law_answers.specs.Written.{AddsTheSame, WritesMeaningAt, no_lists}
+use Rattle.law_answers.specs.Written.{AddsTheSame, IsMeaningAt, no_lists}
 use Rattle.law_answers.proofs.Meant.{means}
 use Rattle.law_answers.proofs.Readings.{as_begun}
 use Rattle.law_answers.proofs.Statuses.{ended_well}
 
 module _ (input : Option Bytes) (file : Path → Option Bytes) (profile : Profile) (script : Path) (paths : List (Bor Path)) where
-  run_means : (harts turns : ℕ) (lists : Lists) (out out' err err' : Option Bytes) → RanStrict input file profile script paths harts turns lists None true out out' err err' → WritesMeaningAt input file profile script paths lists out out'
-  run_means harts turns lists out out' err err' gave =
+  run_means : (harts turns : ℕ) (lists : Lists) (text diag : Bytes) → RanStrict input file profile script paths harts turns lists None true text diag → IsMeaningAt input file profile script paths lists text
+  run_means harts turns lists text diag gave =
       let run = gave.ran in
       let settled : IsSettledScript profile run.lines run.stdin (files run.given) = gave.settled.0 refl in
       record {
@@ -29,17 +29,20 @@ module _ (input : Option Bytes) (file : Path → Option Bytes) (profile : Profil
         starts = run.starts;
         settled = settled;
         events = run.on.events;
-        wrote = means profile run.lines run.stdin run.given settled run.on.events lists out out' err err' run.on.written input file false script paths run.starts;
+        prints = means profile run.lines run.stdin run.given settled run.on.events lists text diag run.on.prints input file false script paths run.starts;
       }
 
-  pub strict_means : (harts turns : ℕ) (lists : Lists) (out out' err err' : Option Bytes) → Ends input file out out' err err' (asks_strict profile script paths harts turns lists) 0 → WritesMeaningAt input file profile script paths lists out out'
+  -- the meaning was added to standard output
+  abbrev pub WritesMeaning : Lists → Option Bytes → Option Bytes → Type 0
+  WritesMeaning lists out out' = (text : Bytes) × IsMeaningAt input file profile script paths lists text × Appends out out' text
+
+  pub strict_means : (harts turns : ℕ) (lists : Lists) (out out' err err' : Option Bytes) → Ends input file out out' err err' (asks_strict profile script paths harts turns lists) 0 → WritesMeaning lists out out'
   strict_means harts turns lists out out' err err' ends =
-      run_means harts turns lists out out' err err' (ended_well input file out out' err err' (asks_strict profile script paths harts turns lists) 0 ends refl)
+      let well = ended_well input file out out' err err' (asks_strict profile script paths harts turns lists) ends in
+      (well.text, run_means harts turns lists well.text well.did.0 well.did.1, well.printed)
 
   -- where the host states all that is read, both read the same
-  pub meant_alike : IsTold input file script paths → (out out' old new : Option Bytes) → WritesMeaningAt input file profile script paths no_lists out out' → WritesMeaningAt input file profile script paths no_lists old new → AddsTheSame out out' old new
-  meant_alike told out out' old new first second = (
-    (script_meaning profile first.lines first.stdin (files first.given)).out,
-    first.wrote.alone refl,
-    as_begun input file script paths told (λ l g s. Appends old new (script_meaning profile l s (files g)).out) second.lines first.lines second.given first.given second.stdin first.stdin second.starts first.starts (second.wrote.alone refl),
-  )
+  pub meant_alike : IsTold input file script paths → (out out' old new : Option Bytes) → WritesMeaning no_lists out out' → WritesMeaning no_lists old new → AddsTheSame out out' old new
+  meant_alike told out out' old new (one, first, printed) (two, second, again) =
+      let same = first.prints.alone refl ∙ sym (as_begun input file script paths told (λ l g s. two ≡ (script_meaning profile l s (files g)).out) second.lines first.lines second.given first.given second.stdin first.stdin second.starts first.starts (second.prints.alone refl)) in
+      (two, subst (Appends out out') same printed, again)

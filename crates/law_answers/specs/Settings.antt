@@ -1,6 +1,7 @@
--- What runs of the program on one host have in common, and what each of them writes.
-use Rattle.std.specs.Prelude.{◌≡◌, ◌≢◌, ℕ, Bool, false, true, List, Option, None, codes}
+-- What runs of the program on one host have in common, and what each of them prints and writes.
+use Rattle.std.specs.Prelude.{◌≢◌, ℕ, Bool, false, true, List, Option, None, codes}
 use Rattle.std.specs.Borrow.{Bor}
+use Rattle.std.specs.Io.KnownBytes.{Appends}
 use Rattle.mem_files.specs.Name.{Bytes}
 use Rattle.script_load.specs.declared.profile.Profile.{Profile}
 use Rattle.xvsh_read.specs.Path.{Path}
@@ -8,7 +9,7 @@ use Rattle.xvsh_runs.specs.declared.report.Lists.{Lists}
 use Rattle.xvsh_plain.specs.Running.{RanPlain}
 use Rattle.xvsh_ends.specs.Ends.{Asked, Ends, How, RanBy, asks_plain, asks_run, asks_strict, by_schedule}
 use Rattle.law_answers.specs.Told.{IsSettledAt, IsTold}
-use Rattle.law_answers.specs.Written.{AddsTheSame, WritesMeaningAt, no_lists}
+use Rattle.law_answers.specs.Written.{AddsTheSame, IsMeaningAt, no_lists}
 
 -- a host, as far as its standard input and its files are known, the path of a script with its profile, and the paths of its files
 pub record Setting : Type 0 where
@@ -37,13 +38,13 @@ IsSettledIn s = IsSettledAt s.input s.file s.profile s.script s.paths
 abbrev pub LeavesInput : How → Type 0
 LeavesInput how = how ≢ by_schedule (codes "-")
 
--- a run by processes, in which nothing was full, was written without lists
-abbrev pub RanIn : Setting → How → Outputs → Type 0
-RanIn s how o = RanBy s.input s.file how s.profile s.script s.paths no_lists None o.out o.out_after o.err o.err_after
+-- a run by processes, in which nothing was full, prints this text, without lists, and these diagnostics
+abbrev pub RanIn : Setting → How → Bytes → Bytes → Type 0
+RanIn s how = RanBy s.input s.file how s.profile s.script s.paths no_lists None
 
--- a run by meaning that found the script settled was written without lists
-abbrev pub MeantIn : Setting → Outputs → Type 0
-MeantIn s o = RanPlain s.input s.file s.profile s.script s.paths false true o.out o.out_after
+-- a run by meaning that found the script settled prints this text, without lists
+abbrev pub MeantIn : Setting → Bytes → Type 0
+MeantIn s = RanPlain s.input s.file s.profile s.script s.paths false true
 
 -- the program ended so
 abbrev pub EndsIn : Setting → Outputs → Asked → ℕ → Type 0
@@ -59,9 +60,9 @@ strict_in s harts turns lists = asks_strict s.profile s.script s.paths harts tur
 abbrev pub plain_in : Setting → Bool → Asked
 plain_in s strict = asks_plain s.profile s.script s.paths false strict
 
--- the script's meaning was written, with these lists
+-- the script's meaning was added to standard output, with these lists
 abbrev pub WritesMeaningIn : Setting → Lists → Outputs → Type 0
-WritesMeaningIn s lists o = WritesMeaningAt s.input s.file s.profile s.script s.paths lists o.out o.out_after
+WritesMeaningIn s lists o = (text : Bytes) × IsMeaningAt s.input s.file s.profile s.script s.paths lists text × Appends o.out o.out_after text
 
 -- both runs added the same to standard output
 abbrev pub WriteTheSame : Outputs → Outputs → Type 0

@@ -1,4 +1,4 @@
--- What a run wrote to standard output, by the value of its script.
+-- What a run prints on standard output, by the value of its script.
 use Rattle.std.specs.Prelude.{◌≡◌, false, List, Option}
 use Rattle.std.specs.Borrow.{Bor}
 use Rattle.std.specs.Io.KnownBytes.{Appends}
@@ -19,24 +19,24 @@ use Rattle.xvsh_runs.specs.declared.report.Lists.{Lists}
 abbrev pub no_lists : Lists
 no_lists = record { files = false; events = false }
 
--- the output of a value was added to a writer, and then the lists that are requested: of files that are the value's but for
--- soft ones, and of these events; where none is asked for it was the output alone
-pub record WritesValue (value : Value) (lists : Lists) (events : List Event) (old new : Option Bytes) : Type 0 where
+-- the text is the output of a value, and then the lists that are requested: of files that are the value's but for soft ones, and
+-- of these events; where none is asked for it is the output alone
+pub record IsValueText (value : Value) (lists : Lists) (events : List Event) (text : Bytes) : Type 0 where
   pub left : List (Name × Bytes)
   pub are : AreFiles left
   pub same : (name : Name) → value.soft name ≡ false → files left name ≡ value.files name
-  pub writes : Appends old new (run_text lists value.out left events)
-  pub alone : lists ≡ no_lists → Appends old new value.out
+  pub prints : text ≡ run_text lists value.out left events
+  pub alone : lists ≡ no_lists → text ≡ value.out
 
--- what was read of the script at a path is settled under a profile, and its meaning was added to a writer in this way
-pub record WritesMeaningAt (input : Option Bytes) (file : Path → Option Bytes) (profile : Profile) (script : Path) (paths : List (Bor Path)) (lists : Lists) (old new : Option Bytes) : Type 0 where
+-- what was read of the script at a path is settled under a profile, and the text is its meaning in this way
+pub record IsMeaningAt (input : Option Bytes) (file : Path → Option Bytes) (profile : Profile) (script : Path) (paths : List (Bor Path)) (lists : Lists) (text : Bytes) : Type 0 where
   pub lines : List ScriptLine
   pub given : List (Name × Bytes)
   pub stdin : Bytes
   pub starts : Starts input file false script paths lines given stdin
   pub settled : IsSettledScript profile lines stdin (files given)
   pub events : List Event
-  pub wrote : WritesValue (script_meaning profile lines stdin (files given)) lists events old new
+  pub prints : IsValueText (script_meaning profile lines stdin (files given)) lists events text
 
 -- the same bytes were added to two writers
 abbrev pub AddsTheSame : Option Bytes → Option Bytes → Option Bytes → Option Bytes → Type 0

@@ -11,26 +11,26 @@ ghost use Rattle.xvsh_runs.specs.Runs.{RanReplay, RanRun};
 ghost use Rattle.xvsh_runs.specs.declared.report.Lists.{Lists};
 ghost use Rattle.xvsh_ends.specs.Ends.{How};
 ghost use Rattle.law_answers.specs.Settings.{EndsIn, IsKnown, IsSettledIn, LeavesInput, MeantIn, Outputs, RanIn, Setting, WriteTheSame, WritesMeaningIn, plain_in, run_in, strict_in};
-ghost use Rattle.law_answers.specs.Written.{WritesValue, no_lists};
+ghost use Rattle.law_answers.specs.Written.{IsValueText, no_lists};
 
-/// Where `run` wrote a run in which nothing was full, of a script that is settled on what was read, it wrote the output of the
+/// What `run` prints of a run in which nothing was full, of a script that is settled on what was read, is the output of the
 /// script's recursive meaning, and then the lists that were requested: the files that it lists are the meaning's but for soft
-/// names. Without lists it wrote that output and nothing else. So does `replay`, whatever the schedule says.
-pub fn a_run_writes_the_meaning()
-    ensures run { (s : Setting) (harts turns : ℕ) (lists : Lists) (o : Outputs) (r : RanRun s.input s.file s.profile s.script s.paths harts turns lists None o.out o.out_after o.err o.err_after)
-        → IsSettledScript s.profile r.lines r.stdin (files r.given) → WritesValue (script_meaning s.profile r.lines r.stdin (files r.given)) lists r.on.events o.out o.out_after }
-    ensures replay { (s : Setting) (schedule : Path) (lists : Lists) (o : Outputs) (r : RanReplay s.input s.file s.profile s.script s.paths schedule lists None o.out o.out_after o.err o.err_after)
-        → IsSettledScript s.profile r.lines r.stdin (files r.given) → WritesValue (script_meaning s.profile r.lines r.stdin (files r.given)) lists r.events o.out o.out_after }
+/// names. Without lists it is that output and nothing else. So is what `replay` prints, whatever the schedule says.
+pub fn a_run_prints_the_meaning()
+    ensures run { (s : Setting) (harts turns : ℕ) (lists : Lists) (text diag : Bytes) (r : RanRun s.input s.file s.profile s.script s.paths harts turns lists None text diag)
+        → IsSettledScript s.profile r.lines r.stdin (files r.given) → IsValueText (script_meaning s.profile r.lines r.stdin (files r.given)) lists r.on.events text }
+    ensures replay { (s : Setting) (schedule : Path) (lists : Lists) (text diag : Bytes) (r : RanReplay s.input s.file s.profile s.script s.paths schedule lists None text diag)
+        → IsSettledScript s.profile r.lines r.stdin (files r.given) → IsValueText (script_meaning s.profile r.lines r.stdin (files r.given)) lists r.events text }
 {}
 
-/// So two runs of one script, under one profile and on the same files, write the same to standard output, where nothing was full
+/// So two runs of one script, under one profile and on the same files, print the same on standard output, where nothing was full
 /// in them, the script is settled, no list was requested, and the host states all bytes that are read: two runs by processes, each
 /// by `run`, on as many harts as may be, or by `replay` of a schedule that isn't read from standard input; or one of these and
 /// one by meaning, as of `plain`, that found the script settled.
-pub fn two_runs_write_the_same()
-    ensures by_processes { (s : Setting) (how other : How) (one two : Outputs) → IsKnown s → IsSettledIn s → LeavesInput how → LeavesInput other
-        → RanIn s how one → RanIn s other two → WriteTheSame one two }
-    ensures by_meaning { (s : Setting) (how : How) (one two : Outputs) → IsKnown s → LeavesInput how → RanIn s how one → MeantIn s two → WriteTheSame one two }
+pub fn two_runs_print_the_same()
+    ensures by_processes { (s : Setting) (how other : How) (one two diag report : Bytes) → IsKnown s → IsSettledIn s → LeavesInput how → LeavesInput other
+        → RanIn s how one diag → RanIn s other two report → one ≡ two }
+    ensures by_meaning { (s : Setting) (how : How) (one two diag : Bytes) → IsKnown s → LeavesInput how → RanIn s how one diag → MeantIn s two → one ≡ two }
 {}
 
 /// The same by what the program reports: where a run by processes ends with status 0, and another does, or `plain` does

@@ -31,8 +31,9 @@ pub fn a_settled_script_meets_nothing()
     ensures { (profile : Profile) (lines : List ScriptLine) (input : Bytes) (F : FileMap) → IsSettledScript profile lines input F → (name : Name) → met_names profile (script_tree lines) input F name ≡ false }
 {}
 
-/// A script without `>>` has one meaning under both profiles.
+/// A script without `>>` has one meaning under both profiles, and its commands meet the same names.
 pub fn without_over_one_meaning()
     ensures tree { (tree : Tree) (input : Bytes) (F : FileMap) → has_over tree ≡ false → meaning Xv6 tree input F ≡ meaning Append tree input F }
     ensures script { (lines : List ScriptLine) (input : Bytes) (F : FileMap) → has_over (script_tree lines) ≡ false → script_meaning Xv6 lines input F ≡ script_meaning Append lines input F }
+    ensures met { (tree : Tree) (input : Bytes) (F : FileMap) → has_over tree ≡ false → met_names Xv6 tree input F ≡ met_names Append tree input F }
 {}

@@ -8,7 +8,7 @@ use Rattle.proc_table.specs.declared.states.Channel.{Channel}
 use Rattle.proc_table.specs.declared.states.Channel.TheVariants.{Children}
 use Rattle.proc_table.specs.declared.states.Status.{Status}
 use Rattle.proc_table.specs.declared.states.Status.TheVariants.{Zombie}
-use Rattle.proc_table.specs.Slots.{Slot, Table, at, is_free, is_number, is_child_of, is_zombie, is_zombie_child_of, parent_of}
+use Rattle.proc_table.specs.Slots.{Slot, Table, at, is_free, is_number, is_child_of, is_zombie, is_running, is_zombie_child_of, parent_of}
 use Rattle.proc_table.specs.Calls.{with_status, woken, all_woken, given, parent_after, buried, exited, zombie_child, woken_by_exit, lowest_free, forked, newborn, freed, reaped}
 use Rattle.fd_table.proofs.Lists.{position_found}
 
@@ -37,11 +37,21 @@ free_by (Some p) is = cc
 pub was_free : {S : Type 0} (t : Table S) (child : ℕ) → lowest_free t ≡ Some child → at t child ≡ None
 was_free t child found = free_by (at t child) (position_found is_free t None child found).1
 
+-- where a process runs there is one
+running_there : {S : Type 0} (x : Slot S) → is_running x ≡ true → x ≢ None
+running_there None runs is = let z : ⊥ = cc in z
+running_there (Some p) runs is = let z : ⊥ = cc in z
+
 pub child_within : {S : Type 0} (t : Table S) (child : ℕ) → lowest_free t ≡ Some child → child < length t
 child_within t child found = (position_found is_free t None child found).0
 
 pub child_is : {S : Type 0} (t : Table S) (child parent : ℕ) (m : S) (fds : Descriptors) → lowest_free t ≡ Some child → at (forked t child parent m fds) child ≡ Some (newborn parent m fds)
 child_is t child parent m fds found = get_or-set_same t child (Some (newborn parent m fds)) None (child_within t child found)
+
+-- the parent, which runs, is another slot, and stays as it is
+pub parent_stays : {S : Type 0} (t : Table S) (parent child : ℕ) (machine : S) (fds : Descriptors) → is_running (at t parent) ≡ true → lowest_free t ≡ Some child → at (forked t child parent machine fds) parent ≡ at t parent
+parent_stays t parent child machine fds runs free =
+    kept t child parent (Some (newborn parent machine fds)) (λ same. running_there (at t parent) runs (ap (at t) same ∙ was_free t child free))
 
 -- ---- exit
 

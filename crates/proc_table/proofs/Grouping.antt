@@ -3,7 +3,7 @@ use Rattle.std.proofs.Common.{◌≡◌, ◌⊎◌, inl, inr, ℕ, zero, suc, �
 use Rattle.std.proofs.Math.ListN.{set}
 use Rattle.std.proofs.lemmas.Bool.{cases_lt, le-ltb, ne_eqb}
 use Rattle.std.proofs.lemmas.List.{get_or_default, get_or_past, length-map, map-set}
-use Rattle.std.specs.Prelude.{All, ◌==◌, ◌&&◌, cond, map, count_by, nat_lt, not, position}
+use Rattle.std.specs.Prelude.{All, ◌==◌, ◌&&◌, cond, map, count_by, not, position}
 use Rattle.std.specs.List.{position_or_len}
 use Rattle.slot_lists.specs.Sets.{AreGrouped, both_of, is_key}
 use Rattle.slot_lists.proofs.Found.{counted_by, found_by}
@@ -12,7 +12,7 @@ use Rattle.proc_table.specs.declared.states.Status.{Status}
 use Rattle.proc_table.specs.declared.states.Status.TheVariants.{Runnable, Running, Asleep, Zombie}
 use Rattle.proc_table.specs.Slots.{is_number, is_running_on_status, is_zombie_status}
 use Rattle.proc_table.specs.Heads.{IsOnHart, hart_by, hart_key, head_at, head_has, head_is_child_of, head_is_free, head_is_zombie_child_of, parent_key, state_key, state_number}
-use Rattle.proc_table.proofs.Kept.{all_fail, none_first}
+use Rattle.proc_table.proofs.Kept.{none_passes}
 
 key_there : (key : Option Head → Option ℕ) (heads : List (Option Head)) (slot : ℕ) → slot < length heads → get_or (map key heads) slot None ≡ key (head_at heads slot)
 key_there key [] slot lt = absurd (omega arith)
@@ -101,7 +101,7 @@ none_found p heads none =
 
 pub none_there : (p : Option Head → Bool) → p None ≡ false → (heads : List (Option Head)) → position p heads ≡ None → All (λ head. p head ≡ false) heads
 none_there p off heads none = λ k d lt.
-    ap p (get_or_default heads k d None lt) ∙ all_fail p heads off (none_first p heads (nat_lt (position_or_len p heads) (length heads)) refl none) k
+    ap p (get_or_default heads k d None lt) ∙ none_passes p heads None off none k
 
 pub none_of_all : (p : Option Head → Bool) → p None ≡ false → (heads : List (Option Head)) → All (λ head. p head ≡ false) heads → position p heads ≡ None
 none_of_all p off heads all = none_found p heads (λ slot. by slot (cases_lt slot (length heads))) where

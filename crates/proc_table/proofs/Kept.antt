@@ -6,7 +6,7 @@ use Rattle.std.proofs.lemmas.List.{map-set, get_or_default}
 use Rattle.std.proofs.lemmas.List.Sums.{sum_by-cons}
 use Rattle.std.proofs.lemmas.Bool.{ltb-false, ne_eqb}
 use Rattle.std.specs.List.{position_or_len}
-use Rattle.std.specs.Prelude.{cond, map, count_by, nat_lt, not, if◌then◌else◌}
+use Rattle.std.specs.Prelude.{cond, map, count_by, is_some, nat_lt, not, position, if◌then◌else◌}
 use Rattle.proc_table.specs.declared.heads.Head.{Head}
 use Rattle.proc_table.specs.declared.states.Channel.{Channel}
 use Rattle.proc_table.specs.declared.states.Status.{Status}
@@ -132,21 +132,29 @@ fewer_children pid t child ne found =
     let counts = set_counts (is_child_of pid) t child (to_init (at t child)) true false is.0 is.1 (of_init pid (at t child) ne) in
     omega arith
 
-pub all_fail : {X : Type 0} (p : Option X → Bool) (xs : List (Option X)) → p None ≡ false → length xs ≤ position_or_len p xs → (k : ℕ) → p (get_or xs k None) ≡ false
-all_fail p [] none long k = none
-all_fail p (x ∷ xs) none long k = by (p x) refl (all_fail p xs none) k where
-  by : (b : Bool) → p x ≡ b → (length xs ≤ position_or_len p xs → (k : ℕ) → p (get_or xs k None) ≡ false) → (k : ℕ) → p (get_or (x ∷ xs) k None) ≡ false
+all_fail : {X : Type 0} (p : X → Bool) (xs : List X) (d : X) → p d ≡ false → length xs ≤ position_or_len p xs → (k : ℕ) → p (get_or xs k d) ≡ false
+all_fail p [] d none long k = none
+all_fail p (x ∷ xs) d none long k = by (p x) refl (all_fail p xs d none) k where
+  by : (b : Bool) → p x ≡ b → (length xs ≤ position_or_len p xs → (k : ℕ) → p (get_or xs k d) ≡ false) → (k : ℕ) → p (get_or (x ∷ xs) k d) ≡ false
   by true is rest k = absurd (let low : position_or_len p (x ∷ xs) ≡ 0 = ap (λ (b : Bool). cond (not b) (1 + position_or_len p xs) 0) is in omega arith)
   by false is rest zero = is
   by false is rest (suc k) =
       let next : position_or_len p (x ∷ xs) ≡ 1 + position_or_len p xs = ap (λ (b : Bool). cond (not b) (1 + position_or_len p xs) 0) is in
       rest (omega arith) k
 
-pub none_first : {X : Type 0} (p : Option X → Bool) (xs : List (Option X)) (b : Bool) → nat_lt (position_or_len p xs) (length xs) ≡ b
+none_first : {X : Type 0} (p : X → Bool) (xs : List X) (b : Bool) → nat_lt (position_or_len p xs) (length xs) ≡ b
     → cond b (Some (position_or_len p xs)) None ≡ None → length xs ≤ position_or_len p xs
 none_first p xs true test none = absurd (let no : ⊥ = cc in no)
 none_first p xs false test none = ltb-false (position_or_len p xs) (length xs) test
 
+pub nothing : {X : Type 0} (found : Option X) → is_some found ≡ false → found ≡ None
+nothing None is = refl
+nothing (Some x) is = absurd (let no : ⊥ = cc in no)
+
+-- where no element passes a test, and the default doesn't either, nothing that is read does
+pub none_passes : {X : Type 0} (p : X → Bool) (xs : List X) (d : X) → p d ≡ false → position p xs ≡ None → (k : ℕ) → p (get_or xs k d) ≡ false
+none_passes p xs d off none = all_fail p xs d off (none_first p xs (nat_lt (position_or_len p xs) (length xs)) refl none)
+
 pub no_children : {S : Type 0} (pid : ℕ) (t : Table S) → some_child t pid ≡ None → map (given pid) t ≡ t
 no_children pid t none =
-    not_given pid t (all_fail (is_child_of pid) t refl (none_first (is_child_of pid) t (nat_lt (position_or_len (is_child_of pid) t) (length t)) refl none))
+    not_given pid t (none_passes (is_child_of pid) t None refl none)

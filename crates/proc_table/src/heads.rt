@@ -167,7 +167,7 @@ impl Heads {
         ensures some { IfSome result (λ index. head_has (is_asleep_on_status channel.now) (head_at self.now index) ≡ true) }
         ensures none { IfNone result ((index : ℕ) → head_has (is_asleep_on_status channel.now) (head_at self.now index) ≡ false) }
     {
-        self.queues.sleeper(&self.heads, channel)
+        self.queues.sleeper(channel)
     }
 
     // The number of a Runnable slot, for this hart.
@@ -211,8 +211,7 @@ impl Heads {
 
 ghost use Rattle.std.specs.Prelude.{◌≡◌, Some, None, replicate};
 ghost use Rattle.proc_table.specs.declared.pid.TheConstants.{PROCS};
-ghost use Rattle.proc_table.specs.Slots.{is_asleep_on_status};
-ghost use Rattle.proc_table.specs.Heads.{hart_key, head_has, parent_key, state_key};
+ghost use Rattle.proc_table.specs.Heads.{hart_key, parent_key, state_key};
 
 // No processes.
 fn no_heads() -> [Option<Head>; PROCS]
@@ -259,17 +258,5 @@ fn parent_of(head: &Option<Head>) -> Option<usize>
             None => None,
         },
         None => None,
-    }
-}
-
-pub(crate) fn is_asleep_on(head: &Option<Head>, channel: &Channel) -> bool
-    ensures { result ≡ head_has (is_asleep_on_status channel.now) head.now }
-{
-    match head {
-        Some(head) => match head.status {
-            Status::Asleep(other) => channel.is(other),
-            _ => false,
-        },
-        None => false,
     }
 }

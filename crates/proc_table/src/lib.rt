@@ -6,6 +6,8 @@
 //! There are no locks and no contexts: a call is one step of the whole table. Only `Procs::new` takes memory.
 #![tactic(auto)]
 
+mod answers;
+mod channels;
 mod heads;
 pub mod laws;
 mod pid;
@@ -14,6 +16,7 @@ mod queues;
 mod states;
 mod table;
 
+pub use answers::Answer;
 pub use pid::{PROCS, Pid};
 pub use process::Process;
 pub use states::{Channel, State, Status};

@@ -9,11 +9,12 @@ ghost use Rattle.proc_table.specs.Slots.{is_runnable, is_running, is_running_on}
 ghost use Rattle.proc_table.specs.Calls.{with_fds};
 ghost use Rattle.proc_table.specs.Heads.{head_of};
 
+use crate::answers::write_reply;
 use crate::heads::Head;
-use crate::{Pid, Status};
+use crate::{Answer, Pid, Status};
 use fd_table::Fds;
 use std::marker::Model;
-use user_calls::{Machine, Reply};
+use user_calls::{Machine, ReplySlot};
 
 // A process (xv6's `struct proc`).
 #[derive(Drop)]
@@ -22,7 +23,7 @@ pub struct Process<M: Machine> {
     // `None` for init alone.
     pub(crate) parent: Option<Pid>,
     pub(crate) machine: M,
-    pub(crate) reply: Reply,
+    pub(crate) reply: ReplySlot,
     pub(crate) fds: Fds,
     pub(crate) put: usize,
 }
@@ -37,9 +38,12 @@ impl<M: Machine> Model for Process<M> {
 
 impl<M: Machine> Process<M> {
     ghost use Rattle.std.specs.Borrow.{Lends, sem};
-    ghost use Rattle.std.specs.Prelude.{◌≡◌};
+    ghost use Rattle.std.specs.Prelude.{◌≡◌, ◌+◌, ◌++◌, ◌≤◌, length};
     ghost use Rattle.fd_table.specs.contracts.descriptors.Fds.{the_row as fds_row};
+    ghost use Rattle.user_calls.specs.Limits.{block_size};
+    ghost use Rattle.user_calls.specs.declared.calls.Reply.TheVariants.{Bytes};
     ghost use Rattle.proc_table.specs.contracts.process.Process.{the_row as process_row};
+    ghost use Rattle.proc_table.specs.Answers.{gone_on, reply_of};
     ghost use Rattle.proc_table.specs.Calls.{booted, newborn};
 
     // A process that is there from the start.
@@ -50,7 +54,7 @@ impl<M: Machine> Process<M> {
             status: Status::Runnable,
             parent,
             machine,
-            reply: Reply::Start,
+            reply: ReplySlot::new(),
             fds: Fds::new(),
             put: 0,
         }
@@ -64,10 +68,46 @@ impl<M: Machine> Process<M> {
             status: Status::Runnable,
             parent: Some(parent),
             machine,
-            reply: Reply::Child,
+            reply: ReplySlot::child(),
             fds,
             put: 0,
         }
+    }
+
+    // The machine goes on past its call, and takes this reply next.
+    pub(crate) fn answer(&mut self, answer: Answer)
+        ensures { self.new ≡ gone_on M.next_of (reply_of answer) self.old }
+    {
+        self.go_on();
+        write_reply(&mut self.reply, answer);
+    }
+
+    // Likewise, with the bytes that were read.
+    pub(crate) fn answer_bytes(&mut self, bytes: &[u8])
+        requires { length bytes.now ≤ block_size }
+        ensures { self.new ≡ gone_on M.next_of (Bytes bytes.now) self.old }
+    {
+        self.go_on();
+        self.reply.read(bytes);
+    }
+
+    // Likewise, with bytes that lay in two parts.
+    pub(crate) fn answer_parts(&mut self, first: &[u8], second: &[u8])
+        requires { length first.now + length second.now ≤ block_size }
+        ensures { self.new ≡ gone_on M.next_of (Bytes (first.now ++ second.now)) self.old }
+    {
+        self.go_on();
+        self.reply.read(first);
+        self.reply.append(second);
+    }
+
+    // The machine goes on past its call; the reply stays.
+    fn go_on(&mut self)
+        ensures { self.new ≡ gone_on M.next_of self.old.reply self.old }
+    {
+        self.machine.advance(&self.reply);
+        self.status = Status::Runnable;
+        self.put = 0;
     }
 
     pub(crate) fn set_status(&mut self, status: Status)

@@ -1,19 +1,21 @@
 //! The queues of the harts, and the lists of the sleepers.
 
-use crate::heads::{Head, is_asleep_on};
+use crate::channels::Channels;
+use crate::heads::Head;
 use crate::{Channel, HARTS, PROCS, Pid, Status};
 use slot_lists::SlotLists;
 use std::marker::Model;
 
-// The list of the sleepers of channel bucket 0; before it stand the queues of the eight harts.
+// The first of the lists of sleepers; before it stand the queues of the eight harts.
 const SLEEPERS: usize = 8;
 
 // The Runnable processes, in the queues of the harts, and the sleeping ones, in the lists of their channels.
 //
-// A list of sleepers is of all channels with one remainder, so that none has to be looked for.
+// A channel has a list while somebody sleeps on it. There are as many as slots, so there is one for each channel.
 #[derive(Drop)]
 pub(crate) struct Queues {
     lists: SlotLists,
+    channels: Channels,
     // The hart on which a process ran last; of one that hasn't run yet, its parent's.
     last: [u8; PROCS],
 }
@@ -25,19 +27,22 @@ impl Model for Queues {
 
     ghost Value = { Shown };
 
-    ghost view = { λ q. record { lists = q.lists; last = q.last } };
+    ghost view = { λ q. record { lists = q.lists; channels = q.channels; last = q.last } };
 
     ghost invariant = { λ q. AreHarts q.last };
 }
 
 impl Queues {
-    ghost use Rattle.std.specs.Prelude.{◌≡◌, ◌≢◌, ℕ, ◌<◌, List, Option, Some, None, IfNone, IfSome, length, replicate, slice_index, slice_set, true, false};
+    ghost use Rattle.std.specs.Prelude.{◌≡◌, ◌≢◌, ℕ, ◌+◌, ◌<◌, List, Option, Some, None, IfNone, IfSome, length, replicate, slice_get, slice_index, slice_set, true, false};
+    ghost use Rattle.slot_lists.specs.Links.{has, slots_of};
     ghost use Rattle.proc_table.specs.declared.heads.Head.{Head as ShownHead};
+    ghost use Rattle.proc_table.specs.declared.states.Status.TheVariants.{Asleep};
     ghost use Rattle.proc_table.specs.declared.pid.TheConstants.{PROCS};
     ghost use Rattle.proc_table.specs.declared.table.TheConstants.{HARTS};
     ghost use Rattle.proc_table.specs.Slots.{is_asleep_on_status, is_runnable_status};
     ghost use Rattle.proc_table.specs.Heads.{IsOnHart, head_at, head_has};
-    ghost use Rattle.proc_table.specs.Queues.{AreQueued, place_of};
+    ghost use Rattle.proc_table.specs.Channels.{channel_of};
+    ghost use Rattle.proc_table.specs.Queues.{AreQueued, sleepers_of};
 
     // Nothing stands in a list.
     pub(crate) fn new() -> Self
@@ -45,6 +50,7 @@ impl Queues {
     {
         Queues {
             lists: SlotLists::new(),
+            channels: Channels::new(),
             last: all_on_the_first(),
         }
     }
@@ -56,14 +62,10 @@ impl Queues {
         requires on_hart { IsOnHart head.now }
         ensures { (heads : List (Option ShownHead)) → AreQueued heads self.old → head_at heads slot ≡ was.now → AreQueued (slice_set heads slot head.now) self.new }
     {
-        let from = self.place(slot, was);
-        self.remember(slot, was, head);
-        let to = self.place(slot, head);
-        if from != to {
-            self.lists.remove(slot);
-            if let Some(list) = to {
-                self.lists.push(list, slot);
-            }
+        if !waits_on(was, head) {
+            self.take_out(slot);
+            self.remember(slot, was, head);
+            self.put_in(slot, head);
         }
     }
 
@@ -83,36 +85,56 @@ impl Queues {
         None
     }
 
-    // The slot that has slept longest on the channel.
-    pub(crate) fn sleeper(&self, heads: &[Option<Head>; PROCS], channel: &Channel) -> Option<usize>
+    // The slot that has slept longest on the channel: the first of the channel's list.
+    pub(crate) fn sleeper(&self, channel: &Channel) -> Option<usize>
         ensures within { IfSome result (λ slot. slot < PROCS) }
-        ensures some { IfSome result (λ slot. head_has (is_asleep_on_status channel.now) (head_at heads.now slot) ≡ true) }
-        ensures none { AreQueued heads.now self.now → IfNone result ((slot : ℕ) → head_has (is_asleep_on_status channel.now) (head_at heads.now slot) ≡ false) }
+        ensures first { (heads : List (Option ShownHead)) (list : ℕ) → AreQueued heads self.now → channel_of self.now.channels list ≡ Some channel.now → result ≡ slice_get (sleepers_of self.now.lists list) 0 }
+        ensures some { (heads : List (Option ShownHead)) → AreQueued heads self.now → IfSome result (λ slot. head_has (is_asleep_on_status channel.now) (head_at heads slot) ≡ true) }
+        ensures none { (heads : List (Option ShownHead)) → AreQueued heads self.now → IfNone result ((slot : ℕ) → head_has (is_asleep_on_status channel.now) (head_at heads slot) ≡ false) }
     {
-        let mut next = self.lists.first(SLEEPERS + bucket(channel));
-        for _step in 0..PROCS {
-            let slot = next?;
-            if is_asleep_on(&heads[slot], channel) {
-                return Some(slot);
-            }
-            next = self.lists.after(slot);
-        }
-        None
+        let list = self.channels.find(channel)?;
+        self.lists.first(SLEEPERS + list)
     }
 
-    // The list in which the slot stands while this is its process.
-    fn place(&self, slot: usize, head: &Option<Head>) -> Option<usize>
+    // Takes the slot out of the list that it stands in, if any. A channel's list that is then empty is nobody's.
+    fn take_out(&mut self, slot: usize)
         requires { slot < PROCS }
-        ensures value { result ≡ place_of head.now (slice_index self.now.last slot) }
-        ensures within { IfSome result (λ list. list < 72) }
+        ensures out { (list : ℕ) → list < 72 → has (slots_of self.new.lists list) slot ≡ false }
+        ensures after { (heads : List (Option ShownHead)) → AreQueued heads self.old → AreQueued (slice_set heads slot None) self.new }
     {
-        match head {
-            Some(head) => match &head.status {
-                Status::Runnable => Some(self.last[slot] as usize),
-                Status::Asleep(channel) => Some(SLEEPERS + bucket(channel)),
-                _ => None,
-            },
-            None => None,
+        let Some(list) = self.lists.list_with(slot) else {
+            return;
+        };
+        self.lists.remove(slot);
+        if list >= SLEEPERS && self.lists.first(list).is_none() {
+            self.channels.release(list - SLEEPERS);
+        }
+    }
+
+    // Puts the slot, which stands in no list, at the end of the one in which its process waits, if it does.
+    fn put_in(&mut self, slot: usize, head: &Option<Head>)
+        requires within { slot < PROCS }
+        requires out { (list : ℕ) → list < 72 → has (slots_of self.old.lists list) slot ≡ false }
+        ensures { (heads : List (Option ShownHead)) → AreQueued heads self.old → head_at heads slot ≡ None → AreQueued (slice_set heads slot head.now) self.new }
+    {
+        if let Some(head) = head {
+            match &head.status {
+                Status::Runnable => self.lists.push(self.last[slot] as usize, slot),
+                Status::Asleep(channel) => self.put_asleep(slot, channel),
+                _ => {}
+            }
+        }
+    }
+
+    // Puts the slot, which stands in no list, at the end of the channel's. Where 63 others sleep, at most 63 lists are in
+    // use, so there is one for it.
+    fn put_asleep(&mut self, slot: usize, channel: &Channel)
+        requires within { slot < PROCS }
+        requires out { (list : ℕ) → list < 72 → has (slots_of self.old.lists list) slot ≡ false }
+        ensures { (heads : List (Option ShownHead)) (head : ShownHead) → AreQueued heads self.old → head_at heads slot ≡ None → head.status ≡ Asleep channel.now → AreQueued (slice_set heads slot (Some head)) self.new }
+    {
+        if let Some(list) = self.channels.claim(channel) {
+            self.lists.push(SLEEPERS + list, slot);
         }
     }
 
@@ -121,6 +143,7 @@ impl Queues {
         requires within { slot < PROCS }
         requires on_hart { IsOnHart head.now }
         ensures lists { self.new.lists ≡ self.old.lists }
+        ensures channels { self.new.channels ≡ self.old.channels }
         ensures others { (other : ℕ) → other ≢ slot → slice_index self.new.last other ≡ slice_index self.old.last other }
     {
         if let Some(process) = head {
@@ -136,8 +159,10 @@ impl Queues {
     }
 }
 
-ghost use Rattle.std.specs.Prelude.{◌≡◌, ◌<◌};
-ghost use Rattle.proc_table.specs.Queues.{AreHarts, bucket_of};
+ghost use Rattle.std.specs.Prelude.{◌≡◌, Bool, true};
+ghost use Rattle.proc_table.specs.declared.states.Status.{Status as ShownStatus};
+ghost use Rattle.proc_table.specs.Heads.{head_has};
+ghost use Rattle.proc_table.specs.Queues.{AreHarts};
 
 // Hart 0 for each slot.
 fn all_on_the_first() -> [u8; PROCS]
@@ -146,14 +171,16 @@ fn all_on_the_first() -> [u8; PROCS]
     [0; PROCS]
 }
 
-// Which of the lists of sleepers is the channel's.
-fn bucket(channel: &Channel) -> usize
-    ensures value { result ≡ bucket_of channel.now }
-    ensures within { result < 64 }
+// Whether the process waits both times, and for the same: where it stands then is right.
+fn waits_on(was: &Option<Head>, head: &Option<Head>) -> bool
+    ensures { result ≡ true → (test : ShownStatus → Bool) → head_has test was.now ≡ head_has test head.now }
 {
-    match channel {
-        Channel::PipeBytes(pipe) => (pipe % 64) as usize,
-        Channel::PipeRoom(pipe) => 63 - (pipe % 64) as usize,
-        Channel::Children(pid) => pid.index(),
+    match (was, head) {
+        (Some(was), Some(head)) => match (was.status, head.status) {
+            (Status::Runnable, Status::Runnable) => true,
+            (Status::Asleep(channel), Status::Asleep(other)) => channel.is(other),
+            _ => false,
+        },
+        _ => false,
     }
 }

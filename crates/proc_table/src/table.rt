@@ -2,12 +2,12 @@
 
 use crate::heads::Heads;
 use crate::process::{fds_of, head_of, is_runnable, is_running, is_running_on};
-use crate::{Channel, PROCS, Pid, Process, State, Status};
+use crate::{Answer, Channel, PROCS, Pid, Process, State, Status};
 use fd_table::Fds;
 use std::alloc::{AllocError, Allocator};
 use std::marker::Model;
 use thiserror::Error;
-use user_calls::{Machine, Reply};
+use user_calls::{CallSlot, Machine, ReplySlot};
 
 /// How many harts there are at most (xv6's `NCPU`).
 pub const HARTS: u8 = 8;
@@ -53,10 +53,13 @@ impl<M: Machine, A: Allocator> Procs<M, A> {
     ghost use Rattle.std.specs.Borrow.{Lends, sem};
     ghost use Rattle.fd_table.specs.contracts.descriptors.Fds.{the_row as fds_row};
     ghost use Rattle.proc_table.specs.contracts.table.Procs.{the_row as procs_row};
-    ghost use Rattle.std.specs.Prelude.{◌≡◌, ◌≢◌, ◌≤◌, ◌<◌, ℕ, All, IfNone, IfOk, IfSome, IsSome, IsTrue, ◌↔◌, OnErr, None, Some, true, false, count_by, map, position, slice_set};
+    ghost use Rattle.std.specs.Prelude.{◌≡◌, ◌≢◌, ◌+◌, ◌++◌, ◌≤◌, ◌<◌, ℕ, All, IfNone, IfOk, IfSome, IsSome, IsTrue, ◌↔◌, OnErr, None, Some, true, false, count_by, length, map, position, slice_set};
     ghost use Rattle.std.specs.Bool.{OnFalse, OnTrue};
+    ghost use Rattle.user_calls.specs.Limits.{block_size};
+    ghost use Rattle.user_calls.specs.declared.calls.Reply.TheVariants.{Bytes, Done};
     ghost use Rattle.proc_table.specs.declared.pid.TheConstants.{PROCS};
     ghost use Rattle.proc_table.specs.declared.table.TheConstants.{HARTS};
+    ghost use Rattle.proc_table.specs.Answers.{reply_of};
     ghost use Rattle.proc_table.specs.Slots.{IsAlone, at, is_asleep_on, is_child_of, is_runnable, is_running, is_running_on, parent_of, put_of, state_of};
     ghost use Rattle.proc_table.specs.Heads.{IsOnHart, hart_by, head_of, to_init};
     ghost use Rattle.proc_table.specs.Calls.{CanDispatch, all_woken, boot_table, dispatched, exited, fds_set, forked, given, lowest_free, readied, reaped, slept, some_child, status_set, wait_answer, zombie_child};
@@ -87,21 +90,25 @@ impl<M: Machine, A: Allocator> Procs<M, A> {
         Pid::named(self.free_index())
     }
 
-    /// Puts a child of `parent` into the lowest free slot, Runnable with reply `Child`, with this machine and these
-    /// descriptors, and returns the slot (`kfork`).
+    /// Carries out the call of the running process `parent`, which forks: a child with these descriptors and with the
+    /// machine after the call is put into the lowest free slot, and `parent` becomes Runnable with the reply `Done`
+    /// (`kfork`).
     ///
-    /// `FullProcs` where no slot is free; nothing changes then, and the machine and the descriptors are dropped.
-    pub fn fork(&mut self, parent: Pid, child_machine: M, fds: Fds) -> Result<Pid, FullProcs>
-        requires { IsSome (at self.old parent) }
+    /// `FullProcs` where no slot is free; nothing changes then, and the descriptors are dropped.
+    pub fn fork(&mut self, parent: Pid, fds: Fds) -> Result<Pid, FullProcs>
+        requires { is_running (at self.old parent) ≡ true }
         ensures slot { IfOk result (λ child. lowest_free self.old ≡ Some child) }
-        ensures after { IfOk result (λ child. self.new ≡ forked self.old child parent (M.view child_machine) fds) }
+        ensures after { IfOk result (λ child. IfSome (at self.old parent) (λ p. self.new ≡ readied (forked self.old child parent (M.next_of p.machine p.reply) fds) parent (M.next_of p.machine p.reply) Done)) }
         ensures full { OnErr result (lowest_free self.old ≡ None) }
         ensures same { OnErr result (self.new ≡ self.old) }
     {
         let Some(index) = self.free_index() else {
             return Err(FullProcs);
         };
-        self.set(index, Some(Process::child(parent, child_machine, fds)));
+        let mut twin = self.machine(parent).twin();
+        twin.advance(self.reply(parent));
+        self.set(index, Some(Process::child(parent, twin, fds)));
+        self.answer(parent, Answer::Done);
         Ok(Pid::at(index))
     }
 
@@ -155,7 +162,7 @@ impl<M: Machine, A: Allocator> Procs<M, A> {
         }
     }
 
-    /// Whether there is a process in the slot, as `fork`, `parent`, `machine`, `reply`, `fds`, `fds_mut` and `put`
+    /// Whether there is a process in the slot, as `parent`, `machine`, `reply`, `ask`, `fds`, `fds_mut` and `put`
     /// require (own).
     pub fn is_used(&self, pid: Pid) -> bool
         ensures { IsTrue result ↔ IsSome (at self.now pid) }
@@ -163,7 +170,8 @@ impl<M: Machine, A: Allocator> Procs<M, A> {
         self.slots[pid.index()].is_some()
     }
 
-    /// Whether the process in the slot runs on any hart, as `exit`, `wait`, `ready` and `sleep` require (own).
+    /// Whether the process in the slot runs on any hart, as `fork`, `exit`, `wait`, `sleep` and the
+    /// calls by which it is answered require (own).
     pub fn is_running(&self, pid: Pid) -> bool
         ensures { result ≡ is_running (at self.now pid) }
     {
@@ -207,12 +215,23 @@ impl<M: Machine, A: Allocator> Procs<M, A> {
     }
 
     /// The reply that a process takes when it runs next (own).
-    pub fn reply(&self, pid: Pid) -> &Reply
+    pub fn reply(&self, pid: Pid) -> &ReplySlot
         requires { IsSome (at self.now pid) }
         ensures { IfSome (at self.now pid) (λ process. result.now ≡ process.reply) }
     {
         match &self.slots[pid.index()] {
             Some(process) => &process.reply,
+            None => unreachable!(),
+        }
+    }
+
+    /// Writes the call that the machine of a process makes of its reply (own).
+    pub fn ask(&self, pid: Pid, call: &mut CallSlot)
+        requires { IsSome (at self.now pid) }
+        ensures { IfSome (at self.now pid) (λ process. call.new ≡ M.call_of process.machine process.reply) }
+    {
+        match &self.slots[pid.index()] {
+            Some(process) => process.machine.ask(&process.reply, call),
             None => unreachable!(),
         }
     }
@@ -249,17 +268,40 @@ impl<M: Machine, A: Allocator> Procs<M, A> {
         }
     }
 
-    /// The running process `pid` becomes Runnable with this machine and this reply, and has put no bytes (`yield`,
-    /// after a call that doesn't sleep).
-    pub fn ready(&mut self, pid: Pid, machine: M, reply: Reply)
+    /// The machine of the running process `pid` goes on past its call where it lies, and the process becomes Runnable with
+    /// this reply, and has put no bytes (`yield`, after a call that doesn't sleep).
+    pub fn answer(&mut self, pid: Pid, answer: Answer)
         requires { is_running (at self.old pid) ≡ true }
-        ensures { self.new ≡ readied self.old pid (M.view machine) reply }
+        ensures { IfSome (at self.old pid) (λ p. self.new ≡ readied self.old pid (M.next_of p.machine p.reply) (reply_of answer)) }
     {
         if let Some(process) = &mut self.slots[pid.index()] {
-            process.status = Status::Runnable;
-            process.machine = machine;
-            process.reply = reply;
-            process.put = 0;
+            process.answer(answer);
+            let head = process.head();
+            self.heads.put(pid.index(), Some(head));
+        }
+    }
+
+    /// Likewise after a call that read these bytes.
+    pub fn answer_bytes(&mut self, pid: Pid, bytes: &[u8])
+        requires runs { is_running (at self.old pid) ≡ true }
+        requires few { length bytes.now ≤ block_size }
+        ensures { IfSome (at self.old pid) (λ p. self.new ≡ readied self.old pid (M.next_of p.machine p.reply) (Bytes bytes.now)) }
+    {
+        if let Some(process) = &mut self.slots[pid.index()] {
+            process.answer_bytes(bytes);
+            let head = process.head();
+            self.heads.put(pid.index(), Some(head));
+        }
+    }
+
+    /// Likewise after a call that read bytes which lay in two parts.
+    pub fn answer_parts(&mut self, pid: Pid, first: &[u8], second: &[u8])
+        requires runs { is_running (at self.old pid) ≡ true }
+        requires few { length first.now + length second.now ≤ block_size }
+        ensures { IfSome (at self.old pid) (λ p. self.new ≡ readied self.old pid (M.next_of p.machine p.reply) (Bytes (first.now ++ second.now))) }
+    {
+        if let Some(process) = &mut self.slots[pid.index()] {
+            process.answer_parts(first, second);
             let head = process.head();
             self.heads.put(pid.index(), Some(head));
         }

@@ -1,8 +1,13 @@
 -- The states of users over a borrowed script, as plain data.
-use Rattle.std.specs.Prelude.{◌+◌, List, map, Option}
+use Rattle.std.specs.Prelude.{◌+◌, ◌++◌, List, map, Option}
 use Rattle.sh_tree.specs.Tree.{Tree, exec, redir, pipe, list, back, tree_of}
 use Rattle.script_load.specs.Line.{ScriptLine, line_of}
-use Rattle.user_progs.specs.View.{state_of}
+use Rattle.user_calls.specs.declared.calls.Call.{Call}
+use Rattle.user_calls.specs.declared.calls.Call.TheVariants.{Fork, Exec, Exit, Wait, MakePipe, Write, OpenFile, Close, Dup}
+use Rattle.user_progs.specs.Turn.{block}
+use Rattle.user_progs.specs.View.{state_of, start_of}
+use Rattle.sh_machine.specs.declared.says.Says.{Says}
+use Rattle.sh_machine.specs.declared.says.Says.TheVariants as says
 use Rattle.sh_machine.specs.declared.rest.Rest.{Rest}
 use Rattle.sh_machine.specs.declared.node.Node.{Node}
 use Rattle.sh_machine.specs.declared.node.Opened.{Opened}
@@ -67,10 +72,22 @@ shell_of Ended = ended
 
 abbrev pub next_state : {A N g : _} → Next' A N g → Next
 next_state (Stays at) = stays (shell_of at)
-next_state (Becomes found) = becomes (state_of found)
+next_state (Becomes found) = becomes (start_of found)
+
+abbrev pub says_of : Says → Call
+says_of says.Fork = Fork
+says_of (says.Exec found) = Exec found
+says_of says.Exit = Exit
+says_of says.Wait = Wait
+says_of says.MakePipe = MakePipe
+says_of (says.Write message) = Write 2 (block message.now)
+says_of (says.Within before text after) = Write 2 (block (before.now ++ (text.now ++ after.now)))
+says_of (says.OpenFile name mode) = OpenFile (block name.now) mode
+says_of (says.Close fd) = Close fd
+says_of (says.Dup fd) = Dup fd
 
 abbrev pub turn_of : {A N g : _} → Turn' A N g → Turn
-turn_of turn = record { call = turn.call; next = next_state turn.next }
+turn_of turn = record { call = says_of turn.call; next = next_state turn.next }
 
 abbrev pub user_of_kind : {A N g : _} → Kind A N g → User
 user_of_kind Init = init

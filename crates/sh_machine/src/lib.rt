@@ -24,6 +24,7 @@ mod naming;
 mod node;
 mod place;
 mod rest;
+mod says;
 mod state;
 mod turns;
 mod user;

@@ -5,10 +5,10 @@ ghost use Rattle.std.specs.Prelude.{◌≡◌, ◌↔◌, IsTrue};
 use crate::naming::Naming;
 use crate::node::Node;
 use crate::rest::Rest;
+use crate::says::Says;
 use sh_tree::Mode;
 use std::alloc::Allocator;
-use user_calls::{Block, Call};
-use user_progs::Prog;
+use user_progs::Start;
 
 // How far the top shell is with the first of its lines.
 #[derive(Clone, Copy, PartialEq, Eq)]
@@ -81,24 +81,22 @@ pub enum At<'t, A: Allocator, N: Naming> {
 pub enum Next<'t, A: Allocator, N: Naming> {
     Stays(At<'t, A, N>),
     // A program that was found takes the process over.
-    Becomes(Prog<'t, A>),
+    Becomes(Start<'t, A>),
 }
 
 // A call, and what waits for the reply to it.
 #[derive(Drop)]
 pub struct Turn<'t, A: Allocator, N: Naming> {
-    pub call: Call,
+    pub call: Says<'t>,
     pub next: Next<'t, A, N>,
 }
 
 impl<'t, A: Allocator, N: Naming> Turn<'t, A, N> {
-    ghost use Rattle.user_calls.specs.declared.calls.Call.TheVariants.{Write};
-    ghost use Rattle.sh_machine.specs.State.{told};
     ghost use Rattle.sh_machine.specs.Turn.{calls, exits, tells};
-    ghost use Rattle.sh_machine.specs.View.{shell_of, turn_of};
+    ghost use Rattle.sh_machine.specs.View.{says_of, shell_of, turn_of};
 
-    pub fn calls(call: Call, at: At<'t, A, N>) -> Self
-        ensures { turn_of result ≡ calls call (shell_of at.entry) }
+    pub fn calls(call: Says<'t>, at: At<'t, A, N>) -> Self
+        ensures { turn_of result ≡ calls (says_of call.entry) (shell_of at.entry) }
     {
         Turn {
             call,
@@ -109,21 +107,14 @@ impl<'t, A: Allocator, N: Naming> Turn<'t, A, N> {
     pub fn exits() -> Self
         ensures { turn_of result ≡ exits }
     {
-        Turn::calls(Call::Exit, At::Ended)
+        Turn::calls(Says::Exit, At::Ended)
     }
 
     // Writes a message to descriptor 2, and exits then.
-    pub fn tells(message: &[u8]) -> Self
+    pub fn tells(message: &'static [u8]) -> Self
         ensures { turn_of result ≡ tells message.now }
     {
-        Turn::writes(Block::from_slice(message))
-    }
-
-    // Writes these bytes to descriptor 2, and exits then.
-    pub fn writes(message: Block) -> Self
-        ensures { turn_of result ≡ calls (Write 2 message) told }
-    {
-        Turn::calls(Call::Write(2, message), At::Told)
+        Turn::calls(Says::Write(message), At::Told)
     }
 }
 

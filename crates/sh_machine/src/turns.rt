@@ -6,19 +6,20 @@ ghost use Rattle.sh_machine.specs.State.{makes, forks_writer, forks_reader, wait
 ghost use Rattle.user_calls.specs.declared.calls.Call.TheVariants.{Wait};
 ghost use Rattle.sh_machine.specs.declared.state.Phase.TheVariants.{Forks};
 ghost use Rattle.sh_machine.specs.declared.state.Side.TheVariants.{Dups};
-ghost use Rattle.sh_machine.specs.View.{rest_of, node_of, parent_of, shell_of, turn_of};
+ghost use Rattle.sh_machine.specs.View.{rest_of, node_of, parent_of, shell_of, says_of, turn_of};
 
 use crate::message;
 use crate::naming::Naming;
 use crate::node::{Node, Opened};
 use crate::rest::Rest;
+use crate::says::Says;
 use crate::state::{At, Next, Parent, Phase, Side, Turn};
 use script_load::{Line, Profile};
 use sh_lexer::Bytes;
 use sh_tree::Mode;
 use std::alloc::Allocator;
-use user_calls::{Block, Call, Mode as CallMode, Reply};
-use user_progs::lookup;
+use user_calls::{Mode as CallMode, ReplyKind, ReplySlot};
+use user_progs::find;
 
 // The descriptor that a redirection replaces.
 fn old_fd(mode: Mode) -> usize
@@ -52,12 +53,12 @@ fn execs<'t, A: Allocator, N: Naming>(words: &'t [Bytes<A>]) -> Turn<'t, A, N>
     let Some((name, _)) = words.split_first() else {
         return Turn::exits();
     };
-    match lookup(words) {
+    match find(words) {
         Some(found) => Turn {
-            call: Call::Exec(true),
+            call: Says::Exec(true),
             next: Next::Becomes(found),
         },
-        None => Turn::calls(Call::Exec(false), At::Unknown(name.as_slice())),
+        None => Turn::calls(Says::Exec(false), At::Unknown(name.as_slice())),
     }
 }
 
@@ -68,15 +69,15 @@ fn runs<'t, A: Allocator, N: Naming>(tree: &Node<'t, A, N>) -> Turn<'t, A, N>
     match tree.open() {
         Opened::Exec(words) => execs(words),
         Opened::Redir(mode, name, body) => Turn::calls(
-            Call::Close(old_fd(mode)),
+            Says::Close(old_fd(mode)),
             At::ClosesOld(mode, name, body),
         ),
         Opened::Pipe(left, right) => Turn::calls(
-            Call::MakePipe,
+            Says::MakePipe,
             At::Pipes(Parent::Makes(left, right)),
         ),
-        Opened::List(left, right) => Turn::calls(Call::Fork, At::ForksLeft(left, right)),
-        Opened::Back(body) => Turn::calls(Call::Fork, At::ForksBack(body)),
+        Opened::List(left, right) => Turn::calls(Says::Fork, At::ForksLeft(left, right)),
+        Opened::Back(body) => Turn::calls(Says::Fork, At::ForksBack(body)),
     }
 }
 
@@ -89,7 +90,10 @@ fn runs_first<'t, A: Allocator, N: Naming>(rest: &Rest<'t, A, N>) -> Turn<'t, A,
     };
     match line {
         Line::Tree(tree) => return runs(&Node::first(rest, tree)),
-        Line::Bad(fault, text) => return Turn::writes(message::fault(*fault, text.as_slice())),
+        Line::Bad(fault, text) => return Turn::calls(
+            message::fault(*fault, text.as_slice()),
+            At::Told,
+        ),
         Line::Cd(_) => {}
     }
     Turn::exits()
@@ -107,12 +111,12 @@ fn takes_first<'t, A: Allocator, N: Naming>(rest: &Rest<'t, A, N>) -> Turn<'t, A
         Line::Bad(_, _) => {}
         Line::Cd(text) => {
             return Turn::calls(
-                Call::Write(2, message::within(b"cannot cd ", text.as_slice(), b"\n")),
+                Says::Within(b"cannot cd ", text.as_slice(), b"\n"),
                 At::Top(Phase::ToldCd, rest.twin()),
             );
         }
     }
-    Turn::calls(Call::Fork, At::Top(Phase::Forks, rest.twin()))
+    Turn::calls(Says::Fork, At::Top(Phase::Forks, rest.twin()))
 }
 
 // A fork was refused.
@@ -123,13 +127,16 @@ fn no_fork<'t, A: Allocator, N: Naming>() -> Turn<'t, A, N>
 }
 
 // A child was forked for the first of these lines, or could not be.
-fn forked_line<'t, A: Allocator, N: Naming>(rest: &Rest<'t, A, N>, reply: &Reply) -> Turn<'t, A, N>
+fn forked_line<'t, A: Allocator, N: Naming>(
+    rest: &Rest<'t, A, N>,
+    reply: &ReplySlot,
+) -> Turn<'t, A, N>
     ensures { turn_of result ≡ top_turn Forks (rest_of rest.now) reply.now }
 {
-    match reply {
-        Reply::Done => return Turn::calls(Call::Wait, At::Top(Phase::Waits, rest.twin())),
-        Reply::Child => return runs_first(rest),
-        Reply::Refused => return no_fork(),
+    match reply.kind() {
+        ReplyKind::Done => return Turn::calls(Says::Wait, At::Top(Phase::Waits, rest.twin())),
+        ReplyKind::Child => return runs_first(rest),
+        ReplyKind::Refused => return no_fork(),
         _ => {}
     }
     Turn::exits()
@@ -139,15 +146,15 @@ fn forked_line<'t, A: Allocator, N: Naming>(rest: &Rest<'t, A, N>, reply: &Reply
 fn top<'t, A: Allocator, N: Naming>(
     phase: Phase,
     rest: &Rest<'t, A, N>,
-    reply: &Reply,
+    reply: &ReplySlot,
 ) -> Turn<'t, A, N>
     ensures { turn_of result ≡ top_turn phase (rest_of rest.now) reply.now }
 {
     match phase {
         Phase::Starts => return takes_first(rest),
         Phase::Forks => return forked_line(rest, reply),
-        Phase::Waits => match reply {
-            Reply::Done => return takes_first(&rest.later()),
+        Phase::Waits => match reply.kind() {
+            ReplyKind::Done => return takes_first(&rest.later()),
             _ => {}
         },
         Phase::ToldCd => return takes_first(&rest.later()),
@@ -159,18 +166,18 @@ fn top<'t, A: Allocator, N: Naming>(
 fn made<'t, A: Allocator, N: Naming>(
     left: &Node<'t, A, N>,
     right: &Node<'t, A, N>,
-    reply: &Reply,
+    reply: &ReplySlot,
 ) -> Turn<'t, A, N>
     ensures { turn_of result ≡ pipe_turn (makes (node_of left.now) (node_of right.now)) reply.now }
 {
-    match reply {
-        Reply::Ends(reader, writer) => {
+    match reply.kind() {
+        ReplyKind::Ends(reader, writer) => {
             return Turn::calls(
-                Call::Fork,
-                At::Pipes(Parent::ForksWriter(left.twin(), right.twin(), *reader, *writer)),
+                Says::Fork,
+                At::Pipes(Parent::ForksWriter(left.twin(), right.twin(), reader, writer)),
             );
         }
-        Reply::Refused => return Turn::tells(b"pipe\n"),
+        ReplyKind::Refused => return Turn::tells(b"pipe\n"),
         _ => {}
     }
     Turn::exits()
@@ -182,24 +189,24 @@ fn forked_writer<'t, A: Allocator, N: Naming>(
     right: &Node<'t, A, N>,
     reader: usize,
     writer: usize,
-    reply: &Reply,
+    reply: &ReplySlot,
 ) -> Turn<'t, A, N>
     ensures { turn_of result ≡ pipe_turn (forks_writer (node_of left.now) (node_of right.now) reader writer) reply.now }
 {
-    match reply {
-        Reply::Done => {
+    match reply.kind() {
+        ReplyKind::Done => {
             return Turn::calls(
-                Call::Fork,
+                Says::Fork,
                 At::Pipes(Parent::ForksReader(right.twin(), reader, writer)),
             );
         }
-        Reply::Child => {
+        ReplyKind::Child => {
             return Turn::calls(
-                Call::Close(1),
+                Says::Close(1),
                 At::Side(Side::Closes(writer, reader, writer), left.twin()),
             );
         }
-        Reply::Refused => return no_fork(),
+        ReplyKind::Refused => return no_fork(),
         _ => {}
     }
     Turn::exits()
@@ -210,28 +217,28 @@ fn forked_reader<'t, A: Allocator, N: Naming>(
     right: &Node<'t, A, N>,
     reader: usize,
     writer: usize,
-    reply: &Reply,
+    reply: &ReplySlot,
 ) -> Turn<'t, A, N>
     ensures { turn_of result ≡ pipe_turn (forks_reader (node_of right.now) reader writer) reply.now }
 {
-    match reply {
-        Reply::Done => {
-            return Turn::calls(Call::Close(reader), At::Pipes(Parent::ClosesReader(writer)));
+    match reply.kind() {
+        ReplyKind::Done => {
+            return Turn::calls(Says::Close(reader), At::Pipes(Parent::ClosesReader(writer)));
         }
-        Reply::Child => {
+        ReplyKind::Child => {
             return Turn::calls(
-                Call::Close(0),
+                Says::Close(0),
                 At::Side(Side::Closes(reader, reader, writer), right.twin()),
             );
         }
-        Reply::Refused => return no_fork(),
+        ReplyKind::Refused => return no_fork(),
         _ => {}
     }
     Turn::exits()
 }
 
 // The process that makes a pipe.
-fn pipe<'t, A: Allocator, N: Naming>(parent: &Parent<'t, A, N>, reply: &Reply) -> Turn<'t, A, N>
+fn pipe<'t, A: Allocator, N: Naming>(parent: &Parent<'t, A, N>, reply: &ReplySlot) -> Turn<'t, A, N>
     ensures { turn_of result ≡ pipe_turn (parent_of parent.now) reply.now }
 {
     match parent {
@@ -243,32 +250,39 @@ fn pipe<'t, A: Allocator, N: Naming>(parent: &Parent<'t, A, N>, reply: &Reply) -
             return forked_reader(right, *reader, *writer, reply);
         }
         Parent::ClosesReader(writer) => {
-            return after(reply, Call::Close(*writer), At::Pipes(Parent::ClosesWriter));
+            return after(reply, Says::Close(*writer), At::Pipes(Parent::ClosesWriter));
         }
-        Parent::ClosesWriter => return after(reply, Call::Wait, At::Pipes(Parent::WaitsFirst)),
-        Parent::WaitsFirst => return after(reply, Call::Wait, At::Pipes(Parent::WaitsSecond)),
+        Parent::ClosesWriter => return after(reply, Says::Wait, At::Pipes(Parent::WaitsFirst)),
+        Parent::WaitsFirst => return after(reply, Says::Wait, At::Pipes(Parent::WaitsSecond)),
         Parent::WaitsSecond => {}
     }
     Turn::exits()
 }
 
 // Makes this call once the last one was carried out.
-fn after<'t, A: Allocator, N: Naming>(reply: &Reply, call: Call, at: At<'t, A, N>) -> Turn<'t, A, N>
-    ensures { turn_of result ≡ on_done reply.now (calls call (shell_of at.entry)) }
+fn after<'t, A: Allocator, N: Naming>(
+    reply: &ReplySlot,
+    call: Says<'t>,
+    at: At<'t, A, N>,
+) -> Turn<'t, A, N>
+    ensures { turn_of result ≡ on_done reply.now (calls (says_of call.entry) (shell_of at.entry)) }
 {
-    match reply {
-        Reply::Done => return Turn::calls(call, at),
+    match reply.kind() {
+        ReplyKind::Done => return Turn::calls(call, at),
         _ => {}
     }
     Turn::exits()
 }
 
 // Runs this tree once the last call was carried out.
-fn runs_after<'t, A: Allocator, N: Naming>(reply: &Reply, tree: &Node<'t, A, N>) -> Turn<'t, A, N>
+fn runs_after<'t, A: Allocator, N: Naming>(
+    reply: &ReplySlot,
+    tree: &Node<'t, A, N>,
+) -> Turn<'t, A, N>
     ensures { turn_of result ≡ on_done reply.now (runs (node_of tree.now)) }
 {
-    match reply {
-        Reply::Done => return runs(tree),
+    match reply.kind() {
+        ReplyKind::Done => return runs(tree),
         _ => {}
     }
     Turn::exits()
@@ -279,14 +293,14 @@ fn doubled<'t, A: Allocator, N: Naming>(
     reader: usize,
     writer: usize,
     tree: &Node<'t, A, N>,
-    reply: &Reply,
+    reply: &ReplySlot,
 ) -> Turn<'t, A, N>
     ensures { turn_of result ≡ side_turn (Dups reader writer) (node_of tree.now) reply.now }
 {
-    match reply {
-        Reply::Fd(_) => {
+    match reply.kind() {
+        ReplyKind::Fd(_) => {
             return Turn::calls(
-                Call::Close(reader),
+                Says::Close(reader),
                 At::Side(Side::ClosesReader(writer), tree.twin()),
             );
         }
@@ -299,7 +313,7 @@ fn doubled<'t, A: Allocator, N: Naming>(
 fn side<'t, A: Allocator, N: Naming>(
     side: Side,
     tree: &Node<'t, A, N>,
-    reply: &Reply,
+    reply: &ReplySlot,
 ) -> Turn<'t, A, N>
     ensures { turn_of result ≡ side_turn side (node_of tree.now) reply.now }
 {
@@ -307,7 +321,7 @@ fn side<'t, A: Allocator, N: Naming>(
         Side::Closes(kept, reader, writer) => {
             return after(
                 reply,
-                Call::Dup(kept),
+                Says::Dup(kept),
                 At::Side(Side::Dups(reader, writer), tree.twin()),
             );
         }
@@ -315,7 +329,7 @@ fn side<'t, A: Allocator, N: Naming>(
         Side::ClosesReader(writer) => {
             return after(
                 reply,
-                Call::Close(writer),
+                Says::Close(writer),
                 At::Side(Side::ClosesWriter, tree.twin()),
             );
         }
@@ -325,18 +339,18 @@ fn side<'t, A: Allocator, N: Naming>(
 }
 
 // Writes that something of this name failed, and exits then.
-fn failed<'t, A: Allocator, N: Naming>(what: &[u8], name: &[u8]) -> Turn<'t, A, N>
+fn failed<'t, A: Allocator, N: Naming>(what: &'static [u8], name: &'t [u8]) -> Turn<'t, A, N>
     ensures { turn_of result ≡ failed what.now name.now }
 {
-    Turn::writes(message::within(what, name, b" failed\n"))
+    Turn::calls(Says::Within(what, name, b" failed\n"), At::Told)
 }
 
 // The call of a program that is unknown was answered.
-fn not_found<'t, A: Allocator, N: Naming>(name: &[u8], reply: &Reply) -> Turn<'t, A, N>
+fn not_found<'t, A: Allocator, N: Naming>(name: &'t [u8], reply: &ReplySlot) -> Turn<'t, A, N>
     ensures { turn_of result ≡ on_unknown reply.now (failed (codes "exec ") name.now) }
 {
-    match reply {
-        Reply::Refused => return failed(b"exec ", name),
+    match reply.kind() {
+        ReplyKind::Refused => return failed(b"exec ", name),
         _ => {}
     }
     Turn::exits()
@@ -344,15 +358,15 @@ fn not_found<'t, A: Allocator, N: Naming>(name: &[u8], reply: &Reply) -> Turn<'t
 
 // The file of a redirection was opened, or could not be.
 fn opened<'t, A: Allocator, N: Naming>(
-    name: &[u8],
+    name: &'t [u8],
     body: &Node<'t, A, N>,
-    reply: &Reply,
+    reply: &ReplySlot,
 ) -> Turn<'t, A, N>
     ensures { turn_of result ≡ on_fd reply.now (runs (node_of body.now)) (failed (codes "open ") name.now) }
 {
-    match reply {
-        Reply::Fd(_) => return runs(body),
-        Reply::Refused => return failed(b"open ", name),
+    match reply.kind() {
+        ReplyKind::Fd(_) => return runs(body),
+        ReplyKind::Refused => return failed(b"open ", name),
         _ => {}
     }
     Turn::exits()
@@ -362,26 +376,29 @@ fn opened<'t, A: Allocator, N: Naming>(
 fn forked_left<'t, A: Allocator, N: Naming>(
     left: &Node<'t, A, N>,
     right: &Node<'t, A, N>,
-    reply: &Reply,
+    reply: &ReplySlot,
 ) -> Turn<'t, A, N>
     ensures { turn_of result ≡ on_fork reply.now (calls Wait (waits_left (node_of right.now))) (runs (node_of left.now)) }
 {
-    match reply {
-        Reply::Done => return Turn::calls(Call::Wait, At::WaitsLeft(right.twin())),
-        Reply::Child => return runs(left),
-        Reply::Refused => return no_fork(),
+    match reply.kind() {
+        ReplyKind::Done => return Turn::calls(Says::Wait, At::WaitsLeft(right.twin())),
+        ReplyKind::Child => return runs(left),
+        ReplyKind::Refused => return no_fork(),
         _ => {}
     }
     Turn::exits()
 }
 
 // A child was forked for a command behind `&`, or could not be.
-fn forked_back<'t, A: Allocator, N: Naming>(body: &Node<'t, A, N>, reply: &Reply) -> Turn<'t, A, N>
+fn forked_back<'t, A: Allocator, N: Naming>(
+    body: &Node<'t, A, N>,
+    reply: &ReplySlot,
+) -> Turn<'t, A, N>
     ensures { turn_of result ≡ on_fork reply.now exits (runs (node_of body.now)) }
 {
-    match reply {
-        Reply::Child => return runs(body),
-        Reply::Refused => return no_fork(),
+    match reply.kind() {
+        ReplyKind::Child => return runs(body),
+        ReplyKind::Refused => return no_fork(),
         _ => {}
     }
     Turn::exits()
@@ -391,7 +408,7 @@ fn forked_back<'t, A: Allocator, N: Naming>(body: &Node<'t, A, N>, reply: &Reply
 pub fn turn<'t, A: Allocator, N: Naming>(
     profile: Profile,
     at: &At<'t, A, N>,
-    reply: &Reply,
+    reply: &ReplySlot,
 ) -> Turn<'t, A, N>
     ensures { turn_of result ≡ shell_turn profile (shell_of at.now) reply.now }
 {
@@ -399,7 +416,7 @@ pub fn turn<'t, A: Allocator, N: Naming>(
         At::Top(phase, rest) => return top(*phase, rest, reply),
         At::Unknown(name) => return not_found(name, reply),
         At::ClosesOld(mode, name, body) => {
-            let opens = Call::OpenFile(Block::from_slice(name), call_mode(profile, *mode));
+            let opens = Says::OpenFile(name, call_mode(profile, *mode));
             return after(reply, opens, At::OpensFile(name, body.twin()));
         }
         At::OpensFile(name, body) => return opened(name, body, reply),

@@ -8,12 +8,12 @@ ghost use Rattle.sh_machine.specs.View.{user_of};
 
 use crate::naming::Naming;
 use crate::rest::Rest;
-use crate::state::{At, Next, Phase, Turn};
+use crate::state::{At, Next, Phase};
 use crate::turns::turn;
 use script_load::{Profile, Script};
 use std::alloc::Allocator;
 use std::marker::Model;
-use user_calls::{Call, Machine, Reply};
+use user_calls::{Call, CallSlot, Machine, Reply, ReplySlot};
 use user_progs::Prog;
 
 /// The type whose model is the states of users as plain data, whatever the lifetime and the allocator. No value of it is made.
@@ -45,19 +45,6 @@ enum Kind<'t, A: Allocator, N: Naming> {
 #[derive(Drop)]
 pub struct User<'t, A: Allocator, N: Naming> {
     kind: Kind<'t, A, N>,
-}
-
-ghost use Rattle.sh_machine.specs.Turn.{user_of_next};
-ghost use Rattle.sh_machine.specs.View.{user_of_kind, next_state};
-
-// What a shell goes on as.
-fn goes_on<'t, A: Allocator, N: Naming>(profile: Profile, next: Next<'t, A, N>) -> Kind<'t, A, N>
-    ensures { user_of_kind result ≡ user_of_next profile (next_state next.entry) }
-{
-    match next {
-        Next::Stays(at) => Kind::Shell(profile, at),
-        Next::Becomes(found) => Kind::Program(found),
-    }
 }
 
 impl<'t, A: Allocator, N: Naming> User<'t, A, N> {
@@ -95,16 +82,38 @@ impl<'t, A: Allocator, N: Naming> Machine for User<'t, A, N> {
     ghost next_of = { next_of };
 
     fn run(&mut self, reply: &Reply) -> Call {
+        let mut slot = ReplySlot::new();
+        slot.set(reply);
+        let mut call = CallSlot::new();
+        self.ask(&slot, &mut call);
+        self.advance(&slot);
+        call.to_call()
+    }
+
+    fn ask(&self, reply: &ReplySlot, call: &mut CallSlot) {
+        match &self.kind {
+            Kind::Init => call.wait(),
+            Kind::Shell(profile, at) => turn(*profile, at, reply).call.put(call),
+            Kind::Program(found) => found.ask(reply, call),
+        }
+    }
+
+    fn advance(&mut self, reply: &ReplySlot) {
         if let Kind::Program(found) = &mut self.kind {
-            return found.run(reply);
+            found.advance(reply);
+            return;
         }
         let Kind::Shell(profile, at) = &self.kind else {
-            return Call::Wait;
+            return;
         };
-        let profile = *profile;
-        let Turn { call, next } = turn(profile, at, reply);
-        self.kind = goes_on(profile, next);
-        call
+        match turn(*profile, at, reply).next {
+            Next::Stays(next) => {
+                if let Kind::Shell(_, at) = &mut self.kind {
+                    *at = next;
+                }
+            }
+            Next::Becomes(start) => self.kind = Kind::Program(start.begin()),
+        }
     }
 
     fn twin(&self) -> Self {

@@ -36,6 +36,12 @@ pub marked_none : (groups : ℕ) (old : List ℕ) (slot : ℕ) (is_in : Bool) �
 unfolding IsMarked
 marked_none groups old slot is_in = λ group flags below has. has
 
+-- the flag of a slot says whether it has the key
+pub flag_there : (group : ℕ) (keys : List (Option ℕ)) (slot : ℕ) → get_or (map (is_key group) keys) slot false ≡ is_key group (get_or keys slot None)
+flag_there group [] slot = refl
+flag_there group (key ∷ keys) zero = refl
+flag_there group (key ∷ keys) (suc slot) = flag_there group keys slot
+
 -- the flags of a slot that left one set, or not, and came into it, or not
 moved : (flags : List Bool) (slot : ℕ) (was is : Bool) → slot < length flags → get_or flags slot false ≡ was
     → (if is then set (if was then set flags slot false else flags) slot true else (if was then set flags slot false else flags)) ≡ set flags slot is
@@ -52,12 +58,8 @@ put_grouped groups keys old between new slot from to small out into grouped was 
   all = length-set keys slot to ∙ grouped.all;
   theirs = λ group lt.
       let flags : List Bool = map (is_key group) keys in
-      let had : get_or (map (is_key group) keys) slot false ≡ is_key group from = got group keys slot ∙ ap (is_key group) was in
+      let had : get_or (map (is_key group) keys) slot false ≡ is_key group from = flag_there group keys slot ∙ ap (is_key group) was in
       let is : _ ≡ map (is_key group) (set keys slot to) =
       moved (map (is_key group) keys) slot (is_key group from) (is_key group to) (omega (arith, length-map keys (is_key group), grouped.all)) had ∙ sym (map-set (is_key group) keys slot to) in
       subst (λ (fs : List Bool). HasFlags (get_or new group 0) fs) is (into group _ lt (out group (map (is_key group) keys) lt (grouped.theirs group lt)));
-} where
-  got : (group : ℕ) (keys : List (Option ℕ)) (slot : ℕ) → get_or (map (is_key group) keys) slot false ≡ is_key group (get_or keys slot None)
-  got group [] slot = refl
-  got group (key ∷ keys) zero = refl
-  got group (key ∷ keys) (suc slot) = got group keys slot
+}

@@ -1,4 +1,4 @@
-mod Walks
+pub mod Walks
 mod Links
 mod Pushing
 pub mod Pushed
@@ -6,5 +6,5 @@ mod Removing
 pub mod Removed
 mod New
 mod Flags
-mod Grouping
+pub mod Grouping
 pub mod Found

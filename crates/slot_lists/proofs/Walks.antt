@@ -1,5 +1,5 @@
 -- A walk passes the slots of a path, and a path is what a walk passes; a path passes no slot twice.
-use Rattle.std.proofs.Common.{◌≡◌, ℕ, zero, suc, ◌+◌, ◌<◌, ◌≤◌, List, [], ◌∷◌, ◌++◌, Bool, true, false, cond, Some, None, length, get_or, refl, sym, ap, subst, ◌∙◌, arith}
+use Rattle.std.proofs.Common.{◌≡◌, ℕ, zero, suc, ◌+◌, ◌<◌, ◌≤◌, List, [], ◌∷◌, Bool, true, false, cond, Some, None, length, get_or, refl, sym, ap, subst, ◌∙◌, arith}
 use Rattle.std.proofs.lemmas.Bool.{ltb-true, ltb-false, eqb-true, lt-ltb, le-ltb}
 use Rattle.std.specs.Prelude.{nat_lt, nat_eq, ◌==◌, ◌||◌, slice_index, slice_get}
 use Rattle.std.specs.List.{IsDistinct, AllByRecursion}
@@ -66,7 +66,7 @@ not_later next x xs e far small path = by (has xs x) refl where
   by false is = is
 
 -- no slot twice
-all_apart : (x : ℕ) (xs : List ℕ) → has xs x ≡ false → AllByRecursion (λ y. nat_eq x y ≡ false) xs
+pub all_apart : (x : ℕ) (xs : List ℕ) → has xs x ≡ false → AllByRecursion (λ y. nat_eq x y ≡ false) xs
 all_apart x [] none = tt
 all_apart x (y ∷ ys) none = by (x == y) refl none (all_apart x ys) where
   by : (b : Bool) → (x == y) ≡ b → (b || has ys x) ≡ false → (has ys x ≡ false → AllByRecursion (λ y. nat_eq x y ≡ false) ys) → AllByRecursion (λ y. nat_eq x y ≡ false) (y ∷ ys)
@@ -89,24 +89,6 @@ first_of (suc n) next i some = by (nat_lt i 64) where
   by : (b : Bool) → slice_get (cond b (i ∷ walk n next (slice_index next i)) []) 0 ≡ cond b (Some i) None
   by true = refl
   by false = refl
-
--- the slots of a list are the path from its end back to it
-pub walked_list : (next : List ℕ) (h : ℕ) → end_of 64 next (slice_index next (64 + h)) ≡ 64 + h → Path next (slice_index next (64 + h)) (list_of next h) (64 + h)
-unfolding list_of
-walked_list next h ends = walked 64 next (slice_index next (64 + h)) (64 + h) (omega arith) ends
-
-pub list_short : (next : List ℕ) (h : ℕ) → end_of 64 next (slice_index next (64 + h)) ≡ 64 + h → length (list_of next h) ≤ 64
-list_short next h ends = path_short next (slice_index next (64 + h)) (list_of next h) (64 + h) (omega arith) (walked_list next h ends)
-
--- the path behind a slot
-pub path_behind : (next : List ℕ) (i : ℕ) (before : List ℕ) (slot : ℕ) (rest : List ℕ) (e : ℕ) → Path next i (before ++ slot ∷ rest) e → Path next (slice_index next slot) rest e
-path_behind next i [] slot rest e path = path.2
-path_behind next i (x ∷ before) slot rest e path = path_behind next (slice_index next x) before slot rest e path.2
-
--- the first slot of a path is where it begins, where that is a slot
-pub path_first : (next : List ℕ) (i : ℕ) (xs : List ℕ) (e : ℕ) → 64 ≤ e → Path next i xs e → (i < 64 → slice_get xs 0 ≡ Some i) × (64 ≤ i → slice_get xs 0 ≡ None)
-path_first next i [] e far path = (λ low. absurd (omega arith), λ _. refl)
-path_first next i (x ∷ xs) e far path = (λ _. ap (λ (n : ℕ). Some n) (sym path.0), λ high. absurd (omega arith))
 
 -- an end that comes right after itself has no slots
 pub own_end : (next : List ℕ) (h : ℕ) → get_or next (64 + h) 0 ≡ 64 + h → (list_of next h ≡ []) × (end_of 64 next (get_or next (64 + h) 0) ≡ 64 + h)

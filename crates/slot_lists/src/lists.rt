@@ -8,16 +8,16 @@ pub const SLOTS: usize = 64;
 /// How many lists there are (own).
 pub const LISTS: usize = 72;
 
-// A node for each slot, and one for each list, which stands before its first slot and after its last.
+// A node for each slot, and one for each list, which stands before its first slot and after its last: a byte numbers them.
 const NODES: usize = 136;
 
 /// Lists of slots, each slot in one of them at most (own). Contracts see which slots each list has, in order.
 #[derive(Drop)]
 pub struct SlotLists {
-    next: [usize; NODES],
-    prev: [usize; NODES],
+    next: [u8; NODES],
+    prev: [u8; NODES],
     // The list that a slot stands in, or `LISTS`.
-    owner: [usize; SLOTS],
+    owner: [u8; SLOTS],
 }
 
 impl Model for SlotLists {
@@ -32,7 +32,7 @@ impl Model for SlotLists {
 }
 
 impl SlotLists {
-    ghost use Rattle.std.specs.Prelude.{◌≡◌, ◌≢◌, ℕ, ◌<◌, ◌≤◌, List, [], ◌∷◌, ◌++◌, true, false, IfSome, IfNone, length, slice_get};
+    ghost use Rattle.std.specs.Prelude.{◌≡◌, ◌≢◌, ℕ, ◌<◌, List, [], ◌∷◌, ◌++◌, true, false, IfSome, IfNone, slice_get};
     ghost use Rattle.slot_lists.specs.Links.{has, slots_of, without};
 
     /// Lists without slots (own).
@@ -56,11 +56,11 @@ impl SlotLists {
     {
         let end = SLOTS + list;
         let last = self.prev[end];
-        self.next[last] = slot;
-        self.next[slot] = end;
-        self.prev[end] = slot;
+        self.next[last as usize] = slot as u8;
+        self.next[slot] = end as u8;
+        self.prev[end] = slot as u8;
         self.prev[slot] = last;
-        self.owner[slot] = list;
+        self.owner[slot] = list as u8;
     }
 
     /// Takes the slot out of the list that it stands in, if any; the other slots stay where they are (own).
@@ -68,12 +68,12 @@ impl SlotLists {
         requires { slot < SLOTS }
         ensures { (list : ℕ) → list < LISTS → slots_of self.new list ≡ without slot (slots_of self.old list) }
     {
-        if self.owner[slot] < LISTS {
+        if (self.owner[slot] as usize) < LISTS {
             let last = self.prev[slot];
             let next = self.next[slot];
-            self.next[last] = next;
-            self.prev[next] = last;
-            self.owner[slot] = LISTS;
+            self.next[last as usize] = next;
+            self.prev[next as usize] = last;
+            self.owner[slot] = LISTS as u8;
         }
     }
 
@@ -82,19 +82,8 @@ impl SlotLists {
         requires { list < LISTS }
         ensures value { result ≡ slice_get (slots_of self.now list) 0 }
         ensures within { IfSome result (λ slot. slot < SLOTS) }
-        ensures short { length (slots_of self.now list) ≤ SLOTS }
     {
-        let node = self.next[SLOTS + list];
-        if node < SLOTS { Some(node) } else { None }
-    }
-
-    /// The slot behind this one in the list that it stands in; `None` where it is the last (own).
-    pub fn after(&self, slot: usize) -> Option<usize>
-        requires { slot < SLOTS }
-        ensures value { (list : ℕ) (before rest : List ℕ) → list < LISTS → slots_of self.now list ≡ before ++ slot ∷ rest → result ≡ slice_get rest 0 }
-        ensures within { IfSome result (λ next. next < SLOTS) }
-    {
-        let node = self.next[slot];
+        let node = self.next[SLOTS + list] as usize;
         if node < SLOTS { Some(node) } else { None }
     }
 
@@ -105,27 +94,27 @@ impl SlotLists {
         ensures some { IfSome result (λ list. has (slots_of self.now list) slot ≡ true) }
         ensures none { IfNone result ((list : ℕ) → list < LISTS → has (slots_of self.now list) slot ≡ false) }
     {
-        let list = self.owner[slot];
+        let list = self.owner[slot] as usize;
         if list < LISTS { Some(list) } else { None }
     }
 }
 
 // Each node is its own.
-fn own_nodes() -> [usize; NODES]
+fn own_nodes() -> [u8; NODES]
     ensures all { length result ≡ NODES }
     ensures own { (i : ℕ) → i < NODES → slice_index result i ≡ i }
 {
     let mut nodes = [0; NODES];
     for i in 0..NODES {
-        nodes[i] = i;
+        nodes[i] = i as u8;
     }
     nodes
 }
 
 // No slot stands in a list.
-fn no_owners() -> [usize; SLOTS]
+fn no_owners() -> [u8; SLOTS]
     ensures all { length result ≡ SLOTS }
     ensures none { (i : ℕ) → i < SLOTS → slice_index result i ≡ LISTS }
 {
-    [LISTS; SLOTS]
+    [LISTS as u8; SLOTS]
 }

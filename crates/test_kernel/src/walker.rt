@@ -3,7 +3,7 @@
 ghost use Rattle.std.specs.Prelude.{◌≡◌, ◌<◌, IfSome, length, position};
 ghost use Rattle.test_kernel.specs.Walker.{behind, is_bar, is_child, left_for, letter_call};
 
-use user_calls::{Block, Call, Machine, Mode, Reply};
+use user_calls::{Block, Call, CallSlot, Machine, Mode, Reply, ReplySlot};
 
 /// It makes the calls of its script one after the other, and a child those behind the first bar (`specs/Walker.antt`).
 #[derive(Drop)]
@@ -41,6 +41,16 @@ impl Machine for Walker {
                 Call::Exit
             }
         }
+    }
+
+    fn ask(&self, reply: &ReplySlot, call: &mut CallSlot) {
+        let mut twin = self.twin();
+        let made = twin.run(&reply.to_reply());
+        call.set(&made);
+    }
+
+    fn advance(&mut self, reply: &ReplySlot) {
+        let _ = self.run(&reply.to_reply());
     }
 
     fn twin(&self) -> Self {

@@ -3,7 +3,6 @@
 //!     push LIST SLOT                  of a slot that is in no list
 //!     remove SLOT
 //!     first LIST
-//!     after SLOT
 //!     with SLOT                       the list that has the slot
 
 use crate::told::{Stepped, Words, go, tell};
@@ -26,7 +25,6 @@ impl Stepped for SlotLists {
                 told.push('?')
             }
             "remove" if number < SLOTS => tell(told, self.remove(number)),
-            "after" if number < SLOTS => tell(told, self.after(number)),
             "with" if number < SLOTS => tell(told, self.list_with(number)),
             _ => told.push('?'),
         }
@@ -43,23 +41,21 @@ const STEPS: &str = "
     push 71 5
     push 0 5: ?
     first 0: Some(7)
-    after 7: Some(0)
-    after 0: Some(63)
-    after 63: None
     first 71: Some(5)
     with 63: Some(0)
     with 5: Some(71)
     remove 0: ()
     remove 0: ()
     remove 9: ()
-    after 7: Some(63)
+    with 0: None
     push 0 0
-    after 63: Some(0)
+    # 7, 63 and 0 are left, in that order
+    first 0: Some(7)
     remove 7: ()
     first 0: Some(63)
-    remove 0: ()
-    after 63: None
     remove 63: ()
+    first 0: Some(0)
+    remove 0: ()
     first 0: None
     with 63: None
     first 71: Some(5)

@@ -87,14 +87,20 @@ fn take_named<A: Allocator>(
     words: &mut Words<'_>,
     told: &mut String,
 ) -> Result<(), AllocError> {
-    match pipes.take(words.number() as u64, words.number().min(600)) {
-        Some((answer, block)) => {
+    let name = words.number() as u64;
+    let count = words.number().min(600);
+    match pipes.peek(name, count) {
+        Some((answer, first, second)) => {
             tell(told, answer)?;
             told.push(' ')?;
-            tell(told, block.as_slice() == words.bytes())
+            let wanted = words.bytes();
+            let (front, back) = wanted.split_at(first.len().min(wanted.len()));
+            tell(told, first == front && second == back)?;
         }
-        None => told.push_str("None"),
+        None => told.push_str("None")?,
     }
+    pipes.skip(name, count);
+    Ok(())
 }
 
 fn held<A: Allocator>(pipes: &Pipes<A>, name: usize) -> Option<usize> {

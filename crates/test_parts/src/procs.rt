@@ -3,13 +3,16 @@
 //!     dispatch HART                   which process the hart, if it is idle, dispatches
 //!     pick HART SLOT                  whether this process is dispatched on the hart
 //!     run-all                         every idle hart dispatches: how many processes run then
-//!     ready SLOT NUMBER               it has made a call that doesn't sleep, and its machine has this number
-//!     fork SLOT                       its child, whose machine has number 7
+//!     ready SLOT                      it has made a call that doesn't sleep
+//!     fork SLOT                       its child; where it is Runnable, it is dispatched first
 //!     forks SLOT                      how many children it can have, one after the other, and then the answer to one more
 //!     exit SLOT
 //!     wait SLOT
 //!     sleep SLOT CHANNEL PUT          it falls asleep with so many bytes put: its state then
 //!     wakeup CHANNEL                  how many wake up
+//!     sleep-apart                     the process that hart 0 dispatches next falls asleep on the bytes of pipe 0, the one after it on
+//!                                     those of pipe 64, and so on, up to those of pipe 4032: how many do
+//!     wake-apart                      all that sleep on these are woken, up to the first channel on which no single one does: how many are
 //!     install SLOT                    the lowest descriptor of it that isn't open is opened: which one that is
 //!     close-all SLOT                  it gets no open descriptors for those that it has: whether descriptor 0 was one
 //!     is SLOT                         the state of the slot
@@ -26,19 +29,19 @@
 
 ghost use Rattle.std.specs.Prelude.{◌≡◌, IfSome, IsSome};
 ghost use Rattle.fd_table.specs.Descriptors.{installed};
-ghost use Rattle.proc_table.specs.Slots.{at};
+ghost use Rattle.proc_table.specs.Slots.{at, is_running};
 ghost use Rattle.proc_table.specs.Calls.{fds_set};
 
 use crate::told::{Stepped, Words, go, tell};
 use crate::waiter::{Waiter, machine};
 use fd_table::{Entry, FdFault, Fds, Object, OpenFiles};
 use linked_list_allocator::LocalHeap;
-use proc_table::{Channel, FullProcs, HARTS, Pid, Procs};
+use proc_table::{Answer, Channel, FullProcs, HARTS, Pid, Procs};
 use std::alloc::{AllocError, Allocator, Global};
 use std::mem;
 use std::test::Fail;
 use test_rows::rows;
-use user_calls::{Machine, Reply};
+use user_calls::Machine;
 
 fn pid_of(words: &mut Words<'_>) -> Pid {
     let pid = Pid::new(words.number());
@@ -70,6 +73,30 @@ fn run_all<A: Allocator>(procs: &mut Procs<Waiter, A>) -> usize {
     procs.running()
 }
 
+// How many processes, one after the other, fall asleep on channels of pipes whose numbers are 0 modulo 64.
+fn sleep_apart<A: Allocator>(procs: &mut Procs<Waiter, A>) -> usize {
+    for place in 0..64 {
+        let Some(pid) = dispatch(procs, 0).and_then(Pid::new) else {
+            return place;
+        };
+        if !procs.is_running(pid) {
+            return place;
+        }
+        procs.sleep(pid, Channel::PipeBytes(64 * place as u64), 0);
+    }
+    64
+}
+
+// On how many of these channels, up to the first on which none does, one process slept.
+fn wake_apart<A: Allocator>(procs: &mut Procs<Waiter, A>) -> usize {
+    for place in 0..64 {
+        if procs.wakeup(Channel::PipeBytes(64 * place as u64)) != 1 {
+            return place;
+        }
+    }
+    64
+}
+
 // Opens the lowest descriptor of a process that isn't open.
 fn install<M: Machine, A: Allocator>(
     procs: &mut Procs<M, A>,
@@ -92,13 +119,23 @@ fn swap_fds<M: Machine, A: Allocator>(procs: &mut Procs<M, A>, pid: Pid, fds: Fd
     mem::replace(procs.fds_mut(pid), fds)
 }
 
+// Whether the process runs; where it is Runnable, the lowest idle hart takes it first.
+fn runs<A: Allocator>(procs: &mut Procs<Waiter, A>, pid: Pid) -> bool
+    ensures { result ≡ is_running (at procs.new pid) }
+{
+    for hart in 0..HARTS {
+        let _ = procs.dispatch_pid(hart, pid.index());
+    }
+    procs.is_running(pid)
+}
+
 // The children that a process has forked until there was no slot, and the answer then.
 fn forks<A: Allocator>(procs: &mut Procs<Waiter, A>, parent: Pid) -> (usize, Option<FullProcs>) {
     for count in 0..100 {
-        if !procs.is_used(parent) {
+        if !runs(procs, parent) {
             break;
         }
-        if let Err(fault) = procs.fork(parent, machine(7), Fds::new()) {
+        if let Err(fault) = procs.fork(parent, Fds::new()) {
             return (count, Some(fault));
         }
     }
@@ -117,7 +154,7 @@ fn run_step<A: Allocator>(
         return told.push('?');
     }
     match call {
-        "ready" => tell(told, procs.ready(pid, machine(words.small()), Reply::Done)),
+        "ready" => tell(told, procs.answer(pid, Answer::Done)),
         "exit" if pid.index() != 0 => tell(told, procs.exit(pid)),
         "wait" => tell(told, procs.wait(pid)),
         "sleep" => {
@@ -140,7 +177,7 @@ fn used_step<A: Allocator>(
         return told.push('?');
     }
     match call {
-        "fork" => tell(told, procs.fork(pid, machine(7), Fds::new())),
+        "fork" if runs(procs, pid) => tell(told, procs.fork(pid, Fds::new())),
         "forks" => tell(told, forks(procs, pid)),
         "install" => match OpenFiles::new().add(Object::Out) {
             Ok(entry) => tell(told, install(procs, pid, entry)),
@@ -155,7 +192,7 @@ fn used_step<A: Allocator>(
                 told,
                 "{} {:?} {}",
                 procs.machine(pid).number,
-                procs.reply(pid),
+                procs.reply(pid).to_reply(),
                 opened
             )
         }
@@ -170,6 +207,8 @@ impl<A: Allocator> Stepped for Procs<Waiter, A> {
             "pick" => tell(told, self.dispatch_pid(words.small(), words.number())),
             "run-all" => tell(told, run_all(self)),
             "wakeup" => tell(told, self.wakeup(channel_of(words))),
+            "sleep-apart" => tell(told, sleep_apart(self)),
+            "wake-apart" => tell(told, wake_apart(self)),
             "is" => tell(told, self.state(pid_of(words))),
             "on" => {
                 let hart = words.small();
@@ -202,15 +241,15 @@ lowest-free: Some(Pid { index: 2 })
 forks 1: (62, Some(FullProcs))
 lowest-free: None
 with 0: 100 Start false
-with 1: 101 Start false
-with 2: 7 Child false
-with 63: 7 Child false
+with 1: 101 Done false
+with 2: 101 Child false
+with 63: 101 Child false
 is 2: Runnable
 is 63: Runnable
 parent 2: Pid { index: 1 }
 parent 63: Pid { index: 1 }
 put 63: 0
-counts: (64, 0)
+counts: (63, 1)
 pick 7 63: true
 
 # harts show whom they run
@@ -232,7 +271,7 @@ fork 1: Ok(Pid { index: 5 })
 run-all: 6
 sleep 3 bytes-of 1 0: Asleep(PipeBytes(1))
 exit 4: ()
-ready 5 0: ()
+ready 5: ()
 counts: (1, 3)
 wait 2: NoChildren
 wait 3: ?
@@ -249,13 +288,13 @@ fork 1: Ok(Pid { index: 2 })
 install 1: Ok(0)
 install 1: Ok(1)
 with 0: 100 Start false
-with 1: 101 Start true
-with 2: 7 Child false
+with 1: 101 Done true
+with 2: 101 Child false
 is 1: Runnable
 parent 1: Pid { index: 0 }
 put 1: 0
 close-all 1: true
-with 1: 101 Start false
+with 1: 101 Done false
 close-all 2: false
 
 # dispatch tells that none is runnable
@@ -381,11 +420,11 @@ put 6: 512
 wakeup room-of 9: 0
 # It runs again, and is done with its write.
 run-all: 4
-ready 6 8: ()
+ready 6: ()
 is 6: Runnable
 put 6: 0
 parent 6: Pid { index: 1 }
-with 6: 8 Done false
+with 6: 101 Done false
 ";
 
 // Who is dispatched when: no clause says it, since any Runnable process may be.
@@ -395,33 +434,33 @@ dispatch 5: Some(0)
 dispatch 6: Some(1)
 dispatch 7: None
 
-# a child stands behind all of its parents hart
+# a child stands behind all of its parents hart, and its parent behind it
 dispatch 3: Some(0)
 dispatch 4: Some(1)
 fork 1: Ok(Pid { index: 2 })
 fork 0: Ok(Pid { index: 3 })
-fork 1: Ok(Pid { index: 4 })
-# hart 3's queue holds 3, hart 4's holds 2 and 4, and hart 5 finds hart 3's after 6, 7, 0, 1 and 2
+# hart 3's queue holds 3 and 0, hart 4's holds 2 and 1, and hart 5 finds hart 3's after 6, 7, 0, 1 and 2
 dispatch 5: Some(3)
-dispatch 6: Some(2)
-dispatch 7: Some(4)
-dispatch 0: None
+dispatch 6: Some(0)
+dispatch 7: Some(2)
+dispatch 0: Some(1)
+dispatch 1: None
 
 # who stays runnable goes to the end
 dispatch 0: Some(0)
-ready 0 0: ()
+ready 0: ()
 dispatch 0: Some(1)
-ready 1 0: ()
+ready 1: ()
 dispatch 0: Some(0)
 
 # a hart takes its own before the next ones
 dispatch 2: Some(0)
 dispatch 6: Some(1)
-ready 0 0: ()
-ready 1 0: ()
+ready 0: ()
+ready 1: ()
 # 0 waits for hart 2, and 1 for hart 6; from hart 3 on, hart 6 comes first
 dispatch 3: Some(1)
-ready 1 0: ()
+ready 1: ()
 dispatch 2: Some(0)
 dispatch 2: None
 dispatch 4: Some(1)
@@ -429,11 +468,11 @@ dispatch 4: Some(1)
 # sleepers wake in the order in which they fell asleep
 fork 1: Ok(Pid { index: 2 })
 fork 1: Ok(Pid { index: 3 })
-dispatch 0: Some(0)
-dispatch 1: Some(1)
-dispatch 2: Some(2)
-dispatch 3: Some(3)
-# the channels of pipes 3 and 67 share a list of sleepers
+pick 0 0: true
+pick 1 1: true
+pick 2 2: true
+pick 3 3: true
+# the channels of pipes 3 and 67 have lists of their own, which are looked for at one place
 sleep 2 bytes-of 3 0: Asleep(PipeBytes(3))
 sleep 0 bytes-of 67 0: Asleep(PipeBytes(67))
 sleep 3 bytes-of 3 0: Asleep(PipeBytes(3))
@@ -447,12 +486,65 @@ dispatch 0: Some(2)
 wakeup bytes-of 67: 1
 dispatch 4: Some(0)
 
+# a wake-up takes those of its channel alone, also where the lists of several are looked for at one place
+fork 1: Ok(Pid { index: 2 })
+fork 1: Ok(Pid { index: 3 })
+fork 1: Ok(Pid { index: 4 })
+fork 1: Ok(Pid { index: 5 })
+fork 1: Ok(Pid { index: 6 })
+fork 1: Ok(Pid { index: 7 })
+run-all: 8
+# at 3: bytes of 3 and 67, room of 60, children of 3; at 0, where one of these stands now: bytes of 64
+sleep 2 bytes-of 3 0: Asleep(PipeBytes(3))
+sleep 3 bytes-of 67 0: Asleep(PipeBytes(67))
+sleep 4 room-of 60 0: Asleep(PipeRoom(60))
+sleep 5 child-of 3 0: Asleep(Children(Pid { index: 3 }))
+sleep 6 bytes-of 64 0: Asleep(PipeBytes(64))
+sleep 7 bytes-of 67 0: Asleep(PipeBytes(67))
+wakeup bytes-of 131: 0
+wakeup bytes-of 0: 0
+wakeup bytes-of 3: 1
+is 2: Runnable
+wakeup bytes-of 3: 0
+# the list at 3 is free, and that of bytes of 67 stays where it is
+dispatch 2: Some(2)
+sleep 2 bytes-of 67 0: Asleep(PipeBytes(67))
+wakeup room-of 60: 1
+is 4: Runnable
+is 3: Asleep(PipeBytes(67))
+is 5: Asleep(Children(Pid { index: 3 }))
+is 6: Asleep(PipeBytes(64))
+wakeup bytes-of 67: 3
+wakeup bytes-of 67: 0
+pick 2 3: true
+sleep 3 bytes-of 67 0: Asleep(PipeBytes(67))
+wakeup child-of 3: 1
+wakeup bytes-of 64: 1
+wakeup bytes-of 64: 0
+wakeup bytes-of 67: 1
+counts: (6, 2)
+
+# all processes can sleep, each on a channel of its own, and that again and again
+forks 1: (62, Some(FullProcs))
+ready 1: ()
+sleep-apart: 64
+counts: (0, 0)
+wake-apart: 64
+counts: (64, 0)
+wake-apart: 0
+sleep-apart: 64
+wakeup bytes-of 4032: 1
+wakeup bytes-of 4096: 0
+dispatch 0: *
+wake-apart: 63
+counts: (63, 1)
+
 # a process is taken from any place
 fork 1: Ok(Pid { index: 2 })
 fork 1: Ok(Pid { index: 3 })
 pick 1 2: true
 dispatch 0: Some(0)
-dispatch 2: Some(1)
+pick 2 1: true
 exit 1: ()
 wait 0: Reaped(Pid { index: 1 })
 # 3 is init's child now, and stands where it stood

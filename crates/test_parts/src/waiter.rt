@@ -2,7 +2,7 @@
 
 ghost use Rattle.std.specs.Prelude.{◌≡◌};
 
-use user_calls::{Call, Machine, Reply};
+use user_calls::{Call, CallSlot, Machine, Reply, ReplySlot};
 
 /// Waits for ever; its state is a number.
 #[derive(Drop)]
@@ -26,6 +26,16 @@ impl Machine for Waiter {
 
     fn run(&mut self, _reply: &Reply) -> Call {
         Call::Wait
+    }
+
+    fn ask(&self, reply: &ReplySlot, call: &mut CallSlot) {
+        let mut twin = self.twin();
+        let made = twin.run(&reply.to_reply());
+        call.set(&made);
+    }
+
+    fn advance(&mut self, reply: &ReplySlot) {
+        let _ = self.run(&reply.to_reply());
     }
 
     fn twin(&self) -> Self {

@@ -3,27 +3,29 @@
 ghost use Rattle.std.specs.Prelude.{◌≡◌, ◌≤◌, ◌↔◌, IsTrue, [], ◌++◌, length, take};
 ghost use Rattle.user_calls.specs.Limits.{block_size};
 
-use arrayvec::ArrayVec;
+use std::fmt::{Debug, Formatter, Result, Write};
 use std::marker::Model;
 
 /// How many bytes a call moves at most (own; a block of xv6's file system).
 pub const BLOCK_SIZE: usize = 1024;
 
 /// The bytes that one call moves, at most 1,024 (own). Contracts see the list of the bytes.
-#[derive(Debug, Drop)]
+#[derive(Drop)]
 pub struct Block {
-    bytes: ArrayVec<u8, BLOCK_SIZE>,
+    bytes: [u8; BLOCK_SIZE],
+    // How many of them are the block's; the others mean nothing.
+    used: usize,
 }
 
 impl Model for Block {
-    ghost use Rattle.std.specs.Prelude.{List, ℕ, ◌≤◌, length};
+    ghost use Rattle.std.specs.Prelude.{List, ℕ, ◌≤◌, take};
     ghost use Rattle.user_calls.specs.Limits.{block_size};
 
     ghost Value = { List ℕ };
 
-    ghost view = { λ b. b.bytes.items };
+    ghost view = { λ b. take b.used b.bytes };
 
-    ghost invariant = { λ b. length b.bytes.items ≤ block_size };
+    ghost invariant = { λ b. b.used ≤ block_size };
 }
 
 impl Block {
@@ -32,7 +34,8 @@ impl Block {
         ensures { result ≡ [] }
     {
         Block {
-            bytes: ArrayVec::new(),
+            bytes: [0; BLOCK_SIZE],
+            used: 0,
         }
     }
 
@@ -41,16 +44,27 @@ impl Block {
         ensures { result ≡ take block_size bytes.now }
     {
         let mut block = Block::new();
-        block.append(bytes);
+        block.refill(bytes);
         block
+    }
+
+    /// Becomes a block of the first 1,024 of these bytes, or of all of them where there are fewer (own).
+    pub fn refill(&mut self, bytes: &[u8])
+        ensures { self.new ≡ take block_size bytes.now }
+    {
+        let fitting = bytes.len().min(BLOCK_SIZE);
+        self.bytes[..fitting].copy_from_slice(&bytes[..fitting]);
+        self.used = fitting;
     }
 
     /// Adds these bytes behind those that are there; what goes past 1,024 bytes is left out (own).
     pub fn append(&mut self, bytes: &[u8])
         ensures { self.new ≡ take block_size (self.old ++ bytes.now) }
     {
-        let fitting = bytes.len().min(self.bytes.remaining_capacity());
-        let _ = self.bytes.try_extend_from_slice(&bytes[..fitting]);
+        let used = self.used;
+        let fitting = bytes.len().min(BLOCK_SIZE - used);
+        self.bytes[used..used + fitting].copy_from_slice(&bytes[..fitting]);
+        self.used = used + fitting;
     }
 
     /// The bytes, borrowed (own).
@@ -58,7 +72,7 @@ impl Block {
         ensures bytes { result.now ≡ self.now }
         ensures fits { length self.now ≤ block_size }
     {
-        self.bytes.as_slice()
+        &self.bytes[..self.used]
     }
 
     /// A copy (own).
@@ -73,5 +87,11 @@ impl Block {
         ensures { IsTrue result ↔ (self.now ≡ other.now) }
     {
         self.as_slice() == other.as_slice()
+    }
+}
+
+impl Debug for Block {
+    fn fmt<W: Write>(&self, f: &mut Formatter<W>) -> Result {
+        Debug::fmt(self.as_slice(), f)
     }
 }

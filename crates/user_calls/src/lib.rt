@@ -8,8 +8,10 @@ mod block;
 mod calls;
 mod machine;
 mod ran;
+mod slots;
 
 pub use block::{BLOCK_SIZE, Block};
 pub use calls::{Call, Mode, Reply};
 pub use machine::Machine;
 pub use ran::Ran;
+pub use slots::{CallKind, CallSlot, ReplyKind, ReplySlot};

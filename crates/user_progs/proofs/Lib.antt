@@ -1,2 +1,4 @@
 pub mod Blocks
 pub mod Buffer
+mod Given
+mod Said

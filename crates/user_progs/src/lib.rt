@@ -24,8 +24,9 @@ mod filter;
 mod grep;
 mod head;
 mod prog;
+mod says;
 mod state;
 mod tee;
 mod wc;
 
-pub use prog::{Prog, ProgState, lookup};
+pub use prog::{Prog, ProgState, Start, find, lookup};

@@ -1,12 +1,14 @@
 //! The states of a program from one call to the next.
 
 ghost use Rattle.std.specs.Prelude.{◌≡◌, ◌↔◌, IsTrue};
+ghost use Rattle.user_progs.specs.View.{at_of, next_state};
 
-use crate::tee::Tee;
+use crate::says::Says;
+use crate::tee::{Outputs, Tee};
 use prog_parts::Program;
 use sh_lexer::Bytes;
 use std::alloc::Allocator;
-use user_calls::{Block, Call};
+use user_calls::Block;
 
 // What is done with each input.
 #[derive(Clone, Copy)]
@@ -29,9 +31,9 @@ pub enum Source<'t, A: Allocator> {
     File(usize, &'t [u8], &'t [Bytes<A>]),
 }
 
-// How far the work on an input is.
-#[derive(Drop)]
-pub enum Work<'t> {
+// How far the work on an input is, but for grep's.
+#[derive(Clone, Copy)]
+pub enum Work {
     CatReads,
     CatWrites,
     // Of each input so many lines are taken, of which so many are left.
@@ -40,9 +42,14 @@ pub enum Work<'t> {
     // So much was counted.
     WcReads(Counts),
     WcWrites,
-    // With this pattern; these bytes of the input are kept.
-    GrepReads(&'t [u8], Block),
-    GrepWrites(&'t [u8], Block),
+}
+
+// How far grep's work on an input is. It keeps bytes in its block.
+#[derive(Clone, Copy)]
+pub enum Search {
+    Reads,
+    // A line is being written; the bytes behind it are kept.
+    Writes,
 }
 
 // The LFs, words and bytes of an input so far; each count stays at its greatest value.
@@ -55,9 +62,9 @@ pub struct Counts {
     pub is_inside: bool,
 }
 
-// Where a program is. Each state waits for the reply to a call.
+// Where a program is that keeps no bytes. Each state waits for the reply to a call.
 #[derive(Drop)]
-pub enum At<'t, A: Allocator> {
+pub enum Plain<'t, A: Allocator> {
     // It was found, with these arguments.
     Begins(Program, &'t [Bytes<A>]),
     // echo wrote an argument, or a space; these are left.
@@ -65,30 +72,66 @@ pub enum At<'t, A: Allocator> {
     EchoSpace(&'t [Bytes<A>]),
     // The file of this name is being opened; the files of these names come later.
     Opens(Filter<'t>, &'t [u8], &'t [Bytes<A>]),
-    Works(Work<'t>, Source<'t, A>),
+    Works(Work, Source<'t, A>),
     // A file is being closed; the files of these names come later.
     Closes(Filter<'t>, &'t [Bytes<A>]),
-    Tees(Tee<'t, A>),
     // The last write was made.
     Told,
     // `Exit` was called.
     Ended,
 }
 
-// A call, and the state that waits for the reply to it.
+// grep with this pattern, on this input.
 #[derive(Drop)]
-pub struct Turn<'t, A: Allocator> {
-    pub call: Call,
-    pub next: At<'t, A>,
+pub struct Grep<'t, A: Allocator> {
+    pub pattern: &'t [u8],
+    pub source: Source<'t, A>,
+    pub search: Search,
+}
+
+// Where a program is. It says nothing of what is kept beside it.
+#[derive(Drop)]
+pub enum At<'t, A: Allocator> {
+    Plain(Plain<'t, A>),
+    Greps(Grep<'t, A>),
+    Tees(Tee<'t, A>),
+}
+
+// What a program keeps: tee its files, and grep or tee bytes. It is written in place, and means nothing where the program
+// doesn't need it.
+#[derive(Drop)]
+pub struct Kept {
+    pub fds: Outputs,
+    pub block: Block,
+}
+
+// What a program that keeps no bytes goes on as.
+#[derive(Drop)]
+pub enum Next<'t, A: Allocator> {
+    Stays(Plain<'t, A>),
+    // grep, which reads this input and keeps nothing yet.
+    Searches(&'t [u8], Source<'t, A>),
+    // tee, which opens its first file, or reads and has no file.
+    Opens(&'t [u8], &'t [Bytes<A>]),
+    Reads,
+}
+
+// A call, and what waits for the reply to it.
+#[derive(Drop)]
+pub struct Turn<'a, 't, A: Allocator> {
+    pub call: Says<'a>,
+    pub next: Next<'t, A>,
 }
 
 // What the work on an input does.
 #[derive(Drop)]
-pub enum Step<'t> {
+pub enum Step<'a> {
     // It reads at most so many bytes.
-    Reads(usize, Work<'t>),
+    Reads(usize, Work),
     // It writes these bytes to descriptor 1.
-    Writes(Block, Work<'t>),
+    Writes(&'a [u8], Work),
+    // It writes the line of these counts and this name.
+    Tells(Counts, &'a [u8]),
     // It is done.
     Finishes,
     // It ends the program, with this message or without one.
@@ -96,33 +139,56 @@ pub enum Step<'t> {
     Quits,
 }
 
-impl<'t, A: Allocator> Turn<'t, A> {
-    ghost use Rattle.user_progs.specs.Turn.{exits, tells, writes_last, block};
-    ghost use Rattle.user_progs.specs.View.{turn_of};
+impl<'a, 't, A: Allocator> Turn<'a, 't, A> {
+    ghost use Rattle.user_progs.specs.Turn.{exits, tells};
+    ghost use Rattle.user_progs.specs.View.{turn_of, says_of, plain_of};
+
+    pub fn stays(call: Says<'a>, at: Plain<'t, A>) -> Self
+        ensures { turn_of result ≡ record { call = says_of call.entry; next = plain_of at.entry } }
+    {
+        Turn {
+            call,
+            next: Next::Stays(at),
+        }
+    }
 
     pub fn exits() -> Self
         ensures { turn_of result ≡ exits }
     {
         Turn {
-            call: Call::Exit,
-            next: At::Ended,
+            call: Says::Exit,
+            next: Next::Stays(Plain::Ended),
         }
     }
 
     // Writes a message to descriptor 2, and exits then.
-    pub fn tells(message: &[u8]) -> Self
+    pub fn tells(message: &'a [u8]) -> Self
         ensures { turn_of result ≡ tells message.now }
     {
-        Turn::writes_last(2, Block::from_slice(message))
+        Turn {
+            call: Says::Write(2, message),
+            next: Next::Stays(Plain::Told),
+        }
+    }
+}
+
+impl Kept {
+    ghost use Rattle.std.specs.Prelude.{◌≡◌};
+
+    pub fn new() -> Self {
+        Kept {
+            fds: Outputs::new(),
+            block: Block::new(),
+        }
     }
 
-    // Makes one more write, and exits then.
-    pub fn writes_last(fd: usize, bytes: Block) -> Self
-        ensures { turn_of result ≡ writes_last fd bytes }
+    pub fn twin(&self) -> Self
+        ensures fds { result.fds ≡ self.now.fds }
+        ensures bytes { result.block ≡ self.now.block }
     {
-        Turn {
-            call: Call::Write(fd, bytes),
-            next: At::Told,
+        Kept {
+            fds: self.fds.twin(),
+            block: self.block.twin(),
         }
     }
 }
@@ -205,12 +271,12 @@ impl<'t> Filter<'t> {
     }
 }
 
-impl<'t> Work<'t> {
+impl Work {
     ghost use Rattle.user_progs.specs.Turn.{filter_of};
     ghost use Rattle.user_progs.specs.View.{work_of_code, filter_of_code};
 
     // What it is a part of.
-    pub fn filter(&self) -> Filter<'t>
+    pub fn filter(&self) -> Filter<'static>
         ensures { filter_of_code result ≡ filter_of (work_of_code self.now) }
     {
         match self {
@@ -220,23 +286,6 @@ impl<'t> Work<'t> {
             Work::HeadWrites(lines, _) => Filter::Heading(*lines),
             Work::WcReads(_) => Filter::Counting,
             Work::WcWrites => Filter::Counting,
-            Work::GrepReads(pattern, _) => Filter::Searching(pattern),
-            Work::GrepWrites(pattern, _) => Filter::Searching(pattern),
-        }
-    }
-
-    pub fn twin(&self) -> Self
-        ensures { work_of_code result ≡ work_of_code self.now }
-    {
-        match self {
-            Work::CatReads => Work::CatReads,
-            Work::CatWrites => Work::CatWrites,
-            Work::HeadReads(lines, left) => Work::HeadReads(*lines, *left),
-            Work::HeadWrites(lines, left) => Work::HeadWrites(*lines, *left),
-            Work::WcReads(counts) => Work::WcReads(*counts),
-            Work::WcWrites => Work::WcWrites,
-            Work::GrepReads(pattern, kept) => Work::GrepReads(pattern, kept.twin()),
-            Work::GrepWrites(pattern, rest) => Work::GrepWrites(pattern, rest.twin()),
         }
     }
 
@@ -254,58 +303,112 @@ impl<'t> Work<'t> {
             }
             (Work::WcReads(counts), Work::WcReads(other_counts)) => counts == other_counts,
             (Work::WcWrites, Work::WcWrites) => true,
-            (Work::GrepReads(pattern, kept), Work::GrepReads(other_pattern, other_kept)) => {
-                *pattern == *other_pattern && kept.same(other_kept)
-            }
-            (Work::GrepWrites(pattern, rest), Work::GrepWrites(other_pattern, other_rest)) => {
-                *pattern == *other_pattern && rest.same(other_rest)
-            }
             _ => false,
         }
     }
 }
 
-impl<'t, A: Allocator> At<'t, A> {
-    ghost use Rattle.user_progs.specs.View.{at_of};
+impl Search {
+    ghost use Rattle.std.specs.Prelude.{◌≡◌, ◌↔◌, IsTrue};
+
+    pub fn same(self, other: Self) -> bool
+        ensures { IsTrue result ↔ (self ≡ other) }
+    {
+        match (self, other) {
+            (Search::Reads, Search::Reads) => true,
+            (Search::Writes, Search::Writes) => true,
+            _ => false,
+        }
+    }
+}
+
+impl<'t, A: Allocator> Grep<'t, A> {
+    ghost use Rattle.std.specs.Prelude.{◌≡◌, ◌↔◌, IsTrue};
+    ghost use Rattle.user_progs.specs.View.{source_of_code};
+
+    // The same search, elsewhere in its work on the input.
+    pub fn at(&self, search: Search) -> Self
+        ensures pattern { result.pattern.now ≡ self.now.pattern.now }
+        ensures source { source_of_code result.source ≡ source_of_code self.now.source }
+        ensures search { result.search ≡ search }
+    {
+        Grep {
+            pattern: self.pattern,
+            source: self.source.twin(),
+            search,
+        }
+    }
+}
+
+impl<'t, A: Allocator> Plain<'t, A> {
+    ghost use Rattle.user_progs.specs.View.{plain_of};
 
     pub fn twin(&self) -> Self
-        ensures { at_of result ≡ at_of self.now }
+        ensures { plain_of result ≡ plain_of self.now }
     {
         match self {
-            At::Begins(program, arguments) => At::Begins(*program, arguments),
-            At::EchoWord(later) => At::EchoWord(later),
-            At::EchoSpace(later) => At::EchoSpace(later),
-            At::Opens(filter, name, later) => At::Opens(*filter, name, later),
-            At::Works(work, source) => At::Works(work.twin(), source.twin()),
-            At::Closes(filter, later) => At::Closes(*filter, later),
-            At::Tees(tee) => At::Tees(tee.twin()),
-            At::Told => At::Told,
-            At::Ended => At::Ended,
+            Plain::Begins(program, arguments) => Plain::Begins(*program, arguments),
+            Plain::EchoWord(later) => Plain::EchoWord(later),
+            Plain::EchoSpace(later) => Plain::EchoSpace(later),
+            Plain::Opens(filter, name, later) => Plain::Opens(*filter, name, later),
+            Plain::Works(work, source) => Plain::Works(*work, source.twin()),
+            Plain::Closes(filter, later) => Plain::Closes(*filter, later),
+            Plain::Told => Plain::Told,
+            Plain::Ended => Plain::Ended,
         }
     }
 
     pub fn same(&self, other: &Self) -> bool
-        ensures { IsTrue result ↔ (at_of self.now ≡ at_of other.now) }
+        ensures { IsTrue result ↔ (plain_of self.now ≡ plain_of other.now) }
     {
         match (self, other) {
-            (At::Begins(program, words), At::Begins(other_program, other_words)) => {
+            (Plain::Begins(program, words), Plain::Begins(other_program, other_words)) => {
                 program == other_program && are_same(words, other_words)
             }
-            (At::EchoWord(words), At::EchoWord(other_words)) => are_same(words, other_words),
-            (At::EchoSpace(words), At::EchoSpace(other_words)) => are_same(words, other_words),
-            (At::Opens(filter, name, later), At::Opens(other_filter, other_name, other_later)) => {
+            (Plain::EchoWord(words), Plain::EchoWord(other_words)) => are_same(words, other_words),
+            (Plain::EchoSpace(words), Plain::EchoSpace(other_words)) => {
+                are_same(words, other_words)
+            }
+            (
+                Plain::Opens(filter, name, later),
+                Plain::Opens(other_filter, other_name, other_later),
+            ) => {
                 filter.same(other_filter) && *name == *other_name && are_same(later, other_later)
             }
-            (At::Works(work, source), At::Works(other_work, other_source)) => {
+            (Plain::Works(work, source), Plain::Works(other_work, other_source)) => {
                 work.same(other_work) && source.same(other_source)
             }
-            (At::Closes(filter, later), At::Closes(other_filter, other_later)) => {
+            (Plain::Closes(filter, later), Plain::Closes(other_filter, other_later)) => {
                 filter.same(other_filter) && are_same(later, other_later)
             }
-            (At::Tees(tee), At::Tees(other_tee)) => tee.same(other_tee),
-            (At::Told, At::Told) => true,
-            (At::Ended, At::Ended) => true,
+            (Plain::Told, Plain::Told) => true,
+            (Plain::Ended, Plain::Ended) => true,
             _ => false,
+        }
+    }
+}
+
+// What is waited for, and what is kept in place for it.
+pub fn goes_on<'t, A: Allocator>(next: Next<'t, A>, kept: &mut Kept) -> At<'t, A>
+    ensures { at_of result kept.new.fds kept.new.block ≡ next_state next.entry }
+{
+    match next {
+        Next::Stays(at) => At::Plain(at),
+        Next::Searches(pattern, source) => {
+            kept.block.refill(b"");
+            At::Greps(Grep {
+                pattern,
+                source,
+                search: Search::Reads,
+            })
+        }
+        Next::Opens(name, later) => {
+            kept.fds.clear();
+            At::Tees(Tee::Opens(name, later))
+        }
+        Next::Reads => {
+            kept.fds.clear();
+            At::Tees(Tee::Reads)
         }
     }
 }

@@ -1,15 +1,13 @@
 //! `user/wc.c`: how many LFs, words and bytes each input has.
 
-ghost use Rattle.std.specs.Prelude.{◌≡◌, ◌++◌, ◌∷◌, []};
-ghost use Rattle.std.specs.Fmt.{decimal};
-ghost use Rattle.user_progs.specs.Turn.{wc_got, wc_counts, counts_line, bytes_in, block};
+ghost use Rattle.std.specs.Prelude.{◌≡◌};
+ghost use Rattle.user_progs.specs.Turn.{wc_got, wc_counts, bytes_in};
 ghost use Rattle.user_progs.specs.View.{step_of, work_of_code};
 
 use crate::cat::CHUNK;
 use crate::state::{Counts, Step, Work};
-use itoa::Buffer;
 use prog_parts::count;
-use user_calls::{Block, Reply};
+use user_calls::{ReplyKind, ReplySlot};
 
 // Nothing was counted.
 pub const NOTHING: Counts = Counts {
@@ -20,7 +18,7 @@ pub const NOTHING: Counts = Counts {
 };
 
 // The counts with those of these bytes.
-fn counted(counts: &Counts, bytes: &[u8]) -> Work<'static>
+fn counted(counts: &Counts, bytes: &[u8]) -> Work
     ensures { work_of_code result ≡ wc_counts counts.now.lines counts.now.words counts.now.bytes counts.now.is_inside bytes.now }
 {
     let more = count(bytes, counts.is_inside);
@@ -32,41 +30,20 @@ fn counted(counts: &Counts, bytes: &[u8]) -> Work<'static>
     })
 }
 
-// A count and a space are put behind the text.
-fn put_count(text: &mut Block, count: u128)
-    ensures { text.new ≡ block (text.old ++ (decimal count ++ 32 ∷ [])) }
-{
-    let mut digits = Buffer::new();
-    text.append(digits.format(count).as_bytes());
-    text.append(b" ");
-}
-
-// The line of an input.
-fn line(counts: &Counts, name: &[u8]) -> Block
-    ensures { result ≡ block (counts_line counts.now.lines counts.now.words counts.now.bytes name.now) }
-{
-    let mut text = Block::new();
-    put_count(&mut text, counts.lines);
-    put_count(&mut text, counts.words);
-    put_count(&mut text, counts.bytes);
-    text.append(name);
-    text.append(b"\n");
-    text
-}
-
 // Some bytes were read, or could not be.
-pub fn got(counts: &Counts, name: &[u8], reply: &Reply) -> Step<'static>
+pub fn got<'a>(counts: &Counts, name: &'a [u8], reply: &ReplySlot) -> Step<'a>
     ensures { step_of result ≡ wc_got counts.now.lines counts.now.words counts.now.bytes counts.now.is_inside name.now (bytes_in reply.now) }
 {
-    match reply {
-        Reply::Bytes(block) => {
-            if block.as_slice().is_empty() {
-                Step::Writes(line(counts, name), Work::WcWrites)
+    match reply.kind() {
+        ReplyKind::Bytes => {
+            let bytes = reply.bytes();
+            if bytes.is_empty() {
+                Step::Tells(*counts, name)
             } else {
-                Step::Reads(CHUNK, counted(counts, block.as_slice()))
+                Step::Reads(CHUNK, counted(counts, bytes))
             }
         }
-        Reply::Refused => Step::Fails(b"wc: read error\n"),
+        ReplyKind::Refused => Step::Fails(b"wc: read error\n"),
         _ => Step::Quits,
     }
 }

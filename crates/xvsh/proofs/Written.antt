@@ -1,13 +1,21 @@
--- With no status but these has any request written.
-use Rattle.std.proofs.Common.{◌≢◌, ℕ, true}
-use Rattle.std.specs.Prelude.{IsTrue}
-use Rattle.xvsh_ends.specs.declared.request.Request.{Request}
-use Rattle.xvsh_ends.specs.declared.request.Request.TheVariants.{Run, Replay, Plain, Check, Explain}
-use Rattle.xvsh_ends.specs.Requests.{UnlessWritten}
+-- With which statuses nothing is printed.
+use Rattle.std.proofs.Common.{◌≡◌, ◌≢◌, ℕ, Option, refl}
+use Rattle.mem_files.specs.Name.{Bytes}
+use Rattle.xvsh_ends.specs.Ends.{Asked, asks_plain, asks_run, asks_strict, asks_check, asks_turns, asks_explain, help, misuse, Writes, whole, out_stopped, err_stopped}
+use Rattle.xvsh_ends.specs.Requests.{UnlessPrinted}
 
-pub unless_written : (request : Request) (status : ℕ) (same : Type 0) → UnlessWritten request status same → status ≢ 0 → status ≢ 1 → status ≢ 3 → status ≢ 4 → same
-unless_written (Run request) status same h some one three four = h some one (λ _. three) four
-unless_written (Replay request) status same h some one three four = h some one four
-unless_written (Plain request) status same h some one three four = h some one (λ _. three)
-unless_written (Check request) status same h some one three four = h some one three
-unless_written (Explain request) status same h some one three four = h some one three
+pub unless_printed : (asked : Asked) (status : ℕ) (same : Type 0) → UnlessPrinted asked status same → status ≢ 0 → status ≢ 3 → status ≢ 4 → same
+unless_printed (asks_plain profile script paths lists strict) status same h some three four = h some (λ is. three)
+unless_printed (asks_run profile script paths how lists) status same h some three four = h some four
+unless_printed (asks_strict profile script paths harts turns lists) status same h some three four = h some three four
+unless_printed (asks_check script) status same h some three four = h some three
+unless_printed (asks_turns script paths) status same h some three four = h some three
+unless_printed (asks_explain script) status same h some three four = h some three
+unless_printed help status same h some three four = h some
+unless_printed misuse status same h some three four = h
+
+-- a status but 1 is the one that is due
+pub status_due : (text told : Bytes) (status : ℕ) (out out' err err' : Option Bytes) (result : ℕ) → Writes text told status out out' err err' result → result ≢ 1 → result ≡ status
+status_due text told status out out' err err' result (whole printed reported) other = refl
+status_due text told status out out' err err' result (out_stopped part kept) other = absurd (other refl)
+status_due text told status out out' err err' result (err_stopped printed part) other = absurd (other refl)

@@ -1,6 +1,8 @@
-ghost use Rattle.std.specs.Prelude.{◌≡◌, ◌≢◌, [], codes, false, map, string_bytes};
+ghost use Rattle.std.specs.Prelude.{◌≡◌, ◌≢◌, ℕ, List, Option, [], codes, false, map, string_bytes};
 ghost use Rattle.xvsh_read.specs.Console.{known};
-ghost use Rattle.xvsh_ends.specs.Ends.{Asked, asks_plain};
+ghost use Rattle.xvsh_read.specs.Path.{Path};
+ghost use Rattle.xvsh_read.specs.Writing.{out_text};
+ghost use Rattle.xvsh_ends.specs.Ends.{Asked, IsDue, asks_plain, told_text};
 ghost use Rattle.xvsh_ends.specs.Requests.{EndsAt};
 ghost use Rattle.xvsh.specs.Drive.{IsAskedBy, IsAskedByWords, IsNoRequest, WritesMeaning};
 
@@ -8,28 +10,32 @@ use crate::request::request_of;
 use clap::ArgMatches;
 use clap::error::ErrorKind;
 use script_load::Profile;
+use sh_lexer::Bytes;
 use std::alloc::Global;
 use std::io::Write;
 use std::sync::Wait;
 use std::thread::Threads;
 use std::time::Clock;
-use xvsh_ends::{MAX_HARTS, MAX_TURNS, PlainRequest, end_plain, end_request, tell, tell_text};
-use xvsh_read::{Console, Fault, Host, STDIN, Source};
+use xvsh_ends::{
+    Ending, Line, MAX_HARTS, MAX_TURNS, PlainRequest, Request, ending_of, no_output, report,
+    report_made, report_no_memory, write_ending,
+};
+use xvsh_read::{Console, Host, Output, STDIN, Source};
 use xvsh_words::command_line;
 
-// Carries out the request that parsed words make, and returns its status.
-fn end_command<R: Threads + Wait + Clock + Sync, H: Host, W: Write, E: Write>(
+// How the request ends that parsed words make.
+fn command_ending<R: Threads + Wait + Clock + Sync, H: Host>(
     rt: &R,
     alloc: Global,
     matches: &ArgMatches<'_>,
-    console: &mut Console<H, W, E>,
-) -> u8
-    ensures ends { let seen = known H.input H.file W.contents E.contents in (asked : Asked) × IsAskedBy matches.now asked × EndsAt (seen console.old) (seen console.new) asked result }
-    ensures nothing_written { result ≢ 0 → result ≢ 1 → result ≢ 3 → result ≢ 4 → console.new.out ≡ console.old.out }
+    host: &mut H,
+) -> Ending
+    ensures due { (asked : Asked) × IsAskedBy matches.now asked × IsDue (H.input host.old) (H.file host.old) asked result }
+    ensures nothing { result.status ≢ 0 → result.status ≢ 3 → result.status ≢ 4 → out_text result.output ≡ [] }
 {
     match request_of(matches) {
-        Some(request) => end_request(rt, alloc, &request, console),
-        None => 2,
+        Some(request) => ending_of(rt, alloc, &request, host),
+        None => report(alloc, Line::Fixed(""), 2),
     }
 }
 
@@ -37,47 +43,98 @@ fn end_command<R: Threads + Wait + Clock + Sync, H: Host, W: Write, E: Write>(
 const TIP: &str =
     "\n`xvsh plain SCRIPT` runs the script at a path, and `xvsh run SCRIPT` by its processes.\n";
 
-// Reports why there is no command: the words ask for help, which is written to standard output, or are no
-// command line.
-fn end_error<H: Host, W: Write, E: Write>(
-    alloc: Global,
-    error: &clap::Error,
-    console: &mut Console<H, W, E>,
-) -> u8
-    ensures ends { let seen = known H.input H.file W.contents E.contents in (asked : Asked) × IsNoRequest asked × EndsAt (seen console.old) (seen console.new) asked result }
-    ensures nothing_written { result ≢ 0 → result ≢ 1 → console.new.out ≡ console.old.out }
+// The help, which goes to standard output.
+fn help_ending(alloc: Global, text: String) -> Ending
+    ensures out { out_text result.output ≡ string_bytes text }
+    ensures told { told_text result ≡ [] }
+    ensures status { result.status ≡ 0 }
 {
-    if error.kind() == ErrorKind::OutOfMemory {
-        return tell(Fault::Memory, &mut console.err);
-    }
-    let is_unknown = error.kind() == ErrorKind::InvalidSubcommand;
-    let tip = if is_unknown { TIP } else { "" };
-    let Ok(text) = format!(in alloc; "{error}{tip}") else {
-        return tell(Fault::Memory, &mut console.err);
-    };
-    if error.use_stderr() {
-        tell_text(text.as_str(), 2, &mut console.err)
-    } else {
-        tell_text(text.as_str(), 0, &mut console.out)
+    Ending {
+        output: Output {
+            out: Bytes::from_vec(text.into_bytes()),
+            ..no_output(alloc)
+        },
+        line: Line::Fixed(""),
+        status: 0,
     }
 }
 
-// Carries out what the words ask for.
-fn end_words<R: Threads + Wait + Clock + Sync, H: Host, W: Write, E: Write>(
+// Why there is no command: the words ask for help, or are no command line.
+fn error_ending(alloc: Global, error: &clap::Error) -> Ending
+    ensures due { (input : Option (List ℕ)) (file : Path → Option (List ℕ)) → (asked : Asked) × IsNoRequest asked × IsDue input file asked result }
+    ensures nothing { result.status ≢ 0 → out_text result.output ≡ [] }
+{
+    if error.kind() == ErrorKind::OutOfMemory {
+        return report_no_memory(alloc);
+    }
+    let is_unknown = error.kind() == ErrorKind::InvalidSubcommand;
+    let tip = if is_unknown { TIP } else { "" };
+    let made = format!(in alloc; "{error}{tip}");
+    if error.use_stderr() {
+        return report_made(alloc, made, 2);
+    }
+    match made {
+        Ok(text) => help_ending(alloc, text),
+        Err(_) => report_no_memory(alloc),
+    }
+}
+
+// How the program ends on these words, of which there is one.
+fn words_ending<R: Threads + Wait + Clock + Sync, H: Host>(
     rt: &R,
     alloc: Global,
     words: &[String],
-    console: &mut Console<H, W, E>,
-) -> u8
-    ensures ends { let seen = known H.input H.file W.contents E.contents in (asked : Asked) × IsAskedByWords (map string_bytes words.now) asked × EndsAt (seen console.old) (seen console.new) asked result }
-    ensures nothing_written { result ≢ 0 → result ≢ 1 → result ≢ 3 → result ≢ 4 → console.new.out ≡ console.old.out }
+    host: &mut H,
+) -> Ending
+    ensures due { (asked : Asked) × IsAskedByWords (map string_bytes words.now) asked × IsDue (H.input host.old) (H.file host.old) asked result }
+    ensures nothing { result.status ≢ 0 → result.status ≢ 3 → result.status ≢ 4 → out_text result.output ≡ [] }
 {
     let Ok(command) = command_line(alloc, u64::from(MAX_HARTS), MAX_TURNS) else {
-        return tell(Fault::Memory, &mut console.err);
+        return report_no_memory(alloc);
     };
     match command.try_get_matches_from(words) {
-        Ok(matches) => end_command(rt, alloc, &matches, console),
-        Err(error) => end_error(alloc, &error, console),
+        Ok(matches) => command_ending(rt, alloc, &matches, host),
+        Err(error) => error_ending(alloc, &error),
+    }
+}
+
+// How it ends without words: as `plain -`.
+fn no_words_ending<R: Threads + Wait + Clock + Sync, H: Host>(
+    rt: &R,
+    alloc: Global,
+    host: &mut H,
+) -> Ending
+    ensures due { IsDue (H.input host.old) (H.file host.old) (asks_plain Profile.Xv6 (codes "-") [] false false) result }
+    ensures nothing { result.status ≢ 0 → out_text result.output ≡ [] }
+{
+    let request = Request::Plain(PlainRequest {
+        source: Source {
+            profile: Profile::Xv6,
+            script: STDIN,
+            files: &[],
+        },
+        lists_files: false,
+        is_strict: false,
+    });
+    ending_of(rt, alloc, &request, host)
+}
+
+// How it ends on these words.
+fn ending_on<R: Threads + Wait + Clock + Sync, H: Host>(
+    rt: &R,
+    alloc: Global,
+    words: &[String],
+    host: &mut H,
+) -> Ending
+    ensures no_words { words.now ≡ [] → IsDue (H.input host.old) (H.file host.old) (asks_plain Profile.Xv6 (codes "-") [] false false) result }
+    ensures due { words.now ≢ [] → (asked : Asked) × IsAskedByWords (map string_bytes words.now) asked × IsDue (H.input host.old) (H.file host.old) asked result }
+    ensures nothing { result.status ≢ 0 → result.status ≢ 3 → result.status ≢ 4 → out_text result.output ≡ [] }
+    ensures no_words_nothing { words.now ≡ [] → result.status ≢ 0 → out_text result.output ≡ [] }
+{
+    if words.is_empty() {
+        no_words_ending(rt, alloc, host)
+    } else {
+        words_ending(rt, alloc, words, host)
     }
 }
 
@@ -108,7 +165,8 @@ fn end_words<R: Threads + Wait + Clock + Sync, H: Host, W: Write, E: Write>(
 /// read or is refused, and for a schedule that is not of a finished run; 2 for words that are no command line; 3 where `check`
 /// reported a clash or a `&`, or `explain` a note, or as above; 4 for a run that is too large, is past its turns, is out of
 /// memory, or met something full, which alone is reported after what it wrote. `--help` and `--version` go to standard output.
-/// Where standard output or standard error fails, the status is 1 and nothing more is written.
+/// Where standard output or standard error takes no more, it holds a beginning of what was due, nothing more is written, and the
+/// status is 1.
 pub fn drive<R: Threads + Wait + Clock + Sync, H: Host, W: Write, E: Write>(
     rt: &R,
     alloc: Global,
@@ -121,19 +179,6 @@ pub fn drive<R: Threads + Wait + Clock + Sync, H: Host, W: Write, E: Write>(
     ensures nothing_written { result ≢ 0 → result ≢ 1 → result ≢ 3 → result ≢ 4 → console.new.out ≡ console.old.out }
     ensures no_words_written { words.items ≡ [] → result ≢ 0 → result ≢ 1 → console.new.out ≡ console.old.out }
 {
-    if words.is_empty() {
-        let source = Source {
-            profile: Profile::Xv6,
-            script: STDIN,
-            files: &[],
-        };
-        let request = PlainRequest {
-            source,
-            lists_files: false,
-            is_strict: false,
-        };
-        end_plain(alloc, &request, console)
-    } else {
-        end_words(rt, alloc, words.as_slice(), console)
-    }
+    let ending = ending_on(rt, alloc, words.as_slice(), &mut console.host);
+    write_ending(&ending, &mut console.out, &mut console.err)
 }

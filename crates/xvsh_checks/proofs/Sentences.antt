@@ -1,7 +1,6 @@
--- What `explain` did: it wrote the notes on the script, and there was none exactly where no line has a note.
+-- What `explain` prints: the notes on the script, of which there is none exactly where no line has a note.
 use Rattle.std.proofs.Common.{◌≡◌, Bool, [], Option, subst}
 use Rattle.std.specs.Prelude.{◌↔◌, IsTrue}
-use Rattle.std.specs.Io.KnownBytes.{Appends}
 use Rattle.mem_files.specs.Name.{Bytes}
 use Rattle.script_notes.specs.Explained.{IsExplained, HasNothingToTell}
 use Rattle.script_notes.proofs.OneText.{one_text}
@@ -15,12 +14,12 @@ fine_where bytes told is_fine explained empty = (
   λ nothing. empty.1 (one_text bytes told [] explained ((nothing_to_tell bytes).1 nothing)),
 )
 
-pub ran_explain : (input : Option Bytes) (file : Path → Option Bytes) (script : Path) (told : Bytes) (is_fine : Bool) (old new : Option Bytes) → IsExplainedAt input file script told → Appends old new (written_of told) → (IsTrue is_fine ↔ (told ≡ [])) → RanExplain input file script is_fine old new
-ran_explain input file script told is_fine old new at wrote empty = record {
+pub ran_explain : (input : Option Bytes) (file : Path → Option Bytes) (script : Path) (told text : Bytes) (is_fine : Bool) → IsExplainedAt input file script told → text ≡ written_of told → (IsTrue is_fine ↔ (told ≡ [])) → RanExplain input file script is_fine text
+ran_explain input file script told text is_fine at prints empty = record {
   bytes = at.bytes;
   own = at.own;
   told = told;
   explained = at.explained;
-  writes = wrote;
+  prints = prints;
   fine = fine_where at.bytes told is_fine at.explained empty;
 }

@@ -1,9 +1,8 @@
 -- What is reported of a script's lines before any run.
 use Rattle.std.specs.Prelude.{◌≡◌, ◌↔◌, ℕ, ◌+◌, Bool, true, false, IsTrue, List, [], ◌∷◌, ◌++◌, Option, codes, ◌⊎◌}
 use Rattle.std.specs.Fmt.{decimal}
-use Rattle.std.specs.Io.KnownBytes.{Appends}
 use Rattle.sh_tree.specs.declared.fault.ParseFault.{ParseFault}
-use Rattle.sh_tree.specs.declared.fault.ParseFault.TheVariants.{MissingFile, MissingParen, TooManyWords, Unexpected, Leftover, Memory}
+use Rattle.sh_tree.specs.declared.fault.ParseFault.TheVariants.{MissingFile, MissingParen, TooManyWords, Unexpected, Leftover, Memory as parse_memory}
 use Rattle.sh_tree.specs.Tree.{Tree}
 use Rattle.conflict_check.specs.declared.conflict.ClashKind.{ClashKind}
 use Rattle.conflict_check.specs.declared.conflict.ClashKind.TheVariants.{PipeSides, Enclosing}
@@ -11,12 +10,10 @@ use Rattle.conflict_check.specs.Clash.{IsFirstClash}
 use Rattle.conflict_check.specs.Clear.{IsClear, has_back}
 use Rattle.mem_files.specs.Name.{Bytes}
 use Rattle.script_load.specs.Line.{ScriptLine, command, bad, cd}
-use Rattle.xvsh_read.specs.Console.{Known}
-use Rattle.xvsh_checks.specs.declared.request.CheckRequest.{CheckRequest}
 use Rattle.xvsh_read.specs.declared.fault.Fault.{Fault}
+use Rattle.xvsh_read.specs.declared.fault.Fault.TheVariants.{Memory}
 use Rattle.xvsh_read.specs.Path.{Path}
 use Rattle.xvsh_read.specs.Starting.{AreLinesAt, IsScriptAtFault}
-use Rattle.xvsh_read.specs.Status.{IsTellFault}
 
 -- `N fault K NAME at P` and LF
 abbrev pub fault_line : ℕ → ℕ → Bytes → ℕ → Bytes
@@ -30,7 +27,7 @@ fault_text number (MissingParen at) = fault_line number 2 (codes "MissingParen")
 fault_text number (TooManyWords at) = fault_line number 3 (codes "TooManyWords") at
 fault_text number (Unexpected at) = fault_line number 4 (codes "Unexpected") at
 fault_text number (Leftover at) = fault_line number 5 (codes "Leftover") at
-fault_text number Memory = fault_line number 6 (codes "Memory") 0
+fault_text number parse_memory = fault_line number 6 (codes "Memory") 0
 
 -- `N background` and LF, where the line holds a `&`
 abbrev pub back_text : ℕ → Bool → Bytes
@@ -73,24 +70,14 @@ abbrev pub AreHarmless : List ScriptLine → Type 0
 AreHarmless [] = Unit {0}
 AreHarmless (line ∷ lines) = IsHarmless line × AreHarmless lines
 
--- the report of the lines of the script at a path was added to the writer
-pub record RanCheck (input : Option Bytes) (file : Path → Option Bytes) (script : Path) (is_harmless : Bool) (old new : Option (List ℕ)) : Type 0 where
+-- this is the report of the lines of the script at a path
+pub record RanCheck (input : Option Bytes) (file : Path → Option Bytes) (script : Path) (is_harmless : Bool) (text : Bytes) : Type 0 where
   pub lines : List ScriptLine
   pub loaded : AreLinesAt input file script lines
-  pub text : Bytes
   pub told : AreTold 1 lines text
-  pub writes : Appends old new text
   pub harmless : IsTrue is_harmless ↔ AreHarmless lines
 
--- why nothing is reported of the script at a path, or not all: there is no script, or the report can't be written
+-- why nothing is reported of the script at a path: there is no script, or no memory for the report
 pub data IsCheckFault (input : Option Bytes) (file : Path → Option Bytes) (script : Path) : Fault → Type 0 where
   no_script_told : {fault : Fault} → IsScriptAtFault input file script fault → IsCheckFault input file script fault
-  not_told : {fault : Fault} → IsTellFault fault → IsCheckFault input file script fault
-
--- a request was carried out, by what is known of the console before and after, and whether the lines are harmless
-abbrev pub DidCheck : Known → Known → CheckRequest → Bool → Type 0
-DidCheck old new request is_harmless = RanCheck old.input old.file request.script.now is_harmless old.out new.out
-
--- why it wasn't
-abbrev pub IsCheckRefusal : Known → CheckRequest → Fault → Type 0
-IsCheckRefusal old request = IsCheckFault old.input old.file request.script.now
+  not_told : IsCheckFault input file script Memory

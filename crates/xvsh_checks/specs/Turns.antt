@@ -2,18 +2,15 @@
 use Rattle.std.specs.Prelude.{◌≡◌, ◌+◌, ◌<◌, ◌≤◌, ◌↔◌, ◌⊎◌, ℕ, Bool, false, IsTrue, List, [], ◌∷◌, ◌++◌, Option, codes}
 use Rattle.std.specs.Borrow.{Bor}
 use Rattle.std.specs.Fmt.{decimal}
-use Rattle.std.specs.Io.KnownBytes.{Appends}
 use Rattle.mem_files.specs.Name.{Name, Bytes}
 use Rattle.mem_files.specs.Files.{FileMap, files}
 use Rattle.script_load.specs.Line.{ScriptLine}
 use Rattle.script_load.specs.declared.limits.TheConstants.{MAX_TURNS}
 use Rattle.step_bounds.specs.Most.{most_events}
-use Rattle.xvsh_read.specs.Console.{Known}
-use Rattle.xvsh_checks.specs.declared.request.CheckRequest.{CheckRequest}
 use Rattle.xvsh_read.specs.declared.fault.Fault.{Fault}
+use Rattle.xvsh_read.specs.declared.fault.Fault.TheVariants.{Memory}
 use Rattle.xvsh_read.specs.Path.{Path}
 use Rattle.xvsh_read.specs.Starting.{Starts, IsStartFault}
-use Rattle.xvsh_read.specs.Status.{IsTellFault}
 use Rattle.xvsh_checks.specs.Check.{AreTold, AreHarmless}
 
 -- `turns N` and LF
@@ -32,28 +29,20 @@ AreTurnsTold lines input F text = IsTurnsLine (most_events lines input F) text
 
 -- what follows is by what the host states of standard input and of the files at paths
 module _ (input : Option Bytes) (file : Path → Option Bytes) where
-  -- the report of the lines of the script at a path was added to the writer, and then its turns on the files at these paths
-  pub record RanTurns (script : Path) (paths : List (Bor Path)) (is_harmless : Bool) (old new : Option Bytes) : Type 0 where
+  -- this is the report of the lines of the script at a path, and then of its turns on the files at these paths
+  pub record RanTurns (script : Path) (paths : List (Bor Path)) (is_harmless : Bool) (text : Bytes) : Type 0 where
     pub lines : List ScriptLine
     pub given : List (Name × Bytes)
     pub stdin : Bytes
     pub starts : Starts input file false script paths lines given stdin
-    pub text : Bytes
-    pub told : AreTold 1 lines text
+    pub of_lines : Bytes
+    pub told : AreTold 1 lines of_lines
     pub turns : Bytes
     pub turns_told : AreTurnsTold lines stdin (files given) turns
-    pub writes : Appends old new (text ++ turns)
+    pub whole : text ≡ of_lines ++ turns
     pub harmless : IsTrue is_harmless ↔ AreHarmless lines
 
-  -- why it wasn't, or not all: there is nothing to check, or the report can't be written
+  -- why there is none: there is nothing to check, or no memory for the report
   pub data IsTurnsFault (script : Path) (paths : List (Bor Path)) : Fault → Type 0 where
     no_start : {fault : Fault} → IsStartFault input file false script paths fault → IsTurnsFault script paths fault
-    turns_not_told : {fault : Fault} → IsTellFault fault → IsTurnsFault script paths fault
-
--- a request was carried out, by what is known of the console before and after, and whether the lines are harmless
-abbrev pub DidTurns : Known → Known → CheckRequest → Bool → Type 0
-DidTurns old new request is_harmless = RanTurns old.input old.file request.script.now request.files.now is_harmless old.out new.out
-
--- why it wasn't
-abbrev pub IsTurnsRefusal : Known → CheckRequest → Fault → Type 0
-IsTurnsRefusal old request = IsTurnsFault old.input old.file request.script.now request.files.now
+    turns_not_told : IsTurnsFault script paths Memory

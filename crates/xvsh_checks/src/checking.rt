@@ -1,20 +1,16 @@
 //! What `check` reports of a script before any run.
-ghost use Rattle.std.specs.Prelude.{◌≡◌, ◌≢◌, ◌++◌, ◌↔◌, ℕ, List, OnOk, IfOk, IfErr, IsTrue, false};
-ghost use Rattle.std.specs.Io.KnownBytes.{Appends};
+ghost use Rattle.std.specs.Prelude.{◌≡◌, ◌++◌, ◌↔◌, ℕ, List, OnOk, IfOk, IfErr, IsTrue, false};
 ghost use Rattle.sh_tree.specs.Tree.{tree_of};
 ghost use Rattle.conflict_check.specs.Clear.{IsClear, has_back as back};
 ghost use Rattle.script_load.specs.Line.{line_of, lines_of};
-ghost use Rattle.xvsh_read.specs.Status.{IsTellFault};
-ghost use Rattle.xvsh_checks.specs.Check.{fault_line, fault_text, back_text, kind_name, clash_text, IsClashTold, IsTold, AreTold, IsHarmless, AreHarmless, DidCheck, IsCheckRefusal};
-ghost use Rattle.xvsh_read.specs.Console.{known};
+ghost use Rattle.xvsh_checks.specs.Check.{fault_line, fault_text, back_text, kind_name, clash_text, IsClashTold, IsTold, AreTold, IsHarmless, AreHarmless, RanCheck, IsCheckFault};
 
 use crate::request::CheckRequest;
 use conflict_check::{ClashKind, clash, has_back};
 use script_load::{Line, Profile, Script};
 use sh_tree::{Cmd, ParseFault};
 use std::alloc::{AllocError, Global};
-use std::io::Write;
-use xvsh_read::{Console, Fault, Host, read_script, write};
+use xvsh_read::{Fault, Host, read_script};
 
 // Adds `N fault K NAME at P` and LF.
 fn add_fault_line(
@@ -171,35 +167,16 @@ pub fn check(alloc: Global, script: &Script<Global>) -> Result<Checked, AllocErr
     Ok(Checked { text, is_harmless })
 }
 
-// Writes what is reported of a script's lines, and returns whether they are harmless.
-fn check_script<'a, W: Write>(
-    alloc: Global,
-    script: &Script<Global>,
-    out: &mut W,
-) -> Result<bool, Fault<'a>>
-    ensures told { OnOk result ((text : List ℕ) × AreTold 1 (lines_of script.now.lines) text
-        × Appends (W.contents out.old) (W.contents out.new) text) }
-    ensures harmless { IfOk result (λ is. IsTrue is ↔ AreHarmless (lines_of script.now.lines)) }
-    ensures fault { IfErr result IsTellFault }
-    ensures refusal { IfErr result (λ fault. fault ≢ Fault.Unwritten → out.new ≡ out.old) }
-{
-    let checked = check(alloc, script)?;
-    write(out, checked.text.as_slice())?;
-    Ok(checked.is_harmless)
-}
-
-/// `check`: reads the script, writes what is reported of its lines, and returns whether these are harmless. On an error
-/// nothing was written, except after `Unwritten`.
-pub fn run_check<'a, H: Host, W: Write, E: Write>(
+/// `check`: reads the script, and returns what is reported of its lines, and whether these are harmless. Nothing is written.
+pub fn run_check<'a, H: Host>(
     alloc: Global,
     request: &CheckRequest<'a>,
-    console: &mut Console<H, W, E>,
-) -> Result<bool, Fault<'a>>
-    ensures ran { let seen = known H.input H.file W.contents E.contents in IfOk result (DidCheck (seen console.old) (seen console.new) request.now) }
-    ensures fault { let seen = known H.input H.file W.contents E.contents in IfErr result (IsCheckRefusal (seen console.old) request.now) }
-    ensures refusal { IfErr result (λ fault. fault ≢ Fault.Unwritten → console.new.out ≡ console.old.out) }
-    ensures err_stays { console.new.err ≡ console.old.err }
+    host: &mut H,
+) -> Result<Checked, Fault<'a>>
+    ensures ran { IfOk result (λ checked. RanCheck (H.input host.old) (H.file host.old) request.now.script.now checked.is_harmless checked.text.items) }
+    ensures fault { IfErr result (IsCheckFault (H.input host.old) (H.file host.old) request.now.script.now) }
 {
-    let loaded = read_script(alloc, &mut console.host, Profile::Xv6, request.script)?;
-    check_script(alloc, &loaded, &mut console.out)
+    let loaded = read_script(alloc, host, Profile::Xv6, request.script)?;
+    let checked = check(alloc, &loaded)?;
+    Ok(checked)
 }

@@ -1,14 +1,13 @@
 //! What `explain` reports of a script.
-ghost use Rattle.std.specs.Prelude.{◌≡◌, ◌≢◌, ◌↔◌, [], IfOk, IfErr, IsTrue};
-ghost use Rattle.xvsh_read.specs.Console.{known};
+ghost use Rattle.std.specs.Prelude.{◌≡◌, ◌↔◌, [], IfOk, IfErr, IsTrue};
 ghost use Rattle.xvsh_read.specs.Starting.{IsScriptAtFault};
-ghost use Rattle.xvsh_checks.specs.Explain.{IsExplainedAt, DidExplain, IsExplainRefusal, written_of};
+ghost use Rattle.xvsh_checks.specs.Explain.{IsExplainedAt, RanExplain, written_of};
+ghost use Rattle.xvsh_checks.specs.Check.{IsCheckFault};
 
 use crate::request::ExplainRequest;
 use script_notes::explain;
-use std::alloc::Global;
-use std::io::Write;
-use xvsh_read::{Console, Fault, Host, MAX_INPUT, read, write};
+use std::alloc::{AllocError, Global};
+use xvsh_read::{Fault, Host, MAX_INPUT, read};
 
 // The notes on the script at a path.
 fn explain_at<'a, H: Host>(
@@ -24,38 +23,46 @@ fn explain_at<'a, H: Host>(
     Ok(told)
 }
 
-// What is written of it.
-fn written_of(told: &[u8]) -> &[u8]
-    ensures { result.now ≡ written_of told.now }
+/// What `explain` reports of a script.
+#[derive(Drop)]
+pub struct Explained {
+    /// The notes, or that there are none.
+    pub text: Vec<u8>,
+    /// No line of the script has a note.
+    pub is_fine: bool,
+}
+
+// What is printed of these notes.
+fn printed(alloc: Global, told: Vec<u8>) -> Result<Explained, AllocError>
+    ensures text { IfOk result (λ explained. explained.text.items ≡ written_of told.items) }
+    ensures fine { IfOk result (λ explained. IsTrue explained.is_fine ↔ (told.items ≡ [])) }
 {
-    if told.is_empty() {
-        b"nothing to tell\n".as_slice()
+    if told.as_slice().is_empty() {
+        let mut text = Vec::new(alloc);
+        text.extend_from_slice(b"nothing to tell\n".as_slice())?;
+        Ok(Explained {
+            text,
+            is_fine: true,
+        })
     } else {
-        told
+        Ok(Explained {
+            text: told,
+            is_fine: false,
+        })
     }
 }
 
-// Whether there is no note.
-fn is_nothing(told: &[u8]) -> bool
-    ensures { IsTrue result ↔ (told.now ≡ []) }
-{
-    told.is_empty()
-}
-
-/// `explain`: reads the script, writes its notes on the lines in sentences, and returns whether there are none (own). On an
-/// error nothing was written, except after `Unwritten`.
-pub fn run_explain<'a, H: Host, W: Write, E: Write>(
+/// `explain`: reads the script, and returns its notes on the lines in sentences, and whether there are none (own). Nothing is
+/// written.
+pub fn run_explain<'a, H: Host>(
     alloc: Global,
     request: &ExplainRequest<'a>,
-    console: &mut Console<H, W, E>,
-) -> Result<bool, Fault<'a>>
-    ensures ran { let seen = known H.input H.file W.contents E.contents in IfOk result (DidExplain (seen console.old) (seen console.new) request.now) }
-    ensures fault { let seen = known H.input H.file W.contents E.contents in IfErr result (IsExplainRefusal (seen console.old) request.now) }
-    ensures refusal { IfErr result (λ fault. fault ≢ Fault.Unwritten → console.new.out ≡ console.old.out) }
-    ensures err_stays { console.new.err ≡ console.old.err }
+    host: &mut H,
+) -> Result<Explained, Fault<'a>>
+    ensures ran { IfOk result (λ explained. RanExplain (H.input host.old) (H.file host.old) request.now.script.now explained.is_fine explained.text.items) }
+    ensures fault { IfErr result (IsCheckFault (H.input host.old) (H.file host.old) request.now.script.now) }
 {
-    let told = explain_at(alloc, &mut console.host, request.script)?;
-    let text = told.as_slice();
-    write(&mut console.out, written_of(text))?;
-    Ok(is_nothing(text))
+    let told = explain_at(alloc, host, request.script)?;
+    let explained = printed(alloc, told)?;
+    Ok(explained)
 }

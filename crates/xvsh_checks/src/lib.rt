@@ -1,4 +1,4 @@
-//! What is reported of a script before any run: what `check` and `explain` read and write.
+//! What is reported of a script before any run: what `check` and `explain` read and report.
 #![tactic(auto)]
 
 mod checking;
@@ -6,7 +6,7 @@ mod explaining;
 mod request;
 mod turns;
 
-pub use checking::run_check;
-pub use explaining::run_explain;
+pub use checking::{Checked, run_check};
+pub use explaining::{Explained, run_explain};
 pub use request::{CheckRequest, ExplainRequest};
 pub use turns::run_turns;

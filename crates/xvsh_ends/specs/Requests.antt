@@ -8,7 +8,7 @@ use Rattle.xvsh_checks.specs.declared.request.CheckRequest.{CheckRequest}
 use Rattle.xvsh_checks.specs.declared.request.ExplainRequest.{ExplainRequest}
 use Rattle.xvsh_ends.specs.declared.request.Request.{Request}
 use Rattle.xvsh_ends.specs.declared.request.Request.TheVariants.{Run, Replay, Plain, Check, Explain}
-use Rattle.xvsh_ends.specs.Ends.{Asked, asks_plain, asks_run, asks_strict, asks_check, asks_turns, asks_explain, on_harts, by_schedule, Ends}
+use Rattle.xvsh_ends.specs.Ends.{Asked, asks_plain, asks_run, asks_strict, asks_check, asks_turns, asks_explain, help, misuse, on_harts, by_schedule, Ends}
 
 -- a run by processes, strictly or not
 abbrev pub run_asked : Bool → RunRequest → Asked
@@ -37,14 +37,17 @@ asked (Plain request) = plain_asked request
 asked (Check request) = check_asked request.counts_turns request
 asked (Explain request) = explain_asked request
 
--- this holds, unless the status is one with which a request may have written its result: 0; 1, where an output took no more;
--- 3 of a strict run, of a check and of notes; and 4 of a run by processes, where something was full
-abbrev pub UnlessWritten : Request → ℕ → Type 0 → Type 0
-UnlessWritten (Run request) status same = status ≢ 0 → status ≢ 1 → (IsTrue request.is_strict → status ≢ 3) → status ≢ 4 → same
-UnlessWritten (Replay request) status same = status ≢ 0 → status ≢ 1 → status ≢ 4 → same
-UnlessWritten (Plain request) status same = status ≢ 0 → status ≢ 1 → (IsTrue request.is_strict → status ≢ 3) → same
-UnlessWritten (Check request) status same = status ≢ 0 → status ≢ 1 → status ≢ 3 → same
-UnlessWritten (Explain request) status same = status ≢ 0 → status ≢ 1 → status ≢ 3 → same
+-- this holds, unless what is due has a status with which something goes to standard output: 0; 3 of a strict run, of a check and
+-- of notes; and 4 of a run by processes, where something was full
+abbrev pub UnlessPrinted : Asked → ℕ → Type 0 → Type 0
+UnlessPrinted (asks_plain profile script paths lists strict) status same = status ≢ 0 → (IsTrue strict → status ≢ 3) → same
+UnlessPrinted (asks_run profile script paths how lists) status same = status ≢ 0 → status ≢ 4 → same
+UnlessPrinted (asks_strict profile script paths harts turns lists) status same = status ≢ 0 → status ≢ 3 → status ≢ 4 → same
+UnlessPrinted (asks_check script) status same = status ≢ 0 → status ≢ 3 → same
+UnlessPrinted (asks_turns script paths) status same = status ≢ 0 → status ≢ 3 → same
+UnlessPrinted (asks_explain script) status same = status ≢ 0 → status ≢ 3 → same
+UnlessPrinted help status same = status ≢ 0 → same
+UnlessPrinted misuse status same = same
 
 -- the program ends with this status after what was asked, by what is known of its console before and after
 abbrev pub EndsAt : Known → Known → Asked → ℕ → Type 0

@@ -1,79 +1,68 @@
 //! How a check ends, and notes in sentences.
-ghost use Rattle.std.specs.Prelude.{◌≡◌, ◌≢◌, true, false};
-ghost use Rattle.xvsh_read.specs.Console.{known};
-ghost use Rattle.xvsh_ends.specs.Ends.{check_status};
-ghost use Rattle.xvsh_ends.specs.Requests.{EndsAt, check_asked, explain_asked};
+ghost use Rattle.std.specs.Prelude.{◌≡◌, [], true, false};
+ghost use Rattle.xvsh_read.specs.Writing.{out_text};
+ghost use Rattle.xvsh_ends.specs.Ends.{IsDue, check_status, told_text};
+ghost use Rattle.xvsh_ends.specs.Requests.{check_asked, explain_asked};
 
-use crate::told::tell;
+use crate::ending::{Ending, Line, no_output, report_fault};
+use sh_lexer::Bytes;
 use std::alloc::Global;
-use std::io::Write;
 use xvsh_checks::{CheckRequest, ExplainRequest, run_check, run_explain, run_turns};
-use xvsh_read::{Console, Host};
+use xvsh_read::{Host, Output};
 
-// The status of a check, and of notes in sentences.
-fn check_status(is_harmless: bool) -> u8
-    ensures { result ≡ check_status is_harmless }
+// Prints this text, with status 0 where all is fine, and else 3.
+fn prints(alloc: Global, text: Vec<u8>, is_fine: bool) -> Ending
+    ensures out { out_text result.output ≡ text.items }
+    ensures told { told_text result ≡ [] }
+    ensures status { result.status ≡ check_status is_fine }
 {
-    if is_harmless { 0 } else { 3 }
-}
-
-// Checks a script, reports why where it can't, and returns the status.
-fn end_lines<H: Host, W: Write, E: Write>(
-    alloc: Global,
-    request: &CheckRequest<'_>,
-    console: &mut Console<H, W, E>,
-) -> u8
-    ensures ends { let seen = known H.input H.file W.contents E.contents in EndsAt (seen console.old) (seen console.new) (check_asked false request.now) result }
-    ensures nothing_written { result ≢ 0 → result ≢ 1 → result ≢ 3 → console.new.out ≡ console.old.out }
-{
-    match run_check(alloc, request, console) {
-        Ok(is_harmless) => check_status(is_harmless),
-        Err(fault) => tell(fault, &mut console.err),
+    Ending {
+        output: Output {
+            out: Bytes::from_vec(text),
+            ..no_output(alloc)
+        },
+        line: Line::Fixed(""),
+        status: if is_fine { 0 } else { 3 },
     }
 }
 
-// Checks a script and counts its turns, reports why where it can't, and returns the status.
-fn end_turns<H: Host, W: Write, E: Write>(
-    alloc: Global,
-    request: &CheckRequest<'_>,
-    console: &mut Console<H, W, E>,
-) -> u8
-    ensures ends { let seen = known H.input H.file W.contents E.contents in EndsAt (seen console.old) (seen console.new) (check_asked true request.now) result }
-    ensures nothing_written { result ≢ 0 → result ≢ 1 → result ≢ 3 → console.new.out ≡ console.old.out }
+// Checks a script, and returns the report, or why there is none.
+fn lines_ending<H: Host>(alloc: Global, request: &CheckRequest<'_>, host: &mut H) -> Ending
+    ensures { IsDue (H.input host.old) (H.file host.old) (check_asked false request.now) result }
 {
-    match run_turns(alloc, request, console) {
-        Ok(is_harmless) => check_status(is_harmless),
-        Err(fault) => tell(fault, &mut console.err),
+    match run_check(alloc, request, host) {
+        Ok(checked) => prints(alloc, checked.text, checked.is_harmless),
+        Err(fault) => report_fault(alloc, fault),
     }
 }
 
-/// Checks a script, with its turns if they are requested, reports why where it can't, and returns the status.
-pub fn end_check<H: Host, W: Write, E: Write>(
-    alloc: Global,
-    request: &CheckRequest<'_>,
-    console: &mut Console<H, W, E>,
-) -> u8
-    ensures ends { let seen = known H.input H.file W.contents E.contents in EndsAt (seen console.old) (seen console.new) (check_asked request.now.counts_turns request.now) result }
-    ensures nothing_written { result ≢ 0 → result ≢ 1 → result ≢ 3 → console.new.out ≡ console.old.out }
+// Checks a script and counts its turns, and returns the report, or why there is none.
+fn turns_ending<H: Host>(alloc: Global, request: &CheckRequest<'_>, host: &mut H) -> Ending
+    ensures { IsDue (H.input host.old) (H.file host.old) (check_asked true request.now) result }
+{
+    match run_turns(alloc, request, host) {
+        Ok(checked) => prints(alloc, checked.text, checked.is_harmless),
+        Err(fault) => report_fault(alloc, fault),
+    }
+}
+
+/// Checks a script, with its turns if they are requested, and returns the report, or why there is none.
+pub fn check_ending<H: Host>(alloc: Global, request: &CheckRequest<'_>, host: &mut H) -> Ending
+    ensures { IsDue (H.input host.old) (H.file host.old) (check_asked request.now.counts_turns request.now) result }
 {
     if request.counts_turns {
-        end_turns(alloc, request, console)
+        turns_ending(alloc, request, host)
     } else {
-        end_lines(alloc, request, console)
+        lines_ending(alloc, request, host)
     }
 }
 
-/// Writes the notes on a script in sentences, reports why where it can't, and returns the status.
-pub fn end_explain<H: Host, W: Write, E: Write>(
-    alloc: Global,
-    request: &ExplainRequest<'_>,
-    console: &mut Console<H, W, E>,
-) -> u8
-    ensures ends { let seen = known H.input H.file W.contents E.contents in EndsAt (seen console.old) (seen console.new) (explain_asked request.now) result }
-    ensures nothing_written { result ≢ 0 → result ≢ 1 → result ≢ 3 → console.new.out ≡ console.old.out }
+/// Returns the notes on a script in sentences, or why there are none.
+pub fn explain_ending<H: Host>(alloc: Global, request: &ExplainRequest<'_>, host: &mut H) -> Ending
+    ensures { IsDue (H.input host.old) (H.file host.old) (explain_asked request.now) result }
 {
-    match run_explain(alloc, request, console) {
-        Ok(is_fine) => check_status(is_fine),
-        Err(fault) => tell(fault, &mut console.err),
+    match run_explain(alloc, request, host) {
+        Ok(explained) => prints(alloc, explained.text, explained.is_fine),
+        Err(fault) => report_fault(alloc, fault),
     }
 }

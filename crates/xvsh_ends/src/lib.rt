@@ -1,15 +1,14 @@
-//! With what each kind of run and check ends: what is reported on standard error, and the status.
+//! With what each request ends: what is printed, and the status; and how that is written.
 #![tactic(auto)]
 
 mod checks;
+mod ending;
 mod plain;
 mod processes;
 mod request;
-mod told;
 
-pub use plain::end_plain;
-pub use request::{Request, end_request};
-pub use told::{tell, tell_text};
+pub use ending::{Ending, Line, no_output, report, report_made, report_no_memory, write_ending};
+pub use request::{Request, ending_of};
 pub use xvsh_checks::{CheckRequest, ExplainRequest};
 pub use xvsh_plain::PlainRequest;
 pub use xvsh_runs::{Lists, MAX_HARTS, MAX_TURNS, ReplayRequest, RunRequest};

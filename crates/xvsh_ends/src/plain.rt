@@ -1,14 +1,13 @@
 //! How a run by its meaning ends.
-ghost use Rattle.std.specs.Prelude.{◌≡◌, ◌≢◌, IsTrue};
-ghost use Rattle.xvsh_read.specs.Console.{known};
-ghost use Rattle.xvsh_ends.specs.Ends.{verdict_text};
-ghost use Rattle.xvsh_ends.specs.Requests.{EndsAt, plain_asked};
+ghost use Rattle.std.specs.Prelude.{◌≡◌, ◌++◌};
+ghost use Rattle.xvsh_read.specs.Writing.{out_text};
+ghost use Rattle.xvsh_ends.specs.Ends.{IsDue, told_text, verdict_status, verdict_text};
+ghost use Rattle.xvsh_ends.specs.Requests.{plain_asked};
 
-use crate::told::{tell, tell_text, verdict_status};
+use crate::ending::{Ending, Line, report_fault};
 use std::alloc::Global;
-use std::io::Write;
-use xvsh_plain::{PlainRequest, run_plain};
-use xvsh_read::{Console, Host};
+use xvsh_plain::{PlainRequest, PlainRun, run_plain};
+use xvsh_read::Host;
 
 // The text of the verdict.
 fn verdict(is_settled: bool) -> &'static str
@@ -21,20 +20,32 @@ fn verdict(is_settled: bool) -> &'static str
     }
 }
 
-/// Runs a script by its meaning, reports whether it is settled or why it wasn't run, and returns the status.
-pub fn end_plain<H: Host, W: Write, E: Write>(
-    alloc: Global,
-    request: &PlainRequest<'_>,
-    console: &mut Console<H, W, E>,
-) -> u8
-    ensures ends { let seen = known H.input H.file W.contents E.contents in EndsAt (seen console.old) (seen console.new) (plain_asked request.now) result }
-    ensures nothing_written { result ≢ 0 → result ≢ 1 → (IsTrue request.now.is_strict → result ≢ 3) → console.new.out ≡ console.old.out }
+/// The status of a script that ran: where it is requested strictly, one that isn't settled has 3.
+pub fn verdict_status(is_strict: bool, is_settled: bool) -> u8
+    ensures { result ≡ verdict_status is_strict is_settled }
 {
-    match run_plain(alloc, request, console) {
-        Ok(is_settled) => {
-            let status = verdict_status(request.is_strict, is_settled);
-            tell_text(verdict(is_settled), status, &mut console.err)
-        }
-        Err(fault) => tell(fault, &mut console.err),
+    if is_strict && !is_settled { 3 } else { 0 }
+}
+
+// What a run prints, and then whether its script is settled.
+fn settled(run: PlainRun, is_strict: bool) -> Ending
+    ensures out { out_text result.output ≡ out_text run.output }
+    ensures told { told_text result ≡ run.output.err.items ++ verdict_text run.is_settled }
+    ensures status { result.status ≡ verdict_status is_strict run.is_settled }
+{
+    Ending {
+        output: run.output,
+        line: Line::Fixed(verdict(run.is_settled)),
+        status: verdict_status(is_strict, run.is_settled),
+    }
+}
+
+/// Runs a script by its meaning, and returns what it prints and whether it is settled, or why it can't be run.
+pub fn plain_ending<H: Host>(alloc: Global, request: &PlainRequest<'_>, host: &mut H) -> Ending
+    ensures { IsDue (H.input host.old) (H.file host.old) (plain_asked request.now) result }
+{
+    match run_plain(alloc, request, host) {
+        Ok(run) => settled(run, request.is_strict),
+        Err(fault) => report_fault(alloc, fault),
     }
 }

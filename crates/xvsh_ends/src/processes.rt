@@ -1,72 +1,107 @@
 //! How a run by processes ends, and a replay.
-ghost use Rattle.std.specs.Prelude.{◌≡◌, ◌≢◌, true, false, IsTrue};
-ghost use Rattle.xvsh_read.specs.Console.{known};
-ghost use Rattle.xvsh_ends.specs.Requests.{EndsAt, replay_asked, run_asked};
+ghost use Rattle.std.specs.Prelude.{◌≡◌, ◌++◌, true, false};
+ghost use Rattle.xvsh_read.specs.Writing.{out_text};
+ghost use Rattle.xvsh_runs.specs.Status.{full_told};
+ghost use Rattle.xvsh_ends.specs.Ends.{IsDue, full_status, full_text, told_text};
+ghost use Rattle.xvsh_ends.specs.Requests.{replay_asked, run_asked};
 
-use crate::told::{tell_ran, tell_strict};
+use crate::ending::{Ending, Line, report_run_fault};
+use crate::plain::verdict_status;
+use kernel_model::Full;
 use std::alloc::Global;
-use std::io::Write;
 use std::sync::Wait;
 use std::thread::Threads;
 use std::time::Clock;
-use xvsh_read::{Console, Host};
-use xvsh_runs::{ReplayRequest, RunRequest, run_processes, run_replay, run_strict};
+use xvsh_read::Host;
+use xvsh_runs::{ReplayRequest, Run, RunRequest, run_processes, run_replay, run_strict};
 
-// Runs a script by its processes, reports what was full or why it wasn't run, and returns the status.
-fn end_processes<R: Threads + Wait + Clock + Sync, H: Host, W: Write, E: Write>(
-    rt: &R,
-    alloc: Global,
-    request: &RunRequest<'_>,
-    console: &mut Console<H, W, E>,
-) -> u8
-    ensures ends { let seen = known H.input H.file W.contents E.contents in EndsAt (seen console.old) (seen console.new) (run_asked false request.now) result }
-    ensures nothing_written { result ≢ 0 → result ≢ 1 → result ≢ 4 → console.new.out ≡ console.old.out }
+// The report of what was full.
+fn full_line(full: Full) -> &'static str
+    ensures { result.now ≡ full_told full }
 {
-    let ran = run_processes(rt, alloc, request, console);
-    tell_ran(ran, &mut console.err)
-}
-
-// The same, strictly: whether the script is settled is in the status too.
-fn end_strict<R: Threads + Wait + Clock + Sync, H: Host, W: Write, E: Write>(
-    rt: &R,
-    alloc: Global,
-    request: &RunRequest<'_>,
-    console: &mut Console<H, W, E>,
-) -> u8
-    ensures ends { let seen = known H.input H.file W.contents E.contents in EndsAt (seen console.old) (seen console.new) (run_asked true request.now) result }
-    ensures nothing_written { result ≢ 0 → result ≢ 1 → result ≢ 3 → result ≢ 4 → console.new.out ≡ console.old.out }
-{
-    let ran = run_strict(rt, alloc, request, console);
-    tell_strict(ran, &mut console.err)
-}
-
-/// Runs a script by its processes, strictly if that is requested, reports what was full or why it wasn't run, and returns the
-/// status.
-pub fn end_run<R: Threads + Wait + Clock + Sync, H: Host, W: Write, E: Write>(
-    rt: &R,
-    alloc: Global,
-    request: &RunRequest<'_>,
-    console: &mut Console<H, W, E>,
-) -> u8
-    ensures ends { let seen = known H.input H.file W.contents E.contents in EndsAt (seen console.old) (seen console.new) (run_asked request.now.is_strict request.now) result }
-    ensures nothing_written { result ≢ 0 → result ≢ 1 → (IsTrue request.now.is_strict → result ≢ 3) → result ≢ 4 → console.new.out ≡ console.old.out }
-{
-    if request.is_strict {
-        end_strict(rt, alloc, request, console)
-    } else {
-        end_processes(rt, alloc, request, console)
+    match full {
+        Full::Procs => "xvsh: full procs\n",
+        Full::Open => "xvsh: full open\n",
+        Full::Fds => "xvsh: full descriptors\n",
+        Full::Files => "xvsh: full files\n",
+        Full::Size => "xvsh: full size\n",
+        Full::Memory => "xvsh: full memory\n",
     }
 }
 
-/// Replays a schedule, reports what was full or why it wasn't run, and returns the status.
-pub fn end_replay<H: Host, W: Write, E: Write>(
-    alloc: Global,
-    request: &ReplayRequest<'_>,
-    console: &mut Console<H, W, E>,
-) -> u8
-    ensures ends { let seen = known H.input H.file W.contents E.contents in EndsAt (seen console.old) (seen console.new) (replay_asked request.now) result }
-    ensures nothing_written { result ≢ 0 → result ≢ 1 → result ≢ 4 → console.new.out ≡ console.old.out }
+// What a run prints, and then what was full in it, with status 4; where nothing was, with this status.
+fn ran(run: Run, status: u8) -> Ending
+    ensures out { out_text result.output ≡ out_text run.output }
+    ensures told { told_text result ≡ run.output.err.items ++ full_text run.full }
+    ensures status { result.status ≡ full_status run.full status }
 {
-    let ran = run_replay(alloc, request, console);
-    tell_ran(ran, &mut console.err)
+    match run.full {
+        Some(full) => Ending {
+            output: run.output,
+            line: Line::Fixed(full_line(full)),
+            status: 4,
+        },
+        None => Ending {
+            output: run.output,
+            line: Line::Fixed(""),
+            status,
+        },
+    }
+}
+
+// Runs a script by its processes, and returns what it prints and what was full, or why it can't be run.
+fn processes_ending<R: Threads + Wait + Clock + Sync, H: Host>(
+    rt: &R,
+    alloc: Global,
+    request: &RunRequest<'_>,
+    host: &mut H,
+) -> Ending
+    ensures { IsDue (H.input host.old) (H.file host.old) (run_asked false request.now) result }
+{
+    match run_processes(rt, alloc, request, host) {
+        Ok(run) => ran(run, 0),
+        Err(fault) => report_run_fault(alloc, fault),
+    }
+}
+
+// The same, strictly: whether the script is settled is in the status too.
+fn strict_ending<R: Threads + Wait + Clock + Sync, H: Host>(
+    rt: &R,
+    alloc: Global,
+    request: &RunRequest<'_>,
+    host: &mut H,
+) -> Ending
+    ensures { IsDue (H.input host.old) (H.file host.old) (run_asked true request.now) result }
+{
+    match run_strict(rt, alloc, request, host) {
+        Ok(strict) => ran(strict.run, verdict_status(true, strict.is_settled)),
+        Err(fault) => report_run_fault(alloc, fault),
+    }
+}
+
+/// Runs a script by its processes, strictly if that is requested, and returns what it prints and what was full, or why it
+/// can't be run.
+pub fn run_ending<R: Threads + Wait + Clock + Sync, H: Host>(
+    rt: &R,
+    alloc: Global,
+    request: &RunRequest<'_>,
+    host: &mut H,
+) -> Ending
+    ensures { IsDue (H.input host.old) (H.file host.old) (run_asked request.now.is_strict request.now) result }
+{
+    if request.is_strict {
+        strict_ending(rt, alloc, request, host)
+    } else {
+        processes_ending(rt, alloc, request, host)
+    }
+}
+
+/// Replays a schedule, and returns what the run prints and what was full, or why it can't be run.
+pub fn replay_ending<H: Host>(alloc: Global, request: &ReplayRequest<'_>, host: &mut H) -> Ending
+    ensures { IsDue (H.input host.old) (H.file host.old) (replay_asked request.now) result }
+{
+    match run_replay(alloc, request, host) {
+        Ok(run) => ran(run, 0),
+        Err(fault) => report_run_fault(alloc, fault),
+    }
 }

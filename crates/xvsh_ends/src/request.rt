@@ -1,19 +1,20 @@
 //! What the program is asked for, and how it ends.
-ghost use Rattle.std.specs.Prelude.{◌≡◌};
-ghost use Rattle.xvsh_read.specs.Console.{known};
-ghost use Rattle.xvsh_ends.specs.Requests.{EndsAt, UnlessWritten, asked};
+ghost use Rattle.std.specs.Prelude.{◌≡◌, []};
+ghost use Rattle.xvsh_read.specs.Writing.{out_text};
+ghost use Rattle.xvsh_ends.specs.Ends.{IsDue};
+ghost use Rattle.xvsh_ends.specs.Requests.{UnlessPrinted, asked};
 
-use crate::checks::{end_check, end_explain};
-use crate::plain::end_plain;
-use crate::processes::{end_replay, end_run};
+use crate::checks::{check_ending, explain_ending};
+use crate::ending::Ending;
+use crate::plain::plain_ending;
+use crate::processes::{replay_ending, run_ending};
 use std::alloc::Global;
-use std::io::Write;
 use std::sync::Wait;
 use std::thread::Threads;
 use std::time::Clock;
 use xvsh_checks::{CheckRequest, ExplainRequest};
 use xvsh_plain::PlainRequest;
-use xvsh_read::{Console, Host};
+use xvsh_read::Host;
 use xvsh_runs::{ReplayRequest, RunRequest};
 
 /// What the program is asked for: one of its commands.
@@ -31,21 +32,21 @@ pub enum Request<'a> {
     Explain(ExplainRequest<'a>),
 }
 
-/// Carries out a request, reports why where it can't, and returns the status with which the program ends.
-pub fn end_request<R: Threads + Wait + Clock + Sync, H: Host, W: Write, E: Write>(
+/// Carries out a request, and returns how the program ends: what it prints, or why it can't. Nothing is written.
+pub fn ending_of<R: Threads + Wait + Clock + Sync, H: Host>(
     rt: &R,
     alloc: Global,
     request: &Request<'_>,
-    console: &mut Console<H, W, E>,
-) -> u8
-    ensures ends { let seen = known H.input H.file W.contents E.contents in EndsAt (seen console.old) (seen console.new) (asked request.now) result }
-    ensures nothing_written { UnlessWritten request.now result (console.new.out ≡ console.old.out) }
+    host: &mut H,
+) -> Ending
+    ensures due { IsDue (H.input host.old) (H.file host.old) (asked request.now) result }
+    ensures nothing { UnlessPrinted (asked request.now) result.status (out_text result.output ≡ []) }
 {
     match request {
-        Request::Run(run) => end_run(rt, alloc, run, console),
-        Request::Replay(replay) => end_replay(alloc, replay, console),
-        Request::Plain(plain) => end_plain(alloc, plain, console),
-        Request::Check(check) => end_check(alloc, check, console),
-        Request::Explain(explain) => end_explain(alloc, explain, console),
+        Request::Run(run) => run_ending(rt, alloc, run, host),
+        Request::Replay(replay) => replay_ending(alloc, replay, host),
+        Request::Plain(plain) => plain_ending(alloc, plain, host),
+        Request::Check(check) => check_ending(alloc, check, host),
+        Request::Explain(explain) => explain_ending(alloc, explain, host),
     }
 }

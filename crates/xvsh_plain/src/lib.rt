@@ -1,8 +1,8 @@
-//! Runs of scripts by their meaning: what `plain` reads, runs and writes.
+//! Runs of scripts by their meaning: what `plain` reads, runs and prints.
 #![tactic(auto)]
 
 mod request;
 mod running;
 
 pub use request::PlainRequest;
-pub use running::{of_plain, run_plain};
+pub use running::{PlainRun, of_plain, run_plain};

@@ -1,11 +1,11 @@
-//! What `plain` does: it reads a script, its files and its input, runs it, and writes what it gives.
-ghost use Rattle.std.specs.Prelude.{◌≡◌, ◌≢◌, ◌↔◌, OnOk, IfOk, IfErr, IsTrue};
+//! What `plain` does: it reads a script, its files and its input, runs it, and returns what it prints.
+ghost use Rattle.std.specs.Prelude.{◌≡◌, ◌↔◌, [], IfOk, IfErr, IsTrue};
 ghost use Rattle.mem_files.specs.Files.{files};
 ghost use Rattle.script_load.specs.Line.{lines_of};
 ghost use Rattle.meaning_model.specs.Meaning.{script_meaning};
 ghost use Rattle.meaning_model.specs.Settled.{IsSettledScript};
-ghost use Rattle.xvsh_plain.specs.Running.{of_plain, WritesRun, IsMeaningFault, DidPlain, IsPlainRefusal};
-ghost use Rattle.xvsh_read.specs.Console.{known};
+ghost use Rattle.xvsh_plain.specs.Running.{of_plain, IsRunText, IsMeaningFault, DidPlain, IsPlainRefusal};
+ghost use Rattle.xvsh_read.specs.Writing.{out_text};
 
 use crate::request::PlainRequest;
 use mem_files::Files;
@@ -13,8 +13,7 @@ use mem_files::laws::are_files;
 use plain_run::{PlainFault, plain};
 use script_load::Script;
 use std::alloc::Global;
-use std::io::Write;
-use xvsh_read::{Console, Fault, Host, listing, prepare, write};
+use xvsh_read::{Fault, Host, Output, listing, prepare};
 
 /// Why a run by its meaning failed.
 pub fn of_plain<'a>(fault: PlainFault) -> Fault<'a>
@@ -26,19 +25,26 @@ pub fn of_plain<'a>(fault: PlainFault) -> Fault<'a>
     }
 }
 
-// Runs a script, writes its output and then, if requested, all files, and returns whether the script is
-// settled.
-fn run_script<'a, W: Write>(
+/// A run by meaning.
+#[derive(Drop)]
+pub struct PlainRun {
+    /// What it prints.
+    pub output: Output,
+    /// Whether its script is settled.
+    pub is_settled: bool,
+}
+
+// Runs a script, and lists all files if that is requested.
+fn run_script<'a>(
     alloc: Global,
     script: &Script<Global>,
     stdin: &[u8],
     given: &Files<Global>,
     lists_files: bool,
-    out: &mut W,
-) -> Result<bool, Fault<'a>>
-    ensures settled { IfOk result (λ is. IsTrue is ↔ IsSettledScript script.now.profile (lines_of script.now.lines) stdin.now (files given.now)) }
-    ensures meaning { OnOk result (WritesRun lists_files (script_meaning script.now.profile (lines_of script.now.lines) stdin.now (files given.now)) (W.contents out.old) (W.contents out.new)) }
-    ensures refusal { IfErr result (λ fault. fault ≢ Fault.Unwritten → out.new ≡ out.old) }
+) -> Result<PlainRun, Fault<'a>>
+    ensures settled { IfOk result (λ run. IsTrue run.is_settled ↔ IsSettledScript script.now.profile (lines_of script.now.lines) stdin.now (files given.now)) }
+    ensures meaning { IfOk result (λ run. IsRunText lists_files (script_meaning script.now.profile (lines_of script.now.lines) stdin.now (files given.now)) (out_text run.output)) }
+    ensures err { IfOk result (λ run. run.output.err.items ≡ []) }
     ensures run { IfErr result (IsMeaningFault script.now.profile (lines_of script.now.lines) stdin.now (files given.now)) }
 {
     let outcome = match plain(alloc, script, stdin, given) {
@@ -51,25 +57,29 @@ fn run_script<'a, W: Write>(
     } else {
         Vec::new(alloc)
     };
-    write(out, outcome.out.as_slice())?;
-    write(out, list.as_slice())?;
-    Ok(outcome.settled)
+    Ok(PlainRun {
+        output: Output {
+            out: outcome.out,
+            files: list,
+            events: Vec::new(alloc),
+            err: Vec::new(alloc),
+        },
+        is_settled: outcome.settled,
+    })
 }
 
-/// `plain`: reads the script, the files in order, and standard input unless that is the script, runs the script by its
-/// meaning, and writes its output and then, if requested, all files. Returns whether the script is settled. On an error
-/// nothing was written, except after `Unwritten`.
-pub fn run_plain<'a, H: Host, W: Write, E: Write>(
+/// `plain`: reads the script, the files in order, and standard input unless that is the script, and runs the script by its
+/// meaning. Returns its output with, if requested, the list of all files, and whether the script is settled. Nothing is written.
+pub fn run_plain<'a, H: Host>(
     alloc: Global,
     request: &PlainRequest<'a>,
-    console: &mut Console<H, W, E>,
-) -> Result<bool, Fault<'a>>
-    ensures ran { let seen = known H.input H.file W.contents E.contents in IfOk result (DidPlain (seen console.old) (seen console.new) request.now) }
-    ensures fault { let seen = known H.input H.file W.contents E.contents in IfErr result (IsPlainRefusal (seen console.old) request.now) }
-    ensures refusal { IfErr result (λ fault. fault ≢ Fault.Unwritten → console.new.out ≡ console.old.out) }
-    ensures err_stays { console.new.err ≡ console.old.err }
+    host: &mut H,
+) -> Result<PlainRun, Fault<'a>>
+    ensures ran { IfOk result (λ run. DidPlain (H.input host.old) (H.file host.old) request.now run.is_settled (out_text run.output)) }
+    ensures err { IfOk result (λ run. run.output.err.items ≡ []) }
+    ensures fault { IfErr result (IsPlainRefusal (H.input host.old) (H.file host.old) request.now) }
 {
-    let start = prepare(alloc, &mut console.host, &request.source, false)?;
+    let start = prepare(alloc, host, &request.source, false)?;
     let stdin = start.stdin.as_slice();
     run_script(
         alloc,
@@ -77,6 +87,5 @@ pub fn run_plain<'a, H: Host, W: Write, E: Write>(
         stdin,
         &start.files,
         request.lists_files,
-        &mut console.out,
     )
 }

@@ -5,3 +5,4 @@ pub mod Reading
 pub mod Starting
 pub mod Status
 pub mod Words
+pub mod Writing

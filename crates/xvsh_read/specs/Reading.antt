@@ -5,7 +5,7 @@ use Rattle.std.specs.Str.{bytes_eq}
 use Rattle.mem_files.specs.Name.{Name, Bytes, is_openable}
 use Rattle.mem_files.specs.Listing.{max_size, with_entry, IsFullFor}
 use Rattle.xvsh_read.specs.declared.fault.Fault.{Fault}
-use Rattle.xvsh_read.specs.declared.fault.Fault.TheVariants.{Unreadable, TooLong, LineTooLong, ByteZero, BadName, TooManyFiles, TooLarge, Memory, Unwritten}
+use Rattle.xvsh_read.specs.declared.fault.Fault.TheVariants.{Unreadable, TooLong, LineTooLong, ByteZero, BadName, TooManyFiles, TooLarge, Memory}
 use Rattle.xvsh_read.specs.Path.{Path, IsNameOf}
 
 -- the most bytes of a script, and of a standard input
@@ -31,7 +31,6 @@ IsReadFault limit told path (BadName at) = ⊥
 IsReadFault limit told path TooManyFiles = ⊥
 IsReadFault limit told path TooLarge = ⊥
 IsReadFault limit told path Memory = Unit {0}
-IsReadFault limit told path Unwritten = ⊥
 
 -- why a path's file can't be put to these: it can't be read, is too long, its name can't be opened, or
 -- there is no room for it
@@ -44,7 +43,6 @@ IsFileFault file given path (BadName at) = (at.now ≡ path) × ((name : Name) �
 IsFileFault file given path TooManyFiles = (name : Name) × IsNameOf path name × (is_openable name ≡ true) × IsFullFor given name
 IsFileFault file given path TooLarge = ⊥
 IsFileFault file given path Memory = Unit {0}
-IsFileFault file given path Unwritten = ⊥
 
 -- the files once those at the paths were put in order, each under its path's name
 pub data ArePut (file : Path → Option Bytes) : List (Bor Path) → List (Name × Bytes) → Type 0 where

@@ -9,7 +9,7 @@ use Rattle.script_load.specs.Script.{IsScript, HasLoadFault}
 use Rattle.xvsh_read.specs.Path.{Path}
 use Rattle.xvsh_read.specs.Reading.{max_input, Agree, told_at, ArePut, IsReadFault, IsFilesFault}
 use Rattle.xvsh_read.specs.declared.fault.Fault.{Fault}
-use Rattle.xvsh_read.specs.declared.fault.Fault.TheVariants.{Unreadable, TooLong, LineTooLong, ByteZero, BadName, TooManyFiles, TooLarge, Memory, Unwritten}
+use Rattle.xvsh_read.specs.declared.fault.Fault.TheVariants.{Unreadable, TooLong, LineTooLong, ByteZero, BadName, TooManyFiles, TooLarge, Memory}
 
 -- bytes are refused as a script
 abbrev pub IsScriptFault : Bytes → Fault → Type 0
@@ -21,7 +21,6 @@ IsScriptFault bytes (TooLong path) = ⊥
 IsScriptFault bytes (BadName path) = ⊥
 IsScriptFault bytes TooManyFiles = ⊥
 IsScriptFault bytes TooLarge = ⊥
-IsScriptFault bytes Unwritten = ⊥
 
 -- what follows is by what the host states of standard input and of the files at paths
 module _ (input : Option Bytes) (file : Path → Option Bytes) where

@@ -10,9 +10,9 @@ use Rattle.script_load.specs.declared.fault.LoadFault.TheVariants.{LineTooLong a
 use Rattle.xvsh_read.specs.declared.host.HostFault.{HostFault}
 use Rattle.xvsh_read.specs.declared.host.HostFault.TheVariants.{Unreadable as host_unreadable, TooLong as host_long, Memory as host_memory}
 use Rattle.xvsh_read.specs.declared.fault.Fault.{Fault}
-use Rattle.xvsh_read.specs.declared.fault.Fault.TheVariants.{Unreadable, TooLong, LineTooLong, ByteZero, BadName, TooManyFiles, TooLarge, Memory, Unwritten}
+use Rattle.xvsh_read.specs.declared.fault.Fault.TheVariants.{Unreadable, TooLong, LineTooLong, ByteZero, BadName, TooManyFiles, TooLarge, Memory}
 
--- 1: an input that can't be read or is refused, or an output that takes no more; 4: no room
+-- 1: an input that can't be read or is refused; 4: no room
 abbrev pub status_of : Fault → ℕ
 status_of (Unreadable path) = 1
 status_of (TooLong path) = 1
@@ -22,7 +22,6 @@ status_of (BadName path) = 1
 status_of TooManyFiles = 1
 status_of TooLarge = 4
 status_of Memory = 4
-status_of Unwritten = 1
 
 -- what a fault is, in words
 abbrev pub fault_words : Fault → Bytes
@@ -34,7 +33,6 @@ fault_words (BadName path) = codes "bad file name " ++ path.now
 fault_words TooManyFiles = codes "too many files"
 fault_words TooLarge = codes "too large"
 fault_words Memory = codes "no memory"
-fault_words Unwritten = codes "cannot write"
 
 -- its line on standard error
 abbrev pub fault_told : Fault → Bytes
@@ -58,15 +56,3 @@ abbrev pub of_load : LoadFault → Fault
 of_load (load_long n) = LineTooLong n
 of_load (load_zero n) = ByteZero n
 of_load load_memory = Memory
-
--- the result can't be written: there is no memory for it, or an output takes no more
-abbrev pub IsTellFault : Fault → Type 0
-IsTellFault Memory = Unit {0}
-IsTellFault Unwritten = Unit {0}
-IsTellFault (Unreadable path) = ⊥
-IsTellFault (TooLong path) = ⊥
-IsTellFault (LineTooLong n) = ⊥
-IsTellFault (ByteZero n) = ⊥
-IsTellFault (BadName path) = ⊥
-IsTellFault TooManyFiles = ⊥
-IsTellFault TooLarge = ⊥

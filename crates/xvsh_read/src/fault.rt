@@ -1,4 +1,4 @@
-ghost use Rattle.std.specs.Prelude.{◌≡◌, ◌↔◌, IsTrue};
+ghost use Rattle.std.specs.Prelude.{◌≡◌};
 ghost use Rattle.xvsh_read.specs.Status.{status_of, of_host, of_files};
 
 use crate::host::HostFault;
@@ -7,9 +7,8 @@ use script_load::LoadFault;
 use std::alloc::AllocError;
 use std::fmt;
 
-/// Why the program fails. Each is reported as one line on standard error after `xvsh: `, except
-/// `Unwritten`, after which nothing more is written. A path is printed as it was given, and `-` stands
-/// for standard input.
+/// Why the program fails. Each is reported as one line on standard error after `xvsh: `. A path is printed as it was given,
+/// and `-` stands for standard input.
 #[derive(Clone, Copy, Debug)]
 pub enum Fault<'a> {
     Unreadable(&'a str),
@@ -24,8 +23,6 @@ pub enum Fault<'a> {
     /// The script would make a file too large, or one too many.
     TooLarge,
     Memory,
-    /// Standard output, or standard error, took no more.
-    Unwritten,
 }
 
 impl<'a> Fault<'a> {
@@ -40,16 +37,8 @@ impl<'a> Fault<'a> {
             | Fault::LineTooLong(_)
             | Fault::ByteZero(_)
             | Fault::BadName(_)
-            | Fault::TooManyFiles
-            | Fault::Unwritten => 1,
+            | Fault::TooManyFiles => 1,
         }
-    }
-
-    /// Whether it is the output that failed.
-    pub fn is_unwritten(&self) -> bool
-        ensures { IsTrue result ↔ (self.now ≡ Fault.Unwritten) }
-    {
-        matches!(self, Fault::Unwritten)
     }
 
     /// Why the bytes at this path can't be read.
@@ -92,7 +81,6 @@ impl fmt::Display for Fault<'_> {
             Fault::TooManyFiles => f.write_str("too many files"),
             Fault::TooLarge => f.write_str("too large"),
             Fault::Memory => f.write_str("no memory"),
-            Fault::Unwritten => f.write_str("cannot write"),
         }
     }
 }

@@ -18,4 +18,4 @@ pub use file_list::listing;
 pub use host::{Host, HostFault};
 pub use reading::{MAX_INPUT, STDIN, read};
 pub use starting::{Source, Start, prepare, profile_of, read_script};
-pub use writing::write;
+pub use writing::{Output, Unwritten, write, write_out};

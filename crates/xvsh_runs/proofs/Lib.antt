@@ -1,3 +1,4 @@
+mod Events
 mod Harts
 pub mod Moved
 pub mod Prepared

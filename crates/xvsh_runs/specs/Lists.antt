@@ -1,6 +1,5 @@
--- What is written of a finished run.
+-- What is printed of a finished run.
 use Rattle.std.specs.Prelude.{◌≡◌, Bool, true, false, List, [], ◌++◌, Option, Some}
-use Rattle.std.specs.Io.KnownBytes.{Appends}
 use Rattle.mem_files.specs.Name.{Name, Bytes}
 use Rattle.prog_parts.specs.NameSets.{among}
 use Rattle.sh_machine.specs.State.{User}
@@ -27,13 +26,13 @@ events_text false events = []
 abbrev pub run_text : Lists → Bytes → List (Name × Bytes) → List Event → Bytes
 run_text lists out files events = out ++ (files_text lists.files files ++ events_text lists.events events)
 
--- a run from this kernel by these events is finished, this was full in it, and its output, with the lists, was added to
--- one writer and its diagnostics to another
-pub record IsWritten (start : KernelState User) (events : List Event) (lists : Lists) (full : Option Full) (out out' err err' : Option Bytes) : Type 0 where
+-- a run from this kernel by these events is finished, this was full in it, and this is its output with the lists, and this its
+-- diagnostics
+pub record Prints (start : KernelState User) (events : List Event) (lists : Lists) (full : Option Full) (text diag : Bytes) : Type 0 where
   pub last : KernelState User
   pub notes : List Bool
   pub runs : run call_of next_of (Some start) events notes ≡ Some last
   pub finished : IsFinished last
   pub marked : full ≡ last.full
-  pub writes : Appends out out' (run_text lists last.out last.files events)
-  pub tells : Appends err err' last.diag
+  pub prints : text ≡ run_text lists last.out last.files events
+  pub tells : diag ≡ last.diag

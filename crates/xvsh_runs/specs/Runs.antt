@@ -1,4 +1,4 @@
--- What `run` and `replay` read, run and write.
+-- What `run` and `replay` read, run and print.
 use Rattle.std.specs.Prelude.{◌≤◌, ℕ, false, List, Option, length, codes}
 use Rattle.std.specs.Borrow.{Bor}
 use Rattle.std.specs.Str.{bytes_eq}
@@ -12,35 +12,35 @@ use Rattle.kernel_model.specs.KernelState.{KernelState}
 use Rattle.run_model.specs.ScriptRun.{script_kernel}
 use Rattle.kernel_threads.specs.Events.{AreOfHarts}
 use Rattle.schedule_lines.specs.EventLines.{AreLinesOf}
-use Rattle.xvsh_read.specs.Console.{Known}
 use Rattle.xvsh_runs.specs.declared.request.RunRequest.{RunRequest}
 use Rattle.xvsh_runs.specs.declared.request.ReplayRequest.{ReplayRequest}
 use Rattle.xvsh_read.specs.Path.{Path}
 use Rattle.xvsh_read.specs.Reading.{Agree, told_at}
 use Rattle.xvsh_read.specs.Starting.{Starts}
-use Rattle.xvsh_runs.specs.Lists.{IsWritten}
+use Rattle.xvsh_runs.specs.Lists.{Prints}
 use Rattle.xvsh_runs.specs.declared.report.Lists.{Lists}
 
--- a finished run from this kernel on so many harts in at most so many turns was written
-pub record RanOn (start : KernelState User) (harts turns : ℕ) (lists : Lists) (full : Option Full) (out out' err err' : Option Bytes) : Type 0 where
+-- a finished run from this kernel on so many harts in at most so many turns, in which this was full, prints this text and these
+-- diagnostics
+pub record RanOn (start : KernelState User) (harts turns : ℕ) (lists : Lists) (full : Option Full) (text diag : Bytes) : Type 0 where
   pub events : List Event
   pub of_harts : AreOfHarts harts events
   pub within : length events ≤ turns
-  pub written : IsWritten start events lists full out out' err err'
+  pub prints : Prints start events lists full text diag
 
 -- what follows is by what the host states of standard input and of the files at paths, of the script at a path
 -- under a profile and on the files at these paths
 module _ (input : Option Bytes) (file : Path → Option Bytes) (profile : Profile) (script : Path) (paths : List (Bor Path)) where
-  -- a finished run on so many harts in at most so many turns was written
-  pub record RanRun (harts turns : ℕ) (lists : Lists) (full : Option Full) (out out' err err' : Option Bytes) : Type 0 where
+  -- so does a finished run on so many harts in at most so many turns
+  pub record RanRun (harts turns : ℕ) (lists : Lists) (full : Option Full) (text diag : Bytes) : Type 0 where
     pub lines : List ScriptLine
     pub given : List (Name × Bytes)
     pub stdin : Bytes
     pub starts : Starts input file false script paths lines given stdin
-    pub on : RanOn (script_kernel profile lines stdin given) harts turns lists full out out' err err'
+    pub on : RanOn (script_kernel profile lines stdin given) harts turns lists full text diag
 
-  -- the finished run by the events of the schedule at a path was written
-  pub record RanReplay (schedule : Path) (lists : Lists) (full : Option Full) (out out' err err' : Option Bytes) : Type 0 where
+  -- so does the finished run by the events of the schedule at a path
+  pub record RanReplay (schedule : Path) (lists : Lists) (full : Option Full) (text diag : Bytes) : Type 0 where
     pub bytes : Bytes
     pub own : Agree (told_at input file schedule) bytes
     pub lines : List ScriptLine
@@ -49,15 +49,15 @@ module _ (input : Option Bytes) (file : Path → Option Bytes) (profile : Profil
     pub starts : Starts input file (bytes_eq schedule (codes "-")) script paths lines given stdin
     pub events : List Event
     pub listed : AreLinesOf bytes events
-    pub written : IsWritten (script_kernel profile lines stdin given) events lists full out out' err err'
+    pub prints : Prints (script_kernel profile lines stdin given) events lists full text diag
 
--- a request was carried out, by what is known of the console before and after, and this was full: of a run from this kernel,
--- of `run`, and of `replay`
-abbrev pub DidRunFrom : KernelState User → Known → Known → RunRequest → Option Full → Type 0
-DidRunFrom start old new request full = RanOn start request.harts request.turns request.lists full old.out new.out old.err new.err
+-- a request was carried out, and this was full and printed: of a run from this kernel; and, by what the host states, of `run`
+-- and of `replay`
+abbrev pub DidRunFrom : KernelState User → RunRequest → Option Full → Bytes → Bytes → Type 0
+DidRunFrom start request = RanOn start request.harts request.turns request.lists
 
-abbrev pub DidRun : Known → Known → RunRequest → Option Full → Type 0
-DidRun old new request full = RanRun old.input old.file request.source.profile request.source.script.now request.source.files.now request.harts request.turns request.lists full old.out new.out old.err new.err
+abbrev pub DidRun : Option Bytes → (Path → Option Bytes) → RunRequest → Option Full → Bytes → Bytes → Type 0
+DidRun input file request = RanRun input file request.source.profile request.source.script.now request.source.files.now request.harts request.turns request.lists
 
-abbrev pub DidReplay : Known → Known → ReplayRequest → Option Full → Type 0
-DidReplay old new request full = RanReplay old.input old.file request.source.profile request.source.script.now request.source.files.now request.schedule.now request.lists full old.out new.out old.err new.err
+abbrev pub DidReplay : Option Bytes → (Path → Option Bytes) → ReplayRequest → Option Full → Bytes → Bytes → Type 0
+DidReplay input file request = RanReplay input file request.source.profile request.source.script.now request.source.files.now request.schedule.now request.lists

@@ -13,7 +13,7 @@ use Rattle.xvsh_read.specs.Status.{status_of, fault_words}
 use Rattle.xvsh_runs.specs.declared.fault.ProcessFault.{ProcessFault}
 use Rattle.xvsh_runs.specs.declared.fault.ProcessFault.TheVariants.{Common, BadHarts, BadTurns, Spent, SharedInput, NoEvent, NotRunnable, NotRunning, Unfinished}
 
--- 1: an input that can't be read or is refused, or an output that takes no more; 2: usage; 4: no room
+-- 1: an input that can't be read or is refused; 2: usage; 4: no room
 abbrev pub run_status : ProcessFault → ℕ
 run_status (Common fault) = status_of fault
 run_status BadHarts = 2

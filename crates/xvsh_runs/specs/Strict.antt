@@ -1,4 +1,4 @@
--- What a strict run reads, runs, writes and refuses: a run by processes of a script of which it is known whether it is settled
+-- What a strict run reads, runs, prints and refuses: a run by processes of a script of which it is known whether it is settled
 -- (own).
 use Rattle.std.specs.Prelude.{◌↔◌, ℕ, Bool, false, IsTrue, List, Option}
 use Rattle.std.specs.Borrow.{Bor}
@@ -8,7 +8,6 @@ use Rattle.script_load.specs.declared.profile.Profile.{Profile}
 use Rattle.script_load.specs.Line.{ScriptLine}
 use Rattle.meaning_model.specs.Settled.{IsSettledScript}
 use Rattle.kernel_model.specs.declared.events.Full.{Full}
-use Rattle.xvsh_read.specs.Console.{Known}
 use Rattle.xvsh_runs.specs.declared.request.RunRequest.{RunRequest}
 use Rattle.xvsh_read.specs.declared.fault.Fault.{Fault}
 use Rattle.xvsh_read.specs.Path.{Path}
@@ -18,27 +17,26 @@ use Rattle.xvsh_runs.specs.declared.fault.ProcessFault.TheVariants.{Common}
 use Rattle.xvsh_runs.specs.declared.report.Lists.{Lists}
 use Rattle.xvsh_runs.specs.Runs.{RanRun}
 use Rattle.xvsh_runs.specs.Why.{IsRunFault}
-use Rattle.xvsh_runs.specs.declared.strict.StrictRun.{StrictRun}
 use Rattle.xvsh_plain.specs.Running.{IsMeaningFault}
 
 -- what follows is by what the host states of standard input and of the files at paths, of the script at a path under a
 -- profile and on the files at these paths, and of a run on so many harts in at most so many turns
 module _ (input : Option Bytes) (file : Path → Option Bytes) (profile : Profile) (script : Path) (paths : List (Bor Path)) (harts turns : ℕ) where
-  -- a run was written, and this is whether its script is settled on what it began with
-  pub record RanStrict (lists : Lists) (full : Option Full) (is_settled : Bool) (out out' err err' : Option Bytes) : Type 0 where
-    pub ran : RanRun input file profile script paths harts turns lists full out out' err err'
+  -- a run prints this, and this is whether its script is settled on what it began with
+  pub record RanStrict (lists : Lists) (full : Option Full) (is_settled : Bool) (text diag : Bytes) : Type 0 where
+    pub ran : RanRun input file profile script paths harts turns lists full text diag
     pub settled : IsTrue is_settled ↔ IsSettledScript profile ran.lines ran.stdin (files ran.given)
 
-  -- why none was: it isn't known whether the script is settled, since its meaning passes a limit or is out of memory, or there is
+  -- why none does: it isn't known whether the script is settled, since its meaning passes a limit or is out of memory, or there is
   -- no run
   pub data IsStrictFault : ProcessFault → Type 0 where
     no_verdict : {fault : Fault} (lines : List ScriptLine) (given : List (Name × Bytes)) (stdin : Bytes) → Starts input file false script paths lines given stdin → IsMeaningFault profile lines stdin (files given) fault → IsStrictFault (Common fault)
     no_strict_run : {fault : ProcessFault} → IsRunFault input file profile script paths harts turns fault → IsStrictFault fault
 
--- a request was carried out strictly, by what is known of the console before and after, and with this result
-abbrev pub DidStrict : Known → Known → RunRequest → StrictRun → Type 0
-DidStrict old new request run = RanStrict old.input old.file request.source.profile request.source.script.now request.source.files.now request.harts request.turns request.lists run.full run.is_settled old.out new.out old.err new.err
+-- a request was carried out strictly, and this was full and printed
+abbrev pub DidStrict : Option Bytes → (Path → Option Bytes) → RunRequest → Option Full → Bool → Bytes → Bytes → Type 0
+DidStrict input file request = RanStrict input file request.source.profile request.source.script.now request.source.files.now request.harts request.turns request.lists
 
 -- why it wasn't
-abbrev pub IsStrictRefusal : Known → RunRequest → ProcessFault → Type 0
-IsStrictRefusal old request = IsStrictFault old.input old.file request.source.profile request.source.script.now request.source.files.now request.harts request.turns
+abbrev pub IsStrictRefusal : Option Bytes → (Path → Option Bytes) → RunRequest → ProcessFault → Type 0
+IsStrictRefusal input file request = IsStrictFault input file request.source.profile request.source.script.now request.source.files.now request.harts request.turns

@@ -1,15 +1,15 @@
-//! Why a run by processes wasn't written.
-ghost use Rattle.std.specs.Prelude.{◌≡◌, ◌↔◌, IsTrue};
+//! Why there is no run by processes.
+ghost use Rattle.std.specs.Prelude.{◌≡◌};
 ghost use Rattle.xvsh_runs.specs.Status.{run_status};
-ghost use Rattle.xvsh_read.specs.declared.fault.Fault.TheVariants.{Unwritten};
 
 use hart_run::RunFault as HartsFault;
 use kernel_core::RunOneFault;
+use std::alloc::AllocError;
 use std::fmt;
 use xvsh_read::Fault;
 
-/// Why `run` or `replay` fails. Each is reported as one line on standard error after `xvsh: `, except an output that took no
-/// more, after which nothing is written. Events, and a schedule's lines, are counted from 1.
+/// Why `run` or `replay` fails. Each is reported as one line on standard error after `xvsh: `. Events, and a schedule's lines,
+/// are counted from 1.
 #[derive(Clone, Copy, Debug)]
 pub enum ProcessFault<'a> {
     /// What any run of a script meets.
@@ -45,16 +45,6 @@ impl ProcessFault<'_> {
             | ProcessFault::NotRunnable(_, _)
             | ProcessFault::NotRunning(_, _, _)
             | ProcessFault::Unfinished(_) => 1,
-        }
-    }
-
-    /// Whether it is an output that failed.
-    pub fn is_unwritten(&self) -> bool
-        ensures { IsTrue result ↔ (self.now ≡ ProcessFault.Common Unwritten) }
-    {
-        match self {
-            ProcessFault::Common(fault) => fault.is_unwritten(),
-            _ => false,
         }
     }
 }
@@ -97,6 +87,18 @@ impl<'a> From<Fault<'a>> for ProcessFault<'a> {
 
     fn from(fault: Fault<'a>) -> ProcessFault<'a> {
         ProcessFault::Common(fault)
+    }
+}
+
+impl<'a> From<AllocError> for ProcessFault<'a> {
+    ghost use Rattle.std.specs.Prelude.{◌≡◌};
+    ghost use Rattle.xvsh_read.specs.declared.fault.Fault.TheVariants.{Memory};
+    ghost use Rattle.xvsh_runs.specs.declared.fault.ProcessFault.TheVariants.{Common};
+
+    ghost from_gives = { λ _ given. given ≡ Common Memory };
+
+    fn from(_error: AllocError) -> ProcessFault<'a> {
+        ProcessFault::Common(Fault::Memory)
     }
 }
 

@@ -1,4 +1,4 @@
-//! Runs of scripts by their processes: what `run`, `run --strict` and `replay` read, run and write.
+//! Runs of scripts by their processes: what `run`, `run --strict` and `replay` read, run and print.
 #![tactic(auto)]
 
 mod fault;
@@ -12,7 +12,7 @@ pub use fault::ProcessFault;
 pub use hart_run::MAX_HARTS;
 pub use kernel_core::MAX_TURNS;
 pub use replaying::{MAX_SCHEDULE, run_replay};
-pub use report::{Lists, full_word};
+pub use report::{Lists, Run};
 pub use request::{ReplayRequest, RunRequest};
 pub use running::run_processes;
 pub use strict::{StrictRun, run_strict};

@@ -1,27 +1,26 @@
 //! `replay`: a script by the events of a schedule.
-ghost use Rattle.std.specs.Prelude.{◌≡◌, ◌≢◌, ◌&&◌, IfOk, IfErr, codes};
+ghost use Rattle.std.specs.Prelude.{◌≡◌, ◌&&◌, IfOk, IfErr, codes};
 ghost use Rattle.std.specs.Str.{bytes_eq};
 ghost use Rattle.sh_machine.specs.State.{User};
 ghost use Rattle.kernel_model.specs.KernelState.{KernelState};
 ghost use Rattle.kernel_events.specs.Reports.{IsRunFrom};
 ghost use Rattle.kernel_runs.specs.Refused.{IsReplayFault};
 ghost use Rattle.schedule_lines.specs.EventLines.{AreLinesOf};
-ghost use Rattle.xvsh_read.specs.declared.fault.Fault.TheVariants.{Memory, Unwritten};
-ghost use Rattle.xvsh_read.specs.Console.{known};
+ghost use Rattle.xvsh_read.specs.declared.fault.Fault.TheVariants.{Memory};
+ghost use Rattle.xvsh_read.specs.Writing.{out_text};
 ghost use Rattle.xvsh_runs.specs.Kernels.{kernel_of};
 ghost use Rattle.xvsh_runs.specs.Runs.{DidReplay};
 ghost use Rattle.xvsh_runs.specs.Why.{IsBytesFault, IsEventsFault, IsLinesFault, IsReplayRefusal};
 
 use crate::fault::ProcessFault;
-use crate::report::write_report;
+use crate::report::{Run, run_of};
 use crate::request::ReplayRequest;
 use hart_run::{ReplayFault, replay};
 use kernel_core::Report;
-use kernel_model::{Event, Full};
+use kernel_model::Event;
 use schedule_lines::{ScheduleFault, read_schedule};
 use std::alloc::Global;
-use std::io::Write;
-use xvsh_read::{Console, Fault, Host, STDIN, Start, prepare, read};
+use xvsh_read::{Fault, Host, STDIN, Start, prepare, read};
 
 /// The most bytes that a schedule may have (own): those of a run of 10,000,000 turns.
 pub const MAX_SCHEDULE: usize = 70_000_000;
@@ -102,33 +101,25 @@ fn shares_input(schedule: &str, script: &str) -> bool
     schedule == STDIN && script == STDIN
 }
 
-/// `replay`: reads the schedule, the script, the files in order, and standard input unless one of the two is that, runs the
-/// script by the events of the schedule, and writes its output, the list of the files where it is requested, and to standard
-/// error its diagnostics. Returns what was full, if something was. On an error nothing was written, except where an output
-/// took no more.
-pub fn run_replay<'a, H: Host, W: Write, E: Write>(
+/// `replay`: reads the schedule, the script, the files in order, and standard input unless one of the two is that, and runs the
+/// script by the events of the schedule. Returns its output with the list of the files where it is requested, its diagnostics,
+/// and what was full, if something was. Nothing is written.
+pub fn run_replay<'a, H: Host>(
     alloc: Global,
     request: &ReplayRequest<'a>,
-    console: &mut Console<H, W, E>,
-) -> Result<Option<Full>, ProcessFault<'a>>
-    ensures ran { let seen = known H.input H.file W.contents E.contents in IfOk result (DidReplay (seen console.old) (seen console.new) request.now) }
-    ensures fault { let seen = known H.input H.file W.contents E.contents in IfErr result (IsReplayRefusal (seen console.old) request.now) }
-    ensures refusal { IfErr result (λ fault. fault ≢ ProcessFault.Common Unwritten → (console.new.out ≡ console.old.out) × (console.new.err ≡ console.old.err)) }
+    host: &mut H,
+) -> Result<Run, ProcessFault<'a>>
+    ensures ran { IfOk result (λ run. DidReplay (H.input host.old) (H.file host.old) request.now run.full (out_text run.output) run.output.err.items) }
+    ensures fault { IfErr result (IsReplayRefusal (H.input host.old) (H.file host.old) request.now) }
 {
     let schedule = request.schedule;
     if shares_input(schedule, request.source.script) {
         return Err(ProcessFault::SharedInput);
     }
-    let bytes = read(alloc, &mut console.host, schedule, MAX_SCHEDULE)?;
+    let bytes = read(alloc, host, schedule, MAX_SCHEDULE)?;
     let is_taken = schedule == STDIN;
-    let start = prepare(alloc, &mut console.host, &request.source, is_taken)?;
+    let start = prepare(alloc, host, &request.source, is_taken)?;
     let report = replay_bytes(alloc, schedule, bytes.as_slice(), &start)?;
-    write_report(
-        alloc,
-        &report,
-        request.lists,
-        &mut console.out,
-        &mut console.err,
-    )?;
-    Ok(report.full)
+    let run = run_of(alloc, report, request.lists)?;
+    Ok(run)
 }

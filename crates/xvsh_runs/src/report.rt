@@ -1,39 +1,23 @@
-//! What is written of a run.
-ghost use Rattle.std.specs.Prelude.{◌≡◌, ◌≢◌, OnOk, IfOk, IfErr};
-ghost use Rattle.std.specs.Io.KnownBytes.{Appends};
-ghost use Rattle.xvsh_read.specs.Status.{IsTellFault};
+//! What is printed of a run.
+ghost use Rattle.std.specs.Prelude.{◌≡◌, IfOk};
+ghost use Rattle.xvsh_read.specs.Writing.{out_text};
 ghost use Rattle.xvsh_runs.specs.Lists.{files_text, events_text, run_text};
-ghost use Rattle.xvsh_runs.specs.Status.{full_word};
 
 use kernel_core::Report;
 use kernel_model::{Event, Full};
 use mem_files::Files;
 use schedule_lines::schedule_text;
+use sh_lexer::Bytes;
 use std::alloc::{AllocError, Global};
-use std::io::Write;
-use xvsh_read::{Fault, listing, write};
+use xvsh_read::{Output, listing};
 
-/// Which lists are written after the output of a run.
+/// Which lists are printed after the output of a run.
 #[derive(Clone, Copy, Debug, PartialEq, Eq)]
 pub struct Lists {
     /// The files.
     pub files: bool,
     /// The events.
     pub events: bool,
-}
-
-/// The word for what was full.
-pub fn full_word(full: Full) -> &'static str
-    ensures { result.now ≡ full_word full }
-{
-    match full {
-        Full::Procs => "procs",
-        Full::Open => "open",
-        Full::Fds => "descriptors",
-        Full::Files => "files",
-        Full::Size => "size",
-        Full::Memory => "memory",
-    }
 }
 
 // The list of the files, if it is requested.
@@ -58,24 +42,31 @@ fn list_events(alloc: Global, lists: bool, events: &[Event]) -> Result<Vec<u8>, 
     }
 }
 
-/// Writes the output of a run, the list of the files and that of the events where they are requested, and to `err` its
-/// diagnostics.
-pub fn write_report<'a, W: Write, E: Write>(
-    alloc: Global,
-    report: &Report<Global>,
-    lists: Lists,
-    out: &mut W,
-    err: &mut E,
-) -> Result<(), Fault<'a>>
-    ensures out { OnOk result (Appends (W.contents out.old) (W.contents out.new) (run_text lists report.now.out.items report.now.files report.now.schedule)) }
-    ensures err { OnOk result (Appends (E.contents err.old) (E.contents err.new) report.now.diag.items) }
-    ensures fault { IfErr result IsTellFault }
-    ensures refusal { IfErr result (λ fault. fault ≢ Fault.Unwritten → (out.new ≡ out.old) × (err.new ≡ err.old)) }
+/// A run by processes.
+#[derive(Drop)]
+pub struct Run {
+    /// What it prints.
+    pub output: Output,
+    /// What was full in it, if something was.
+    pub full: Option<Full>,
+}
+
+/// What is printed of a run: its output, the list of the files and that of the events where they are requested, and to standard
+/// error its diagnostics.
+pub fn run_of(alloc: Global, report: Report<Global>, lists: Lists) -> Result<Run, AllocError>
+    ensures out { IfOk result (λ run. out_text run.output ≡ run_text lists report.out.items report.files report.schedule) }
+    ensures err { IfOk result (λ run. run.output.err.items ≡ report.diag.items) }
+    ensures full { IfOk result (λ run. run.full ≡ report.full) }
 {
     let files = list_files(alloc, lists.files, &report.files)?;
     let events = list_events(alloc, lists.events, report.schedule.as_slice())?;
-    write(out, report.out.as_slice())?;
-    write(out, files.as_slice())?;
-    write(out, events.as_slice())?;
-    write(err, report.diag.as_slice())
+    Ok(Run {
+        output: Output {
+            out: Bytes::from_vec(report.out),
+            files,
+            events,
+            err: report.diag,
+        },
+        full: report.full,
+    })
 }

@@ -1,6 +1,8 @@
 use Rattle.std.proofs.Common.{◌≡◌, ◌∙◌, ap, Option, Some, None, ℕ, Bool, List}
+use Rattle.std.proofs.lemmas.Option.{IfSome_then}
 use Rattle.std.specs.Prelude.{IfSome, IsSome}
 use Rattle.fd_table.specs.Entries.{OpenFile, entry_at}
+use Rattle.proc_table.specs.Slots.{at}
 use Rattle.kernel_model.specs.KernelState.{KernelState}
 use Rattle.kernel_model.specs.Writing.{write_entry, write_object, write_held}
 use Rattle.kernel_model.specs.Notes.{is_refused}
@@ -18,5 +20,6 @@ pub returns-in-Some : goal.returns-in-Some
 returns-in-Some g c =
     let k = c.args.state.now in
     let e = c.in-Some.entry in
-    let after = g.M.Machine.view c.args.after in
-    by_object k c.write_held.new.state c.args.pid after e c.args.bytes.now (is_refused c.write_held.result) (entry_at k.entries e) (in_use k c.args.pid c.args.fd e c.requires.runs c.requires.sound c.in-Some.ensures) c.write_held.ensures ∙ ap (write_held k c.args.pid after c.args.bytes.now (is_refused c.write_held.result)) c.in-Some.ensures
+    IfSome_then (at k.table c.args.pid) c.write_held.ensures (λ p is.
+    let after : g.row.M-State.Denot = g.M.Machine.next_of p.machine p.reply in
+    by_object k c.write_held.new.state c.args.pid after e c.args.bytes.now (is_refused c.write_held.result) (entry_at k.entries e) (in_use k c.args.pid c.args.fd e c.requires.runs c.requires.sound c.in-Some.ensures) is ∙ ap (write_held k c.args.pid after c.args.bytes.now (is_refused c.write_held.result)) c.in-Some.ensures)

@@ -1,5 +1,3 @@
-use Rattle.std.proofs.lemmas.Result.{IfErr-weaker}
-use Rattle.xvsh_read.specs.Status.{IsTellFault}
 use Rattle.xvsh_read.proofs.Faults.{at_fault}
 use Rattle.xvsh_checks.specs.Check.{no_script_told, not_told}
 use Rattle.xvsh_checks.proofs.checking.run_check.Goals as goal
@@ -8,5 +6,14 @@ pub returns-in_err-loaded-clause-fault : goal.returns-in_err-loaded-clause-fault
 returns-in_err-loaded-clause-fault g c =
     at_fault c.from_residual.result _ _ c.from_residual.ensures.1 (no_script_told c.in_err-loaded.ensures.fault)
 
-pub returns-clause-fault : goal.returns-clause-fault
-returns-clause-fault g c = IfErr-weaker c.check_script.result IsTellFault _ (λ fault told. not_told told) c.check_script.ensures.fault
+pub returns-in_err-checked-clause-fault : goal.returns-in_err-checked-clause-fault
+returns-in_err-checked-clause-fault g c =
+    at_fault c.from_residual-in_err-checked.result _ _ c.from_residual-in_err-checked.ensures.1 not_told
+
+pub returns-clause-ran : goal.returns-clause-ran
+returns-clause-ran g c = record {
+  lines = _;
+  loaded = c.in_ok-loaded.ensures.lines;
+  told = c.in_ok-checked.ensures.told;
+  harmless = c.in_ok-checked.ensures.harmless;
+}

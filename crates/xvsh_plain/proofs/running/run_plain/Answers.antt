@@ -1,12 +1,13 @@
 use Rattle.std.proofs.Common.{IsTrue, subst}
-use Rattle.std.specs.Prelude.{◌↔◌, IfErr, IfOk, OnOk}
+use Rattle.std.specs.Prelude.{◌↔◌, IfErr, IfOk}
 use Rattle.std.proofs.lemmas.Result.{IfErr-weaker}
 use Rattle.mem_files.specs.Files.{files}
 use Rattle.script_load.specs.Line.{lines_of}
 use Rattle.meaning_model.specs.Meaning.{script_meaning}
 use Rattle.meaning_model.specs.Settled.{IsSettledScript}
+use Rattle.xvsh_read.specs.Writing.{out_text}
 use Rattle.xvsh_read.proofs.Faults.{at_fault}
-use Rattle.xvsh_plain.specs.Running.{no_start, no_run, IsMeaningFault, WritesRun}
+use Rattle.xvsh_plain.specs.Running.{no_start, no_run, IsMeaningFault, IsRunText}
 use Rattle.xvsh_plain.proofs.Ran.{ran_plain}
 use Rattle.xvsh_plain.proofs.running.run_plain.Goals as goal
 
@@ -21,13 +22,10 @@ returns-clause-ran g c =
     let given = files start.files in
     let stdin = start.stdin.items in
     let result = c.run_script.result in
-    let out = g.W.Write.contents c.args.console.now.out in
-    let out' = g.W.Write.contents c.run_script.new.out in
     let lists = c.args.request.now.lists_files in
-    let profile = start.script.profile in
-    ran_plain (g.H.Host.input c.args.console.now.host) (g.H.Host.file c.args.console.now.host) c.args.request.now.source.script.now c.args.request.now.source.profile c.args.request.now.source.files.now lists out out' lines start.files stdin result c.in_ok-start.ensures.prepared
-    (subst (λ profile. IfOk result (λ is. IsTrue is ↔ IsSettledScript profile lines stdin given)) c.in_ok-start.ensures.profile (subst (λ s. IfOk result (λ is. IsTrue is ↔ IsSettledScript profile lines s given)) c.as_slice-stdin.ensures.value c.run_script.ensures.settled))
-    (subst (λ profile. OnOk result (WritesRun lists (script_meaning profile lines stdin given) out out')) c.in_ok-start.ensures.profile (subst (λ s. OnOk result (WritesRun lists (script_meaning profile lines s given) out out')) c.as_slice-stdin.ensures.value c.run_script.ensures.meaning))
+    ran_plain (g.H.Host.input c.args.host.now) (g.H.Host.file c.args.host.now) c.args.request.now.source.script.now c.args.request.now.source.profile c.args.request.now.source.files.now lists lines start.files stdin result c.in_ok-start.ensures.prepared
+    (subst (λ profile. IfOk result (λ run. IsTrue run.is_settled ↔ IsSettledScript profile lines stdin given)) c.in_ok-start.ensures.profile (subst (λ s. IfOk result (λ run. IsTrue run.is_settled ↔ IsSettledScript start.script.profile lines s given)) c.as_slice-stdin.ensures.value c.run_script.ensures.settled))
+    (subst (λ profile. IfOk result (λ run. IsRunText lists (script_meaning profile lines stdin given) (out_text run.output))) c.in_ok-start.ensures.profile (subst (λ s. IfOk result (λ run. IsRunText lists (script_meaning start.script.profile lines s given) (out_text run.output))) c.as_slice-stdin.ensures.value c.run_script.ensures.meaning))
 
 pub returns-clause-fault : goal.returns-clause-fault
 returns-clause-fault g c =

@@ -11,4 +11,4 @@ returns-in-Err-NoEvent-clause-fault c =
     no_event refl none
 
 pub returns-in-Err-Memory-clause-fault : goal.returns-in-Err-Memory-clause-fault
-returns-in-Err-Memory-clause-fault c = unkept tt
+returns-in-Err-Memory-clause-fault c = unkept

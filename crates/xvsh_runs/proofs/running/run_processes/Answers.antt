@@ -11,9 +11,9 @@ returns-in_err-start-clause-fault g c =
 pub returns-clause-ran : goal.returns-clause-ran
 returns-clause-ran g c =
     let start = c.in_ok-start.start in
-    prepared_ran (g.H.Host.input c.args.console.now.host) (g.H.Host.file c.args.console.now.host) c.args.request.now.source.profile start.script.profile c.args.request.now.source.script.now c.args.request.now.source.files.now (lines_of start.script.lines) start.files start.stdin.items c.in_ok-start.ensures.prepared c.in_ok-start.ensures.profile c.args.request.now.harts c.args.request.now.turns c.args.request.now.lists (g.W.Write.contents c.args.console.now.out) (g.W.Write.contents c.run_prepared.new.console.out) (g.E.Write.contents c.args.console.now.err) (g.E.Write.contents c.run_prepared.new.console.err) c.run_prepared.result c.run_prepared.ensures.ran
+    prepared_ran (g.H.Host.input c.args.host.now) (g.H.Host.file c.args.host.now) c.args.request.now.source.profile start.script.profile c.args.request.now.source.script.now c.args.request.now.source.files.now (lines_of start.script.lines) start.files start.stdin.items c.in_ok-start.ensures.prepared c.in_ok-start.ensures.profile c.args.request.now.harts c.args.request.now.turns c.args.request.now.lists c.run_prepared.result c.run_prepared.ensures.ran
 
 pub returns-clause-fault : goal.returns-clause-fault
 returns-clause-fault g c =
     let start = c.in_ok-start.start in
-    prepared_fault (g.H.Host.input c.args.console.now.host) (g.H.Host.file c.args.console.now.host) c.args.request.now.source.profile start.script.profile c.args.request.now.source.script.now c.args.request.now.source.files.now (lines_of start.script.lines) start.files start.stdin.items c.in_ok-start.ensures.prepared c.in_ok-start.ensures.profile c.args.request.now.harts c.args.request.now.turns c.run_prepared.result c.run_prepared.ensures.fault
+    prepared_fault (g.H.Host.input c.args.host.now) (g.H.Host.file c.args.host.now) c.args.request.now.source.profile start.script.profile c.args.request.now.source.script.now c.args.request.now.source.files.now (lines_of start.script.lines) start.files start.stdin.items c.in_ok-start.ensures.prepared c.in_ok-start.ensures.profile c.args.request.now.harts c.args.request.now.turns c.run_prepared.result c.run_prepared.ensures.fault

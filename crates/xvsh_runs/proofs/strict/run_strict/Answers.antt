@@ -4,6 +4,7 @@ use Rattle.mem_files.specs.Files.{files}
 use Rattle.script_load.specs.Line.{lines_of}
 use Rattle.meaning_model.specs.Settled.{IsSettledScript}
 use Rattle.run_model.specs.ScriptRun.{script_kernel}
+use Rattle.xvsh_read.specs.Writing.{out_text}
 use Rattle.xvsh_read.proofs.Faults.{at_fault}
 use Rattle.xvsh_runs.specs.Runs.{RanOn}
 use Rattle.xvsh_runs.specs.Why.{IsHartsFault, no_start, no_run}
@@ -21,11 +22,11 @@ returns-in_err-is_settled-clause-fault g c =
     let lines = lines_of start.script.lines in
     at_fault c.from_residual-in_err-is_settled.result _ _ c.from_residual-in_err-is_settled.ensures.1 (no_verdict lines start.files start.stdin.items c.in_ok-start.ensures.prepared (subst (λ profile. IsMeaningFault profile lines start.stdin.items (files start.files) c.in_err-is_settled.field-0.0) c.in_ok-start.ensures.profile c.in_err-is_settled.ensures.fault))
 
-pub returns-in_err-full-clause-fault : goal.returns-in_err-full-clause-fault
-returns-in_err-full-clause-fault g c =
+pub returns-in_err-run-clause-fault : goal.returns-in_err-run-clause-fault
+returns-in_err-run-clause-fault g c =
     let start = c.in_ok-start.start in
     let lines = lines_of start.script.lines in
-    at_fault c.from_residual-in_err-full.result _ _ c.from_residual-in_err-full.ensures.1 (no_strict_run (no_run lines start.files start.stdin.items c.in_ok-start.ensures.prepared (subst (λ profile. IsHartsFault (script_kernel profile lines start.stdin.items start.files) c.args.request.now.harts c.args.request.now.turns c.in_err-full.field-0.0) c.in_ok-start.ensures.profile c.in_err-full.ensures.fault)))
+    at_fault c.from_residual-in_err-run.result _ _ c.from_residual-in_err-run.ensures.1 (no_strict_run (no_run lines start.files start.stdin.items c.in_ok-start.ensures.prepared (subst (λ profile. IsHartsFault (script_kernel profile lines start.stdin.items start.files) c.args.request.now.harts c.args.request.now.turns c.in_err-run.field-0.0) c.in_ok-start.ensures.profile c.in_err-run.ensures.fault)))
 
 pub returns-clause-ran : goal.returns-clause-ran
 returns-clause-ran g c =
@@ -40,11 +41,7 @@ returns-clause-ran g c =
         given = given;
         stdin = stdin;
         starts = c.in_ok-start.ensures.prepared;
-        on = subst (λ profile. RanOn (script_kernel profile lines stdin given) c.args.request.now.harts c.args.request.now.turns c.args.request.now.lists c.in_ok-full.full (g.W.Write.contents c.args.console.now.out) (g.W.Write.contents c.run_prepared.new.console.out) (g.E.Write.contents c.args.console.now.err) (g.E.Write.contents c.run_prepared.new.console.err)) same c.in_ok-full.ensures.ran;
+        on = subst (λ profile. RanOn (script_kernel profile lines stdin given) c.args.request.now.harts c.args.request.now.turns c.args.request.now.lists c.in_ok-run.run'.full (out_text c.in_ok-run.run'.output) c.in_ok-run.run'.output.err.items) same c.in_ok-run.ensures.ran;
       };
       settled = subst (λ profile. IsTrue c.in_ok-is_settled.is_settled ↔ IsSettledScript profile lines stdin (files given)) same c.in_ok-is_settled.ensures.settled;
     }
-
-pub returns-in_err-full-clause-refusal : goal.returns-in_err-full-clause-refusal
-returns-in_err-full-clause-refusal g c =
-    at_fault c.from_residual-in_err-full.result _ _ c.from_residual-in_err-full.ensures.1 c.in_err-full.ensures.refusal

@@ -1,5 +1,5 @@
-use Rattle.std.proofs.Common.{◌≡◌, ◌∙◌, ◌+◌, ◌++◌, ◌∷◌, [], true, sym, ap, subst, arith, refl, Some}
-use Rattle.std.specs.Prelude.{IfSome, count_by}
+use Rattle.std.proofs.Common.{◌≡◌, ◌∙◌, ◌+◌, ◌++◌, ◌∷◌, [], true, ap, subst, arith, refl}
+use Rattle.std.specs.Prelude.{count_by}
 use Rattle.proc_table.specs.Slots.{at, is_running, is_running_on}
 use Rattle.kernel_model.specs.declared.events.Event.TheVariants.{Trap}
 use Rattle.kernel_model.specs.History.{History, GoesOn}
@@ -11,10 +11,8 @@ pub invariant_of-self : goal.invariant_of-self
 invariant_of-self g c =
     let state = c.self.inside.state in
     let runs : is_running_on c.args.hart (at state.table c.args.pid) ≡ true = rw (← c.self.view_is) at c.requires.runs in
-    let called : IfSome (at state.table c.args.pid) (λ p. c.args.call.now ≡ g.M.Machine.call_of p.machine p.reply) = rw (← c.self.view_is) at c.requires.call in
-    let went : IfSome (at state.table c.args.pid) (λ p. g.M.Machine.view c.args.after ≡ g.M.Machine.next_of p.machine p.reply) = rw (← c.self.view_is) at c.requires.after in
     kept_after g.M.Machine.call_of g.M.Machine.next_of c.self.inside.boot.value state c.trap-memory.new.state c.self.inside.log c.write.new.self (Trap c.args.hart c.args.pid) (is_refused c.trap-memory.result) c.self.invariant
-    (trap_goes g.M.Machine.call_of g.M.Machine.next_of state c.args.hart c.args.pid c.args.call.now (g.M.Machine.view c.args.after) (is_refused c.trap-memory.result) runs called went ∙ ap Some (sym c.trap-memory.ensures.after))
+    (trap_goes g.M.Machine.call_of g.M.Machine.next_of state c.trap-memory.new.state c.args.hart c.args.pid c.write_call.new.call (is_refused c.trap-memory.result) runs c.write_call.ensures c.trap-memory.ensures.after)
     (c.write.ensures.events ∙ ap (λ n. c.self.inside.log.events ++ Trap c.args.hart n ∷ []) c.index.ensures.value)
     c.write.ensures.notes
     (omega (arith, c.trap-memory.ensures.keeps.count, c.self.invariant.owed, c.write.ensures.room))
@@ -27,15 +25,13 @@ returns-clause-event g c =
     let next = g.M.Machine.next_of in
     let state = c.self.inside.state in
     let runs : is_running_on c.args.hart (at state.table c.args.pid) ≡ true = rw (← c.self.view_is) at c.requires.runs in
-    let called : IfSome (at state.table c.args.pid) (λ p. c.args.call.now ≡ g.M.Machine.call_of p.machine p.reply) = rw (← c.self.view_is) at c.requires.call in
-    let went : IfSome (at state.table c.args.pid) (λ p. g.M.Machine.view c.args.after ≡ g.M.Machine.next_of p.machine p.reply) = rw (← c.self.view_is) at c.requires.after in
     let old : History g.row.M-State.Denot = record { boot = c.self.inside.boot.value; now = state; schedule = c.self.inside.log.events; notes = c.self.inside.log.notes } in
     let new : History g.row.M-State.Denot = record { boot = c.self.inside.boot.value; now = c.trap-memory.new.state; schedule = c.write.new.self.events; notes = c.write.new.self.notes } in
     let goes : GoesOn call next old (Trap c.args.hart c.args.pid) new =
     record {
       boot = refl;
       schedule = c.write.ensures.events ∙ ap (λ n. c.self.inside.log.events ++ Trap c.args.hart n ∷ []) c.index.ensures.value;
-      note = ((is_refused c.trap-memory.result), c.write.ensures.notes, trap_goes call next state c.args.hart c.args.pid c.args.call.now (g.M.Machine.view c.args.after) (is_refused c.trap-memory.result) runs called went ∙ ap Some (sym c.trap-memory.ensures.after));
+      note = ((is_refused c.trap-memory.result), c.write.ensures.notes, trap_goes call next state c.trap-memory.new.state c.args.hart c.args.pid c.write_call.new.call (is_refused c.trap-memory.result) runs c.write_call.ensures c.trap-memory.ensures.after);
     } in
     subst (λ (k : History g.row.M-State.Denot). GoesOn call next k (Trap c.args.hart c.args.pid) new) c.self.view_is goes
 

@@ -1,9 +1,9 @@
-use Rattle.std.proofs.Common.{◌≡◌, ◌∙◌, sym, ap, subst, true}
+use Rattle.std.proofs.Common.{◌≡◌, sym, subst, true}
 use Rattle.std.specs.Prelude.{All}
 use Rattle.fd_table.specs.Descriptors.{Descriptors, HoldsInUse, CountsFit, all_held}
 use Rattle.proc_table.specs.Slots.{at, is_running}
 use Rattle.kernel_model.specs.Sound.{IsSound}
-use Rattle.kernel_model.proofs.Held.{told, all_in_use, copy_fits, runs_within, fork_keeps}
+use Rattle.kernel_model.proofs.Held.{told, all_in_use, copy_fits, runs_within}
 use Rattle.kernel_state.proofs.state.State.fork.Goals as goal
 
 pub fork_copy-fds-requires-clause-in_use : goal.fork_copy-fds-requires-clause-in_use
@@ -19,8 +19,3 @@ fork_copy-fds-requires-clause-fits g c =
     let sound : IsSound c.self.inside.procs c.self.inside.entries = rw (← c.self.view_is) at c.requires.sound in
     let P : Descriptors → Type 0 = λ fds. CountsFit (all_held c.self.inside.entries fds) in
     subst P (sym (told (at c.self.inside.procs c.args.pid) c.fds.result.now runs c.fds.ensures)) (copy_fits c.self.inside.procs c.self.inside.entries c.args.pid sound)
-
-pub ready-requires : goal.ready-requires
-ready-requires g c =
-    let runs : is_running (at c.self.inside.procs c.args.pid) ≡ true = rw (← c.self.view_is) at c.requires.runs in
-    ap is_running (ap (λ t. at t c.args.pid) c.in-Ok.ensures.after ∙ fork_keeps c.self.inside.procs c.in-Ok.field-0 c.args.pid _ c.in-Ok.ensures.slot runs) ∙ runs

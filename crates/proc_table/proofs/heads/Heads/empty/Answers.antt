@@ -3,7 +3,7 @@ use Rattle.std.proofs.Common.{List, Option, sym, subst}
 use Rattle.proc_table.specs.declared.heads.Head.{Head}
 use Rattle.proc_table.specs.Heads.{IsOnHart}
 use Rattle.proc_table.specs.Searched.{AreSearched}
-use Rattle.proc_table.proofs.Queueing.{none_at}
+use Rattle.proc_table.proofs.Naming.{none_at}
 use Rattle.proc_table.proofs.heads.Heads.empty.Goals as goal
 
 pub invariant_of-result : goal.invariant_of-result

@@ -7,4 +7,4 @@ use Rattle.proc_table.proofs.heads.Heads.give.Goals as goal
 pub put-requires-clause-on_hart : goal.put-requires-clause-on_hart
 put-requires-clause-on_hart c =
     let heads = c.self.inside.heads in
-    subst IsOnHart (get_or_default heads c.args.index None _ (omega (arith, c.self.invariant.queued.all, c.requires)) ∙ c.in-Some.is) (c.self.invariant.on_harts c.args.index)
+    subst IsOnHart (get_or_default heads c.args.index None _ (omega (arith, c.self.invariant.queued.standing.all, c.requires)) ∙ c.in-Some.is) (c.self.invariant.on_harts c.args.index)

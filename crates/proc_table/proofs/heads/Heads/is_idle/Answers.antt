@@ -1,14 +1,11 @@
 -- Nothing runs where the search finds nothing.
-use Rattle.std.proofs.Common.{◌≡◌, Bool, not, Option, ℕ, Some, None, false, true, refl, sym, ap, ◌∙◌}
+use Rattle.std.proofs.Common.{◌≡◌, Bool, not, false, true, refl, sym, ap, ◌∙◌}
 use Rattle.std.specs.Option.{is_some}
 use Rattle.proc_table.specs.Slots.{is_running_on_status}
 use Rattle.proc_table.specs.Heads.{head_has}
 use Rattle.proc_table.proofs.Grouping.{none_of_all, none_there}
+use Rattle.proc_table.proofs.Kept.{nothing}
 use Rattle.proc_table.proofs.heads.Heads.is_idle.Goals as goal
-
-nothing : (found : Option ℕ) → is_some found ≡ false → found ≡ None
-nothing None is = refl
-nothing (Some slot) is = absurd (let no : ⊥ = cc in no)
 
 not_false : (b : Bool) → not b ≡ false → b ≡ true
 not_false true is = refl

@@ -18,7 +18,7 @@ pub invariant_of-self : goal.invariant_of-self
 invariant_of-self c =
     let heads = c.self.inside.heads in
     let lt : c.args.index < 64 = c.requires.within in
-    let long : c.args.index < length heads = omega (arith, c.self.invariant.queued.all, lt) in
+    let long : c.args.index < length heads = omega (arith, c.self.invariant.queued.standing.all, lt) in
     let was = get_or_default heads c.args.index c.index-self-index.result None long in
     record {
       by_state = put_group 5 state_key heads c.self.inside.states c.put.new.self c.args.index _ c.args.head _ _ c.put.ensures c.self.invariant.by_state lt was c.state_number.ensures c.state_number-2.ensures;

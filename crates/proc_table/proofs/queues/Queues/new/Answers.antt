@@ -6,4 +6,4 @@ pub invariant_of-result : goal.invariant_of-result
 invariant_of-result c = c.all_on_the_first.ensures
 
 pub returns : goal.returns
-returns c = none_queued (record { lists = c.new.result; last = c.all_on_the_first.result }) c.new.ensures
+returns c = none_queued (record { lists = c.new.result; channels = c.new-2.result; last = c.all_on_the_first.result }) c.new.ensures c.new-2.ensures

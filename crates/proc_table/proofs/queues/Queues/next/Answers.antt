@@ -4,7 +4,7 @@ use Rattle.std.specs.Prelude.{slice_get}
 use Rattle.std.proofs.lemmas.Bool.{cases_eq}
 use Rattle.slot_lists.specs.Links.{slots_of}
 use Rattle.proc_table.specs.Queues.{Queues}
-use Rattle.proc_table.proofs.Queueing.{first_runs, none_runs}
+use Rattle.proc_table.proofs.Waking.{first_runs, none_runs}
 use Rattle.proc_table.proofs.queues.Queues.next.Goals as goal
 
 pub loop-away-init : goal.loop-away-init

@@ -1,8 +1,8 @@
 -- The node after the list's end.
-use Rattle.std.proofs.Common.{List, ℕ, ◌≤◌, length, subst, ◌∙◌, ap, sym, arith}
+use Rattle.std.proofs.Common.{List, ℕ, ◌∙◌, ap, sym, arith}
 use Rattle.std.specs.Prelude.{slice_get}
 use Rattle.slot_lists.specs.Links.{slots_of}
-use Rattle.slot_lists.proofs.Walks.{first_some, first_none, list_at, list_short}
+use Rattle.slot_lists.proofs.Walks.{first_some, first_none}
 use Rattle.slot_lists.proofs.lists.SlotLists.first.Goals as goal
 
 pub returns-then-node-lt-SLOTS-clause-value : goal.returns-then-node-lt-SLOTS-clause-value
@@ -12,11 +12,3 @@ returns-then-node-lt-SLOTS-clause-value c =
 pub returns-else-node-lt-SLOTS-clause-value : goal.returns-else-node-lt-SLOTS-clause-value
 returns-else-node-lt-SLOTS-clause-value c =
     sym (ap (λ (all : List (List ℕ)). slice_get (slots_of all c.args.list) 0) (sym c.self.view_is) ∙ first_none c.self.inside.next c.args.list (omega arith) (omega arith))
-
-pub returns-then-node-lt-SLOTS-clause-short : goal.returns-then-node-lt-SLOTS-clause-short
-returns-then-node-lt-SLOTS-clause-short c =
-    subst (λ (all : List (List ℕ)). length (slots_of all c.args.list) ≤ 64) c.self.view_is (subst (λ (xs : List ℕ). length xs ≤ 64) (sym (list_at c.self.inside.next c.args.list c.requires)) (list_short c.self.inside.next c.args.list (c.self.invariant.ends c.args.list c.requires)))
-
-pub returns-else-node-lt-SLOTS-clause-short : goal.returns-else-node-lt-SLOTS-clause-short
-returns-else-node-lt-SLOTS-clause-short c =
-    subst (λ (all : List (List ℕ)). length (slots_of all c.args.list) ≤ 64) c.self.view_is (subst (λ (xs : List ℕ). length xs ≤ 64) (sym (list_at c.self.inside.next c.args.list c.requires)) (list_short c.self.inside.next c.args.list (c.self.invariant.ends c.args.list c.requires)))

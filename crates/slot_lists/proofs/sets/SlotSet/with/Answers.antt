@@ -1,5 +1,5 @@
 -- A bit is set, or cleared.
-use Rattle.std.proofs.Common.{◌≡◌, ◌-◌, ◌*◌, ◌%◌, ◌^◌, Bool, true, false, bit_and, bit_or, ◌∙◌, ap, sym, refl, arith}
+use Rattle.std.proofs.Common.{◌≡◌, ◌-◌, ◌*◌, ◌%◌, ◌^◌, Bool, bit_and, bit_or, ◌∙◌, ap, sym, refl, arith}
 use Rattle.std.proofs.lemmas.Grind.{one_shifted}
 use Rattle.std.proofs.Math.ListN.{set, length-set}
 use Rattle.std.specs.Int.Bits.{bit_xor}

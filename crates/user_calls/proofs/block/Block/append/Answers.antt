@@ -1,15 +1,21 @@
 -- What was appended is as much as there was room for.
-use Rattle.std.proofs.Common.{◌∙◌, length}
+use Rattle.std.proofs.Common.{◌∙◌, ◌≡◌, ◌++◌, ◌-◌, ◌+◌, take, length, ap, arith, List, ℕ}
+use Rattle.std.proofs.lemmas.List.{length-take}
+use Rattle.std.proofs.lemmas.Slice.{take-put_mid}
 use Rattle.user_calls.specs.Limits.{block_size}
-use Rattle.user_calls.proofs.Fitting.{on_success, fitting, fits}
+use Rattle.user_calls.proofs.Fitting.{fitting}
 use Rattle.user_calls.proofs.block.Block.append.Goals as goal
 
 pub returns : goal.returns
 returns c =
-    let held = c.self.inside.bytes.items in
+    let inside = c.self.inside in
     let bytes = c.args.bytes.now in
-    let room = c.remaining_capacity.result in
-    on_success c.try_extend_from_slice.result
-    (c.try_extend_from_slice.ensures.variant.1 (rw c.min-fitting.ensures (fits bytes (length held) room block_size c.remaining_capacity.ensures)))
-    c.try_extend_from_slice.ensures.ok
-    ∙ rw (c.min-fitting.ensures, ← c.self.view_is) (fitting held bytes room block_size c.remaining_capacity.ensures)
+    let written = c.copy_from_slice.new.self in
+    let room = 1024 - inside.used in
+    let count = c.min-fitting.result in
+    let held : length (take inside.used inside.bytes) ≡ inside.used = omega (arith, length-take inside.used inside.bytes, c.self.told, c.self.invariant) in
+    let long : inside.used + count ≡ inside.used + length written = omega (arith, c.copy_from_slice.ensures.len, c.min-fitting.ensures, length-take count bytes) in
+    take-put_mid inside.used (inside.used + count - inside.used) inside.bytes written (inside.used + count) long (omega (arith, c.self.told, c.self.invariant))
+    ∙ ap (λ (tail : List ℕ). take inside.used inside.bytes ++ tail) (c.copy_from_slice.ensures.after ∙ ap (λ (n : ℕ). take n bytes) c.min-fitting.ensures)
+    ∙ fitting (take inside.used inside.bytes) bytes room block_size (omega (arith, held, c.self.invariant))
+    ∙ ap (λ (now : List ℕ). take block_size (now ++ bytes)) c.self.view_is

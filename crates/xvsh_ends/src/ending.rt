@@ -1,0 +1,123 @@
+//! How the program ends: what it prints, with which status, and how that is written.
+ghost use Rattle.std.specs.Prelude.{◌≡◌, [], OnErr, OnOk, MatchResult, string_bytes};
+ghost use Rattle.std.specs.Io.KnownBytes.{Appends};
+ghost use Rattle.xvsh_read.specs.Status.{fault_told, status_of};
+ghost use Rattle.xvsh_read.specs.Writing.{AppendsPart, out_text};
+ghost use Rattle.xvsh_runs.specs.Status.{run_fault_told, run_status};
+ghost use Rattle.xvsh_ends.specs.Ends.{Tells, TellsOr, Writes, line_text, told_text};
+
+use sh_lexer::Bytes;
+use std::alloc::{AllocError, Global};
+use std::io::Write;
+use xvsh_read::{Fault, Output, Unwritten, write, write_out};
+use xvsh_runs::ProcessFault;
+
+/// What the program itself reports on standard error: a text of its own, or one that was made.
+#[derive(Drop)]
+pub enum Line {
+    Fixed(&'static str),
+    Made(String),
+}
+
+impl Line {
+    ghost use Rattle.std.specs.Prelude.{◌≡◌};
+    ghost use Rattle.xvsh_ends.specs.Ends.{line_text};
+
+    fn as_bytes(&self) -> &[u8]
+        ensures { result.now ≡ line_text self.now }
+    {
+        match self {
+            Line::Fixed(text) => text.as_bytes(),
+            Line::Made(text) => text.as_bytes(),
+        }
+    }
+}
+
+/// How the program ends: what it prints, and after its diagnostics a report of its own on standard error, and the status.
+#[derive(Drop)]
+pub struct Ending {
+    pub output: Output,
+    pub line: Line,
+    pub status: u8,
+}
+
+/// Nothing.
+pub fn no_output(alloc: Global) -> Output
+    ensures out { result.out ≡ [] }
+    ensures files { result.files.items ≡ [] }
+    ensures events { result.events.items ≡ [] }
+    ensures err { result.err.items ≡ [] }
+{
+    Output {
+        out: Bytes::from_vec(Vec::new(alloc)),
+        files: Vec::new(alloc),
+        events: Vec::new(alloc),
+        err: Vec::new(alloc),
+    }
+}
+
+/// This report alone, and the status.
+pub fn report(alloc: Global, line: Line, status: u8) -> Ending
+    ensures { Tells (line_text line) status result }
+{
+    Ending {
+        output: no_output(alloc),
+        line,
+        status,
+    }
+}
+
+/// The report that memory was refused. It takes none.
+pub fn report_no_memory(alloc: Global) -> Ending
+    ensures { Tells (fault_told Fault.Memory) 4 result }
+{
+    report(alloc, Line::Fixed("xvsh: no memory\n"), 4)
+}
+
+/// A report that was made, with this status, or that memory was refused for it.
+pub fn report_made(alloc: Global, made: Result<String, AllocError>, status: u8) -> Ending
+    ensures { MatchResult made (λ text. Tells (string_bytes text) status result) (λ _. Tells (fault_told Fault.Memory) 4 result) }
+{
+    match made {
+        Ok(text) => report(alloc, Line::Made(text), status),
+        Err(_) => report_no_memory(alloc),
+    }
+}
+
+/// The report of a fault.
+pub fn report_fault(alloc: Global, fault: Fault<'_>) -> Ending
+    ensures { TellsOr (fault_told fault.entry) (status_of fault.entry) result }
+{
+    report_made(alloc, format!(in alloc; "xvsh: {fault}\n"), fault.status())
+}
+
+/// The report of a fault of a run by processes.
+pub fn report_run_fault(alloc: Global, fault: ProcessFault<'_>) -> Ending
+    ensures { TellsOr (run_fault_told fault.entry) (run_status fault.entry) result }
+{
+    report_made(alloc, format!(in alloc; "xvsh: {fault}\n"), fault.status())
+}
+
+// Writes what goes to standard error.
+fn write_told<E: Write>(err: &mut E, ending: &Ending) -> Result<(), Unwritten>
+    ensures written { OnOk result (Appends (E.contents err.old) (E.contents err.new) (told_text ending.now)) }
+    ensures part { OnErr result (AppendsPart (E.contents err.old) (E.contents err.new) (told_text ending.now)) }
+{
+    write(err, ending.output.err.as_slice())?;
+    write(err, ending.line.as_bytes())
+}
+
+/// Writes how the program ends, first to standard output and then to standard error, and returns its status; 1 where one of
+/// them takes no more, after which nothing more is written.
+pub fn write_ending<W: Write, E: Write>(ending: &Ending, out: &mut W, err: &mut E) -> u8
+    ensures writes { Writes (out_text ending.now.output) (told_text ending.now) ending.now.status (W.contents out.old) (W.contents out.new) (E.contents err.old) (E.contents err.new) result }
+    ensures nothing { out_text ending.now.output ≡ [] → out.new ≡ out.old }
+{
+    match write_out(out, &ending.output) {
+        Ok(()) => match write_told(err, ending) {
+            Ok(()) => ending.status,
+            Err(Unwritten) => 1,
+        },
+        Err(Unwritten) => 1,
+    }
+}
