@@ -1,10 +1,11 @@
-//! Runs of a script on harts that are threads: one kernel under one lock, and user code outside it.
+//! Runs of a script on harts that are threads: one kernel under one lock.
 #![tactic(auto)]
 
 mod faults;
 mod gates;
 mod locked;
 mod naming;
+mod pace;
 mod passing;
 mod patience;
 mod running;

@@ -16,7 +16,7 @@ ghost use Rattle.kernel_threads.specs.Turns.{Says};
 use crate::naming::Run;
 use crate::seats::Seat;
 use crate::sharing::Turn;
-use kernel_events::{Kernel, Report, Task};
+use kernel_events::{Event, Kernel, Report, Task};
 use proc_table::Pid;
 use std::alloc::{AllocError, Allocator, Global};
 use std::marker::Model;
@@ -188,6 +188,56 @@ impl<N: Run, M: Machine> Locked<N, M> {
             seat.count(&mut self.counts);
         }
         done
+    }
+
+    // The process, which runs on the hart of the seat, makes its call in the kernel's hands, and the call is carried out. It
+    // returns whether it was; where it wasn't, nothing changes.
+    fn make_call(&mut self, seat: &mut Seat<N>, pid: Pid) -> bool
+        ensures hart { seat.new.hart ≡ seat.old.hart }
+        ensures events { seat.new.events ≡ seat.old.events + (if result then 1 else 0) }
+        ensures event { OnTrue result (GoesOn M.call_of M.next_of self.old (Trap seat.old.hart pid) self.new) }
+        ensures same { OnFalse result (self.new ≡ self.old) }
+    {
+        let done = self
+            .kernel
+            .happen(Event::Trap(seat.hart(), pid.index()))
+            .unwrap_or(false);
+        if done {
+            seat.count(&mut self.counts);
+        }
+        done
+    }
+
+    // A whole turn of the hart of the seat with the kernel in its hands: the next process begins to run there, and its call is
+    // carried out.
+    pub(crate) fn step(&mut self, seat: &mut Seat<N>) -> Result<Turn, AllocError>
+        ensures hart { seat.new.hart ≡ seat.old.hart }
+        ensures events { IfOk result (λ turn. seat.new.events ≡ seat.old.events + events_of turn) }
+        ensures says { IfOk result (λ turn. Says N.turns seat.old.hart turn self.old.now self.old.schedule) }
+        ensures err { OnErr result ((seat.new ≡ seat.old) × (self.new ≡ self.old)) }
+    {
+        let pid = match self.begin(seat)? {
+            Ok(pid) => pid,
+            Err(turn) => return Ok(turn),
+        };
+        if self.make_call(seat, pid) {
+            Ok(Turn::Stepped)
+        } else {
+            Ok(Turn::Lost)
+        }
+    }
+
+    // So many such turns, or fewer where one comes to something else: what the last came to.
+    pub(crate) fn steps(&mut self, seat: &mut Seat<N>, most: u32) -> Result<Turn, AllocError>
+        ensures hart { seat.new.hart ≡ seat.old.hart }
+    {
+        for _ in 0..most {
+            match self.step(seat)? {
+                Turn::Stepped => {}
+                turn => return Ok(turn),
+            }
+        }
+        Ok(Turn::Stepped)
     }
 
     // The seats, which are all, have made the events.

@@ -16,11 +16,11 @@ use crate::faults::{RunFault, range_fault};
 use crate::gates::Gate;
 use crate::locked::Verdict;
 use crate::naming::Run;
-use crate::passing::run_task;
+use crate::pace::Pace;
 use crate::patience::Patience;
 use crate::seats::Seat;
 use crate::sharing::{Shared, Turn};
-use kernel_events::{Kernel, Report, Task};
+use kernel_events::{Kernel, Report};
 use mem_files::Files;
 use script_load::Script;
 use sh_machine::{Naming, User};
@@ -34,22 +34,19 @@ use std::thread::Threads;
 use std::time::Clock;
 use user_calls::Machine;
 
-// The hart of the seat runs a task after the other while it finds one, and returns why it finds none.
-fn run_tasks<N: Run, M: Machine, R: Wait, G: Gate>(
+// One turn of the hart of the seat, or many where the kernel can be kept for them; what the last came to.
+fn take_some<N: Run, M: Machine, R: Wait + Clock, G: Gate>(
     rt: &R,
     shared: &Shared<N, M>,
     seat: &mut Seat<N>,
     gate: &G,
-    mut task: Task<M>,
+    pace: &mut Pace,
 ) -> Result<Turn, AllocError> {
-    for _ in rt.forever() {
-        let mut twin = task.machine.twin();
-        let call = run_task(rt, seat, &task, gate, &mut twin);
-        if let Some(turn) = shared.pass(rt, seat, &mut task, &call, twin)? {
-            return Ok(turn);
-        }
+    if gate.is_open() && pace.is_quick() {
+        return shared.tick(rt, seat, pace);
     }
-    unreachable!()
+    pace.counts();
+    shared.turn(rt, seat, gate)
 }
 
 // The hart of the seat takes turns until there are none to take.
@@ -59,17 +56,12 @@ fn take_turns<N: Run, M: Machine, R: Wait + Clock, G: Gate>(
     seat: &mut Seat<N>,
     gate: &G,
 ) -> Result<(), AllocError> {
+    let mut pace = Pace::new();
     let mut patience = Patience::new();
     for _ in rt.forever() {
-        let turn = match shared.begin(rt, seat)? {
-            Ok(task) => {
-                patience.ends();
-                run_tasks(rt, shared, seat, gate, task)?
-            }
-            Err(turn) => turn,
-        };
-        match turn {
+        match take_some(rt, shared, seat, gate, &mut pace)? {
             Turn::Finished | Turn::Spent => return Ok(()),
+            Turn::Stepped => patience.ends(),
             _ => patience.wait(rt),
         }
     }
@@ -89,8 +81,30 @@ fn work<N: Run, M: Machine, R: Wait + Clock, G: Gate>(
     }
 }
 
+// The first hart takes turns alone, for a tick at most. It returns whether there are none to take any more, since the run is
+// over or memory was refused.
+fn begins_alone<N: Run, M: Machine, R: Wait + Clock, G: Gate>(
+    rt: &R,
+    shared: &Shared<N, M>,
+    seat: &mut Seat<N>,
+    gate: &G,
+    starved: &AtomicBool,
+) -> bool {
+    if !gate.is_open() {
+        return false;
+    }
+    match shared.tick(rt, seat, &mut Pace::new()) {
+        Ok(turn) => matches!(turn, Turn::Finished | Turn::Spent),
+        Err(_) => {
+            starved.store(true, Ordering::SeqCst);
+            true
+        }
+    }
+}
+
 // The harts of all seats take turns until there are none to take, the first on this thread and each other on a thread of
-// its own; one whose thread can't be made takes none. It returns whether memory was refused to one of them.
+// its own; one whose thread can't be made takes none. A run that is over within a tick makes no thread. It returns whether
+// memory was refused to one of them.
 fn take_all_turns<
     N: Run + Send + Sync,
     M: Machine + Send,
@@ -106,6 +120,9 @@ fn take_all_turns<
             requires { IsSend N.row × IsSync N.row × IsSend M.row × IsSync R.row × IsSync G.row }
         {
             if let Some((first, rest)) = seats.split_first_mut() {
+                if begins_alone(rt, shared, first, gate, starved) {
+                    return;
+                }
                 for seat in rest.iter_mut() {
                     let _ = scope.spawn(move || work(rt, shared, seat, gate, starved));
                 }

@@ -12,13 +12,15 @@ use crate::faults::{RunFault, range_fault};
 use crate::gates::Gate;
 use crate::locked::Locked;
 use crate::naming::Run;
+use crate::pace::{BATCH, Pace, Tick};
 use crate::passing::run_task;
 use crate::seats::Seat;
-use kernel_events::{Kernel, Report, Task};
+use kernel_events::{Kernel, Report};
 use std::alloc::{AllocError, Global};
 use std::sync::ledger::Blank;
 use std::sync::{Mutex, Wait};
-use user_calls::{Call, Machine};
+use std::time::Clock;
+use user_calls::Machine;
 
 /// What a turn came to.
 #[derive(Clone, Copy, Debug, PartialEq, Eq)]
@@ -35,7 +37,7 @@ pub enum Turn {
     Lost,
 }
 
-/// A kernel that the harts of the run `N` share. The kernel is locked while an event takes place, and only then.
+/// A kernel that the harts of the run `N` share, under a lock.
 #[derive(Drop)]
 pub struct Shared<N: Run, M: Machine> {
     lock: Mutex<Locked<N, M>>,
@@ -113,49 +115,28 @@ impl<N: Run, M: Machine> Shared<N, M> {
         }
     }
 
-    // The next process begins to run on the hart of the seat; or why none does.
-    pub(crate) fn begin<R: Wait>(
+    // Turns of the hart of the seat, one after the other, the kernel being locked once for all: until its tick is over, or one
+    // comes to something else than a call. It returns what the last came to.
+    pub(crate) fn tick<R: Wait + Clock>(
         &self,
         rt: &R,
         seat: &mut Seat<N>,
-    ) -> Result<Result<Task<M>, Turn>, AllocError>
+        pace: &mut Pace,
+    ) -> Result<Turn, AllocError>
         ensures { seat.new.hart ≡ seat.old.hart }
     {
         let mut guard = self.lock.lock(rt);
-        match guard.begin(seat)? {
-            Ok(pid) => Ok(Ok(guard.task(seat, pid))),
-            Err(turn) => Ok(Err(turn)),
-        }
-    }
-
-    // The call that the machine of the task made, and the machine after it, come back to the kernel, which carries out the
-    // call, and the next process begins to run on the hart of the seat: its task takes the place of the one before; or why
-    // none does. The kernel is locked once for both.
-    pub(crate) fn pass<R: Wait>(
-        &self,
-        rt: &R,
-        seat: &mut Seat<N>,
-        task: &mut Task<M>,
-        call: &Call,
-        after: M,
-    ) -> Result<Option<Turn>, AllocError>
-        requires call { call.now ≡ M.call_of (M.view task.old.machine) task.old.reply }
-        requires after { M.view after ≡ M.next_of (M.view task.old.machine) task.old.reply }
-        ensures hart { seat.new.hart ≡ seat.old.hart }
-        ensures both { result ≡ Ok None → seat.new.events ≡ seat.old.events + 2 }
-        ensures carried { IfOk result (λ over. over ≢ Some Lost → seat.old.events < seat.new.events) }
-    {
-        let mut guard = self.lock.lock(rt);
-        if !guard.trap(seat, task, call, after) {
-            return Ok(Some(Turn::Lost));
-        }
-        match guard.begin(seat)? {
-            Ok(pid) => {
-                *task = guard.task(seat, pid);
-                Ok(None)
+        let mut tick = Tick::begin(rt);
+        for _ in rt.forever() {
+            match guard.steps(seat, BATCH)? {
+                Turn::Stepped => {}
+                turn => return Ok(turn),
             }
-            Err(turn) => Ok(Some(turn)),
+            if !tick.goes_on(rt, pace) {
+                return Ok(Turn::Stepped);
+            }
         }
+        unreachable!()
     }
 
     /// What the run leaves, when all seats come back. Takes no memory, and never waits.

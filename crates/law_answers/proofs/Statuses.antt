@@ -6,7 +6,7 @@ use Rattle.std.proofs.lemmas.List.{append_cancel_left}
 use Rattle.mem_files.specs.Name.{Bytes}
 use Rattle.script_load.specs.declared.profile.Profile.{Profile}
 use Rattle.xvsh_read.specs.Path.{Path}
-use Rattle.xvsh_ends.specs.Ends.{verdict_text, Asked, asks_plain, asks_run, asks_strict, asks_check, asks_turns, asks_explain, verdict_status, help, misuse, How, by_schedule, RanBy, Due, plain_ran, no_plain, ran, no_run, ran_strict, no_strict, checked, no_check, counted, not_counted, explained, not_explained, helped, misused, no_memory, Writes, whole, out_stopped, err_stopped, Ends}
+use Rattle.xvsh_ends.specs.Ends.{verdict_text, Asked, asks_plain, asks_run, asks_strict, asks_check, asks_turns, asks_explain, asks_explore, asks_traced, verdict_status, help, misuse, How, by_schedule, RanBy, Due, plain_ran, no_plain, ran, no_run, ran_strict, no_strict, checked, no_check, counted, not_counted, explained, not_explained, explored, not_explored, traced, untraced, helped, misused, no_memory, Writes, whole, out_stopped, err_stopped, Ends}
 use Rattle.xvsh_plain.specs.Running.{RanPlain}
 use Rattle.xvsh_runs.specs.Strict.{RanStrict}
 use Rattle.xvsh_ends.proofs.Dues.{some_status, some_run_status}
@@ -34,6 +34,8 @@ module _ (input : Option Bytes) (file : Path → Option Bytes) where
   DidRun (asks_check script) text told = Unit {0}
   DidRun (asks_turns script paths) text told = Unit {0}
   DidRun (asks_explain script) text told = Unit {0}
+  DidRun (asks_explore profile script paths states all) text told = Unit {0}
+  DidRun (asks_traced what path) text told = Unit {0}
   DidRun help text told = Unit {0}
   DidRun misuse text told = Unit {0}
 
@@ -52,6 +54,10 @@ module _ (input : Option Bytes) (file : Path → Option Bytes) where
   due_well request text told status (not_counted fault why) zero = tt
   due_well request text told status (explained is_fine gave) zero = tt
   due_well request text told status (not_explained fault why) zero = tt
+  due_well request text told status (explored is_whole is_single gave) zero = tt
+  due_well request text told status (not_explored fault why) zero = tt
+  due_well request text told status (traced due) zero = tt
+  due_well request text told status untraced zero = tt
   due_well request text told status (helped shown) zero = tt
   due_well request text told status (misused shown) zero = tt
   due_well request text told status no_memory zero = cc

@@ -8,7 +8,8 @@ use std::alloc::Global;
 use std::cell::Cell;
 use std::io::{self, Write};
 use test_rows::named;
-use xvsh_read::{Host, HostFault};
+use xvsh_read::{Host, HostFault, Unwritten};
+use xvsh_traces::Traces;
 
 // A file of the host, and whether it was read.
 #[derive(Drop)]
@@ -142,6 +143,17 @@ impl Host for Lent<'_> {
                 Ok(Vec::new(alloc))
             }
         }
+    }
+}
+
+// No trace can be made.
+impl Traces for Lent<'_> {
+    fn begin_trace(&mut self, _path: &str) -> Result<(), Unwritten> {
+        Err(Unwritten)
+    }
+
+    fn write_trace(&mut self, _bytes: &[u8]) -> Result<(), Unwritten> {
+        Err(Unwritten)
     }
 }
 

@@ -28,9 +28,9 @@ IsNoRequest what = (what ≡ help) ⊎ (what ≡ misuse)
 abbrev pub IsAskedBy : ArgMatches → Asked → Type 0
 IsAskedBy matches what = ((request : Request) × IsRequestOf matches request × (what ≡ asked request)) ⊎ IsNoRequest what
 
--- the program's command line: on at most 8 harts, and in at most 1,000,000,000 turns
+-- the program's command line: on at most 8 harts, in at most 1,000,000,000 turns, and of at most 10,000,000 states
 abbrev pub own_program : App
-own_program = program 8 1000000000
+own_program = program 8 1000000000 10000000
 
 -- the words of a command line ask for this: they were parsed to the command, and to the words of it, that the program's command
 -- line has of them, and these make a request; or there is none

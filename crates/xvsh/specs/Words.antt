@@ -15,9 +15,10 @@ use Rattle.xvsh_runs.specs.declared.request.ReplayRequest.{ReplayRequest}
 use Rattle.xvsh_plain.specs.declared.request.PlainRequest.{PlainRequest}
 use Rattle.xvsh_checks.specs.declared.request.CheckRequest.{CheckRequest}
 use Rattle.xvsh_checks.specs.declared.request.ExplainRequest.{ExplainRequest}
+use Rattle.xvsh_explores.specs.declared.request.ExploreRequest.{ExploreRequest}
 use Rattle.xvsh_ends.specs.declared.request.Request.{Request}
-use Rattle.xvsh_ends.specs.declared.request.Request.TheVariants.{Run, Replay, Plain, Check, Explain}
-use Rattle.xvsh.specs.declared.request.TheConstants.{HARTS, TURNS}
+use Rattle.xvsh_ends.specs.declared.request.Request.TheVariants.{Run, Replay, Plain, Check, Explain, Explore}
+use Rattle.xvsh.specs.declared.request.TheConstants.{HARTS, TURNS, STATES}
 
 -- whether a flag is among the words: it is where it has the value `true`, and not where it has `false` or no value
 abbrev pub IsFlag : Found → List ℕ → Bool → Type 0
@@ -38,6 +39,10 @@ IsNumber bits default found id number =
     (one_text found id ≡ None → number ≡ default)
     × ((text : List ℕ) → one_text found id ≡ Some text → IsNumeral 10 (without_leading_plus text) → digits_value 10 (without_leading_plus text) < 2 ^ bits → number ≡ digits_value 10 (without_leading_plus text))
 
+-- the path of the trace, if there is one
+abbrev pub IsTrace : Found → Option (Bor Path) → Type 0
+IsTrace found trace = option_map (λ path. path.now) trace ≡ first_value found (codes "trace")
+
 -- the script, its files and its profile
 pub record IsSourceOf (found : Found) (source : Source) : Type 0 where
   pub script : IsPath found (codes "script") source.script.now
@@ -54,12 +59,14 @@ pub record IsRunOf (found : Found) (request : RunRequest) : Type 0 where
   pub files : IsFlag found (codes "files") request.lists.files
   pub schedule : IsFlag found (codes "schedule") request.lists.events
   pub strict : IsFlag found (codes "strict") request.is_strict
+  pub trace : IsTrace found request.trace
 
 pub record IsReplayOf (found : Found) (request : ReplayRequest) : Type 0 where
   pub schedule : IsPath found (codes "events") request.schedule.now
   pub source : IsSourceOf found request.source
   pub files : IsFlag found (codes "files") request.lists.files
   pub events : request.lists.events ≡ false
+  pub trace : IsTrace found request.trace
 
 pub record IsPlainOf (found : Found) (request : PlainRequest) : Type 0 where
   pub source : IsSourceOf found request.source
@@ -74,6 +81,11 @@ pub record IsCheckOf (found : Found) (request : CheckRequest) : Type 0 where
 pub record IsExplainOf (found : Found) (request : ExplainRequest) : Type 0 where
   pub script : IsPath found (codes "script") request.script.now
 
+pub record IsExploreOf (found : Found) (request : ExploreRequest) : Type 0 where
+  pub source : IsSourceOf found request.source
+  pub states : IsNumber 64 STATES found (codes "states") request.states
+  pub all : IsFlag found (codes "all") request.is_thorough
+
 -- the words name a command, and this was found in those of it
 pub record Names (matches : ArgMatches) (name : List ℕ) (found : Found) : Type 0 where
   pub named : subcommand_name_of matches ≡ Some name
@@ -86,7 +98,8 @@ IsRequestOf matches (Replay request) = (found : Found) × Names matches (codes "
 IsRequestOf matches (Plain request) = (found : Found) × Names matches (codes "plain") found × IsPlainOf found request
 IsRequestOf matches (Check request) = (found : Found) × Names matches (codes "check") found × IsCheckOf found request
 IsRequestOf matches (Explain request) = (found : Found) × Names matches (codes "explain") found × IsExplainOf found request
+IsRequestOf matches (Explore request) = (found : Found) × Names matches (codes "explore") found × IsExploreOf found request
 
 -- the name of a command
 abbrev pub IsNamed : Option (List ℕ) → Type 0
-IsNamed name = (name ≡ Some (codes "run")) ⊎ ((name ≡ Some (codes "replay")) ⊎ ((name ≡ Some (codes "plain")) ⊎ ((name ≡ Some (codes "check")) ⊎ (name ≡ Some (codes "explain")))))
+IsNamed name = (name ≡ Some (codes "run")) ⊎ ((name ≡ Some (codes "replay")) ⊎ ((name ≡ Some (codes "plain")) ⊎ ((name ≡ Some (codes "check")) ⊎ ((name ≡ Some (codes "explain")) ⊎ (name ≡ Some (codes "explore"))))))

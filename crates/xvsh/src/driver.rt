@@ -17,14 +17,15 @@ use std::sync::Wait;
 use std::thread::Threads;
 use std::time::Clock;
 use xvsh_ends::{
-    Ending, Line, MAX_HARTS, MAX_TURNS, PlainRequest, Request, ending_of, no_output, report,
-    report_made, report_no_memory, write_ending,
+    Ending, Line, MAX_HARTS, MAX_STATES, MAX_TURNS, PlainRequest, Request, ending_of, no_output,
+    report, report_made, report_no_memory, write_ending,
 };
 use xvsh_read::{Console, Host, Output, STDIN, Source};
+use xvsh_traces::Traces;
 use xvsh_words::command_line;
 
 // How the request ends that parsed words make.
-fn command_ending<R: Threads + Wait + Clock + Sync, H: Host>(
+fn command_ending<R: Threads + Wait + Clock + Sync, H: Host + Traces>(
     rt: &R,
     alloc: Global,
     matches: &ArgMatches<'_>,
@@ -56,6 +57,7 @@ fn help_ending(alloc: Global, text: String) -> Ending
         },
         line: Line::Fixed(""),
         status: 0,
+        recording: None,
     }
 }
 
@@ -80,7 +82,7 @@ fn error_ending(alloc: Global, error: &clap::Error) -> Ending
 }
 
 // How the program ends on these words, of which there is one.
-fn words_ending<R: Threads + Wait + Clock + Sync, H: Host>(
+fn words_ending<R: Threads + Wait + Clock + Sync, H: Host + Traces>(
     rt: &R,
     alloc: Global,
     words: &[String],
@@ -89,7 +91,7 @@ fn words_ending<R: Threads + Wait + Clock + Sync, H: Host>(
     ensures due { (asked : Asked) × IsAskedByWords (map string_bytes words.now) asked × IsDue (H.input host.old) (H.file host.old) asked result }
     ensures nothing { result.status ≢ 0 → result.status ≢ 3 → result.status ≢ 4 → out_text result.output ≡ [] }
 {
-    let Ok(command) = command_line(alloc, u64::from(MAX_HARTS), MAX_TURNS) else {
+    let Ok(command) = command_line(alloc, u64::from(MAX_HARTS), MAX_TURNS, MAX_STATES) else {
         return report_no_memory(alloc);
     };
     match command.try_get_matches_from(words) {
@@ -99,7 +101,7 @@ fn words_ending<R: Threads + Wait + Clock + Sync, H: Host>(
 }
 
 // How it ends without words: as `plain -`.
-fn no_words_ending<R: Threads + Wait + Clock + Sync, H: Host>(
+fn no_words_ending<R: Threads + Wait + Clock + Sync, H: Host + Traces>(
     rt: &R,
     alloc: Global,
     host: &mut H,
@@ -120,7 +122,7 @@ fn no_words_ending<R: Threads + Wait + Clock + Sync, H: Host>(
 }
 
 // How it ends on these words.
-fn ending_on<R: Threads + Wait + Clock + Sync, H: Host>(
+fn ending_on<R: Threads + Wait + Clock + Sync, H: Host + Traces>(
     rt: &R,
     alloc: Global,
     words: &[String],
@@ -149,25 +151,31 @@ fn ending_on<R: Threads + Wait + Clock + Sync, H: Host>(
 /// `not settled` goes to standard error: whether the script prints the same in any order of its processes. With `--strict`
 /// the status of a script that isn't settled is 3.
 ///
-/// `run [--harts N] [--turns N] [--schedule] [--append] [--files] [--strict] SCRIPT [FILE]..` reads the same and runs the
+/// `run [--harts N] [--turns N] [--schedule] [--trace FILE] [--append] [--files] [--strict] SCRIPT [FILE]..` reads the same and runs the
 /// script by its processes, on 4 harts or N, of which each is a thread, in at most 10,000,000 turns or N. It writes the output,
 /// with `--files` all files, and with `--schedule` a line an event, and to standard error the diagnostics, and then, where
 /// something was full, what. With `--strict` it finds out first whether the script is settled, and the status of one that isn't
-/// is 3, unless something was full. `replay [--append] [--files] SCHEDULE SCRIPT [FILE]..` runs a script by the events of a
-/// schedule in that form, which it reads first.
+/// is 3, unless something was full. `replay [--trace FILE] [--append] [--files] SCHEDULE SCRIPT [FILE]..` runs a script by the
+/// events of a schedule in that form, which it reads first. With `--trace` both write first what each event did to a file, or for
+/// `-` to standard output, and then nothing else goes there; a trace that can't be written is a fault of status 1.
 ///
 /// `check SCRIPT` reads and loads the script, runs nothing, and writes the faults, the `&` and the first clash of each line.
 /// `check --turns SCRIPT [FILE]..` reads what `plain` reads, and writes last how many turns are enough for a run by processes.
 /// `explain SCRIPT` reads and loads the script, runs nothing, and writes in sentences what its lines are not, or
 /// `nothing to tell`.
 ///
+/// `explore [--states N] [--all] [--append] SCRIPT [FILE]..` reads what `plain` reads, tries every order in which the script's
+/// processes can take their turns, through at most 200,000 states or N, and writes the outcomes, each with the events of a
+/// shortest run to it. A settled script has one output, which is written without trying, unless with `--all`.
+///
 /// A fault goes to standard error as one line, and then nothing of the script was written. The status is 1 for what can't be
 /// read or is refused, and for a schedule that is not of a finished run; 2 for words that are no command line; 3 where `check`
-/// reported a clash or a `&`, or `explain` a note, or as above; 4 for a run that is too large, is past its turns, is out of
+/// reported a clash or a `&`, or `explain` a note, or `explore` found more than one output or set of files, or as above; 4 for an
+/// exploration that didn't try every order, and for a run that is too large, is past its turns, is out of
 /// memory, or met something full, which alone is reported after what it wrote. `--help` and `--version` go to standard output.
 /// Where standard output or standard error takes no more, it holds a beginning of what was due, nothing more is written, and the
 /// status is 1.
-pub fn drive<R: Threads + Wait + Clock + Sync, H: Host, W: Write, E: Write>(
+pub fn drive<R: Threads + Wait + Clock + Sync, H: Host + Traces, W: Write, E: Write>(
     rt: &R,
     alloc: Global,
     words: Vec<String>,

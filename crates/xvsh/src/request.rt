@@ -1,12 +1,13 @@
 //! The request that the words of a command line make.
 ghost use Rattle.std.specs.Prelude.{◌≡◌, ◌≢◌, None, Some, IfSome, codes};
 ghost use Rattle.clap.specs.Matches.{found_of, subcommand_name_of};
-ghost use Rattle.xvsh.specs.Words.{IsCheckOf, IsExplainOf, IsFlag, IsNamed, IsNumber, IsPath, ArePaths, IsPlainOf, IsReplayOf, IsRequestOf, IsRunOf, IsSourceOf};
+ghost use Rattle.xvsh.specs.Words.{IsCheckOf, IsExplainOf, IsExploreOf, IsFlag, IsNamed, IsNumber, IsPath, ArePaths, IsPlainOf, IsReplayOf, IsRequestOf, IsRunOf, IsSourceOf, IsTrace};
 
 use clap::ArgMatches;
 use script_load::Profile;
 use xvsh_ends::{
-    CheckRequest, ExplainRequest, Lists, PlainRequest, ReplayRequest, Request, RunRequest,
+    CheckRequest, ExplainRequest, ExploreRequest, Lists, PlainRequest, ReplayRequest, Request,
+    RunRequest,
 };
 use xvsh_read::{STDIN, Source, profile_of};
 
@@ -15,6 +16,9 @@ const HARTS: u8 = 4;
 
 /// The most turns of a run, if the words name none (own).
 const TURNS: u64 = 10_000_000;
+
+/// The most states of an exploration, if the words name none (own).
+const STATES: u64 = 200_000;
 
 // Whether a flag is among the words.
 fn flag_of(words: &ArgMatches<'_>, name: &str) -> bool
@@ -69,6 +73,22 @@ fn turns_of(words: &ArgMatches<'_>) -> u64
     }
 }
 
+fn states_of(words: &ArgMatches<'_>) -> u64
+    ensures { IsNumber 64 STATES (found_of words.now) (codes "states") result }
+{
+    match words.get_one::<u64>("states") {
+        Some(states) => states,
+        None => STATES,
+    }
+}
+
+// The path of the trace, if there is to be one.
+fn trace_of<'m>(words: &'m ArgMatches<'_>) -> Option<&'m str>
+    ensures { IsTrace (found_of words.now) result }
+{
+    words.get_str("trace")
+}
+
 fn run_of<'m>(words: &'m ArgMatches<'_>) -> RunRequest<'m>
     ensures { IsRunOf (found_of words.now) result }
 {
@@ -81,6 +101,7 @@ fn run_of<'m>(words: &'m ArgMatches<'_>) -> RunRequest<'m>
             events: flag_of(words, "schedule"),
         },
         is_strict: flag_of(words, "strict"),
+        trace: trace_of(words),
     }
 }
 
@@ -94,6 +115,7 @@ fn replay_of<'m>(words: &'m ArgMatches<'_>) -> ReplayRequest<'m>
             files: flag_of(words, "files"),
             events: false,
         },
+        trace: trace_of(words),
     }
 }
 
@@ -125,8 +147,18 @@ fn explain_of<'m>(words: &'m ArgMatches<'_>) -> ExplainRequest<'m>
     }
 }
 
+fn explore_of<'m>(words: &'m ArgMatches<'_>) -> ExploreRequest<'m>
+    ensures { IsExploreOf (found_of words.now) result }
+{
+    ExploreRequest {
+        source: source_of(words),
+        states: states_of(words),
+        is_thorough: flag_of(words, "all"),
+    }
+}
+
 /// The request that parsed words make: the command that they name, with its words and, where they name none, `-` for a path,
-/// 4 harts and 10,000,000 turns. `None` where they name no command.
+/// 4 harts, 10,000,000 turns and 200,000 states. `None` where they name no command.
 pub fn request_of<'m>(matches: &'m ArgMatches<'_>) -> Option<Request<'m>>
     ensures request { IfSome result (IsRequestOf matches.now) }
     ensures none { result ≡ None → IsNamed (subcommand_name_of matches.now) → ⊥ }
@@ -141,6 +173,8 @@ pub fn request_of<'m>(matches: &'m ArgMatches<'_>) -> Option<Request<'m>>
         Some(Request::Check(check_of(words)))
     } else if let Some(words) = matches.subcommand_matches("explain") {
         Some(Request::Explain(explain_of(words)))
+    } else if let Some(words) = matches.subcommand_matches("explore") {
+        Some(Request::Explore(explore_of(words)))
     } else {
         None
     }

@@ -2,18 +2,32 @@ ghost use Rattle.std.specs.Prelude.{None};
 
 use std::alloc::Global;
 use std::fs::File;
+use std::io;
 use std::rt::Files;
-use xvsh_read::{Host, HostFault, read_all};
+use xvsh_read::{Host, HostFault, STDIN, Unwritten, read_all, write};
+use xvsh_traces::Traces;
+
+// Where the trace goes that was begun last.
+#[derive(Drop)]
+enum Sink<F> {
+    Nowhere,
+    StandardOutput,
+    File(F),
+}
 
 /// The system, whose standard input and files are unknown before they are read.
 #[derive(Drop)]
-pub struct System<R> {
+pub struct System<R: Files> {
     rt: R,
+    sink: Sink<R::File>,
 }
 
-impl<R> System<R> {
+impl<R: Files> System<R> {
     pub fn new(rt: R) -> Self {
-        System { rt }
+        System {
+            rt,
+            sink: Sink::Nowhere,
+        }
     }
 }
 
@@ -30,6 +44,30 @@ impl<R: Input + Files> Host for System<R> {
         match File::open(&self.rt, path) {
             Ok(file) => read_all(alloc, file, limit),
             Err(_) => Err(HostFault::Unreadable),
+        }
+    }
+}
+
+impl<R: Files + Print> Traces for System<R> {
+    fn begin_trace(&mut self, path: &str) -> Result<(), Unwritten> {
+        if path == STDIN {
+            self.sink = Sink::StandardOutput;
+            return Ok(());
+        }
+        match File::create(&self.rt, path) {
+            Ok(file) => {
+                self.sink = Sink::File(file);
+                Ok(())
+            }
+            Err(_) => Err(Unwritten),
+        }
+    }
+
+    fn write_trace(&mut self, bytes: &[u8]) -> Result<(), Unwritten> {
+        match &mut self.sink {
+            Sink::Nowhere => Err(Unwritten),
+            Sink::StandardOutput => write(&mut io::writer(&self.rt), bytes),
+            Sink::File(file) => write(file, bytes),
         }
     }
 }

@@ -1,6 +1,7 @@
 -- What is due, by what a command returned and what is reported of it.
 use Rattle.std.proofs.Common.{◌≡◌, ◌≢◌, ℕ, Bool, true, false, [], Option, Some, None, Result, Ok, Err, refl, sym, subst}
-use Rattle.std.specs.Prelude.{MatchResult}
+use Rattle.std.specs.Prelude.{MatchResult, codes, if◌then◌else◌}
+use Rattle.std.specs.Str.{bytes_eq}
 use Rattle.std.specs.Io.KnownBytes.{Keeps}
 use Rattle.mem_files.specs.Name.{Bytes}
 use Rattle.kernel_model.specs.declared.events.Full.{Full}
@@ -12,7 +13,7 @@ use Rattle.xvsh_read.specs.Writing.{out_text}
 use Rattle.xvsh_runs.specs.declared.fault.ProcessFault.{ProcessFault}
 use Rattle.xvsh_runs.specs.declared.fault.ProcessFault.TheVariants.{Common, BadHarts, BadTurns, Spent, SharedInput, NoEvent, NotRunnable, NotRunning, Unfinished}
 use Rattle.xvsh_runs.specs.Status.{run_status}
-use Rattle.xvsh_ends.specs.Ends.{Asked, asks_plain, asks_run, asks_strict, asks_check, asks_turns, asks_explain, help, misuse, verdict_status, check_status, full_status, told_text, Due, plain_ran, no_plain, ran, no_run, ran_strict, no_strict, checked, no_check, counted, not_counted, explained, not_explained, helped, misused, no_memory, IsDue, Tells, TellsOr, tells, lacks_memory}
+use Rattle.xvsh_ends.specs.Ends.{Asked, asks_plain, asks_run, asks_strict, asks_check, asks_turns, asks_explain, asks_explore, help, misuse, verdict_status, check_status, explore_status, full_status, told_text, Due, plain_ran, no_plain, ran, no_run, ran_strict, no_strict, checked, no_check, counted, not_counted, explained, not_explained, explored, not_explored, helped, misused, no_memory, IsDue, Tells, TellsOr, tells, lacks_memory, asks_traced, traced, untraced, beside_trace}
 use Rattle.xvsh_ends.specs.Requests.{UnlessPrinted}
 use Rattle.xvsh_ends.specs.declared.ending.Ending.{Ending}
 
@@ -77,6 +78,11 @@ check_prints : {X : Type 0} (is : Bool) → check_status is ≢ 0 → check_stat
 check_prints true some three = absurd (some refl)
 check_prints false some three = absurd (three refl)
 
+explore_prints : {X : Type 0} (is_whole is_single : Bool) → explore_status is_whole is_single ≢ 0 → explore_status is_whole is_single ≢ 3 → explore_status is_whole is_single ≢ 4 → X
+explore_prints false is_single some three four = absurd (four refl)
+explore_prints true false some three four = absurd (three refl)
+explore_prints true true some three four = absurd (some refl)
+
 unless : (asked : Asked) (status : ℕ) (same : Type 0) → same → UnlessPrinted asked status same
 unless (asks_plain profile script paths lists strict) status same is = λ some three. is
 unless (asks_run profile script paths how lists) status same is = λ some four. is
@@ -84,8 +90,26 @@ unless (asks_strict profile script paths harts turns lists) status same is = λ 
 unless (asks_check script) status same is = λ some three. is
 unless (asks_turns script paths) status same is = λ some three. is
 unless (asks_explain script) status same is = λ some three. is
+unless (asks_explore profile script paths states all) status same is = λ some three four. is
+unless (asks_traced what path) status same is = unless what status same is
 unless help status same is = λ some. is
 unless misuse status same is = is
+
+unless_implied : (asked : Asked) (status : ℕ) (same other : Type 0) → (same → other) → UnlessPrinted asked status same → UnlessPrinted asked status other
+unless_implied (asks_plain profile script paths lists strict) status same other implies is = λ some three. implies (is some three)
+unless_implied (asks_run profile script paths how lists) status same other implies is = λ some four. implies (is some four)
+unless_implied (asks_strict profile script paths harts turns lists) status same other implies is = λ some three four. implies (is some three four)
+unless_implied (asks_check script) status same other implies is = λ some three. implies (is some three)
+unless_implied (asks_turns script paths) status same other implies is = λ some three. implies (is some three)
+unless_implied (asks_explain script) status same other implies is = λ some three. implies (is some three)
+unless_implied (asks_explore profile script paths states all) status same other implies is = λ some three four. implies (is some three four)
+unless_implied (asks_traced what path) status same other implies is = unless_implied what status same other implies is
+unless_implied help status same other implies is = λ some. implies (is some)
+unless_implied misuse status same other implies is = implies is
+
+beside_nothing : (b : Bool) (text : Bytes) → text ≡ [] → (if b then [] else text) ≡ []
+beside_nothing true text is = refl
+beside_nothing false text is = is
 
 module _ (input : Option Bytes) (file : Path → Option Bytes) where
   -- nothing goes to standard output with another status than these
@@ -104,6 +128,10 @@ module _ (input : Option Bytes) (file : Path → Option Bytes) where
   nothing_due asked text told status (not_counted fault why) = λ some three. refl
   nothing_due asked text told status (explained is_fine gave) = λ some three. check_prints is_fine some three
   nothing_due asked text told status (not_explained fault why) = λ some three. refl
+  nothing_due asked text told status (explored is_whole is_single gave) = λ some three four. explore_prints is_whole is_single some three four
+  nothing_due asked text told status (not_explored fault why) = λ some three four. refl
+  nothing_due asked text told status (traced {what = what} {path = path} {text = inner} due) = unless_implied what status (inner ≡ []) (beside_trace path inner ≡ []) (beside_nothing (bytes_eq path (codes "-")) inner) (nothing_due what inner told status due)
+  nothing_due asked text told status (untraced {what = what}) = unless what 1 ([] ≡ []) refl
   nothing_due asked text told status (helped whole) = λ some. absurd (some refl)
   nothing_due asked text told status (misused whole) = refl
   nothing_due asked text told status no_memory = unless asked 4 ([] ≡ []) refl

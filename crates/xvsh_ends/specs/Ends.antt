@@ -1,5 +1,6 @@
 -- With which status the program ends, why, and what it prints by then.
-use Rattle.std.specs.Prelude.{◌≡◌, ℕ, Bool, true, false, List, [], ◌++◌, Option, Some, None, codes, string_bytes}
+use Rattle.std.specs.Prelude.{◌≡◌, ℕ, Bool, true, false, if◌then◌else◌, List, [], ◌∷◌, ◌++◌, Option, Some, None, codes, string_bytes}
+use Rattle.std.specs.Str.{bytes_eq}
 use Rattle.std.specs.Borrow.{Bor}
 use Rattle.std.specs.Io.KnownBytes.{Appends, Keeps}
 use Rattle.mem_files.specs.Name.{Bytes}
@@ -19,6 +20,7 @@ use Rattle.xvsh_plain.specs.Running.{RanPlain, IsPlainFault}
 use Rattle.xvsh_checks.specs.Check.{RanCheck, IsCheckFault}
 use Rattle.xvsh_checks.specs.Explain.{RanExplain}
 use Rattle.xvsh_checks.specs.Turns.{RanTurns, IsTurnsFault}
+use Rattle.xvsh_explores.specs.Explores.{RanExplore, IsExploreFault}
 use Rattle.xvsh_runs.specs.Strict.{RanStrict, IsStrictFault}
 use Rattle.xvsh_ends.specs.declared.ending.Ending.{Ending}
 use Rattle.xvsh_ends.specs.declared.ending.Line.{Line}
@@ -32,7 +34,8 @@ pub data How : Type 0 where
 -- what the words of the command line ask for: a run of the script at a path under a profile, on the files at these paths,
 -- by its meaning, with a list of the files or without, and strictly or not, or by its processes, with lists or without, or
 -- strictly on so many harts in at most so many turns; a check of the script at a path, or one that reports its turns on these
--- files too; notes on the script at a path in sentences; the help; or no command
+-- files too; notes on the script at a path in sentences; its outcomes in every order, found among at most so many states, with every
+-- order tried of a settled script too or not; the help; or no command
 pub data Asked : Type 0 where
   asks_plain : Profile → Path → List (Bor Path) → Bool → Bool → Asked
   asks_run : Profile → Path → List (Bor Path) → How → Lists → Asked
@@ -40,6 +43,9 @@ pub data Asked : Type 0 where
   asks_check : Path → Asked
   asks_turns : Path → List (Bor Path) → Asked
   asks_explain : Path → Asked
+  asks_explore : Profile → Path → List (Bor Path) → ℕ → Bool → Asked
+  -- the same, with a trace of the run at a path
+  asks_traced : Asked → Path → Asked
   help : Asked
   misuse : Asked
 
@@ -60,6 +66,12 @@ abbrev pub check_status : Bool → ℕ
 check_status true = 0
 check_status false = 3
 
+-- the status of an exploration, by whether every order was tried, and whether all outcomes have one output and one set of files
+abbrev pub explore_status : Bool → Bool → ℕ
+explore_status false is_single = 4
+explore_status true false = 3
+explore_status true true = 0
+
 -- what is reported of what was full in a run, and its status: 4, or this one where nothing was
 abbrev pub full_text : Option Full → Bytes
 full_text None = []
@@ -68,6 +80,14 @@ full_text (Some full) = full_told full
 abbrev pub full_status : Option Full → ℕ → ℕ
 full_status None status = status
 full_status (Some full) status = 4
+
+-- what goes to standard output beside a trace at this path: nothing where the trace goes there
+abbrev pub beside_trace : Path → Bytes → Bytes
+beside_trace path text = if bytes_eq path (codes "-") then [] else text
+
+-- what is reported of a trace that can't be written at a path
+abbrev pub untraced_told : Path → Bytes
+untraced_told path = codes "xvsh: cannot write " ++ (path ++ 10 ∷ [])
 
 -- what follows is by what the host states of standard input and of the files at paths
 module _ (input : Option Bytes) (file : Path → Option Bytes) where
@@ -101,6 +121,12 @@ module _ (input : Option Bytes) (file : Path → Option Bytes) where
     -- the notes on a script in sentences; or why there are none
     explained : {script : Path} {text : Bytes} (is_fine : Bool) → RanExplain input file script is_fine text → Due (asks_explain script) text [] (check_status is_fine)
     not_explained : {script : Path} (fault : Fault) → IsCheckFault input file script fault → Due (asks_explain script) [] (fault_told fault) (status_of fault)
+    -- the outcomes in every order; or why none is told
+    explored : {profile : Profile} {script : Path} {paths : List (Bor Path)} {states : ℕ} {all : Bool} {text : Bytes} (is_whole is_single : Bool) → RanExplore input file profile script paths all is_whole is_single → Due (asks_explore profile script paths states all) text [] (explore_status is_whole is_single)
+    not_explored : {profile : Profile} {script : Path} {paths : List (Bor Path)} {states : ℕ} {all : Bool} (fault : Fault) → IsExploreFault input file script paths fault → Due (asks_explore profile script paths states all) [] (fault_told fault) (status_of fault)
+    -- the same of a request with a trace, beside the trace; or that this can't be written
+    traced : {what : Asked} {path : Path} {text told : Bytes} {status : ℕ} → Due what text told status → Due (asks_traced what path) (beside_trace path text) told status
+    untraced : {what : Asked} {path : Path} → Due (asks_traced what path) [] (untraced_told path) 1
     -- some text, of words that are no command line on standard error
     helped : (text : Bytes) → Due help text [] 0
     misused : (text : Bytes) → Due misuse [] text 2

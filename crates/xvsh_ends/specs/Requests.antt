@@ -1,14 +1,17 @@
 -- What the program is asked for, and how it ends, by what is known of its console.
-use Rattle.std.specs.Prelude.{◌≢◌, ℕ, Bool, true, false, IsTrue}
+use Rattle.std.specs.Prelude.{◌≢◌, ℕ, Bool, true, false, IsTrue, Option, Some, None}
+use Rattle.std.specs.Borrow.{Bor}
+use Rattle.xvsh_read.specs.Path.{Path}
 use Rattle.xvsh_read.specs.Console.{Known}
 use Rattle.xvsh_runs.specs.declared.request.RunRequest.{RunRequest}
 use Rattle.xvsh_runs.specs.declared.request.ReplayRequest.{ReplayRequest}
 use Rattle.xvsh_plain.specs.declared.request.PlainRequest.{PlainRequest}
 use Rattle.xvsh_checks.specs.declared.request.CheckRequest.{CheckRequest}
 use Rattle.xvsh_checks.specs.declared.request.ExplainRequest.{ExplainRequest}
+use Rattle.xvsh_explores.specs.declared.request.ExploreRequest.{ExploreRequest}
 use Rattle.xvsh_ends.specs.declared.request.Request.{Request}
-use Rattle.xvsh_ends.specs.declared.request.Request.TheVariants.{Run, Replay, Plain, Check, Explain}
-use Rattle.xvsh_ends.specs.Ends.{Asked, asks_plain, asks_run, asks_strict, asks_check, asks_turns, asks_explain, help, misuse, on_harts, by_schedule, Ends}
+use Rattle.xvsh_ends.specs.declared.request.Request.TheVariants.{Run, Replay, Plain, Check, Explain, Explore}
+use Rattle.xvsh_ends.specs.Ends.{Asked, asks_plain, asks_run, asks_strict, asks_check, asks_turns, asks_explain, asks_explore, help, misuse, on_harts, by_schedule, Ends, asks_traced}
 
 -- a run by processes, strictly or not
 abbrev pub run_asked : Bool → RunRequest → Asked
@@ -29,16 +32,25 @@ check_asked true request = asks_turns request.script.now request.files.now
 abbrev pub explain_asked : ExplainRequest → Asked
 explain_asked request = asks_explain request.script.now
 
+abbrev pub explore_asked : ExploreRequest → Asked
+explore_asked request = asks_explore request.source.profile request.source.script.now request.source.files.now request.states request.is_thorough
+
+-- the same, with a trace of the run, if there is to be one
+abbrev pub traced_asked : Option (Bor Path) → Asked → Asked
+traced_asked None what = what
+traced_asked (Some path) what = asks_traced what path.now
+
 -- what a request asks for
 abbrev pub asked : Request → Asked
-asked (Run request) = run_asked request.is_strict request
-asked (Replay request) = replay_asked request
+asked (Run request) = traced_asked request.trace (run_asked request.is_strict request)
+asked (Replay request) = traced_asked request.trace (replay_asked request)
 asked (Plain request) = plain_asked request
 asked (Check request) = check_asked request.counts_turns request
 asked (Explain request) = explain_asked request
+asked (Explore request) = explore_asked request
 
--- this holds, unless what is due has a status with which something goes to standard output: 0; 3 of a strict run, of a check and
--- of notes; and 4 of a run by processes, where something was full
+-- this holds, unless what is due has a status with which something goes to standard output: 0; 3 of a strict run, of a check, of
+-- notes and of an exploration; and 4 of a run by processes, where something was full, and of an exploration of a part
 abbrev pub UnlessPrinted : Asked → ℕ → Type 0 → Type 0
 UnlessPrinted (asks_plain profile script paths lists strict) status same = status ≢ 0 → (IsTrue strict → status ≢ 3) → same
 UnlessPrinted (asks_run profile script paths how lists) status same = status ≢ 0 → status ≢ 4 → same
@@ -46,6 +58,8 @@ UnlessPrinted (asks_strict profile script paths harts turns lists) status same =
 UnlessPrinted (asks_check script) status same = status ≢ 0 → status ≢ 3 → same
 UnlessPrinted (asks_turns script paths) status same = status ≢ 0 → status ≢ 3 → same
 UnlessPrinted (asks_explain script) status same = status ≢ 0 → status ≢ 3 → same
+UnlessPrinted (asks_explore profile script paths states all) status same = status ≢ 0 → status ≢ 3 → status ≢ 4 → same
+UnlessPrinted (asks_traced what path) status same = UnlessPrinted what status same
 UnlessPrinted help status same = status ≢ 0 → same
 UnlessPrinted misuse status same = same
 

@@ -4,13 +4,13 @@ ghost use Rattle.std.specs.Io.KnownBytes.{Appends};
 ghost use Rattle.xvsh_read.specs.Status.{fault_told, status_of};
 ghost use Rattle.xvsh_read.specs.Writing.{AppendsPart, out_text};
 ghost use Rattle.xvsh_runs.specs.Status.{run_fault_told, run_status};
-ghost use Rattle.xvsh_ends.specs.Ends.{Tells, TellsOr, Writes, line_text, told_text};
+ghost use Rattle.xvsh_ends.specs.Ends.{Tells, TellsOr, Writes, line_text, told_text, untraced_told};
 
 use sh_lexer::Bytes;
 use std::alloc::{AllocError, Global};
 use std::io::Write;
 use xvsh_read::{Fault, Output, Unwritten, write, write_out};
-use xvsh_runs::ProcessFault;
+use xvsh_runs::{ProcessFault, Recording};
 
 /// What the program itself reports on standard error: a text of its own, or one that was made.
 #[derive(Drop)]
@@ -33,12 +33,14 @@ impl Line {
     }
 }
 
-/// How the program ends: what it prints, and after its diagnostics a report of its own on standard error, and the status.
+/// How the program ends: what it prints, and after its diagnostics a report of its own on standard error, and the status; and
+/// what makes the run once more, where it was one by processes.
 #[derive(Drop)]
 pub struct Ending {
     pub output: Output,
     pub line: Line,
     pub status: u8,
+    pub recording: Option<Recording>,
 }
 
 /// Nothing.
@@ -64,6 +66,7 @@ pub fn report(alloc: Global, line: Line, status: u8) -> Ending
         output: no_output(alloc),
         line,
         status,
+        recording: None,
     }
 }
 
@@ -96,6 +99,13 @@ pub fn report_run_fault(alloc: Global, fault: ProcessFault<'_>) -> Ending
     ensures { TellsOr (run_fault_told fault.entry) (run_status fault.entry) result }
 {
     report_made(alloc, format!(in alloc; "xvsh: {fault}\n"), fault.status())
+}
+
+/// The report of a trace that can't be written at the path.
+pub fn report_untraced(alloc: Global, path: &str) -> Ending
+    ensures { TellsOr (untraced_told path.now) 1 result }
+{
+    report_made(alloc, format!(in alloc; "xvsh: cannot write {path}\n"), 1)
 }
 
 // Writes what goes to standard error.

@@ -3,12 +3,15 @@
 
 mod checks;
 mod ending;
+mod explorations;
 mod plain;
 mod processes;
 mod request;
+mod tracing;
 
 pub use ending::{Ending, Line, no_output, report, report_made, report_no_memory, write_ending};
 pub use request::{Request, ending_of};
 pub use xvsh_checks::{CheckRequest, ExplainRequest};
+pub use xvsh_explores::{ExploreRequest, MAX_STATES};
 pub use xvsh_plain::PlainRequest;
 pub use xvsh_runs::{Lists, MAX_HARTS, MAX_TURNS, ReplayRequest, RunRequest};

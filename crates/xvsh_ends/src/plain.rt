@@ -37,6 +37,7 @@ fn settled(run: PlainRun, is_strict: bool) -> Ending
         output: run.output,
         line: Line::Fixed(verdict(run.is_settled)),
         status: verdict_status(is_strict, run.is_settled),
+        recording: None,
     }
 }
 

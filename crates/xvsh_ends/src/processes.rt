@@ -40,11 +40,13 @@ fn ran(run: Run, status: u8) -> Ending
             output: run.output,
             line: Line::Fixed(full_line(full)),
             status: 4,
+            recording: Some(run.recording),
         },
         None => Ending {
             output: run.output,
             line: Line::Fixed(""),
             status,
+            recording: Some(run.recording),
         },
     }
 }

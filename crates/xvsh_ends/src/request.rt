@@ -6,16 +6,20 @@ ghost use Rattle.xvsh_ends.specs.Requests.{UnlessPrinted, asked};
 
 use crate::checks::{check_ending, explain_ending};
 use crate::ending::Ending;
+use crate::explorations::explore_ending;
 use crate::plain::plain_ending;
 use crate::processes::{replay_ending, run_ending};
+use crate::tracing::traced;
 use std::alloc::Global;
 use std::sync::Wait;
 use std::thread::Threads;
 use std::time::Clock;
 use xvsh_checks::{CheckRequest, ExplainRequest};
+use xvsh_explores::ExploreRequest;
 use xvsh_plain::PlainRequest;
 use xvsh_read::Host;
 use xvsh_runs::{ReplayRequest, RunRequest};
+use xvsh_traces::Traces;
 
 /// What the program is asked for: one of its commands.
 #[derive(Clone, Copy, Debug)]
@@ -30,10 +34,13 @@ pub enum Request<'a> {
     Check(CheckRequest<'a>),
     /// `explain`.
     Explain(ExplainRequest<'a>),
+    /// `explore`.
+    Explore(ExploreRequest<'a>),
 }
 
-/// Carries out a request, and returns how the program ends: what it prints, or why it can't. Nothing is written.
-pub fn ending_of<R: Threads + Wait + Clock + Sync, H: Host>(
+/// Carries out a request, and returns how the program ends: what it prints, or why it can't. Nothing is written but the trace of
+/// a run, where one is requested.
+pub fn ending_of<R: Threads + Wait + Clock + Sync, H: Host + Traces>(
     rt: &R,
     alloc: Global,
     request: &Request<'_>,
@@ -43,10 +50,17 @@ pub fn ending_of<R: Threads + Wait + Clock + Sync, H: Host>(
     ensures nothing { UnlessPrinted (asked request.now) result.status (out_text result.output ≡ []) }
 {
     match request {
-        Request::Run(run) => run_ending(rt, alloc, run, host),
-        Request::Replay(replay) => replay_ending(alloc, replay, host),
+        Request::Run(run) => {
+            let ending = run_ending(rt, alloc, run, host);
+            traced(alloc, ending, run.trace, host)
+        }
+        Request::Replay(replay) => {
+            let ending = replay_ending(alloc, replay, host);
+            traced(alloc, ending, replay.trace, host)
+        }
         Request::Plain(plain) => plain_ending(alloc, plain, host),
         Request::Check(check) => check_ending(alloc, check, host),
         Request::Explain(explain) => explain_ending(alloc, explain, host),
+        Request::Explore(explore) => explore_ending(alloc, explore, host),
     }
 }

@@ -12,7 +12,7 @@ pub use fault::ProcessFault;
 pub use hart_run::MAX_HARTS;
 pub use kernel_core::MAX_TURNS;
 pub use replaying::{MAX_SCHEDULE, run_replay};
-pub use report::{Lists, Run};
+pub use report::{Lists, Recording, Run};
 pub use request::{ReplayRequest, RunRequest};
 pub use running::run_processes;
 pub use strict::{StrictRun, run_strict};

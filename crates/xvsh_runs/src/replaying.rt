@@ -94,6 +94,16 @@ fn replay_bytes<'a>(
     replay_started(alloc, start, events.as_slice())
 }
 
+// On how many harts these events are: the first ones, up to the last that has one.
+fn harts_of(events: &[Event]) -> u8 {
+    let mut harts = 1;
+    for event in events {
+        let (Event::Dispatch(hart, _) | Event::Trap(hart, _)) = *event;
+        harts = hart.saturating_add(1).max(harts);
+    }
+    harts
+}
+
 // Whether the schedule and the script would both be read from standard input.
 fn shares_input(schedule: &str, script: &str) -> bool
     ensures { result ≡ (bytes_eq schedule.now (codes "-") && bytes_eq script.now (codes "-")) }
@@ -120,6 +130,7 @@ pub fn run_replay<'a, H: Host>(
     let is_taken = schedule == STDIN;
     let start = prepare(alloc, host, &request.source, is_taken)?;
     let report = replay_bytes(alloc, schedule, bytes.as_slice(), &start)?;
-    let run = run_of(alloc, report, request.lists)?;
+    let harts = harts_of(report.schedule.as_slice());
+    let run = run_of(alloc, start, harts, report, request.lists)?;
     Ok(run)
 }

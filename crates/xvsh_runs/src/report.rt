@@ -4,12 +4,13 @@ ghost use Rattle.xvsh_read.specs.Writing.{out_text};
 ghost use Rattle.xvsh_runs.specs.Lists.{files_text, events_text, run_text};
 
 use kernel_core::Report;
+use kernel_events::Schedule;
 use kernel_model::{Event, Full};
 use mem_files::Files;
 use schedule_lines::schedule_text;
 use sh_lexer::Bytes;
 use std::alloc::{AllocError, Global};
-use xvsh_read::{Output, listing};
+use xvsh_read::{Output, Start, listing};
 
 /// Which lists are printed after the output of a run.
 #[derive(Clone, Copy, Debug, PartialEq, Eq)]
@@ -42,6 +43,14 @@ fn list_events(alloc: Global, lists: bool, events: &[Event]) -> Result<Vec<u8>, 
     }
 }
 
+/// What makes a run once more: what it began with, on how many harts it was run, and its events.
+#[derive(Drop)]
+pub struct Recording {
+    pub start: Start,
+    pub harts: u8,
+    pub schedule: Schedule<Global>,
+}
+
 /// A run by processes.
 #[derive(Drop)]
 pub struct Run {
@@ -49,14 +58,24 @@ pub struct Run {
     pub output: Output,
     /// What was full in it, if something was.
     pub full: Option<Full>,
+    /// What makes it once more.
+    pub recording: Recording,
 }
 
 /// What is printed of a run: its output, the list of the files and that of the events where they are requested, and to standard
-/// error its diagnostics.
-pub fn run_of(alloc: Global, report: Report<Global>, lists: Lists) -> Result<Run, AllocError>
+/// error its diagnostics; and what makes it once more.
+pub fn run_of(
+    alloc: Global,
+    start: Start,
+    harts: u8,
+    report: Report<Global>,
+    lists: Lists,
+) -> Result<Run, AllocError>
     ensures out { IfOk result (λ run. out_text run.output ≡ run_text lists report.out.items report.files report.schedule) }
     ensures err { IfOk result (λ run. run.output.err.items ≡ report.diag.items) }
     ensures full { IfOk result (λ run. run.full ≡ report.full) }
+    ensures start { IfOk result (λ run. run.recording.start ≡ start) }
+    ensures schedule { IfOk result (λ run. run.recording.schedule ≡ report.schedule) }
 {
     let files = list_files(alloc, lists.files, &report.files)?;
     let events = list_events(alloc, lists.events, report.schedule.as_slice())?;
@@ -68,5 +87,10 @@ pub fn run_of(alloc: Global, report: Report<Global>, lists: Lists) -> Result<Run
             err: report.diag,
         },
         full: report.full,
+        recording: Recording {
+            start,
+            harts,
+            schedule: report.schedule,
+        },
     })
 }

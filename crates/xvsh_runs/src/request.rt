@@ -14,6 +14,8 @@ pub struct RunRequest<'a> {
     pub lists: Lists,
     /// End with status 3 if the script isn't settled.
     pub is_strict: bool,
+    /// Where the run's trace is written; `-` is standard output, and then nothing else is.
+    pub trace: Option<&'a str>,
 }
 
 /// A run of a script by the events of a schedule.
@@ -23,4 +25,6 @@ pub struct ReplayRequest<'a> {
     pub schedule: &'a str,
     pub source: Source<'a>,
     pub lists: Lists,
+    /// Where the run's trace is written; `-` is standard output, and then nothing else is.
+    pub trace: Option<&'a str>,
 }

@@ -89,14 +89,14 @@ fn run_started<'a, R: Threads + Wait + Clock + Sync>(
 pub(crate) fn run_prepared<'a, R: Threads + Wait + Clock + Sync>(
     rt: &R,
     alloc: Global,
-    start: &Start,
+    start: Start,
     request: &RunRequest<'a>,
 ) -> Result<Run, ProcessFault<'a>>
-    ensures ran { IfOk result (λ run. DidRunFrom (kernel_of start.now) request.now run.full (out_text run.output) run.output.err.items) }
-    ensures fault { IfErr result (IsHartsFault (kernel_of start.now) request.now.harts request.now.turns) }
+    ensures ran { IfOk result (λ run. DidRunFrom (kernel_of start) request.now run.full (out_text run.output) run.output.err.items) }
+    ensures fault { IfErr result (IsHartsFault (kernel_of start) request.now.harts request.now.turns) }
 {
-    let report = run_started(rt, alloc, start, request.harts, request.turns)?;
-    let run = run_of(alloc, report, request.lists)?;
+    let report = run_started(rt, alloc, &start, request.harts, request.turns)?;
+    let run = run_of(alloc, start, request.harts, report, request.lists)?;
     Ok(run)
 }
 
@@ -113,5 +113,5 @@ pub fn run_processes<'a, R: Threads + Wait + Clock + Sync, H: Host>(
     ensures fault { IfErr result (IsRunRefusal (H.input host.old) (H.file host.old) request.now) }
 {
     let start = prepare(alloc, host, &request.source, false)?;
-    run_prepared(rt, alloc, &start, request)
+    run_prepared(rt, alloc, start, request)
 }

@@ -53,6 +53,6 @@ pub fn run_strict<'a, R: Threads + Wait + Clock + Sync, H: Host>(
 {
     let start = prepare(alloc, host, &request.source, false)?;
     let is_settled = is_settled(alloc, &start)?;
-    let run = run_prepared(rt, alloc, &start, request)?;
+    let run = run_prepared(rt, alloc, start, request)?;
     Ok(StrictRun { run, is_settled })
 }

@@ -15,6 +15,10 @@ flag_rule name = record (new_rule name) { long = Some name; action = Some SetTru
 abbrev pub number_rule : List ℕ → ℕ → Rule
 number_rule name most = record (new_rule name) { long = Some name; value_names = 1; parser = Some (Unsigned 1 most); action = Some Set }
 
+-- an option with a path
+abbrev pub path_rule : List ℕ → Rule
+path_rule name = record (new_rule name) { long = Some name; value_names = 1; action = Some Set }
+
 abbrev pub word_rule : List ℕ → Rule
 word_rule name = record (new_rule name) { value_names = 1; required = true; action = Some Set }
 
@@ -24,12 +28,12 @@ files_rule = record (new_rule (codes "paths")) { value_names = 1; range = Some (
 -- the commands; `run` by the most harts and the most turns that it may have
 abbrev pub run_shape : ℕ → ℕ → Shape
 run_shape harts turns = record (new_shape (codes "run")) {
-  rules = number_rule (codes "harts") harts ∷ number_rule (codes "turns") turns ∷ flag_rule (codes "schedule") ∷ flag_rule (codes "strict") ∷ flag_rule (codes "append") ∷ flag_rule (codes "files") ∷ word_rule (codes "script") ∷ files_rule ∷ [];
+  rules = number_rule (codes "harts") harts ∷ number_rule (codes "turns") turns ∷ flag_rule (codes "schedule") ∷ path_rule (codes "trace") ∷ flag_rule (codes "strict") ∷ flag_rule (codes "append") ∷ flag_rule (codes "files") ∷ word_rule (codes "script") ∷ files_rule ∷ [];
 }
 
 abbrev pub replay_shape : Shape
 replay_shape = record (new_shape (codes "replay")) {
-  rules = flag_rule (codes "append") ∷ flag_rule (codes "files") ∷ word_rule (codes "events") ∷ word_rule (codes "script") ∷ files_rule ∷ [];
+  rules = path_rule (codes "trace") ∷ flag_rule (codes "append") ∷ flag_rule (codes "files") ∷ word_rule (codes "events") ∷ word_rule (codes "script") ∷ files_rule ∷ [];
 }
 
 abbrev pub plain_shape : Shape
@@ -41,6 +45,12 @@ plain_shape = record (new_shape (codes "plain")) {
 abbrev pub check_shape : Shape
 check_shape = record (new_shape (codes "check")) {
   rules = flag_rule (codes "turns") ∷ word_rule (codes "script") ∷ record files_rule { is_free = false } ∷ [];
+}
+
+-- `explore` by the most states that it may keep
+abbrev pub explore_shape : ℕ → Shape
+explore_shape states = record (new_shape (codes "explore")) {
+  rules = number_rule (codes "states") states ∷ flag_rule (codes "all") ∷ flag_rule (codes "append") ∷ word_rule (codes "script") ∷ files_rule ∷ [];
 }
 
 abbrev pub explain_shape : Shape
@@ -58,10 +68,10 @@ bare_program = record {
   subs = [];
 }
 
-abbrev pub program : ℕ → ℕ → App
-program harts turns = record {
+abbrev pub program : ℕ → ℕ → ℕ → App
+program harts turns states = record {
   top = record bare_program.top { is_leaf = false };
-  subs = run_shape harts turns ∷ replay_shape ∷ plain_shape ∷ check_shape ∷ explain_shape ∷ [];
+  subs = run_shape harts turns ∷ replay_shape ∷ plain_shape ∷ check_shape ∷ explain_shape ∷ explore_shape states ∷ [];
 }
 
 -- a command of this shape, none of whose arguments are of its subcommands too

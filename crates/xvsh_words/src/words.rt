@@ -3,7 +3,7 @@
 ghost use Rattle.std.specs.Prelude.{◌≡◌, IfOk, codes, false};
 ghost use Rattle.clap.specs.Simple.{app_of};
 ghost use Rattle.clap.specs.Walk.{rule_of};
-ghost use Rattle.xvsh_words.specs.Program.{IsCommand, bare_program, check_shape, explain_shape, files_rule, flag_rule, number_rule, plain_shape, program, replay_shape, run_shape, word_rule};
+ghost use Rattle.xvsh_words.specs.Program.{IsCommand, bare_program, check_shape, explain_shape, explore_shape, files_rule, flag_rule, number_rule, plain_shape, program, replay_shape, run_shape, word_rule, path_rule};
 
 use clap::builder::ValueParser;
 use clap::{Arg, ArgAction, Command};
@@ -58,9 +58,12 @@ the order of its processes, if it has no clash and no `&` and nothing is full.
 command that is no program, a name that no file can have, a `>>` that writes over. Each sentence comes
 with its line and marks under the place.
 
+`xvsh explore SCRIPT [FILE]..` tries every order in which the script's processes can take their turns,
+and writes a line for each output that the script can have, with the events of a shortest run to it.
+
 Status: 0 done; 1 something can't be read, is refused, or can't be written, or is no schedule of a
-whole run; 2 usage; 3 `check` told of a clash or a `&`, `explain` told anything, or `--strict` ran a
-script that isn't settled; 4 full, spent, too large, or no memory.";
+whole run; 2 usage; 3 `check` told of a clash or a `&`, `explain` told anything, `explore` found more
+than one outcome, or `--strict` ran a script that isn't settled; 4 not every order was tried, full, spent, too large, or no memory.";
 
 const VERSION: &str = "0.1.0 (rattle logic dac8208d650f15bf)";
 
@@ -85,6 +88,18 @@ fn number_option<'a>(alloc: Global, name: &'static str, help: &'static str, most
         .value_name("N")
         .help(help)
         .value_parser(ValueParser::unsigned(1, most))
+        .action(ArgAction::Set)
+}
+
+// An option that takes a path.
+fn path_option<'a>(alloc: Global, name: &'static str, help: &'static str) -> Arg<'a>
+    ensures rule { rule_of result ≡ path_rule name.now }
+    ensures local { result.global ≡ false }
+{
+    Arg::new(alloc, name)
+        .long(name)
+        .value_name("FILE")
+        .help(help)
         .action(ArgAction::Set)
 }
 
@@ -142,6 +157,9 @@ const TURNS_HELP: &str = "In at most so many events, 1 to 1000000000; 10000000 w
 
 const LISTED_HELP: &str = "Write a line an event last: `D HART PROCESS` or `T HART PROCESS`";
 
+const TRACE_HELP: &str =
+    "Write what each event did to FILE, an object of JSON a line; for `-` to standard output, and nothing else there";
+
 fn run_command<'a>(
     alloc: Global,
     most_harts: u64,
@@ -153,6 +171,7 @@ fn run_command<'a>(
         number_option(alloc, "harts", HARTS_HELP, most_harts),
         number_option(alloc, "turns", TURNS_HELP, most_turns),
         flag(alloc, "schedule", LISTED_HELP),
+        path_option(alloc, "trace", TRACE_HELP),
         flag(alloc, "strict", STRICT_HELP),
         flag(alloc, "append", APPEND_HELP),
         flag(alloc, "files", RUN_FILES_HELP),
@@ -174,6 +193,7 @@ fn replay_command<'a>(alloc: Global) -> Result<Command<'a>, AllocError>
     ensures { IfOk result (IsCommand replay_shape) }
 {
     let args = vec![in alloc;
+        path_option(alloc, "trace", TRACE_HELP),
         flag(alloc, "append", APPEND_HELP),
         flag(alloc, "files", RUN_FILES_HELP),
         needed_word(alloc, "events", "SCHEDULE", SCHEDULE_HELP),
@@ -230,6 +250,28 @@ fn explain_command<'a>(alloc: Global) -> Result<Command<'a>, AllocError>
     ))
 }
 
+const EXPLORE_ABOUT: &str =
+    "Tries every order of a script's processes, and tells all that it can print";
+
+const STATES_HELP: &str = "Keep at most so many states, 1 to 10000000; 200000 without it";
+
+const ALL_HELP: &str = "Try every order of a settled script too";
+
+fn explore_command<'a>(alloc: Global, most_states: u64) -> Result<Command<'a>, AllocError>
+    ensures { IfOk result (IsCommand (explore_shape most_states)) }
+{
+    let args = vec![in alloc;
+        number_option(alloc, "states", STATES_HELP, most_states),
+        flag(alloc, "all", ALL_HELP),
+        flag(alloc, "append", APPEND_HELP),
+        script_word(alloc, SCRIPT_HELP),
+        file_words(alloc),
+    ]?;
+    Command::new(alloc, "explore")
+        .about(EXPLORE_ABOUT)
+        .args(args)
+}
+
 // The program's name, version and help, without a command.
 fn bare_command<'a>(alloc: Global) -> Result<Command<'a>, AllocError>
     ensures { IfOk result (λ command. app_of command ≡ bare_program) }
@@ -244,18 +286,21 @@ fn bare_command<'a>(alloc: Global) -> Result<Command<'a>, AllocError>
         .bin_name("xvsh")
 }
 
-/// The command line of the program, on which a run may be asked for on so many harts, and in so many turns, at most.
+/// The command line of the program, on which a run may be asked for on so many harts, and in so many turns, and an exploration
+/// of so many states, at most.
 pub fn command_line<'a>(
     alloc: Global,
     most_harts: u64,
     most_turns: u64,
+    most_states: u64,
 ) -> Result<Command<'a>, AllocError>
-    ensures { IfOk result (λ command. app_of command ≡ program most_harts most_turns) }
+    ensures { IfOk result (λ command. app_of command ≡ program most_harts most_turns most_states) }
 {
     let command = bare_command(alloc)?;
     let command = command.subcommand(run_command(alloc, most_harts, most_turns)?)?;
     let command = command.subcommand(replay_command(alloc)?)?;
     let command = command.subcommand(plain_command(alloc)?)?;
     let command = command.subcommand(check_command(alloc)?)?;
-    command.subcommand(explain_command(alloc)?)
+    let command = command.subcommand(explain_command(alloc)?)?;
+    command.subcommand(explore_command(alloc, most_states)?)
 }

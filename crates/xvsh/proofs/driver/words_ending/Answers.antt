@@ -17,7 +17,7 @@ returns-in-Ok-try_get_matches_from-clause-due g c =
     let due = c.command_ending.ensures.due in
     let words = map string_bytes c.args.words.now in
     let matches = c.in-Ok-try_get_matches_from.matches in
-    let own : app_of c.in-Ok.command ≡ own_program = c.in-Ok.ensures ∙ ap (λ harts. program harts 1000000000) c.from.ensures in
+    let own : app_of c.in-Ok.command ≡ own_program = c.in-Ok.ensures ∙ ap (λ harts. program harts 1000000000 10000000) c.from.ensures in
     (due.0, inl (matches, parsed (app_of c.in-Ok.command) words matches own c.in-Ok-try_get_matches_from.ensures.matches, due.1), due.2)
 
 pub returns-in-Err-clause-due : goal.returns-in-Err-clause-due

@@ -17,5 +17,5 @@ returns-clause-ran g c =
       events = report.schedule;
       of_harts = c.in_ok-report.ensures.harts;
       within = c.in_ok-report.ensures.turns;
-      prints = prints_report (kernel_of c.args.start.now) report c.args.request.now.lists run.full (out_text run.output) run.output.err.items c.in_ok-report.ensures.run c.in_ok-run.ensures.full c.in_ok-run.ensures.out c.in_ok-run.ensures.err;
+      prints = prints_report (kernel_of c.args.start) report c.args.request.now.lists run.full (out_text run.output) run.output.err.items c.in_ok-report.ensures.run c.in_ok-run.ensures.full c.in_ok-run.ensures.out c.in_ok-run.ensures.err;
     }

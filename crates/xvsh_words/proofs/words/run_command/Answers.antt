@@ -2,15 +2,15 @@ use Rattle.std.proofs.Common.{[], ◌∷◌, codes, sym, ◌∙◌, ap, subst}
 use Rattle.std.specs.Prelude.{map}
 use Rattle.clap.specs.Simple.{app_of_fields}
 use Rattle.clap.specs.Walk.{rule_of}
-use Rattle.xvsh_words.specs.Program.{files_rule, flag_rule, number_rule, word_rule}
+use Rattle.xvsh_words.specs.Program.{files_rule, flag_rule, number_rule, path_rule, word_rule}
 use Rattle.xvsh_words.proofs.Adds.{AreLocal, command_made}
 use Rattle.xvsh_words.proofs.words.run_command.Goals as goal
 
 pub returns : goal.returns
 returns c =
     let items = c.in_ok-args.ensures.items in
-    command_made c.in_ok-args.args.items (number_rule (codes "harts") c.args.most_harts ∷ number_rule (codes "turns") c.args.most_turns ∷ flag_rule (codes "schedule") ∷ flag_rule (codes "strict") ∷ flag_rule (codes "append") ∷ flag_rule (codes "files") ∷ word_rule (codes "script") ∷ files_rule ∷ []) (codes "run") c.about.result c.args-2.result c.args-2.ensures
-    (subst AreLocal (sym items) (c.number_option.ensures.local, (c.number_option-2.ensures.local, (c.flag.ensures.local, (c.flag-2.ensures.local, (c.flag-3.ensures.local, (c.flag-4.ensures.local, (c.script_word.ensures.local, (c.file_words.ensures.local, tt)))))))))
-    (ap (map rule_of) items ∙ (λ i. c.number_option.ensures.rule i ∷ c.number_option-2.ensures.rule i ∷ c.flag.ensures.rule i ∷ c.flag-2.ensures.rule i ∷ c.flag-3.ensures.rule i ∷ c.flag-4.ensures.rule i ∷ c.script_word.ensures.rule i ∷ c.file_words.ensures.rule i ∷ []))
+    command_made c.in_ok-args.args.items (number_rule (codes "harts") c.args.most_harts ∷ number_rule (codes "turns") c.args.most_turns ∷ flag_rule (codes "schedule") ∷ path_rule (codes "trace") ∷ flag_rule (codes "strict") ∷ flag_rule (codes "append") ∷ flag_rule (codes "files") ∷ word_rule (codes "script") ∷ files_rule ∷ []) (codes "run") c.about.result c.args-2.result c.args-2.ensures
+    (subst AreLocal (sym items) (c.number_option.ensures.local, (c.number_option-2.ensures.local, (c.flag.ensures.local, (c.path_option.ensures.local, (c.flag-2.ensures.local, (c.flag-3.ensures.local, (c.flag-4.ensures.local, (c.script_word.ensures.local, (c.file_words.ensures.local, tt))))))))))
+    (ap (map rule_of) items ∙ (λ i. c.number_option.ensures.rule i ∷ c.number_option-2.ensures.rule i ∷ c.flag.ensures.rule i ∷ c.path_option.ensures.rule i ∷ c.flag-2.ensures.rule i ∷ c.flag-3.ensures.rule i ∷ c.flag-4.ensures.rule i ∷ c.script_word.ensures.rule i ∷ c.file_words.ensures.rule i ∷ []))
     (ap app_of_fields c.about.ensures ∙ c.new.ensures.app)
     (ap (λ f. f.has_globals) c.about.ensures ∙ c.new.ensures.local)

@@ -1,0 +1,134 @@
+-- What holds of a list of states that grows, as the search finds them.
+use Rattle.std.proofs.Common.{◌≡◌, ℕ, zero, suc, ◌+◌, ◌<◌, ◌≤◌, ◌⊎◌, inl, inr, List, [], ◌∷◌, ◌++◌, length, Option, Some, None, refl, sym, ap, subst, ◌∙◌, arith, append_assoc, length-append}
+use Rattle.std.specs.Prelude.{All, Any, map, slice_index_or}
+use Rattle.std.proofs.lemmas.List.{append-nil}
+use Rattle.std.proofs.lemmas.List.Elements.{All-append, All-nil}
+use Rattle.closed_search.specs.Searched.{HasLike, IsExpanded, IsReached, here, more as more_steps, IsLonger, IsClosedUnder}
+
+-- how many places are left, from this one down
+abbrev pub left_of : Option ℕ → ℕ
+left_of None = 0
+left_of (Some place) = place + 1
+
+pub at_front : {T : Type 0} (xs ys : List T) (k : ℕ) (d : T) → k < length xs → slice_index_or (xs ++ ys) k d ≡ slice_index_or xs k d
+at_front [] ys k d within = absurd (omega arith)
+at_front (x ∷ xs) ys zero d within = refl
+at_front (x ∷ xs) ys (suc k) d within = at_front xs ys k d (omega arith)
+
+all_more : {T : Type 0} (P Q : T → Type 0) (xs : List T) → ((t : T) → P t → Q t) → All P xs → All Q xs
+all_more P Q xs more all k d within = more (slice_index_or xs k d) (all k d within)
+
+pub longer_here : {T : Type 0} (P : T → Type 0) (xs : List T) → IsLonger P xs xs
+longer_here P xs = record { rest = []; grown = sym (append-nil xs); each = All-nil P }
+
+pub longer_on : {T : Type 0} (P Q : T → Type 0) (xs ys zs : List T) → IsLonger P xs ys → ((t : T) → Q t → P t) → IsLonger Q ys zs → IsLonger P xs zs
+longer_on P Q xs ys zs a more b =
+    record {
+      rest = a.rest ++ b.rest;
+      grown = b.grown ∙ ap (λ (l : List _). l ++ b.rest) a.grown ∙ append_assoc xs a.rest b.rest;
+      each = All-append P a.rest b.rest a.each (all_more Q P b.rest more b.each);
+    }
+
+pub longer_length : {T : Type 0} (P : T → Type 0) (xs ys : List T) → IsLonger P xs ys → length xs ≤ length ys
+longer_length P xs ys a = omega (arith, ap length a.grown, length-append xs a.rest)
+
+pub longer_at : {T : Type 0} (P : T → Type 0) (xs ys : List T) → IsLonger P xs ys → (k : ℕ) (d : T) → k < length xs → slice_index_or ys k d ≡ slice_index_or xs k d
+longer_at P xs ys a k d within = ap (λ (l : List _). slice_index_or l k d) a.grown ∙ at_front xs a.rest k d within
+
+pub longer_any : {T : Type 0} (P Q : T → Type 0) (xs ys : List T) → IsLonger P xs ys → Any Q xs → Any Q ys
+longer_any P Q xs ys a any =
+    let shorter : length xs ≤ length ys = longer_length P xs ys a in
+    let within : any.0 < length xs = any.2 in
+    (any.0, any.1, omega (arith, shorter, within), longer_at P xs ys a any.0 any.1 any.2 ∙ any.3, any.4)
+
+pub longer_all : {T : Type 0} (P Q : T → Type 0) (xs ys : List T) → IsLonger P xs ys → All Q xs → ((t : T) → P t → Q t) → All Q ys
+longer_all P Q xs ys a all more = subst (All Q) (sym a.grown) (All-append Q xs a.rest all (all_more P Q a.rest more a.each))
+
+pub added : {A T : Type 0} (view : A → T) (like : T → T → Type 0) (xs : List A) (x : A) → like (view x) (view x) → Any (like (view x)) (map view (xs ++ x ∷ []))
+added view like [] x itself = (0, view x, omega arith, refl, itself)
+added view like (y ∷ xs) x itself =
+    let a = added view like xs x itself in
+    (suc a.0, a.1, omega (arith, a.2), a.3, a.4)
+
+module _ {T : Type 0} (step : T → ℕ → Option T) (like : T → T → Type 0) where
+  pub expanded_on : (P : T → Type 0) (xs ys : List T) (s : T) (n : ℕ) → IsLonger P xs ys → IsExpanded step like xs s n → IsExpanded step like ys s n
+  expanded_on P xs ys s n a all move t less is = longer_any P (like t) xs ys a (all move t less is)
+
+  split : (k n : ℕ) → k < n + 1 → (k < n) ⊎ (k ≡ n)
+  split zero zero less = inr refl
+  split zero (suc n) less = inl (omega arith)
+  split (suc k) zero less = absurd (omega arith)
+  split (suc k) (suc n) less = by (split k n (omega arith)) where
+    by : (k < n) ⊎ (k ≡ n) → (suc k < suc n) ⊎ (suc k ≡ suc n)
+    by (inl before) = inl (omega (arith, before))
+    by (inr same) = inr (ap suc same)
+
+  expanded_by : (xs : List T) (s : T) (n move : ℕ) (t : T) → IsExpanded step like xs s n → ((u : T) → step s n ≡ Some u → HasLike like xs u) → (move < n) ⊎ (move ≡ n) → step s move ≡ Some t → HasLike like xs t
+  expanded_by xs s n move t all last (inl before) is = all move t before is
+  expanded_by xs s n move t all last (inr same) is = last t (ap (step s) (sym same) ∙ is)
+
+  pub expanded_next : (xs : List T) (s : T) (n : ℕ) → IsExpanded step like xs s n → ((t : T) → step s n ≡ Some t → HasLike like xs t) → IsExpanded step like xs s (n + 1)
+  expanded_next xs s n all last move t less is = expanded_by xs s n move t all last (split move n less) is
+
+  -- while one state is expanded
+  pub record Expanding (first now : List T) (place n : ℕ) : Type 0 where
+    pub within : place < length now
+    pub has : (d : T) → IsExpanded step like now (slice_index_or first place d) n
+    pub grown : IsLonger (λ t. (move : ℕ) × ((d : T) → step (slice_index_or first place d) move ≡ Some t)) first now
+
+  pub expanding_first : (first : List T) (place : ℕ) → place < length first → Expanding first first place 0
+  expanding_first first place within = record { within = within; has = λ d move t less is. absurd (omega arith); grown = longer_here _ first }
+
+  pub expanding_next : (first now after : List T) (place n : ℕ) → place < length first → Expanding first now place n → ((d t : T) → step (slice_index_or now place d) n ≡ Some t → HasLike like after t) → IsLonger (λ t. (d : T) → step (slice_index_or now place d) n ≡ Some t) now after → Expanding first after place (n + 1)
+  expanding_next first now after place n inside e last more =
+      let P : T → Type 0 = λ t. (move : ℕ) × ((d : T) → step (slice_index_or first place d) move ≡ Some t) in
+      let Q : T → Type 0 = λ t. (d : T) → step (slice_index_or now place d) n ≡ Some t in
+      let same : (d : T) → slice_index_or now place d ≡ slice_index_or first place d = λ d. longer_at P first now e.grown place d inside in
+      let longer : length now ≤ length after = longer_length Q now after more in
+      let within : place < length now = e.within in
+      record {
+        within = omega (arith, longer, within);
+        has = λ d. expanded_next after (slice_index_or first place d) n (expanded_on Q now after (slice_index_or first place d) n more (e.has d)) (λ t is. last d t (ap (λ (s : T). step s n) (same d) ∙ is));
+        grown = longer_on P Q first now after e.grown (λ t is. (n, λ d. ap (λ (s : T). step s n) (sym (same d)) ∙ is d)) more;
+      }
+
+  -- while the list grows: the states before this place are expanded
+  pub record Searching (moves : ℕ) (start : T) (seen : List T) (place : ℕ) : Type 0 where
+    pub starts : HasLike like seen start
+    pub goes_on : (k : ℕ) (d : T) → k < place → IsExpanded step like seen (slice_index_or seen k d) moves
+    pub found : All (IsReached step start) seen
+    pub within : place ≤ length seen
+
+  pub searching_first : (moves : ℕ) (start : T) → like start start → Searching moves start (start ∷ []) 0
+  searching_first moves start itself =
+      record {
+        starts = (0, start, omega arith, refl, itself);
+        goes_on = λ k d less. absurd (omega arith);
+        found = only;
+        within = omega arith;
+      } where
+        only : All (IsReached step start) (start ∷ [])
+        only zero d within = here
+        only (suc k) d within = absurd (omega arith)
+
+  goes_by : (moves : ℕ) (now after : List T) (place k : ℕ) (d : T) → place < length now → (k < place → IsExpanded step like now (slice_index_or now k d) moves) → ((e : T) → IsExpanded step like after (slice_index_or now place e) moves) → IsLonger (λ t. (move : ℕ) × ((e : T) → step (slice_index_or now place e) move ≡ Some t)) now after → (k < place) ⊎ (k ≡ place) → IsExpanded step like after (slice_index_or after k d) moves
+  goes_by moves now after place k d inside before last more (inl less) =
+      let P : T → Type 0 = λ t. (move : ℕ) × ((e : T) → step (slice_index_or now place e) move ≡ Some t) in
+      subst (λ (s : T). IsExpanded step like after s moves) (sym (longer_at P now after more k d (omega (arith, less, inside)))) (expanded_on P now after (slice_index_or now k d) moves more (before less))
+  goes_by moves now after place k d inside before last more (inr same) =
+      let P : T → Type 0 = λ t. (move : ℕ) × ((e : T) → step (slice_index_or now place e) move ≡ Some t) in
+      subst (λ (s : T). IsExpanded step like after s moves) (ap (λ (j : ℕ). slice_index_or now j d) (sym same) ∙ sym (longer_at P now after more k d (omega (arith, same, inside)))) (last d)
+
+  pub searching_next : (moves : ℕ) (start : T) (now after : List T) (place : ℕ) → place < length now → Searching moves start now place → ((d : T) → IsExpanded step like after (slice_index_or now place d) moves) → IsLonger (λ t. (move : ℕ) × ((d : T) → step (slice_index_or now place d) move ≡ Some t)) now after → Searching moves start after (place + 1)
+  searching_next moves start now after place inside s last more =
+      let P : T → Type 0 = λ t. (move : ℕ) × ((d : T) → step (slice_index_or now place d) move ≡ Some t) in
+      let longer : length now ≤ length after = longer_length P now after more in
+      record {
+        starts = longer_any P (like start) now after more s.starts;
+        goes_on = λ k d less. goes_by moves now after place k d inside (s.goes_on k d) last more (split k place less);
+        found = longer_all P (IsReached step start) now after more s.found (λ t is. more_steps (slice_index_or now place t) t is.0 (s.found place t inside) (is.1 t));
+        within = omega (arith, longer, inside);
+      }
+
+  pub closed : (moves : ℕ) (start : T) (seen : List T) (place : ℕ) → Searching moves start seen place → length seen ≤ place → IsClosedUnder step like moves start seen
+  closed moves start seen place s over = record { starts = s.starts; goes_on = λ k d within. s.goes_on k d (omega (arith, within, over)) }

@@ -1,0 +1,128 @@
+//! The search.
+
+ghost use Rattle.std.specs.Prelude.{◌≡◌, ℕ, ◌<◌, ◌≤◌, Some, None, Ok, IfOk, OnOk, All, length, map, slice_index_or, true, [], ◌∷◌, ◌++◌};
+ghost use Rattle.closed_search.specs.Searched.{HasLike, IsExpanded, IsReached, IsLonger, IsClosedUnder};
+
+use crate::indexes::Index;
+use crate::nodes::Node;
+use std::alloc::{AllocError, Global};
+
+/// What a search found.
+#[derive(Drop)]
+pub struct Found<T: Node> {
+    /// The nodes, in the order in which they were found: those that fewer moves lead to come first.
+    pub nodes: Vec<T>,
+    /// Whether the search went to its end, so that nothing else is reached.
+    pub whole: bool,
+}
+
+// Whether the state of one of the nodes, of those with this digest, stands for the node's.
+fn has_like<T: Node>(nodes: &[T], index: &Index, node: &T, digest: u64) -> bool
+    ensures { result ≡ true → HasLike T.stands (map T.state nodes.now) (T.state node.now) }
+{
+    let mut found = index.last(digest);
+    while let Some(place) = found {
+        if place < nodes.len() && node.is_like(&nodes[place]) {
+            return true;
+        }
+        found = index.older(place);
+    }
+    false
+}
+
+// The node, which has this digest, is added.
+fn keep<T: Node>(
+    nodes: &mut Vec<T>,
+    index: &mut Index,
+    node: T,
+    digest: u64,
+) -> Result<(), AllocError>
+    ensures { OnOk result (nodes.new.items ≡ nodes.old.items ++ node ∷ []) }
+{
+    index.write(digest)?;
+    nodes.push(node)?;
+    Ok(())
+}
+
+// The node is added, unless one stands for it.
+fn add<T: Node>(nodes: &mut Vec<T>, index: &mut Index, node: T) -> Result<(), T::Fault>
+    ensures has { IfOk result (λ _. HasLike T.stands (map T.state nodes.new.items) (T.state node)) }
+    ensures grown { IfOk result (λ _. IsLonger (λ t. t ≡ T.state node) (map T.state nodes.old.items) (map T.state nodes.new.items)) }
+{
+    let digest = node.digest();
+    if has_like(nodes.as_slice(), index, &node, digest) {
+        return Ok(());
+    }
+    keep(nodes, index, node, digest)?;
+    Ok(())
+}
+
+// The node after a move of the one at the place is added, unless one stands for it.
+fn take_move<T: Node>(
+    nodes: &mut Vec<T>,
+    index: &mut Index,
+    tools: &mut T::Tools,
+    place: usize,
+    step_number: usize,
+) -> Result<(), T::Fault>
+    requires place { place < length nodes.old.items }
+    ensures has { IfOk result (λ _. (d t : T.State) → T.step (slice_index_or (map T.state nodes.old.items) place d) step_number ≡ Some t → HasLike T.stands (map T.state nodes.new.items) t) }
+    ensures grown { IfOk result (λ _. IsLonger (λ t. (d : T.State) → T.step (slice_index_or (map T.state nodes.old.items) place d) step_number ≡ Some t) (map T.state nodes.old.items) (map T.state nodes.new.items)) }
+{
+    let found = nodes[place].after(tools, step_number)?;
+    match found {
+        None => Ok(()),
+        Some(node) => add(nodes, index, node),
+    }
+}
+
+// The nodes after all moves of the one at the place are added, each unless one stands for it.
+fn expand<T: Node>(
+    nodes: &mut Vec<T>,
+    index: &mut Index,
+    tools: &mut T::Tools,
+    place: usize,
+    moves: usize,
+) -> Result<(), T::Fault>
+    requires place { place < length nodes.old.items }
+    ensures has { IfOk result (λ _. (d : T.State) → IsExpanded T.step T.stands (map T.state nodes.new.items) (slice_index_or (map T.state nodes.old.items) place d) moves) }
+    ensures grown { IfOk result (λ _. IsLonger (λ t. (move : ℕ) × ((d : T.State) → T.step (slice_index_or (map T.state nodes.old.items) place d) move ≡ Some t)) (map T.state nodes.old.items) (map T.state nodes.new.items)) }
+{
+    for step_number in 0..moves {
+        take_move(nodes, index, tools, place, step_number)?;
+    }
+    Ok(())
+}
+
+/// Searches the states that the first `moves` moves lead to from the start, breadth first. It stops, with a part, once it
+/// found more than `limit` nodes.
+///
+/// Each state that it found is one that moves lead to (`reached`). Where it went to its end, the states are closed under
+/// moves but for states that others stand for (`whole`). The fault is one of the nodes', or that of refused memory.
+pub fn search<T: Node>(
+    alloc: Global,
+    tools: &mut T::Tools,
+    start: T,
+    moves: usize,
+    limit: usize,
+) -> Result<Found<T>, T::Fault>
+    ensures reached { IfOk result (λ found. All (IsReached T.step (T.state start)) (map T.state found.nodes.items)) }
+    ensures whole { IfOk result (λ found. found.whole ≡ true → IsClosedUnder T.step T.stands moves (T.state start) (map T.state found.nodes.items)) }
+{
+    let mut nodes = Vec::new(alloc);
+    let mut index = Index::new(alloc);
+    let digest = start.digest();
+    keep(&mut nodes, &mut index, start, digest)?;
+    let mut place = 0;
+    while place < nodes.len() {
+        if limit < nodes.len() {
+            return Ok(Found {
+                nodes,
+                whole: false,
+            });
+        }
+        expand(&mut nodes, &mut index, tools, place, moves)?;
+        place += 1;
+    }
+    Ok(Found { nodes, whole: true })
+}

@@ -1,0 +1,60 @@
+use Rattle.std.proofs.Common.{◌≤◌, subst, map, arith}
+use Rattle.proc_table.specs.declared.pid.TheConstants.{PROCS}
+use Rattle.std.specs.Prelude.{All}
+use Rattle.kernel_model.specs.KernelState.{KernelState}
+use Rattle.script_load.specs.Line.{lines_of}
+use Rattle.sh_machine.specs.State.{User}
+use Rattle.sh_machine.specs.Turn.{call_of, next_of}
+use Rattle.sh_machine.specs.View.{user_of}
+use Rattle.run_model.specs.ScriptRun.{script_kernel}
+use Rattle.order_search.specs.Told.{outcome_by, IsReplayed}
+use Rattle.order_search.specs.Exploring.{Explores}
+use Rattle.every_order.proofs.Passing.{passes, script_starts}
+use Rattle.every_order.proofs.exploring.explore_named.Goals as goal
+
+enough : PROCS ≤ PROCS
+enough = omega arith
+
+pub returns-clause-sound : goal.returns-clause-sound
+returns-clause-sound g c =
+    let profile = c.args.script.now.profile in
+    let lines = lines_of c.args.script.now.lines in
+    let same = script_starts profile lines (user_of c.init.result) (user_of c.shell.result) c.args.stdin.now c.args.files.now c.init.ensures c.shell.ensures in
+    passes c.explore_from.result _ _ (λ found e. subst (λ (start : KernelState User). All (IsReplayed call_of next_of start) found.outcomes.items) same e.tells.replayed) c.explore_from.ensures
+
+pub returns-clause-apart : goal.returns-clause-apart
+returns-clause-apart g c = passes c.explore_from.result _ _ (λ found e. e.tells.apart) c.explore_from.ensures
+
+pub returns-clause-complete : goal.returns-clause-complete
+returns-clause-complete g c =
+    let profile = c.args.script.now.profile in
+    let lines = lines_of c.args.script.now.lines in
+    let input = c.args.stdin.now in
+    let list = c.args.files.now in
+    let start : KernelState User = script_kernel profile lines input list in
+    let same = script_starts profile lines (user_of c.init.result) (user_of c.shell.result) input list c.init.ensures c.shell.ensures in
+    let search_law = c.what_a_search_found_is_explored.ensures in
+    let law = c.every_outcome_of_a_script_is_told.ensures in
+    passes c.explore_from.result _ _
+    (λ found e whole.
+    let x : Explores call_of next_of start found = subst (λ (k : KernelState User). Explores call_of next_of k found) same e in
+    let still = law.still profile lines input list c.are_files.ensures in
+    law.keys profile lines input list x.seen (map outcome_by found.outcomes.items) c.are_files.ensures (search_law.reached start x.seen x.reached) (search_law.closed PROCS start x.seen still enough x.reached (x.closed whole)) x.tells.of)
+    c.explore_from.ensures
+
+pub returns-clause-awake : goal.returns-clause-awake
+returns-clause-awake g c =
+    let profile = c.args.script.now.profile in
+    let lines = lines_of c.args.script.now.lines in
+    let input = c.args.stdin.now in
+    let list = c.args.files.now in
+    let start : KernelState User = script_kernel profile lines input list in
+    let same = script_starts profile lines (user_of c.init.result) (user_of c.shell.result) input list c.init.ensures c.shell.ensures in
+    let search_law = c.what_a_search_found_is_explored.ensures in
+    let law = c.every_outcome_of_a_script_is_told.ensures in
+    passes c.explore_from.result _ _
+    (λ found e whole none.
+    let x : Explores call_of next_of start found = subst (λ (k : KernelState User). Explores call_of next_of k found) same e in
+    let still = law.still profile lines input list c.are_files.ensures in
+    c.no_run_of_a_script_is_stuck_if_no_kernel_of_the_list_is.ensures profile lines input list x.seen c.are_files.ensures (search_law.reached start x.seen x.reached) (search_law.closed PROCS start x.seen still enough x.reached (x.closed whole)) (x.ready none))
+    c.explore_from.ensures

@@ -1,0 +1,69 @@
+//! Explorations of scripts.
+
+ghost use Rattle.std.specs.Prelude.{◌≡◌, IfOk, None, All, map, true};
+ghost use Rattle.script_load.specs.Line.{lines_of};
+ghost use Rattle.sh_machine.specs.Turn.{call_of, next_of};
+ghost use Rattle.run_model.specs.ScriptRun.{script_kernel};
+ghost use Rattle.order_model.specs.Explored.{AreAllOutcomes, IsNeverStuck};
+ghost use Rattle.order_search.specs.Told.{outcome_by, IsReplayed, AreApart};
+
+use law_every_outcome::laws::{
+    every_outcome_of_a_script_is_told, no_run_of_a_script_is_stuck_if_no_kernel_of_the_list_is,
+    what_a_search_found_is_explored,
+};
+use mem_files::Files;
+use mem_files::laws::are_files;
+use order_search::{Exploration, ExploreFault, Origin, explore_from};
+use script_load::Script;
+use sh_machine::{Naming, User};
+use std::alloc::{Allocator, Global};
+use std::marker::Brand;
+
+/// Tries the orders in which the processes of a script can take their turns, with this standard input and these files: all
+/// orders, unless they lead to more than `states` states.
+///
+/// Each outcome that is told is that of a finished run of the script by its own schedule, at which no memory was refused
+/// (`sound`); no two are equal (`apart`). Where every order was tried, the outcomes are those of all finished runs of the
+/// script, in any order and on any harts, at which memory was never refused or nothing was full (`complete`), and where nobody
+/// was stuck no such run comes to where all processes sleep (`awake`). The fault is `Memory` where memory is refused, to a call of a process too.
+pub fn explore<B: Allocator, C: Allocator>(
+    alloc: Global,
+    script: &Script<B>,
+    stdin: &[u8],
+    files: &Files<C>,
+    states: usize,
+) -> Result<Exploration, ExploreFault>
+    ensures sound { IfOk result (λ found. All (IsReplayed call_of next_of (script_kernel script.now.profile (lines_of script.now.lines) stdin.now files.now)) found.outcomes.items) }
+    ensures apart { IfOk result (λ found. AreApart found.outcomes.items) }
+    ensures complete { IfOk result (λ found. found.whole ≡ true → AreAllOutcomes call_of next_of (script_kernel script.now.profile (lines_of script.now.lines) stdin.now files.now) (map outcome_by found.outcomes.items)) }
+    ensures awake { IfOk result (λ found. found.whole ≡ true → found.stuck ≡ None → IsNeverStuck call_of next_of (script_kernel script.now.profile (lines_of script.now.lines) stdin.now files.now)) }
+{
+    explore_named::<Brand, B, C>(alloc, script, stdin, files, states)
+}
+
+// Explores the script that `N` names.
+fn explore_named<N: Naming, B: Allocator, C: Allocator>(
+    alloc: Global,
+    script: &Script<B>,
+    stdin: &[u8],
+    files: &Files<C>,
+    states: usize,
+) -> Result<Exploration, ExploreFault>
+    requires { lines_of script.now.lines ≡ N.script }
+    ensures sound { IfOk result (λ found. All (IsReplayed call_of next_of (script_kernel script.now.profile (lines_of script.now.lines) stdin.now files.now)) found.outcomes.items) }
+    ensures apart { IfOk result (λ found. AreApart found.outcomes.items) }
+    ensures complete { IfOk result (λ found. found.whole ≡ true → AreAllOutcomes call_of next_of (script_kernel script.now.profile (lines_of script.now.lines) stdin.now files.now) (map outcome_by found.outcomes.items)) }
+    ensures awake { IfOk result (λ found. found.whole ≡ true → found.stuck ≡ None → IsNeverStuck call_of next_of (script_kernel script.now.profile (lines_of script.now.lines) stdin.now files.now)) }
+{
+    are_files(files);
+    what_a_search_found_is_explored::<User<B, N>>();
+    every_outcome_of_a_script_is_told();
+    no_run_of_a_script_is_stuck_if_no_kernel_of_the_list_is();
+    let origin = Origin {
+        init: User::<B, N>::init(),
+        shell: User::shell(script),
+        stdin,
+        files,
+    };
+    explore_from(alloc, &origin, states)
+}

@@ -1,0 +1,5 @@
+pub mod Looks
+pub mod Covered
+pub mod Keyed
+pub mod Searched
+pub mod Scripts

@@ -1,0 +1,10 @@
+pub mod Tables
+pub mod Entries
+pub mod Calls
+pub mod Names
+pub mod Follow
+pub mod Turning
+pub mod Booted
+pub mod Back
+pub mod Keys
+pub mod Matching

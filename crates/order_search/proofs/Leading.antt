@@ -1,0 +1,133 @@
+-- Kernels to which turns lead from a kernel at its start.
+use Rattle.std.proofs.Common.{◌≡◌, ℕ, zero, suc, List, [], ◌∷◌, ◌++◌, Bool, true, false, Option, Some, None, length, refl, sym, ap, subst, ◌∙◌, map, arith}
+use Rattle.std.specs.Prelude.{if◌then◌else◌, ◌&&◌, not, nat_lt, is_some, position, count_by, cond}
+use Rattle.std.proofs.lemmas.List.Sums.{sum_by-cons}
+use Rattle.user_calls.specs.declared.calls.Call.{Call}
+use Rattle.user_calls.specs.declared.calls.Reply.{Reply}
+use Rattle.mem_files.specs.Name.{Name, Bytes}
+use Rattle.proc_table.specs.declared.states.Status.{Status}
+use Rattle.proc_table.specs.declared.states.Status.TheVariants.{Runnable, Running, Asleep, Zombie}
+use Rattle.proc_table.specs.declared.table.TheConstants.{HARTS}
+use Rattle.proc_table.specs.Slots.{Slot, Table, at, is_runnable, is_runnable_status, is_running, is_running_status, is_running_on}
+use Rattle.proc_table.specs.Calls.{dispatched}
+use Rattle.kernel_model.specs.declared.events.Event.TheVariants.{Trap}
+use Rattle.kernel_model.specs.KernelState.{KernelState}
+use Rattle.kernel_model.specs.Boot.{boot_kernel}
+use Rattle.kernel_model.specs.Events.{counted, can_dispatch, then_happens, IsFinished}
+use Rattle.order_model.specs.Idle.{idle_slot, idle_status, idle_kernel, renamed_entry, renamed_pipe}
+use Rattle.order_model.specs.Key.{key, place_in}
+use Rattle.order_model.specs.Outcome.{outcome_of}
+use Rattle.order_model.specs.Turns.{by_turns, quiet_turns, after_turns, after_turn, turn_events, turn_notes}
+use Rattle.order_search.specs.Led.{start_kernel}
+use Rattle.order_search.specs.Places.{IsOrderly, names_in, place_among}
+use Rattle.order_search.proofs.Placing.{place_is}
+use Rattle.law_kernel.proofs.EntriesLong.{every_run_has_entries}
+use Rattle.order_search.proofs.Orderly.{OrderlyIf, run_orderly, boot_orderly}
+
+pub start_is : {S : Type 0} (init shell : S) (input : Bytes) (list : List (Name × Bytes)) → start_kernel init shell input list ≡ boot_kernel init shell input list
+unfolding start_kernel
+start_is init shell input list = refl
+
+module _ {S : Type 0} (call : S → Reply → Call) (next : S → Reply → S) where
+  one_more : (pids : List ℕ) (pid : ℕ) (o : Option (KernelState S)) → by_turns call next o (quiet_turns (pids ++ pid ∷ [])) ≡ by_turns call next (by_turns call next o (quiet_turns pids)) (quiet_turns (pid ∷ []))
+  one_more [] pid o = refl
+  one_more (p ∷ pids) pid o = one_more pids pid (by_turns call next o (quiet_turns (p ∷ [])))
+
+  pub led_on : (start k m : KernelState S) (pids : List ℕ) (pid : ℕ) → after_turns call next start pids ≡ Some k → after_turn call next k pid ≡ Some m → after_turns call next start (pids ++ pid ∷ []) ≡ Some m
+  led_on start k m pids pid turns turn = one_more pids pid (Some start) ∙ ap (λ (o : Option (KernelState S)). by_turns call next o (quiet_turns (pid ∷ []))) turns ∙ turn
+
+  pub led_orderly : (init shell : S) (input : Bytes) (list : List (Name × Bytes)) (k : KernelState S) (pids : List ℕ) → after_turns call next (start_kernel init shell input list) pids ≡ Some k → IsOrderly k
+  led_orderly init shell input list k pids turns =
+      subst OrderlyIf turns (run_orderly call next (Some (start_kernel init shell input list)) (turn_events (quiet_turns pids)) (turn_notes (quiet_turns pids)) (subst IsOrderly (sym (start_is init shell input list)) (boot_orderly init shell input list)))
+
+  pub led_long : (init shell : S) (input : Bytes) (list : List (Name × Bytes)) (k : KernelState S) (pids : List ℕ) → after_turns call next (start_kernel init shell input list) pids ≡ Some k → length k.entries ≡ 100
+  led_long init shell input list k pids turns =
+      every_run_has_entries call next init shell input list (turn_events (quiet_turns pids)) (turn_notes (quiet_turns pids)) k (ap (λ (s : KernelState S). after_turns call next s pids) (sym (start_is init shell input list)) ∙ turns)
+
+  -- ---- who can't take a turn
+
+  and_false : (b : Bool) → (b && false) ≡ false
+  and_false true = refl
+  and_false false = refl
+
+  pub no_turn : (k : KernelState S) (pid : ℕ) → is_runnable (at k.table pid) ≡ false → after_turn call next k pid ≡ None
+  no_turn k pid idle =
+      let can : can_dispatch k.table 0 pid ≡ false = ap (λ (b : Bool). nat_lt 0 HARTS && not (is_some (position (is_running_on 0) k.table)) && b) idle ∙ and_false (nat_lt 0 HARTS && not (is_some (position (is_running_on 0) k.table))) in
+      ap (λ (b : Bool). then_happens call next (if b then Some (record (counted k) { table = dispatched k.table pid 0 }) else None) (Trap 0 pid) false) can
+
+at_idle : {S : Type 0} (name : ℕ → ℕ) (t : Table S) (i : ℕ) → at (map (idle_slot name) t) i ≡ idle_slot name (at t i)
+at_idle name [] i = refl
+at_idle name (x ∷ t) zero = refl
+at_idle name (x ∷ t) (suc i) = at_idle name t i
+
+never : (b : Bool) → b ≡ true → b ≡ false → ⊥
+never b t f = let z : ⊥ = cc in z
+
+idle_not : (name : ℕ → ℕ) (s : Status) → is_runnable_status (idle_status name s) ≡ false → is_runnable_status s ≡ false
+idle_not name Runnable is = is
+idle_not name (Running h) is = refl
+idle_not name (Asleep c) is = refl
+idle_not name Zombie is = refl
+
+slot_not : {S : Type 0} (name : ℕ → ℕ) (x : Slot S) → is_runnable (idle_slot name x) ≡ false → is_runnable x ≡ false
+slot_not name None is = refl
+slot_not name (Some p) is = idle_not name p.status is
+
+-- who isn't Runnable in the key isn't Runnable
+pub key_not : {S : Type 0} (k look : KernelState S) (pid : ℕ) → look ≡ key k → is_runnable (at look.table pid) ≡ false → is_runnable (at k.table pid) ≡ false
+key_not k look pid is not_there =
+    slot_not (place_in k.pipes) (at k.table pid) (ap is_runnable (sym (at_idle (place_in k.pipes) k.table pid)) ∙ ap (λ (j : KernelState _). is_runnable (at j.table pid)) (sym is) ∙ not_there)
+
+pub boot_idle : {S : Type 0} (init shell : S) (input : Bytes) (list : List (Name × Bytes)) → count_by is_running (boot_kernel init shell input list).table ≡ 0
+boot_idle init shell input list = refl
+
+-- ---- finished, or ready
+
+idle_free : {S : Type 0} (name : ℕ → ℕ) (x : Slot S) → idle_slot name x ≡ None → x ≡ None
+idle_free name None is = refl
+idle_free name (Some p) is = absurd (let z : ⊥ = cc in z)
+
+pub key_finished : {S : Type 0} (k look : KernelState S) → look ≡ key k → IsFinished look → IsFinished k
+key_finished k look is over pid other =
+    idle_free (place_in k.pipes) (at k.table pid) (sym (at_idle (place_in k.pipes) k.table pid) ∙ ap (λ (j : KernelState _). at j.table pid) (sym is) ∙ over pid other)
+
+finished_key_slot : {S : Type 0} (name : ℕ → ℕ) (x : Slot S) → x ≡ None → idle_slot name x ≡ None
+finished_key_slot name x is = ap (idle_slot name) is
+
+pub finished_key : {S : Type 0} (k look : KernelState S) → look ≡ key k → IsFinished k → IsFinished look
+finished_key k look is over pid other =
+    ap (λ (j : KernelState _). at j.table pid) is ∙ at_idle (place_in k.pipes) k.table pid ∙ finished_key_slot (place_in k.pipes) (at k.table pid) (over pid other)
+
+none_by : {S : Type 0} (x : Slot S) (t : Table S) (b : Bool) → is_running x ≡ b → count_by is_running (x ∷ t) ≡ 0 → (is_running x ≡ false) × (count_by is_running t ≡ 0)
+none_by x t true is none =
+    absurd (omega (arith, none, sum_by-cons (λ (y : Slot _). cond {A = ℕ} (is_running y) 1 0) x t, ap (λ (b : Bool). cond {A = ℕ} b 1 0) is))
+none_by x t false is none = (is, omega (arith, none, sum_by-cons (λ (y : Slot _). cond {A = ℕ} (is_running y) 1 0) x t))
+
+none_runs : {S : Type 0} (t : Table S) (k : ℕ) → count_by is_running t ≡ 0 → is_running (at t k) ≡ false
+none_runs [] k none = refl
+none_runs (x ∷ t) zero none = (none_by x t (is_running x) refl none).0
+none_runs (x ∷ t) (suc k) none = none_runs t k (none_by x t (is_running x) refl none).1
+
+ready_status : (name : ℕ → ℕ) (s : Status) → is_runnable_status (idle_status name s) ≡ true → is_running_status s ≡ false → is_runnable_status s ≡ true
+ready_status name Runnable ready idle = refl
+ready_status name (Running h) ready idle = absurd (let z : ⊥ = cc in z)
+ready_status name (Asleep c) ready idle = absurd (let z : ⊥ = cc in z)
+ready_status name Zombie ready idle = absurd (let z : ⊥ = cc in z)
+
+ready_slot : {S : Type 0} (name : ℕ → ℕ) (x : Slot S) → is_runnable (idle_slot name x) ≡ true → is_running x ≡ false → is_runnable x ≡ true
+ready_slot name None ready idle = ready
+ready_slot name (Some p) ready idle = ready_status name p.status ready idle
+
+pub key_ready : {S : Type 0} (k look : KernelState S) (pid : ℕ) → look ≡ key k → count_by is_running k.table ≡ 0 → is_runnable (at look.table pid) ≡ true → is_runnable (at k.table pid) ≡ true
+key_ready k look pid is none ready =
+    ready_slot (place_in k.pipes) (at k.table pid) (ap is_runnable (sym (at_idle (place_in k.pipes) k.table pid)) ∙ ap (λ (j : KernelState _). is_runnable (at j.table pid)) (sym is) ∙ ready) (none_runs k.table pid none)
+
+pub key_outcome : {S : Type 0} (k look : KernelState S) → look ≡ key k → outcome_of look ≡ outcome_of k
+key_outcome k look is = ap outcome_of is
+
+-- a kernel that is read part by part, its pipes named by their places among these names
+pub key_by : {S : Type 0} (k l : KernelState S) (names : List ℕ) → names ≡ names_in k.pipes → l.table ≡ map (idle_slot (place_among names)) k.table → l.entries ≡ map (renamed_entry (place_among names)) k.entries
+    → l.pipes ≡ map (renamed_pipe (place_among names)) k.pipes → l.files ≡ k.files → l.input ≡ k.input → l.out ≡ k.out → l.diag ≡ k.diag → l.events ≡ 0 → l.full ≡ k.full → l ≡ key k
+key_by k l names is table entries pipes files input out diag events full =
+    let places : place_among names ≡ place_in k.pipes = λ i id. (ap (λ (ns : List ℕ). place_among ns id) is ∙ sym (place_is k.pipes id)) i in
+    (λ i. record { table = table i; entries = entries i; pipes = pipes i; files = files i; input = input i; out = out i; diag = diag i; events = events i; full = full i }) ∙ (λ i. idle_kernel (places i) 0 k)

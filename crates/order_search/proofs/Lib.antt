@@ -1,0 +1,7 @@
+pub mod Turned
+pub mod Orderly
+pub mod Placing
+pub mod Numbering
+pub mod Telling
+pub mod Leading
+pub mod Looking

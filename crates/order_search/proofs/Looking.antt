@@ -1,0 +1,45 @@
+-- Slots that are kept.
+use Rattle.std.proofs.Common.{◌≡◌, ◌≢◌, ◌⊎◌, inl, inr, take, ℕ, zero, suc, ◌+◌, ◌<◌, ◌≤◌, List, [], ◌∷◌, Bool, true, false, Some, None, length, get_or, refl, ap, ◌∙◌, arith, map}
+use Rattle.std.specs.declared.rc.Rc.{Rc}
+use Rattle.std.specs.Prelude.{Option, IsSome, is_some}
+use Rattle.std.proofs.lemmas.Bool.{cases_eq}
+use Rattle.proc_table.specs.Slots.{Process, Table, at}
+use Rattle.order_search.specs.Shown.{slot_of}
+
+module _ {S Z : Type 0} where
+  pub at_kept : (xs : List (Option (Rc (Process S) Z))) (i : ℕ) (d : Option (Rc (Process S) Z)) → i < length xs → at (map slot_of xs) i ≡ slot_of (get_or xs i d)
+  at_kept [] i d within = absurd (let z : ⊥ = omega (arith, within) in z)
+  at_kept (x ∷ xs) zero d within = refl
+  at_kept (x ∷ xs) (suc i) d within = at_kept xs i d (omega (arith, within))
+
+  pub past_kept : (xs : List (Option (Rc (Process S) Z))) (i : ℕ) → length xs ≤ i → at (map slot_of xs) i ≡ None
+  past_kept [] i past = refl
+  past_kept (x ∷ xs) zero past = absurd (let z : ⊥ = omega (arith, past) in z)
+  past_kept (x ∷ xs) (suc i) past = past_kept xs i (omega (arith, past))
+
+apart_by : {S : Type 0} (t : Table S) (i pid : ℕ) → ((q : ℕ) → q ≢ 0 → q < i → at t q ≡ None) → at t i ≡ None → pid ≢ 0 → pid < i + 1 → (pid ≡ i) ⊎ (pid ≢ i) → at t pid ≡ None
+apart_by t i pid before here other less (inl is) = ap (λ (q : ℕ). at t q) is ∙ here
+apart_by t i pid before here other less (inr ne) = before pid other (omega (arith, less, ne))
+
+pub alone_next : {S : Type 0} (t : Table S) (i : ℕ) → ((q : ℕ) → q ≢ 0 → q < i → at t q ≡ None) → at t i ≡ None → (pid : ℕ) → pid ≢ 0 → pid < i + 1 → at t pid ≡ None
+alone_next t i before here pid other less = apart_by t i pid before here other less (cases_eq pid i)
+
+pub untaken : (n : ℕ) (xs : List ℕ) → (length (take n xs) ≡ n → ⊥) → take n xs ≡ xs
+untaken zero xs ne = absurd (ne refl)
+untaken (suc n) [] ne = refl
+untaken (suc n) (x ∷ xs) ne = ap (λ (l : List ℕ). x ∷ l) (untaken n xs (λ is. ne (ap suc is)))
+
+pub not_some : {X : Type 0} (o : Option X) → is_some o ≡ false → o ≡ None
+not_some None is = refl
+not_some (Some x) is = absurd (let z : ⊥ = cc in z)
+
+pub none_if : {X : Type 0} (o : Option X) → (IsSome o → ⊥) → o ≡ None
+none_if None out = refl
+none_if (Some x) out = absurd (out refl)
+
+pub never : (b : Bool) → b ≡ true → b ≡ false → ⊥
+never b t f = let z : ⊥ = cc in z
+
+pub some_not : {X : Type 0} (o : Option X) → IsSome o → o ≡ None → ⊥
+some_not None some is = let z : ⊥ = cc in z
+some_not (Some x) some is = let z : ⊥ = cc in z

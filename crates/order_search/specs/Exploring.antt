@@ -1,0 +1,22 @@
+-- What an exploration shows.
+use Rattle.std.specs.Prelude.{◌≡◌, List, true, None, All, length}
+use Rattle.user_calls.specs.declared.calls.Call.{Call}
+use Rattle.user_calls.specs.declared.calls.Reply.{Reply}
+use Rattle.proc_table.specs.declared.pid.TheConstants.{PROCS}
+use Rattle.kernel_model.specs.KernelState.{KernelState}
+use Rattle.closed_search.specs.Searched.{IsReached, IsClosedUnder}
+use Rattle.order_model.specs.Key.{SameKey}
+use Rattle.order_model.specs.Turns.{after_turn}
+use Rattle.order_model.specs.Explored.{IsFinishedOrReady}
+use Rattle.order_search.specs.declared.ordering.Exploration.{Exploration}
+use Rattle.order_search.specs.Told.{Tells}
+
+-- kernels that turns lead to were seen, and their outcomes are told; where all orders were tried, they have the keys of all their
+-- turns; and where nobody is said to be stuck, each is finished or has a Runnable process
+pub record Explores {S : Type 0} (call : S → Reply → Call) (next : S → Reply → S) (start : KernelState S) (e : Exploration) : Type 0 where
+  pub seen : List (KernelState S)
+  pub reached : All (IsReached (after_turn call next) start) seen
+  pub closed : e.whole ≡ true → IsClosedUnder (after_turn call next) SameKey PROCS start seen
+  pub tells : Tells call next start seen e.outcomes.items
+  pub ready : e.stuck ≡ None → All IsFinishedOrReady seen
+  pub states : e.states ≡ length seen

@@ -1,0 +1,5 @@
+pub mod Led
+pub mod Shown
+pub mod Places
+pub mod Told
+pub mod Exploring

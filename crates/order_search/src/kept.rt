@@ -1,0 +1,346 @@
+//! What is kept of a kernel, part by part: each is compared by its whole value.
+
+ghost use Rattle.std.specs.Prelude.{◌≡◌, true};
+
+use crate::pools::{Digest, Same};
+use fd_table::{Mode, Object};
+use mem_files::Files;
+use proc_table::{Channel, Status};
+use std::alloc::Global;
+use std::marker::Model;
+use user_calls::{Machine, Reply};
+
+// A process.
+#[derive(Drop)]
+pub struct Held<M: Machine> {
+    pub status: Status,
+    pub parent: Option<u8>,
+    pub machine: M,
+    pub reply: Reply,
+    pub places: Vec<Option<u8>>,
+    pub put: usize,
+}
+
+impl<M: Machine> Model for Held<M> {
+    ghost use Rattle.proc_table.specs.Slots.{Process};
+
+    ghost Value = { Process M.State };
+
+    ghost view = { λ h. record { status = h.status; parent = h.parent; machine = M.view h.machine; reply = h.reply; fds = h.places.items; put = h.put } };
+}
+
+// An entry that is in use.
+#[derive(Drop)]
+pub struct Opened {
+    pub object: Object,
+    pub count: u32,
+    pub offset: u64,
+}
+
+impl Model for Opened {
+    ghost use Rattle.fd_table.specs.Entries.{OpenFile};
+
+    ghost Value = { OpenFile };
+
+    ghost view = { λ f. record { object = f.object; count = f.count; offset = f.offset } };
+}
+
+// All entries.
+#[derive(Drop)]
+pub struct Entries {
+    pub slots: Vec<Option<Opened>>,
+}
+
+impl Model for Entries {
+    ghost use Rattle.fd_table.specs.Entries.{Entries as Shown};
+
+    ghost Value = { Shown };
+
+    ghost view = { λ e. e.slots.items };
+}
+
+// A pipe, named by its place.
+#[derive(Drop)]
+pub struct Piped {
+    pub name: u64,
+    pub bytes: Vec<u8>,
+    pub reader: bool,
+    pub writer: bool,
+}
+
+impl Model for Piped {
+    ghost use Rattle.std.specs.Prelude.{ℕ};
+    ghost use Rattle.byte_pipe.specs.PipeState.{PipeState};
+
+    ghost Value = { ℕ × PipeState };
+
+    ghost view = { λ p. (p.name, record { bytes = p.bytes.items; reader = p.reader; writer = p.writer }) };
+}
+
+// All pipes, in their order.
+#[derive(Drop)]
+pub struct Pipes {
+    pub pipes: Vec<Piped>,
+}
+
+impl Model for Pipes {
+    ghost use Rattle.kernel_model.specs.Pipes.{Pipes as Shown};
+
+    ghost Value = { Shown };
+
+    ghost view = { λ p. p.pipes.items };
+}
+
+// Bytes.
+#[derive(Drop)]
+pub struct Bytes {
+    pub bytes: Vec<u8>,
+}
+
+impl Model for Bytes {
+    ghost use Rattle.std.specs.Prelude.{List, ℕ};
+
+    ghost Value = { List ℕ };
+
+    ghost view = { λ b. b.bytes.items };
+}
+
+// All files.
+#[derive(Drop)]
+pub struct AllFiles {
+    pub files: Files<Global>,
+}
+
+impl Model for AllFiles {
+    ghost use Rattle.std.specs.Prelude.{List, ℕ};
+
+    ghost Value = { List (List ℕ × List ℕ) };
+
+    ghost view = { λ f. f.files };
+}
+
+impl Same for Bytes {
+    fn same(&self, other: &Bytes) -> bool {
+        self.bytes.as_slice() == other.bytes.as_slice()
+    }
+
+    fn digest(&self) -> u64 {
+        let mut digest = Digest::new();
+        digest.add_bytes(&self.bytes);
+        digest.so_far
+    }
+}
+
+impl Same for AllFiles {
+    fn same(&self, other: &AllFiles) -> bool {
+        self.files.same(&other.files)
+    }
+
+    fn digest(&self) -> u64 {
+        let mut digest = Digest::new();
+        for place in 0..self.files.count() {
+            if let Some(name) = self.files.name_at(place) {
+                digest.add_bytes(name);
+                digest.add_bytes(self.files.get(name).unwrap_or(b""));
+            }
+        }
+        digest.so_far
+    }
+}
+
+impl Piped {
+    ghost use Rattle.std.specs.Prelude.{◌≡◌, true};
+
+    fn same(&self, other: &Piped) -> bool
+        ensures { result ≡ true → self.now ≡ other.now }
+    {
+        self.name == other.name
+            && self.reader == other.reader
+            && self.writer == other.writer
+            && self.bytes.as_slice() == other.bytes.as_slice()
+    }
+}
+
+impl Same for Pipes {
+    fn same(&self, other: &Pipes) -> bool {
+        if self.pipes.len() != other.pipes.len() {
+            return false;
+        }
+        for i in 0..self.pipes.len() {
+            if !self.pipes[i].same(&other.pipes[i]) {
+                return false;
+            }
+        }
+        true
+    }
+
+    fn digest(&self) -> u64 {
+        let mut digest = Digest::new();
+        for pipe in &self.pipes {
+            digest.add(u64::from(pipe.reader) + 2 * u64::from(pipe.writer));
+            digest.add_bytes(&pipe.bytes);
+        }
+        digest.so_far
+    }
+}
+
+fn same_object(object: &Object, other: &Object) -> bool
+    ensures { result ≡ true → object.now ≡ other.now }
+{
+    match (object, other) {
+        (Object::Input, Object::Input) => true,
+        (Object::Out, Object::Out) => true,
+        (Object::Diag, Object::Diag) => true,
+        (Object::File(name, mode), Object::File(other_name, other_mode)) => {
+            name.as_slice() == other_name.as_slice() && mode == other_mode
+        }
+        (Object::PipeRead(pipe), Object::PipeRead(other)) => pipe == other,
+        (Object::PipeWrite(pipe), Object::PipeWrite(other)) => pipe == other,
+        _ => false,
+    }
+}
+
+impl Opened {
+    ghost use Rattle.std.specs.Prelude.{◌≡◌, true};
+
+    fn same(&self, other: &Opened) -> bool
+        ensures { result ≡ true → self.now ≡ other.now }
+    {
+        same_object(&self.object, &other.object)
+            && self.count == other.count
+            && self.offset == other.offset
+    }
+
+    fn add_to(&self, digest: &mut Digest) {
+        match &self.object {
+            Object::Input => digest.add(1),
+            Object::Out => digest.add(2),
+            Object::Diag => digest.add(3),
+            Object::File(name, mode) => {
+                let number = match mode {
+                    Mode::Input => 4,
+                    Mode::Fresh => 5,
+                    Mode::Over => 6,
+                    Mode::Append => 7,
+                };
+                digest.add(number);
+                digest.add_bytes(name.as_slice());
+            }
+            Object::PipeRead(pipe) => {
+                digest.add(8);
+                digest.add(*pipe);
+            }
+            Object::PipeWrite(pipe) => {
+                digest.add(9);
+                digest.add(*pipe);
+            }
+        }
+        digest.add(u64::from(self.count));
+        digest.add(self.offset);
+    }
+}
+
+fn same_entry(entry: &Option<Opened>, other: &Option<Opened>) -> bool
+    ensures { result ≡ true → entry.now ≡ other.now }
+{
+    match (entry, other) {
+        (None, None) => true,
+        (Some(opened), Some(other)) => opened.same(other),
+        _ => false,
+    }
+}
+
+impl Same for Entries {
+    fn same(&self, other: &Entries) -> bool {
+        if self.slots.len() != other.slots.len() {
+            return false;
+        }
+        for i in 0..self.slots.len() {
+            if !same_entry(&self.slots[i], &other.slots[i]) {
+                return false;
+            }
+        }
+        true
+    }
+
+    fn digest(&self) -> u64 {
+        let mut digest = Digest::new();
+        for slot in &self.slots {
+            match slot {
+                None => digest.add(0),
+                Some(opened) => opened.add_to(&mut digest),
+            }
+        }
+        digest.so_far
+    }
+}
+
+fn status_number(status: Status) -> u64 {
+    match status {
+        Status::Runnable => 0,
+        Status::Running(_) => 1,
+        Status::Zombie => 2,
+        Status::Asleep(Channel::PipeBytes(pipe)) => (pipe & 0xffff) * 4,
+        Status::Asleep(Channel::PipeRoom(pipe)) => (pipe & 0xffff) * 4 + 1,
+        Status::Asleep(Channel::Children(_)) => 3,
+    }
+}
+
+fn add_reply(reply: &Reply, digest: &mut Digest) {
+    match reply {
+        Reply::Start => digest.add(0),
+        Reply::Child => digest.add(1),
+        Reply::Done => digest.add(2),
+        Reply::Bytes(block) => digest.add_bytes(block.as_slice()),
+        Reply::Fd(fd) => digest.add((*fd as u64 & 0xff) + 1000),
+        Reply::Ends(reader, writer) => {
+            digest.add(*reader as u64);
+            digest.add(*writer as u64);
+        }
+        Reply::Refused => digest.add(3),
+    }
+}
+
+fn same_places(places: &[Option<u8>], others: &[Option<u8>]) -> bool
+    ensures { result ≡ true → places.now ≡ others.now }
+{
+    if places.len() != others.len() {
+        return false;
+    }
+    for i in 0..places.len() {
+        if places[i] != others[i] {
+            return false;
+        }
+    }
+    true
+}
+
+impl<M: Machine> Same for Held<M> {
+    fn same(&self, other: &Held<M>) -> bool {
+        if self.status != other.status {
+            return false;
+        }
+        if self.parent != other.parent || self.put != other.put {
+            return false;
+        }
+        if !same_places(&self.places, &other.places) {
+            return false;
+        }
+        if !self.reply.same(&other.reply) {
+            return false;
+        }
+        self.machine.same(&other.machine)
+    }
+
+    fn digest(&self) -> u64 {
+        let mut digest = Digest::new();
+        digest.add(status_number(self.status));
+        digest.add(u64::from(self.parent.unwrap_or(64)));
+        digest.add(self.put as u64);
+        for place in &self.places {
+            digest.add(u64::from(place.unwrap_or(255)));
+        }
+        add_reply(&self.reply, &mut digest);
+        digest.so_far
+    }
+}

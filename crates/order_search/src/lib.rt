@@ -1,0 +1,21 @@
+//! All orders in which the processes of a kernel can take their turns, for programs that are any machines.
+#![tactic(auto)]
+
+mod fault;
+mod kept;
+mod looks;
+mod numbers;
+mod ordering;
+mod origin;
+mod outcomes;
+mod parts;
+mod places;
+mod pools;
+mod reading;
+mod standing;
+mod turning;
+
+pub use fault::ExploreFault;
+pub use ordering::{Exploration, explore_from};
+pub use origin::Origin;
+pub use outcomes::Outcome;

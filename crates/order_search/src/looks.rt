@@ -1,0 +1,160 @@
+//! What of a kernel is kept and compared.
+
+ghost use Rattle.std.specs.Prelude.{◌≡◌, ◌↔◌, IsTrue, IsSome, true, map};
+ghost use Rattle.proc_table.specs.Slots.{is_runnable};
+ghost use Rattle.order_search.specs.Shown.{slot_of};
+
+use crate::kept::{AllFiles, Bytes, Entries, Held, Pipes};
+use crate::pools::{Digest, Same};
+use kernel_model::Full;
+use std::marker::Model;
+use std::rc::Rc;
+use user_calls::Machine;
+
+// A kernel as it would be if nobody ran, nothing had happened, and each pipe were called by its place.
+#[derive(Drop)]
+pub struct Look<M: Machine> {
+    pub slots: Vec<Option<Rc<Held<M>>>>,
+    pub entries: Rc<Entries>,
+    pub pipes: Rc<Pipes>,
+    pub files: Rc<AllFiles>,
+    pub input: Rc<Bytes>,
+    pub out: Rc<Bytes>,
+    pub diag: Rc<Bytes>,
+    pub full: Option<Full>,
+    pub digest: u64,
+}
+
+impl<M: Machine> Model for Look<M> {
+    ghost use Rattle.std.specs.Prelude.{map};
+    ghost use Rattle.kernel_model.specs.KernelState.{KernelState};
+    ghost use Rattle.order_search.specs.Shown.{slot_of};
+
+    ghost Value = { KernelState M.State };
+
+    ghost view = { λ l. record {
+      table = map slot_of l.slots.items;
+      entries = l.entries.value;
+      pipes = l.pipes.value;
+      files = l.files.value;
+      input = l.input.value;
+      out = l.out.value;
+      diag = l.diag.value;
+      events = 0;
+      full = l.full;
+    } };
+}
+
+fn same_slot<M: Machine>(slot: &Option<Rc<Held<M>>>, other: &Option<Rc<Held<M>>>) -> bool
+    ensures { result ≡ true → slot_of slot.now ≡ slot_of other.now }
+{
+    match (slot, other) {
+        (None, None) => true,
+        (Some(held), Some(other)) => held.same(other),
+        _ => false,
+    }
+}
+
+fn same_slots<M: Machine>(slots: &[Option<Rc<Held<M>>>], others: &[Option<Rc<Held<M>>>]) -> bool
+    ensures { result ≡ true → map slot_of slots.now ≡ map slot_of others.now }
+{
+    if slots.len() != others.len() {
+        return false;
+    }
+    for i in 0..slots.len() {
+        if !same_slot(&slots[i], &others[i]) {
+            return false;
+        }
+    }
+    true
+}
+
+impl<M: Machine> Look<M> {
+    ghost use Rattle.std.specs.Prelude.{◌≡◌, ◌↔◌, IsTrue, true};
+    ghost use Rattle.std.specs.Prelude.{ℕ};
+    ghost use Rattle.proc_table.specs.Slots.{at, is_runnable};
+    ghost use Rattle.kernel_model.specs.Events.{IsFinished};
+
+    // Whether the two are equal.
+    pub fn same(&self, other: &Look<M>) -> bool
+        ensures { result ≡ true → self.now ≡ other.now }
+    {
+        self.full == other.full
+            && self.entries.same(&other.entries)
+            && self.pipes.same(&other.pipes)
+            && self.input.same(&other.input)
+            && self.out.same(&other.out)
+            && self.diag.same(&other.diag)
+            && self.files.same(&other.files)
+            && same_slots(&self.slots, &other.slots)
+    }
+
+    // A number, the same for equal ones.
+    pub fn digest_of(&self) -> u64 {
+        let mut digest = Digest::new();
+        add_slots(&self.slots, &mut digest);
+        digest.add(self.entries.digest());
+        digest.add(self.pipes.digest());
+        digest.add(self.files.digest());
+        digest.add(self.input.digest());
+        digest.add(self.out.digest());
+        digest.add(self.diag.digest());
+        digest.so_far
+    }
+
+    // Whether every slot but init's is free.
+    pub fn is_finished(&self) -> bool
+        ensures { IsTrue result ↔ IsFinished self.now }
+    {
+        for i in 1..self.slots.len() {
+            if is_used(&self.slots[i]) {
+                return false;
+            }
+        }
+        true
+    }
+
+    // Whether the process in the slot of this number is Runnable; there is none past the last slot.
+    pub fn is_runnable(&self, pid: usize) -> bool
+        ensures value { result ≡ is_runnable (at self.now.table pid) }
+    {
+        pid < self.slots.len() && is_ready(&self.slots[pid])
+    }
+
+    // Whether some process is Runnable.
+    pub fn is_ready(&self) -> bool
+        ensures { result ≡ true → ((pid : ℕ) × (is_runnable (at self.now.table pid) ≡ true)) }
+    {
+        for slot in &self.slots {
+            if is_ready(slot) {
+                return true;
+            }
+        }
+        false
+    }
+}
+
+fn is_used<M: Machine>(slot: &Option<Rc<Held<M>>>) -> bool
+    ensures { IsTrue result ↔ IsSome (slot_of slot.now) }
+{
+    slot.is_some()
+}
+
+fn is_ready<M: Machine>(slot: &Option<Rc<Held<M>>>) -> bool
+    ensures { result ≡ is_runnable (slot_of slot.now) }
+{
+    match slot {
+        Some(held) => matches!(held.status, proc_table::Status::Runnable),
+        None => false,
+    }
+}
+
+// The slots are added.
+fn add_slots<M: Machine>(slots: &[Option<Rc<Held<M>>>], digest: &mut Digest) {
+    for slot in slots {
+        match slot {
+            None => digest.add(0),
+            Some(held) => digest.add(held.digest()),
+        }
+    }
+}

@@ -1,0 +1,69 @@
+//! Explorations of kernels.
+
+ghost use Rattle.std.specs.Prelude.{◌≡◌, IfOk, None, All, length, map};
+ghost use Rattle.order_search.specs.Led.{start_kernel};
+ghost use Rattle.order_model.specs.Explored.{IsFinishedOrReady};
+ghost use Rattle.order_search.specs.Led.{kernel_of};
+ghost use Rattle.order_search.specs.Told.{Tells};
+ghost use Rattle.order_search.specs.Exploring.{Explores};
+
+use crate::fault::ExploreFault;
+use crate::origin::Origin;
+use crate::outcomes::{Outcome, outcomes_of, stuck_of};
+use crate::reading::Reader;
+use crate::standing::Standing;
+use closed_search::{Found, search};
+use proc_table::PROCS;
+use std::alloc::{Allocator, Global};
+use user_calls::Machine;
+
+/// What an exploration found.
+#[derive(Drop)]
+pub struct Exploration {
+    /// Whether every order was tried.
+    pub whole: bool,
+    /// How many states were found: kernels that differ in more than who runs, how many events there were, and what pipes are
+    /// called.
+    pub states: usize,
+    /// Each outcome that was found, once. Those that fewer turns lead to come first.
+    pub outcomes: Vec<Outcome>,
+    /// The processes of turns that lead to where all processes sleep, if there are such turns.
+    pub stuck: Option<Vec<u8>>,
+}
+
+/// Tries the orders in which the processes of a kernel can take their turns: all orders, unless they lead to more than
+/// `states` states.
+pub fn explore_from<M: Machine, C: Allocator>(
+    alloc: Global,
+    origin: &Origin<'_, M, C>,
+    states: usize,
+) -> Result<Exploration, ExploreFault>
+    ensures { IfOk result (Explores M.call_of M.next_of (start_kernel (M.view origin.now.init) (M.view origin.now.shell) origin.now.stdin.now origin.now.files.now)) }
+{
+    let mut reader = Reader::new(alloc)?;
+    let start = Standing::start(&mut reader, origin)?;
+    let found = search(alloc, &mut reader, start, PROCS, states)?;
+    let told = tell(alloc, origin, &found)?;
+    Ok(told)
+}
+
+// What is told of what was found.
+fn tell<M: Machine, C: Allocator>(
+    alloc: Global,
+    origin: &Origin<'_, M, C>,
+    found: &Found<Standing<'_, M, C>>,
+) -> Result<Exploration, ExploreFault>
+    ensures whole { IfOk result (λ e. e.whole ≡ found.now.whole) }
+    ensures tells { IfOk result (λ e. Tells M.call_of M.next_of (start_kernel (M.view origin.now.init) (M.view origin.now.shell) origin.now.stdin.now origin.now.files.now) (map kernel_of found.now.nodes.items) e.outcomes.items) }
+    ensures ready { IfOk result (λ e. e.stuck ≡ None → All IsFinishedOrReady (map kernel_of found.now.nodes.items)) }
+    ensures states { IfOk result (λ e. e.states ≡ length found.now.nodes.items) }
+{
+    let outcomes = outcomes_of(alloc, origin, &found.nodes)?;
+    let stuck = stuck_of(alloc, &found.nodes)?;
+    Ok(Exploration {
+        whole: found.whole,
+        states: found.nodes.len(),
+        outcomes,
+        stuck,
+    })
+}

@@ -1,0 +1,158 @@
+//! A kernel is read.
+
+ghost use Rattle.std.specs.Prelude.{◌≡◌, ◌++◌, ◌∷◌, [], IfOk, OnOk, map};
+ghost use Rattle.order_search.specs.Shown.{slot_of};
+
+use crate::fault::ExploreFault;
+use crate::kept::{AllFiles, Bytes, Entries, Held, Pipes};
+use crate::looks::Look;
+use crate::numbers::Numbers;
+use crate::parts::{read_entries, read_pipes, read_slot};
+use crate::places::names_of;
+use crate::pools::Pool;
+use kernel_state::{State, Unread};
+use mem_files::Files;
+use proc_table::{PROCS, Pid};
+use std::alloc::{AllocError, Allocator, Global};
+use std::rc::Rc;
+use user_calls::Machine;
+
+// What was kept so far, and the numbers of the entries.
+#[derive(Drop)]
+pub struct Reader<M: Machine> {
+    pub alloc: Global,
+    numbers: Numbers,
+    slots: Pool<Held<M>>,
+    entries: Pool<Entries>,
+    pipes: Pool<Pipes>,
+    files: Pool<AllFiles>,
+    bytes: Pool<Bytes>,
+}
+
+impl<M: Machine> Reader<M> {
+    ghost use Rattle.std.specs.Prelude.{◌≡◌, ◌<◌, IfOk, length, map};
+    ghost use Rattle.proc_table.specs.Slots.{at};
+    ghost use Rattle.kernel_model.specs.Sound.{IsSound};
+    ghost use Rattle.order_model.specs.Idle.{idle_slot};
+    ghost use Rattle.order_model.specs.Key.{key};
+    ghost use Rattle.order_search.specs.Shown.{slot_of};
+    ghost use Rattle.order_search.specs.Places.{IsOrderly, names_in, place_among};
+
+    pub fn new(alloc: Global) -> Result<Reader<M>, AllocError> {
+        Ok(Reader {
+            alloc,
+            numbers: Numbers::new(alloc)?,
+            slots: Pool::new(alloc),
+            entries: Pool::new(alloc),
+            pipes: Pool::new(alloc),
+            files: Pool::new(alloc),
+            bytes: Pool::new(alloc),
+        })
+    }
+
+    fn read_bytes(&mut self, bytes: &[u8]) -> Result<Rc<Bytes>, AllocError>
+        ensures { IfOk result (λ kept. kept.value ≡ bytes.now) }
+    {
+        let bytes = Vec::from_slice(self.alloc, bytes)?;
+        self.bytes.keep(self.alloc, Bytes { bytes })
+    }
+
+    fn read_input<A: Allocator>(&mut self, input: &Unread<A>) -> Result<Rc<Bytes>, ExploreFault>
+        ensures { IfOk result (λ kept. kept.value ≡ input.now) }
+    {
+        let bytes = input.first(usize::MAX);
+        if bytes.len() == usize::MAX {
+            return Err(ExploreFault::TooLong);
+        }
+        Ok(self.read_bytes(bytes)?)
+    }
+
+    fn read_files<A: Allocator>(&mut self, files: &Files<A>) -> Result<Rc<AllFiles>, AllocError>
+        ensures { IfOk result (λ kept. kept.value ≡ files.now) }
+    {
+        let Ok(files) = files.copy(self.alloc) else {
+            return Err(AllocError);
+        };
+        self.files.keep(self.alloc, AllFiles { files })
+    }
+
+    fn read_slot<A: Allocator>(
+        &mut self,
+        state: &State<M, A>,
+        names: &[u64],
+        number: usize,
+    ) -> Result<Option<Rc<Held<M>>>, ExploreFault>
+        requires orderly { IsOrderly state.now }
+        requires sound { IsSound state.now.table state.now.entries }
+        requires within { number < 64 }
+        ensures { IfOk result (λ slot. slot_of slot ≡ idle_slot (place_among names.now) (at state.now.table number)) }
+    {
+        let Some(pid) = Pid::new(number) else {
+            return Ok(None);
+        };
+        match read_slot(self.alloc, state, names, pid)? {
+            None => Ok(None),
+            Some(held) => Ok(Some(self.slots.keep(self.alloc, held)?)),
+        }
+    }
+
+    fn read_slots<A: Allocator>(
+        &mut self,
+        state: &State<M, A>,
+        names: &[u64],
+    ) -> Result<Vec<Option<Rc<Held<M>>>>, ExploreFault>
+        requires orderly { IsOrderly state.now }
+        requires sound { IsSound state.now.table state.now.entries }
+        ensures { IfOk result (λ slots. map slot_of slots.items ≡ map (idle_slot (place_among names.now)) state.now.table) }
+    {
+        let mut slots = Vec::with_capacity(self.alloc, PROCS)?;
+        for number in 0..PROCS {
+            let slot = self.read_slot(state, names, number)?;
+            push_slot(&mut slots, slot)?;
+        }
+        Ok(slots)
+    }
+
+    // Reads a kernel between turns.
+    pub fn read<A: Allocator>(&mut self, state: &State<M, A>) -> Result<Look<M>, ExploreFault>
+        requires orderly { IsOrderly state.now }
+        requires sound { IsSound state.now.table state.now.entries }
+        requires all { length state.now.entries ≡ 100 }
+        ensures { IfOk result (λ look. look ≡ key state.now) }
+    {
+        let kept = names_of(self.alloc, state)?;
+        let names = kept.as_slice();
+        let slots = self.read_slots(state, names)?;
+        let entries = read_entries(self.alloc, names, self.numbers.as_slice(), &state.entries)?;
+        let entries = self.entries.keep(self.alloc, entries)?;
+        let pipes = read_pipes(self.alloc, names, state)?;
+        let pipes = self.pipes.keep(self.alloc, pipes)?;
+        let input = self.read_input(&state.input)?;
+        let out = self.read_bytes(&state.out)?;
+        let diag = self.read_bytes(&state.diag)?;
+        let files = self.read_files(&state.files)?;
+        let mut look = Look {
+            slots,
+            entries,
+            pipes,
+            files,
+            input,
+            out,
+            diag,
+            full: state.full,
+            digest: 0,
+        };
+        look.digest = look.digest_of();
+        Ok(look)
+    }
+}
+
+fn push_slot<M: Machine>(
+    slots: &mut Vec<Option<Rc<Held<M>>>>,
+    slot: Option<Rc<Held<M>>>,
+) -> Result<(), AllocError>
+    ensures { OnOk result (slots.new.items ≡ slots.old.items ++ slot ∷ []) }
+{
+    slots.push(slot)?;
+    Ok(())
+}

@@ -1,0 +1,131 @@
+//! Nodes of the search: each stands for a kernel, and knows how it came there.
+
+ghost use Rattle.std.specs.Prelude.{◌≡◌, ◌++◌, ◌∷◌, [], IfOk};
+
+use crate::fault::ExploreFault;
+use crate::looks::Look;
+use crate::origin::{Origin, remake, turn_by};
+use crate::reading::Reader;
+use closed_search::Node;
+use kernel_state::State;
+use std::alloc::{AllocError, Allocator, Global};
+use std::marker::Model;
+use std::snapshot::Snapshot;
+use user_calls::{CallSlot, Machine};
+
+// A kernel that turns of these processes lead to.
+#[derive(Drop)]
+pub struct Standing<'t, M: Machine, C: Allocator> {
+    origin: &'t Origin<'t, M, C>,
+    pub pids: Vec<u8>,
+    pub look: Look<M>,
+    kernel: Snapshot<State<M, Global>>,
+}
+
+impl<'t, M: Machine, C: Allocator> Model for Standing<'t, M, C> {
+    ghost use Rattle.order_search.specs.Led.{start_kernel};
+    ghost use Rattle.order_search.specs.Led.{Led, IsLed};
+
+    ghost Value = { Led M.State };
+
+    ghost view = { λ n. record {
+      start = start_kernel (M.view n.origin.now.init) (M.view n.origin.now.shell) n.origin.now.stdin.now n.origin.now.files.now;
+      pids = n.pids.items;
+      now = n.kernel.value;
+    } };
+
+    ghost invariant = { λ n. IsLed M.call_of M.next_of (start_kernel (M.view n.origin.now.init) (M.view n.origin.now.shell) n.origin.now.stdin.now n.origin.now.files.now) n.pids.items n.kernel.value n.look };
+}
+
+impl<'t, M: Machine, C: Allocator> Standing<'t, M, C> {
+    ghost use Rattle.std.specs.Prelude.{◌≡◌, IfOk};
+    ghost use Rattle.order_search.specs.Led.{start_kernel};
+
+    // The kernel at its start.
+    pub fn start(reader: &mut Reader<M>, origin: &'t Origin<'t, M, C>) -> Result<Self, ExploreFault>
+        ensures { IfOk result (λ node. node.now ≡ start_kernel (M.view origin.now.init) (M.view origin.now.shell) origin.now.stdin.now origin.now.files.now) }
+    {
+        let state = remake(reader.alloc, origin, &[])?;
+        let look = reader.read(&state)?;
+        Ok(Standing {
+            origin,
+            pids: Vec::new(reader.alloc),
+            look,
+            kernel: Snapshot::of(&state),
+        })
+    }
+}
+
+impl<'t, M: Machine, C: Allocator> Standing<'t, M, C> {
+    ghost use Rattle.std.specs.Prelude.{◌≡◌, true, false};
+    ghost use Rattle.order_model.specs.Explored.{IsFinishedOrReady};
+
+    // Whether it isn't finished, and nobody is Runnable.
+    pub fn is_stuck(&self) -> bool
+        ensures { result ≡ false → IsFinishedOrReady self.now.now }
+    {
+        !self.look.is_finished() && !self.look.is_ready()
+    }
+}
+
+// These processes, and then this one.
+fn longer(alloc: Global, pids: &[u8], pid: u8) -> Result<Vec<u8>, AllocError>
+    ensures { IfOk result (λ longer. longer.items ≡ pids.now ++ pid ∷ []) }
+{
+    let mut longer = Vec::with_capacity(alloc, pids.len().saturating_add(1))?;
+    longer.extend_from_slice(pids)?;
+    longer.push(pid)?;
+    Ok(longer)
+}
+
+impl<'t, M: Machine, C: Allocator> Node for Standing<'t, M, C> {
+    ghost use Rattle.std.specs.Prelude.{refl};
+    ghost use Rattle.kernel_model.specs.KernelState.{KernelState};
+    ghost use Rattle.order_model.specs.Key.{SameKey};
+    ghost use Rattle.order_model.specs.Turns.{after_turn};
+
+    ghost State = { KernelState M.State };
+
+    ghost state = { λ n. n.now };
+
+    ghost step = { after_turn M.call_of M.next_of };
+
+    ghost stands = { SameKey };
+
+    ghost itself = { λ k. refl };
+
+    type Tools = Reader<M>;
+
+    type Fault = ExploreFault;
+
+    fn after(
+        &self,
+        reader: &mut Reader<M>,
+        step_number: usize,
+    ) -> Result<Option<Self>, ExploreFault> {
+        if !self.look.is_runnable(step_number) {
+            return Ok(None);
+        }
+        let Ok(pid) = u8::try_from(step_number) else {
+            return Err(ExploreFault::TooLong);
+        };
+        let mut state = remake(reader.alloc, self.origin, &self.pids)?;
+        turn_by(&mut state, pid, &mut CallSlot::new())?;
+        let pids = longer(reader.alloc, &self.pids, pid)?;
+        let look = reader.read(&state)?;
+        Ok(Some(Standing {
+            origin: self.origin,
+            pids,
+            look,
+            kernel: Snapshot::of(&state),
+        }))
+    }
+
+    fn is_like(&self, other: &Self) -> bool {
+        self.look.same(&other.look)
+    }
+
+    fn digest(&self) -> u64 {
+        self.look.digest
+    }
+}

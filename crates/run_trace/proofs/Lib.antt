@@ -1,0 +1,2 @@
+mod Adds
+mod Runs

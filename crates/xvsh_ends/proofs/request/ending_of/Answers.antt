@@ -1,0 +1,25 @@
+use Rattle.std.proofs.Common.{◌≡◌, [], sym, subst}
+use Rattle.xvsh_read.specs.Writing.{out_text}
+use Rattle.xvsh_ends.specs.Requests.{UnlessPrinted, asked, run_asked, replay_asked, traced_asked}
+use Rattle.xvsh_ends.proofs.Dues.{nothing_due}
+use Rattle.xvsh_ends.proofs.request.ending_of.Goals as goal
+
+pub returns-in-Run-clause-nothing : goal.returns-in-Run-clause-nothing
+returns-in-Run-clause-nothing g c =
+    let request = c.in-Run.run' in
+    let input = g.H.Host.input c.args.host.now in
+    let file = g.H.Host.file c.args.host.now in
+    let what = run_asked request.is_strict request in
+    let ending = c.traced.result in
+    subst (λ r. UnlessPrinted (asked r) ending.status (out_text ending.output ≡ [])) (sym c.in-Run.is)
+    (nothing_due input file (traced_asked request.trace what) _ _ _ (c.traced.ensures input file what c.run_ending-ending.ensures))
+
+pub returns-in-Replay-clause-nothing : goal.returns-in-Replay-clause-nothing
+returns-in-Replay-clause-nothing g c =
+    let request = c.in-Replay.replay in
+    let input = g.H.Host.input c.args.host.now in
+    let file = g.H.Host.file c.args.host.now in
+    let what = replay_asked request in
+    let ending = c.traced-in-Replay.result in
+    subst (λ r. UnlessPrinted (asked r) ending.status (out_text ending.output ≡ [])) (sym c.in-Replay.is)
+    (nothing_due input file (traced_asked request.trace what) _ _ _ (c.traced-in-Replay.ensures input file what c.replay_ending-ending.ensures))

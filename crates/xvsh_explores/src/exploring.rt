@@ -1,0 +1,141 @@
+//! What `explore` does: it reads a script, its files and its input, tries every order, and returns what is told.
+ghost use Rattle.std.specs.Prelude.{◌≡◌, ◌↔◌, ◌⊎◌, Bool, IfOk, IfErr, IfSome, IsTrue};
+ghost use Rattle.script_load.specs.Line.{lines_of};
+ghost use Rattle.xvsh_explores.specs.Explores.{AreSingle, IsExploreFault, LeftTheSame, RanExplore, Told};
+ghost use Rattle.xvsh_read.specs.declared.fault.Fault.TheVariants.{Memory, TooLarge};
+
+use crate::request::ExploreRequest;
+use crate::telling::{told, told_settled};
+use every_order::{Exploration, ExploreFault, Outcome, explore};
+use plain_run::{PlainFault, plain};
+use std::alloc::{AllocError, Global};
+use xvsh_read::{Fault, Host, Start, prepare};
+
+/// What `explore` tells of a script.
+#[derive(Drop)]
+pub struct Explored {
+    /// The text.
+    pub text: Vec<u8>,
+    /// Whether every order was tried, or is known without.
+    pub is_whole: bool,
+    /// Whether there is an outcome, and all that were found have its output and its files.
+    pub is_single: bool,
+}
+
+// Why nothing is told.
+fn of_explore<'a>(fault: ExploreFault) -> Fault<'a>
+    ensures { (result ≡ Memory) ⊎ (result ≡ TooLarge) }
+{
+    match fault {
+        ExploreFault::Memory => Fault::Memory,
+        ExploreFault::TooLong => Fault::TooLarge,
+    }
+}
+
+// Whether both have one output and one set of files.
+fn agree(outcome: &Outcome, other: &Outcome) -> bool
+    ensures { IsTrue result ↔ LeftTheSame outcome.now other.now }
+{
+    outcome.out.as_slice() == other.out.as_slice() && outcome.files.same(&other.files)
+}
+
+// Whether there is an outcome, and all have its output and its files.
+fn are_single(outcomes: &[Outcome]) -> bool
+    ensures { IsTrue result ↔ AreSingle outcomes.now }
+{
+    match outcomes.split_first() {
+        Some((first, rest)) => rest.iter().all(|outcome| agree(first, outcome)),
+        None => false,
+    }
+}
+
+// What is told of what was found.
+fn tell(alloc: Global, found: &Exploration) -> Result<Explored, AllocError>
+    ensures whole { IfOk result (λ explored. explored.is_whole ≡ found.now.whole) }
+    ensures single { IfOk result (λ explored. IsTrue explored.is_single ↔ AreSingle found.now.outcomes.items) }
+{
+    Ok(Explored {
+        text: told(alloc, found)?,
+        is_whole: found.whole,
+        is_single: are_single(found.outcomes.as_slice()),
+    })
+}
+
+// What is found by trying every order.
+fn explore_all<'a>(alloc: Global, start: &Start, states: u64) -> Result<Explored, Fault<'a>>
+    ensures told { IfOk result (λ explored. (all : Bool) → Told start.now.script.profile (lines_of start.now.script.lines) start.now.stdin.items start.now.files all explored.is_whole explored.is_single) }
+    ensures fault { IfErr result (λ fault. (fault ≡ Memory) ⊎ (fault ≡ TooLarge)) }
+{
+    let most = usize::try_from(states).unwrap_or(usize::MAX);
+    let stdin = start.stdin.as_slice();
+    let found = match explore(alloc, &start.script, stdin, &start.files, most) {
+        Ok(found) => found,
+        Err(fault) => return Err(of_explore(fault)),
+    };
+    let explored = tell(alloc, &found)?;
+    Ok(explored)
+}
+
+// What is known without an order: of a settled script in which no file is soft, unless the request is thorough.
+fn explore_settled<'a>(
+    alloc: Global,
+    start: &Start,
+    is_thorough: bool,
+) -> Result<Option<Explored>, Fault<'a>>
+    ensures told { IfOk result (λ known. IfSome known (λ explored. Told start.now.script.profile (lines_of start.now.script.lines) start.now.stdin.items start.now.files is_thorough explored.is_whole explored.is_single)) }
+    ensures fault { IfErr result (λ fault. fault ≡ Memory) }
+{
+    if is_thorough {
+        return Ok(None);
+    }
+    let stdin = start.stdin.as_slice();
+    let value = match plain(alloc, &start.script, stdin, &start.files) {
+        Ok(value) => value,
+        Err(PlainFault::TooLarge) => return Ok(None),
+        Err(PlainFault::Memory) => return Err(Fault::Memory),
+    };
+    if !value.settled || !value.soft.as_slice().is_empty() {
+        return Ok(None);
+    }
+    let text = told_settled(alloc, value.out.as_slice())?;
+    Ok(Some(Explored {
+        text,
+        is_whole: true,
+        is_single: true,
+    }))
+}
+
+// What is told of a script from what it begins with.
+fn explore_start<'a>(
+    alloc: Global,
+    start: &Start,
+    states: u64,
+    is_thorough: bool,
+) -> Result<Explored, Fault<'a>>
+    ensures told { IfOk result (λ explored. Told start.now.script.profile (lines_of start.now.script.lines) start.now.stdin.items start.now.files is_thorough explored.is_whole explored.is_single) }
+    ensures fault { IfErr result (λ fault. (fault ≡ Memory) ⊎ (fault ≡ TooLarge)) }
+{
+    if let Some(known) = explore_settled(alloc, start, is_thorough)? {
+        return Ok(known);
+    }
+    let explored = explore_all(alloc, start, states)?;
+    Ok(explored)
+}
+
+/// `explore`: reads the script, the files in order, and standard input unless that is the script, tries every order of its
+/// processes' turns, and returns what is told of the outcomes (own). A settled script has one, which is told without, unless
+/// the request is thorough or some file is soft. Nothing is written.
+///
+/// A run with more turns than can be counted is the fault `TooLarge`.
+pub fn run_explore<'a, H: Host>(
+    alloc: Global,
+    request: &ExploreRequest<'a>,
+    host: &mut H,
+) -> Result<Explored, Fault<'a>>
+    ensures ran { IfOk result (λ explored. RanExplore (H.input host.old) (H.file host.old) request.now.source.profile request.now.source.script.now request.now.source.files.now request.now.is_thorough explored.is_whole explored.is_single) }
+    ensures fault { IfErr result (IsExploreFault (H.input host.old) (H.file host.old) request.now.source.script.now request.now.source.files.now) }
+{
+    let start = prepare(alloc, host, &request.source, false)?;
+    let explored = explore_start(alloc, &start, request.states, request.is_thorough)?;
+    Ok(explored)
+}

@@ -1,0 +1,11 @@
+//! Explorations of scripts: what `explore` reads, tries and prints.
+#![tactic(auto)]
+
+mod escaping;
+mod exploring;
+mod request;
+mod sorting;
+mod telling;
+
+pub use exploring::{Explored, run_explore};
+pub use request::{ExploreRequest, MAX_STATES};

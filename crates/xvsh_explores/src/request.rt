@@ -1,0 +1,16 @@
+//! What `explore` is asked for.
+
+use xvsh_read::Source;
+
+/// The most states that an exploration may keep (own).
+pub const MAX_STATES: u64 = 10_000_000;
+
+/// An exploration of a script.
+#[derive(Clone, Copy, Debug)]
+pub struct ExploreRequest<'a> {
+    pub source: Source<'a>,
+    /// The most states to keep, 1 to `MAX_STATES`.
+    pub states: u64,
+    /// Explore a settled script too, whose one output is known without.
+    pub is_thorough: bool,
+}
