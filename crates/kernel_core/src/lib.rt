@@ -13,7 +13,7 @@ mod whole;
 
 pub use dispatching::dispatch;
 pub use kernel_events::{Event, Full, Kernel, PipeStatus, Report, Schedule, Stranger, Task};
-pub use kernel_runs::RunOneFault;
-pub use run::run_one;
+pub use kernel_runs::{Order, RunOneFault};
+pub use run::{run_in_order, run_one};
 pub use script_load::MAX_TURNS;
 pub use whole::run_whole;

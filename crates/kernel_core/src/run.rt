@@ -11,7 +11,7 @@ ghost use Rattle.kernel_events.specs.Reports.{IsRunFrom};
 ghost use Rattle.kernel_core.specs.Answer.{IsAnswerIfSettled};
 
 use kernel_events::Report;
-use kernel_runs::RunOneFault;
+use kernel_runs::{Order, RunOneFault};
 use mem_files::Files;
 use mem_files::laws::are_files;
 use script_load::Script;
@@ -27,7 +27,6 @@ use std::alloc::Allocator;
 ///
 /// The faults come in their order: `BadTurns`, `Spent`, `Memory`. With `Spent` fewer than two turns are left, but for a script
 /// with `&` or where something was full: only there may nothing be Runnable in its place (`turns_spent`).
-#[tactic(auto, using(crate::proofs::Answers::answered))]
 pub fn run_one<A: Allocator + Copy, B: Allocator, C: Allocator>(
     alloc: A,
     script: &Script<B>,
@@ -44,6 +43,29 @@ pub fn run_one<A: Allocator + Copy, B: Allocator, C: Allocator>(
     ensures turns_spent { result ≡ Err RunOneFault.Spent → has_back (script_tree (lines_of script.now.lines)) ≡ false
         → IsOutOfTurnsIfRoomy (script_kernel script.now.profile (lines_of script.now.lines) stdin.now files.now) turns }
 {
+    run_in_order(alloc, script, stdin, files, turns, Order::Kernel)
+}
+
+/// The same in this order: whichever of the Runnable processes takes each turn, the report of a settled script in which nothing was
+/// full has the output and the files of the script's meaning (`answer`).
+#[tactic(auto, using(crate::proofs::Answers::answered))]
+pub fn run_in_order<A: Allocator + Copy, B: Allocator, C: Allocator>(
+    alloc: A,
+    script: &Script<B>,
+    stdin: &[u8],
+    files: &Files<C>,
+    turns: u64,
+    order: Order,
+) -> Result<Report<A>, RunOneFault>
+    ensures run { IfOk result (IsRunFrom (script_kernel script.now.profile (lines_of script.now.lines) stdin.now files.now)) }
+    ensures answer { IfOk result (IsAnswerIfSettled script.now.profile (lines_of script.now.lines) stdin.now files.now) }
+    ensures hart { IfOk result (λ report. All (λ event. is_of_hart 0 event ≡ true) report.schedule) }
+    ensures turns { IfOk result (λ report. length report.schedule ≤ turns) }
+    ensures bad_turns { (result ≡ Err RunOneFault.BadTurns) ↔ ((turns ≡ 0) ⊎ (MAX_TURNS < turns)) }
+    ensures spent { result ≡ Err RunOneFault.Spent → IsSpentFrom (script_kernel script.now.profile (lines_of script.now.lines) stdin.now files.now) turns }
+    ensures turns_spent { result ≡ Err RunOneFault.Spent → has_back (script_tree (lines_of script.now.lines)) ≡ false
+        → IsOutOfTurnsIfRoomy (script_kernel script.now.profile (lines_of script.now.lines) stdin.now files.now) turns }
+{
     are_files(files);
-    kernel_runs::run_one(alloc, script, stdin, files, turns)
+    kernel_runs::run_in_order(alloc, script, stdin, files, turns, order)
 }

@@ -1,10 +1,7 @@
 //! Events that are given from outside.
 
 ghost use Rattle.std.specs.Prelude.{◌≡◌, ◌↔◌, IsTrue, IfOk, OnErr, IsErr, Ok, false, true};
-ghost use Rattle.std.specs.Bool.{OnFalse, OnTrue};
-ghost use Rattle.proc_table.specs.Slots.{at, is_running_on};
 ghost use Rattle.kernel_model.specs.History.{GoesOn};
-ghost use Rattle.kernel_model.specs.declared.events.Event.TheVariants.{Trap};
 ghost use Rattle.kernel_events.specs.Possible.{CanHappen};
 
 use crate::kernel::Kernel;
@@ -25,21 +22,8 @@ impl<M: Machine, A: Allocator + Copy> Kernel<M, A> {
         ensures could { IsErr result → CanHappen self.old.now.table event }
     {
         match event {
-            Event::Dispatch(hart, pid) => Ok(self.begin(hart, pid)?.is_some()),
-            Event::Trap(hart, pid) => Ok(self.go_on(hart, pid)),
+            Event::Dispatch(hart, pid) => Ok(self.begin(hart, pid as usize)?.is_some()),
+            Event::Trap(hart, pid) => Ok(self.trap_pid(hart, pid as usize)),
         }
-    }
-
-    // The call of the process in slot `pid` is carried out, if it runs on the hart.
-    fn go_on(&mut self, hart: u8, pid: usize) -> bool
-        ensures can { result ≡ is_running_on hart (at self.old.now.table pid) }
-        ensures event { OnTrue result (GoesOn M.call_of M.next_of self.old (Trap hart pid) self.new) }
-        ensures same { OnFalse result (self.new ≡ self.old) }
-    {
-        let Some(slot) = self.state.found_on(hart, pid) else {
-            return false;
-        };
-        self.carry_out(hart, slot, None);
-        true
     }
 }

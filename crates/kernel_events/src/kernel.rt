@@ -1,6 +1,7 @@
 //! The kernel.
 
 ghost use Rattle.std.specs.Prelude.{◌≡◌, ◌<◌, ◌≤◌, ◌+◌, IsTrue, ◌↔◌, false, true, IfOk, OnOk, OnErr, IsErr, IsOk, IfSome, None, Some, Ok, All, if◌then◌else◌, ◌*◌, is_some, length, position, count_by};
+ghost use Rattle.std.specs.Bool.{OnFalse, OnTrue};
 ghost use Rattle.proc_table.specs.Slots.{at, is_running, is_running_on, is_runnable};
 ghost use Rattle.proc_table.specs.Calls.{CanDispatch, with_status};
 ghost use Rattle.proc_table.specs.declared.states.Status.TheVariants.{Running};
@@ -97,7 +98,7 @@ impl<M: Machine, A: Allocator> Kernel<M, A> {
             return Ok(None);
         };
         self.log
-            .write(Event::Dispatch(hart, pid.index()), Memory::Found);
+            .write(Event::Dispatch(hart, number_of(pid)), Memory::Found);
         Ok(Some(pid))
     }
 
@@ -137,6 +138,8 @@ impl<M: Machine, A: Allocator> Kernel<M, A> {
         ensures pid { IfOk result (λ found. IfSome found (λ slot. slot ≡ pid)) }
         ensures event { IfOk result (λ found. IfSome found (λ slot. GoesOn M.call_of M.next_of self.old (Dispatch hart pid) self.new)) }
         ensures slot { IfOk result (λ found. IfSome found (λ slot. at self.new.now.table pid ≡ with_status (Running hart) (at self.old.now.table pid))) }
+        ensures runs { IfOk result (λ found. IfSome found (λ slot. is_running_on hart (at self.new.now.table pid) ≡ true)) }
+        ensures running { IfOk result (λ found. count_by is_running self.new.now.table ≡ count_by is_running self.old.now.table + (if is_some found then 1 else 0)) }
     {
         if !self.state.can_dispatch(hart, pid) {
             return Ok(None);
@@ -146,7 +149,8 @@ impl<M: Machine, A: Allocator> Kernel<M, A> {
         let (true, Some(slot)) = (self.state.dispatch_pid(hart, pid), Pid::new(pid)) else {
             return Ok(None);
         };
-        self.log.write(Event::Dispatch(hart, pid), Memory::Found);
+        self.log
+            .write(Event::Dispatch(hart, number_of(slot)), Memory::Found);
         Ok(Some(slot))
     }
 
@@ -331,7 +335,7 @@ impl<M: Machine, A: Allocator + Copy> Kernel<M, A> {
         self.log.fits();
         write_call(&self.state, pid, given, &mut self.call);
         let memory = trap(&mut self.state, pid, &self.call);
-        self.log.write(Event::Trap(hart, pid.index()), memory);
+        self.log.write(Event::Trap(hart, number_of(pid)), memory);
     }
 
     /// A dispatch on the hart, which runs nothing, and the trap that follows it, at once: nothing is handed out, and no
@@ -354,6 +358,46 @@ impl<M: Machine, A: Allocator + Copy> Kernel<M, A> {
         self.carry_out(hart, pid, None);
         Ok(true)
     }
+
+    /// `step` of the process in slot `pid`. It returns whether the process could begin to run there; where it couldn't, nothing
+    /// changes.
+    ///
+    /// `AllocError` as with `dispatch_pid`.
+    pub fn step_pid(&mut self, hart: u8, pid: usize) -> Result<bool, AllocError>
+        ensures can { IfOk result (λ took. IsTrue took ↔ CanDispatch self.old.now.table hart pid) }
+        ensures same { result ≡ Ok false → self.new ≡ self.old }
+        ensures err { OnErr result (self.new ≡ self.old) }
+        ensures could { IsErr result → CanDispatch self.old.now.table hart pid }
+        ensures events { result ≡ Ok true → Steps M.call_of M.next_of self.old hart self.new }
+        ensures running { OnOk result (count_by is_running self.new.now.table ≡ count_by is_running self.old.now.table) }
+    {
+        let found = self.begin(hart, pid)?;
+        if let Some(slot) = found {
+            self.carry_out(hart, slot, None);
+        }
+        Ok(found.is_some())
+    }
+
+    /// The call of the process in slot `pid`, as its own machine makes it, is carried out, if the process runs on the hart. It
+    /// returns whether it does; where it doesn't, nothing changes.
+    pub fn trap_pid(&mut self, hart: u8, pid: usize) -> bool
+        ensures can { result ≡ is_running_on hart (at self.old.now.table pid) }
+        ensures event { OnTrue result (GoesOn M.call_of M.next_of self.old (Trap hart pid) self.new) }
+        ensures same { OnFalse result (self.new ≡ self.old) }
+    {
+        let Some(slot) = self.state.found_on(hart, pid) else {
+            return false;
+        };
+        self.carry_out(hart, slot, None);
+        true
+    }
+}
+
+// The number of a process in an event.
+fn number_of(pid: Pid) -> u32
+    ensures { result ≡ pid }
+{
+    pid.index() as u32
 }
 
 // Writes the call of the process: the one that is given, or the one that its machine makes.

@@ -5,10 +5,10 @@
 #[derive(Clone, Copy, Debug, PartialEq, Eq)]
 pub enum Event {
     /// The Runnable process begins to run on the hart (xv6's `scheduler`).
-    Dispatch(u8, usize),
+    Dispatch(u8, u32),
     /// The system call of the process, which runs on the hart, is carried out, or tried once more if it slept (xv6's
     /// `usertrap`).
-    Trap(u8, usize),
+    Trap(u8, u32),
 }
 
 /// What had no room at the first call of a run that was refused because something was full (own).

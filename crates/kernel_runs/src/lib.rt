@@ -2,8 +2,10 @@
 #![tactic(auto)]
 
 pub mod laws;
+mod ordering;
 mod replaying;
 mod run;
 
+pub use ordering::Order;
 pub use replaying::{ReplayFault, replay};
-pub use run::{RunOneFault, run_one};
+pub use run::{RunOneFault, run_in_order, run_one};

@@ -1,16 +1,18 @@
 //! Runs of a script on one hart.
 
-ghost use Rattle.std.specs.Prelude.{◌≡◌, ◌≤◌, ◌<◌, ◌⊎◌, ◌↔◌, All, IfOk, OnOk, Err, [], count_by, length, true};
-ghost use Rattle.proc_table.specs.Slots.{is_running};
+ghost use Rattle.std.specs.Prelude.{◌≡◌, ◌≤◌, ◌<◌, ◌⊎◌, ◌↔◌, All, IfOk, OnErr, OnOk, Err, Ok, [], count_by, length, false, true};
+ghost use Rattle.proc_table.specs.Slots.{is_runnable, is_running};
 ghost use Rattle.script_load.specs.declared.limits.TheConstants.{MAX_TURNS};
 ghost use Rattle.script_load.specs.Line.{lines_of};
 ghost use Rattle.kernel_model.specs.Events.{IsFinished};
+ghost use Rattle.kernel_model.specs.History.{Steps};
 ghost use Rattle.kernel_events.specs.Harts.{is_of_hart};
 ghost use Rattle.kernel_events.specs.Reports.{IsReport};
 ghost use Rattle.kernel_events.specs.Reports.{IsRunFrom};
 ghost use Rattle.run_model.specs.ScriptRun.{IsSpentFrom, script_kernel};
 ghost use Rattle.run_model.specs.Turns.{IsSpent, IsSpentBy};
 
+use crate::ordering::{Chooser, Order};
 use kernel_events::{Kernel, Report};
 use mem_files::Files;
 use script_load::{MAX_TURNS, Script};
@@ -62,10 +64,28 @@ pub fn run_one<A: Allocator + Copy, B: Allocator, C: Allocator>(
     ensures bad_turns { (result ≡ Err RunOneFault.BadTurns) ↔ ((turns ≡ 0) ⊎ (MAX_TURNS < turns)) }
     ensures spent { result ≡ Err RunOneFault.Spent → IsSpentFrom (script_kernel script.now.profile (lines_of script.now.lines) stdin.now files.now) turns }
 {
+    run_in_order(alloc, script, stdin, files, turns, Order::Kernel)
+}
+
+/// The same in this order, whatever it is.
+pub fn run_in_order<A: Allocator + Copy, B: Allocator, C: Allocator>(
+    alloc: A,
+    script: &Script<B>,
+    stdin: &[u8],
+    files: &Files<C>,
+    turns: u64,
+    order: Order,
+) -> Result<Report<A>, RunOneFault>
+    ensures run { IfOk result (IsRunFrom (script_kernel script.now.profile (lines_of script.now.lines) stdin.now files.now)) }
+    ensures hart { IfOk result (λ report. All (λ event. is_of_hart 0 event ≡ true) report.schedule) }
+    ensures turns { IfOk result (λ report. length report.schedule ≤ turns) }
+    ensures bad_turns { (result ≡ Err RunOneFault.BadTurns) ↔ ((turns ≡ 0) ⊎ (MAX_TURNS < turns)) }
+    ensures spent { result ≡ Err RunOneFault.Spent → IsSpentFrom (script_kernel script.now.profile (lines_of script.now.lines) stdin.now files.now) turns }
+{
     if turns == 0 || MAX_TURNS < turns {
         return Err(RunOneFault::BadTurns);
     }
-    run_named::<Brand, A, B, C>(alloc, script, stdin, files, turns)
+    run_named::<Brand, A, B, C>(alloc, script, stdin, files, turns, order)
 }
 
 // The run of the script that `N` names.
@@ -75,6 +95,7 @@ fn run_named<N: Naming, A: Allocator + Copy, B: Allocator, C: Allocator>(
     stdin: &[u8],
     files: &Files<C>,
     turns: u64,
+    order: Order,
 ) -> Result<Report<A>, RunOneFault>
     requires { lines_of script.now.lines ≡ N.script }
     ensures run { IfOk result (IsRunFrom (script_kernel script.now.profile (lines_of script.now.lines) stdin.now files.now)) }
@@ -85,13 +106,14 @@ fn run_named<N: Naming, A: Allocator + Copy, B: Allocator, C: Allocator>(
 {
     let init = User::<B, N>::init();
     let kernel = Kernel::boot(alloc, init, User::shell(script), stdin, files)?;
-    run_kernel(kernel, turns)
+    run_kernel(kernel, turns, order)
 }
 
-// Takes turns on hart 0 until only init is left, and gives the report.
+// Takes turns on hart 0 in this order until only init is left, and gives the report.
 fn run_kernel<M: Machine, A: Allocator + Copy>(
     mut kernel: Kernel<M, A>,
     turns: u64,
+    order: Order,
 ) -> Result<Report<A>, RunOneFault>
     requires idle { count_by is_running kernel.now.table ≡ 0 }
     requires fresh { kernel.schedule ≡ [] }
@@ -101,7 +123,8 @@ fn run_kernel<M: Machine, A: Allocator + Copy>(
     ensures bad_turns { result ≡ Err RunOneFault.BadTurns → ⊥ }
     ensures spent { result ≡ Err RunOneFault.Spent → IsSpentBy M.call_of M.next_of kernel.boot turns }
 {
-    let taken = take_turns(&mut kernel, turns);
+    let mut chooser = Chooser::new(order);
+    let taken = take_turns(&mut kernel, turns, &mut chooser);
     kernel.replays();
     match taken {
         Ok(()) => Ok(kernel.into_report()),
@@ -109,10 +132,46 @@ fn run_kernel<M: Machine, A: Allocator + Copy>(
     }
 }
 
-// Takes turns on hart 0 until only init is left.
+// The process in this slot takes a turn on hart 0, if one is chosen, and it can. It returns whether it did.
+fn take_chosen<M: Machine, A: Allocator + Copy>(
+    kernel: &mut Kernel<M, A>,
+    chosen: Option<usize>,
+) -> Result<bool, AllocError>
+    ensures same { result ≡ Ok false → kernel.new ≡ kernel.old }
+    ensures err { OnErr result (kernel.new ≡ kernel.old) }
+    ensures events { result ≡ Ok true → Steps M.call_of M.next_of kernel.old 0 kernel.new }
+    ensures running { OnOk result (count_by is_running kernel.new.now.table ≡ count_by is_running kernel.old.now.table) }
+{
+    match chosen {
+        Some(slot) => kernel.step_pid(0, slot),
+        None => Ok(false),
+    }
+}
+
+// The process in this slot takes a turn on hart 0; where none is chosen, or it can't, the one that the kernel chooses. It returns
+// whether one took a turn.
+fn take_turn<M: Machine, A: Allocator + Copy>(
+    kernel: &mut Kernel<M, A>,
+    chosen: Option<usize>,
+) -> Result<bool, AllocError>
+    requires idle { count_by is_running kernel.old.now.table ≡ 0 }
+    ensures none { result ≡ Ok false → All (λ slot. is_runnable slot ≡ false) kernel.old.now.table }
+    ensures same { result ≡ Ok false → kernel.new ≡ kernel.old }
+    ensures err { OnErr result (kernel.new ≡ kernel.old) }
+    ensures events { result ≡ Ok true → Steps M.call_of M.next_of kernel.old 0 kernel.new }
+    ensures running { OnOk result (count_by is_running kernel.new.now.table ≡ count_by is_running kernel.old.now.table) }
+{
+    if take_chosen(kernel, chosen)? {
+        return Ok(true);
+    }
+    kernel.step(0)
+}
+
+// Takes turns on hart 0, each by the process that is chosen, until only init is left.
 fn take_turns<M: Machine, A: Allocator + Copy>(
     kernel: &mut Kernel<M, A>,
     turns: u64,
+    chooser: &mut Chooser,
 ) -> Result<(), RunOneFault>
     requires idle { count_by is_running kernel.old.now.table ≡ 0 }
     requires fresh { kernel.old.schedule ≡ [] }
@@ -127,7 +186,8 @@ fn take_turns<M: Machine, A: Allocator + Copy>(
         if kernel.is_finished() {
             return Ok(());
         }
-        if !kernel.step(0)? {
+        let chosen = chooser.choose(kernel);
+        if !take_turn(kernel, chosen)? {
             return Err(RunOneFault::Spent);
         }
     }

@@ -16,7 +16,7 @@ ghost use Rattle.kernel_threads.specs.Turns.{Says};
 use crate::naming::Run;
 use crate::seats::Seat;
 use crate::sharing::Turn;
-use kernel_events::{Event, Kernel, Report, Task};
+use kernel_events::{Kernel, Report, Task};
 use proc_table::Pid;
 use std::alloc::{AllocError, Allocator, Global};
 use std::marker::Model;
@@ -198,10 +198,7 @@ impl<N: Run, M: Machine> Locked<N, M> {
         ensures event { OnTrue result (GoesOn M.call_of M.next_of self.old (Trap seat.old.hart pid) self.new) }
         ensures same { OnFalse result (self.new ≡ self.old) }
     {
-        let done = self
-            .kernel
-            .happen(Event::Trap(seat.hart(), pid.index()))
-            .unwrap_or(false);
+        let done = self.kernel.trap_pid(seat.hart(), pid.index());
         if done {
             seat.count(&mut self.counts);
         }

@@ -5,11 +5,15 @@ use std::time::{Clock, Duration, Instant};
 // How many turns a hart takes between two looks at the clock.
 pub(crate) const BATCH: u32 = 64;
 
-// How long a hart keeps the kernel, in microseconds, before another may have it.
-const TICK: u64 = 1_000;
+// How long a hart keeps the kernel, in microseconds, before another may have it: to wake one costs some tenth of that.
+const TICK: u64 = 4_000;
 
-// A batch that takes longer, in microseconds, has processes that compute for long between two calls.
+// A batch that takes longer, in microseconds, is slow.
 const SLOW_BATCH: u64 = 640;
+
+// So many slow batches, one after the other, have processes that compute for long between two calls. One alone may have been
+// interrupted by the system.
+const SLOW_BATCHES: u32 = 2;
 
 // So many turns are then taken outside the lock, before a batch is tried again.
 const OUTSIDE: u32 = 1_024;
@@ -19,11 +23,15 @@ const OUTSIDE: u32 = 1_024;
 #[derive(Clone, Copy)]
 pub(crate) struct Pace {
     outside: u32,
+    slow: u32,
 }
 
 impl Pace {
     pub(crate) fn new() -> Pace {
-        Pace { outside: 0 }
+        Pace {
+            outside: 0,
+            slow: 0,
+        }
     }
 
     // Whether the next turns are taken with the kernel in hand.
@@ -38,7 +46,12 @@ impl Pace {
 
     // A batch took so long.
     fn notes(&mut self, took: Duration) {
-        if Duration::from_micros(SLOW_BATCH) < took {
+        if took <= Duration::from_micros(SLOW_BATCH) {
+            self.slow = 0;
+            return;
+        }
+        self.slow = self.slow.saturating_add(1);
+        if SLOW_BATCHES <= self.slow {
             self.outside = OUTSIDE;
         }
     }

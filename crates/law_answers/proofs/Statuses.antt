@@ -6,7 +6,7 @@ use Rattle.std.proofs.lemmas.List.{append_cancel_left}
 use Rattle.mem_files.specs.Name.{Bytes}
 use Rattle.script_load.specs.declared.profile.Profile.{Profile}
 use Rattle.xvsh_read.specs.Path.{Path}
-use Rattle.xvsh_ends.specs.Ends.{verdict_text, Asked, asks_plain, asks_run, asks_strict, asks_check, asks_turns, asks_explain, asks_explore, asks_traced, verdict_status, help, misuse, How, by_schedule, RanBy, Due, plain_ran, no_plain, ran, no_run, ran_strict, no_strict, checked, no_check, counted, not_counted, explained, not_explained, explored, not_explored, traced, untraced, helped, misused, no_memory, Writes, whole, out_stopped, err_stopped, Ends}
+use Rattle.xvsh_ends.specs.Ends.{verdict_text, Asked, asks_plain, asks_run, asks_strict, asks_check, asks_turns, asks_explain, asks_explore, asks_traced, asks_witnessed, asks_json, verdict_status, help, misuse, How, by_schedule, RanBy, Due, plain_ran, no_plain, ran, no_run, ran_strict, no_strict, checked, no_check, counted, not_counted, explained, not_explained, explored, not_explored, traced, untraced, witnessed, unwitnessed, valued, unvalued, helped, misused, no_memory, Writes, whole, out_stopped, err_stopped, Ends}
 use Rattle.xvsh_plain.specs.Running.{RanPlain}
 use Rattle.xvsh_runs.specs.Strict.{RanStrict}
 use Rattle.xvsh_ends.proofs.Dues.{some_status, some_run_status}
@@ -36,6 +36,8 @@ module _ (input : Option Bytes) (file : Path → Option Bytes) where
   DidRun (asks_explain script) text told = Unit {0}
   DidRun (asks_explore profile script paths states all) text told = Unit {0}
   DidRun (asks_traced what path) text told = Unit {0}
+  DidRun (asks_witnessed what path) text told = Unit {0}
+  DidRun (asks_json what) text told = Unit {0}
   DidRun help text told = Unit {0}
   DidRun misuse text told = Unit {0}
 
@@ -58,6 +60,10 @@ module _ (input : Option Bytes) (file : Path → Option Bytes) where
   due_well request text told status (not_explored fault why) zero = tt
   due_well request text told status (traced due) zero = tt
   due_well request text told status untraced zero = tt
+  due_well request text told status (witnessed due) zero = tt
+  due_well request text told status (unwitnessed of) zero = tt
+  due_well request text told status (valued object is due) zero = tt
+  due_well request text told status (unvalued is due) zero = tt
   due_well request text told status (helped shown) zero = tt
   due_well request text told status (misused shown) zero = tt
   due_well request text told status no_memory zero = cc

@@ -1,3 +1,6 @@
+pub mod Again
+pub mod AgainSteps
+pub mod Beside
 pub mod CatPipes
 pub mod Kept
 pub mod Lines
@@ -6,5 +9,6 @@ pub mod SettledLines
 pub mod Settling
 pub mod Spans
 pub mod Steps
+pub mod Telling
 pub mod TreeSize
 pub mod Verdicts

@@ -110,11 +110,3 @@ clear_more whole line lines so_far (back', clear) = (
   λ w. let p = so_far.0 w in ((or_parts (has_back (line_tree line)) (has_back (script_tree lines)) p.0).1, p.1.1),
   λ rest. so_far.1 (or_from (has_back (line_tree line)) (has_back (script_tree lines)) back' rest.0, (clear, rest.1)),
 )
-
-pub clear_and_settled : (B C S : Type 0) (settled clear inner : Bool) → clear ≡ true → settled ≡ inner → IsTrue clear ↔ (B × C) → IsTrue inner ↔ S → IsTrue settled ↔ (B × C × S)
-clear_and_settled B C S settled clear inner is e first second =
-    (λ holds. let p = first.0 is in (p.0, p.1, second.0 (sym e ∙ holds)), λ all. e ∙ second.1 all.2)
-
-pub not_clear : (B C S : Type 0) (settled clear : Bool) → clear ≡ false → settled ≡ false → IsTrue clear ↔ (B × C) → IsTrue settled ↔ (B × C × S)
-not_clear B C S settled clear is e first =
-    (λ holds. absurd (false≢true (sym e ∙ holds)), λ all. absurd (false≢true (sym is ∙ first.1 (all.0, all.1))))

@@ -1,18 +1,16 @@
 -- When a command is settled among others: no soft name of it is one of theirs.
-use Rattle.std.proofs.Common.{◌≡◌, ◌≢◌, ◌↔◌, IsTrue, not, subst, Bool, true, false, ◌||◌, ◌&&◌, List, [], ◌∷◌, Option, Some, None, refl, sym, ap, ap₂, ◌∙◌}
+use Rattle.std.proofs.Common.{◌≡◌, not, Bool, true, false, ◌||◌, ◌&&◌, List, [], ◌∷◌, Option, Some, None, refl, sym, ap, ◌∙◌}
 use Rattle.std.specs.Prelude.{IfSome}
 use Rattle.std.specs.List.{list_any}
 use Rattle.std.proofs.lemmas.Slice.Eq.{bytes_eq-Decides}
 use Rattle.std.specs.Str.{bytes_eq}
 use Rattle.std.proofs.lemmas.Bool.{false≢true, or_parts, or_from, or_left, or_right, and_from, and_parts}
-use Rattle.sh_tree.specs.declared.tree.Mode.{Mode}
 use Rattle.sh_tree.specs.declared.tree.Mode.TheVariants.{Input, Fresh, Over}
 use Rattle.sh_tree.specs.Tree.{Tree, exec, redir, pipe, list, back}
 use Rattle.mem_files.specs.Name.{Name, Bytes, is_openable}
 use Rattle.mem_files.specs.Files.{FileMap}
-use Rattle.prog_parts.specs.Program.{is_empty}
 use Rattle.prog_parts.specs.NameSets.{Names, no_names, among, both}
-use Rattle.conflict_check.specs.Names.{names, writes, uses_input}
+use Rattle.conflict_check.specs.Names.{names, writes}
 use Rattle.conflict_check.proofs.Sharing.{none_pass}
 use Rattle.script_load.specs.declared.profile.Profile.{Profile}
 use Rattle.meaning_model.specs.Inputs.{found}
@@ -20,9 +18,6 @@ use Rattle.meaning_model.specs.Meaning.{meaning, opened, input_value, output_val
 use Rattle.meaning_model.specs.Settled.{AreNoneOf, with_name, IsSettled}
 use Rattle.meaning_model.specs.Value.{Value, is_cut}
 use Rattle.meaning_model.proofs.Firm.{firm_words}
-use Rattle.plain_progs.specs.Gives.{Gives}
-use Rattle.plain_run.specs.Tells.{Tells, are_apart, with_lost}
-use Rattle.plain_run.proofs.Verdicts.{among_lost}
 
 pub either : {P : Type 0} (a b : Bool) → (a || b) ≡ true → (a ≡ true → P) → (b ≡ true → P) → P
 either true b e first second = first refl
@@ -146,124 +141,3 @@ none_of_these words soft those same passed name is = none_pass those words name 
 -- and the other way round
 pub these_pass : (words : List Name) (soft those : Names) → ((name : Name) → among words name ≡ soft name) → AreNoneOf soft those → not (list_any those words) ≡ true
 these_pass words soft those same none = none_listed words those (λ name is. none name (sym (same name) ∙ is))
-
-abbrev ListHolds : Tree → Tree → List Name → List Name → Bool → Bool → Bool → Bool
-ListHolds L R soft then first second loose = first && second && are_apart L soft R then && not (loose && uses_input R)
-
--- a list is settled where both sides are, no soft name of one is a name of the other, and the right one doesn't use a loose input
-list_settled : (profile : Profile) (L R : Tree) (input : Bytes) (F : FileMap) (soft then : List Name) (first second loose : Bool) → (let V = meaning profile L input F in let W = meaning profile R V.rest V.files in ((name : Name) → among soft name ≡ V.soft name) → ((name : Name) → among then name ≡ W.soft name) → loose ≡ V.loose → IsTrue first ↔ IsSettled profile L no_names input F → IsTrue second ↔ IsSettled profile R no_names V.rest V.files → IsTrue (ListHolds L R soft then first second loose) ↔ IsSettled profile (list L R) no_names input F)
-list_settled profile L R input F soft then first second loose one other l left right =
-    let V = meaning profile L input F in
-    let W = meaning profile R V.rest V.files in (
-      λ holds.
-          let p = and_parts (first && second && are_apart L soft R then) (not (loose && uses_input R)) holds in
-          let q = and_parts (first && second) (are_apart L soft R then) p.0 in
-          let r = and_parts first second q.0 in
-          let a = and_parts (not (list_any (names R) soft)) (not (list_any (names L) then)) q.1 in (
-            settled_among profile L no_names (both (names R) no_names) input F (left.0 r.0) (λ name is. both_none (names R) no_names name (none_of_these soft V.soft (names R) one a.0 name is) refl),
-            settled_among profile R no_names (both (names L) no_names) V.rest V.files (right.0 r.1) (λ name is. both_none (names L) no_names name (none_of_these then W.soft (names L) other a.1 name is) refl),
-            λ is. not_both loose (uses_input R) p.1 (l ∙ is),
-          ),
-      λ settled.
-          let a = soft_inside profile L (both (names R) no_names) input F settled.0 in
-          let b = soft_inside profile R (both (names L) no_names) V.rest V.files settled.1 in
-          and_from (first && second && are_apart L soft R then) (not (loose && uses_input R))
-          (and_from (first && second) (are_apart L soft R then)
-          (and_from first second (left.1 (settled_alone profile L (both (names R) no_names) input F settled.0)) (right.1 (settled_alone profile R (both (names L) no_names) V.rest V.files settled.1)))
-          (and_from (not (list_any (names R) soft)) (not (list_any (names L) then))
-          (these_pass soft V.soft (names R) one (λ name is. (or_parts (names R name) false (a name is)).0))
-          (these_pass then W.soft (names L) other (λ name is. (or_parts (names L name) false (b name is)).0))))
-          (never_both loose (uses_input R) (λ is. settled.2 (sym l ∙ is))),
-    )
-
--- a pipe: the same, and where it is cut no name that its left side writes is one of its right side
-pipe_settled : (profile : Profile) (L R : Tree) (input : Bytes) (F : FileMap) (soft then : List Name) (first second cut : Bool) → (let V = meaning profile L input F in let W = meaning profile R V.out V.files in ((name : Name) → among soft name ≡ V.soft name) → ((name : Name) → among then name ≡ W.soft name) → cut ≡ is_cut W → IsTrue first ↔ IsSettled profile L no_names input F → IsTrue second ↔ IsSettled profile R no_names V.out V.files → IsTrue (first && second && are_apart L (with_lost cut soft L) R then) ↔ IsSettled profile (pipe L R) no_names input F)
-pipe_settled profile L R input F soft then first second cut one other c left right =
-    let V = meaning profile L input F in
-    let W = meaning profile R V.out V.files in
-    let lost = with_lost cut soft L in
-    let all : (name : Name) → among lost name ≡ (V.soft name || (cut && writes L name)) = λ name. among_lost cut soft L name ∙ ap (λ b. b || (cut && writes L name)) (one name) in
-    let every : Names = λ name. V.soft name || (cut && writes L name) in (
-      λ holds.
-          let q = and_parts (first && second) (are_apart L lost R then) holds in
-          let r = and_parts first second q.0 in
-          let a = and_parts (not (list_any (names R) lost)) (not (list_any (names L) then)) q.1 in
-          let none = none_of_these lost every (names R) all a.0 in (
-            settled_among profile L no_names (both (names R) no_names) input F (left.0 r.0) (λ name is. both_none (names R) no_names name (none name (or_left (V.soft name) (cut && writes L name) is)) refl),
-            settled_among profile R no_names (both (names L) no_names) V.out V.files (right.0 r.1) (λ name is. both_none (names L) no_names name (none_of_these then W.soft (names L) other a.1 name is) refl),
-            λ is name w. both_none (names R) no_names name (none name (or_right (V.soft name) (cut && writes L name) (and_from cut (writes L name) (c ∙ is) w))) refl,
-          ),
-      λ settled.
-          let a = soft_inside profile L (both (names R) no_names) input F settled.0 in
-          let b = soft_inside profile R (both (names L) no_names) V.out V.files settled.1 in
-          and_from (first && second) (are_apart L lost R then)
-          (and_from first second (left.1 (settled_alone profile L (both (names R) no_names) input F settled.0)) (right.1 (settled_alone profile R (both (names L) no_names) V.out V.files settled.1)))
-          (and_from (not (list_any (names R) lost)) (not (list_any (names L) then))
-          (these_pass lost every (names R) all (λ name is. either (V.soft name) (cut && writes L name) is
-          (λ soft'. (or_parts (names R name) false (a name soft')).0)
-          (λ w. let p = and_parts cut (writes L name) w in (or_parts (names R name) false (settled.2 (sym c ∙ p.0) name p.1)).0)))
-          (these_pass then W.soft (names L) other (λ name is. (or_parts (names L name) false (b name is)).0))),
-    )
-
-apart_name : (file : Name) (words : List Name) (soft : Names) → ((name : Name) → among words name ≡ soft name) → not (among words file) ≡ true → AreNoneOf soft (with_name file no_names)
-apart_name file words soft same passed name is = go (bytes_eq name file) refl where
-  go : (t : Bool) → bytes_eq name file ≡ t → (t || false) ≡ false
-  go true e = sym (same name ∙ is) ∙ ap (among words) ((bytes_eq-Decides name file).0 e) ∙ not_true (among words file) passed
-  go false e = refl
-
-name_apart : (file : Name) (words : List Name) (soft : Names) → ((name : Name) → among words name ≡ soft name) → AreNoneOf soft (with_name file no_names) → not (among words file) ≡ true
-name_apart file words soft same none = go (among words file) refl where
-  go : (t : Bool) → among words file ≡ t → not t ≡ true
-  go true e = sym (or_parts (bytes_eq file file) false (none file (sym (same file) ∙ e))).0 ∙ (bytes_eq-Decides file file).1 refl
-  go false e = refl
-
--- a body is settled beside the name of its redirection where that is none of its soft names
-body_settled : (profile : Profile) (file : Name) (T : Tree) (input : Bytes) (F : FileMap) (soft : List Name) (inner : Bool) → ((name : Name) → among soft name ≡ (meaning profile T input F).soft name) → IsTrue inner ↔ IsSettled profile T no_names input F → IsTrue (inner && not (among soft file)) ↔ IsSettled profile T (with_name file no_names) input F
-body_settled profile file T input F soft inner same body = (
-  λ holds.
-      let p = and_parts inner (not (among soft file)) holds in
-      settled_among profile T no_names (with_name file no_names) input F (body.0 p.0) (apart_name file soft (meaning profile T input F).soft same p.1),
-  λ settled.
-      and_from inner (not (among soft file)) (body.1 (settled_alone profile T (with_name file no_names) input F settled))
-      (name_apart file soft (meaning profile T input F).soft same (soft_inside profile T (with_name file no_names) input F settled)),
-)
-
-if_found : (o : Option Bytes) (bytes : Bytes) (P : Bytes → Type 0) (b : Bool) → o ≡ Some bytes → IsTrue b ↔ P bytes → IsTrue b ↔ IfSome o P
-if_found o bytes P b is same = subst (λ q. IsTrue b ↔ IfSome q P) (sym is) same
-
-pub from_settled : (profile : Profile) (file : Name) (T : Tree) (input bytes : Bytes) (F : FileMap) (soft : List Name) (inner all : Bool) → found F file ≡ Some bytes → ((name : Name) → among soft name ≡ (meaning profile T bytes F).soft name) → IsTrue inner ↔ IsSettled profile T no_names bytes F → all ≡ (inner && not (among soft file)) → IsTrue all ↔ IsSettled profile (redir Input file T) no_names input F
-from_settled profile file T input bytes F soft inner all is same body e =
-    subst (λ b. IsTrue b ↔ IsSettled profile (redir Input file T) no_names input F) (sym e)
-    (if_found (found F file) bytes (λ b. IsSettled profile T (with_name file no_names) b F) (inner && not (among soft file)) is (body_settled profile file T bytes F soft inner same body))
-
-pub into_settled : (profile : Profile) (mode : Mode) (file : Name) (T : Tree) (input : Bytes) (F F1 : FileMap) (soft : List Name) (inner all : Bool) → mode ≢ Input → is_openable file ≡ true → F1 ≡ opened mode file F → ((name : Name) → among soft name ≡ (meaning profile T input F1).soft name) → IsTrue inner ↔ IsSettled profile T no_names input F1 → all ≡ (inner && not (among soft file)) → IsTrue all ↔ IsSettled profile (redir mode file T) no_names input F
-into_settled profile Input file T input F F1 soft inner all writes good is same body e = absurd (writes (λ _. Input))
-into_settled profile Fresh file T input F F1 soft inner all writes good is same body e =
-    let whole = body_settled profile file T input F1 soft inner same body in (
-      λ holds _. subst (λ G. IsSettled profile T (with_name file no_names) input G) is (whole.0 (sym e ∙ holds)),
-      λ settled. e ∙ whole.1 (subst (λ G. IsSettled profile T (with_name file no_names) input G) (sym is) (settled good)),
-    )
-into_settled profile Over file T input F F1 soft inner all writes good is same body e =
-    let whole = body_settled profile file T input F1 soft inner same body in (
-      λ holds _. subst (λ G. IsSettled profile T (with_name file no_names) input G) is (whole.0 (sym e ∙ holds)),
-      λ settled. e ∙ whole.1 (subst (λ G. IsSettled profile T (with_name file no_names) input G) (sym is) (settled good)),
-    )
-
--- the same, from what the parts gave and their verdicts
-pub list_is_settled : (profile : Profile) (L R : Tree) (input old mid rest : Bytes) (F F1 : FileMap) (first second all one other : Bool) (soft then : List Name) → Gives (meaning profile L input F) old mid rest F1 → Tells (meaning profile L input F) one soft → Tells (meaning profile R rest F1) other then → IsTrue first ↔ IsSettled profile L no_names input F → IsTrue second ↔ IsSettled profile R no_names rest F1 → all ≡ ListHolds L R soft then first second one → IsTrue all ↔ IsSettled profile (list L R) no_names input F
-list_is_settled profile L R input old mid rest F F1 first second all one other soft then gives told later left right e =
-    let V = meaning profile L input F in
-    let right' = subst (λ G. IsTrue second ↔ IsSettled profile R no_names V.rest G) gives.files (subst (λ i. IsTrue second ↔ IsSettled profile R no_names i F1) gives.rest right) in
-    let later' = subst (λ G. Tells (meaning profile R V.rest G) other then) gives.files (subst (λ i. Tells (meaning profile R i F1) other then) gives.rest later) in
-    subst (λ b. IsTrue b ↔ IsSettled profile (list L R) no_names input F) (sym e)
-    (list_settled profile L R input F soft then first second one told.soft later'.soft told.loose left right')
-
-pub pipe_is_settled : (profile : Profile) (L R : Tree) (input middle rest unread : Bytes) (F F1 : FileMap) (cut first second all one other : Bool) (soft then : List Name) → Gives (meaning profile L input F) [] middle rest F1 → Tells (meaning profile L input F) one soft → unread ≡ (meaning profile R middle F1).rest → Tells (meaning profile R middle F1) other then → cut ≡ (not (is_empty unread) || other) → IsTrue first ↔ IsSettled profile L no_names input F → IsTrue second ↔ IsSettled profile R no_names middle F1 → all ≡ (first && second && are_apart L (with_lost cut soft L) R then) → IsTrue all ↔ IsSettled profile (pipe L R) no_names input F
-pipe_is_settled profile L R input middle rest unread F F1 cut first second all one other soft then gives told left' later c left right e =
-    let V = meaning profile L input F in
-    let right' = subst (λ G. IsTrue second ↔ IsSettled profile R no_names V.out G) gives.files (subst (λ i. IsTrue second ↔ IsSettled profile R no_names i F1) gives.out right) in
-    let later' = subst (λ G. Tells (meaning profile R V.out G) other then) gives.files (subst (λ i. Tells (meaning profile R i F1) other then) gives.out later) in
-    let end = subst (λ G. unread ≡ (meaning profile R V.out G).rest) gives.files (subst (λ i. unread ≡ (meaning profile R i F1).rest) gives.out left') in
-    let is : cut ≡ is_cut (meaning profile R V.out V.files) = c ∙ ap₂ (λ b lo. not (is_empty b) || lo) end later'.loose in
-    subst (λ b. IsTrue b ↔ IsSettled profile (pipe L R) no_names input F) (sym e)
-    (pipe_settled profile L R input F soft then first second cut told.soft later'.soft is left right')

@@ -1,6 +1,6 @@
 -- Spans of names: what one line more changes, and what they say of the lines before and after a place.
-use Rattle.std.proofs.Common.{◌≡◌, ℕ, zero, suc, ◌+◌, ◌<◌, ◌≤◌, Bool, true, false, ◌||◌, cond, List, [], ◌∷◌, length, take, drop, get_or, Option, Some, None, refl, sym, ap, subst, ◌∙◌, arith}
-use Rattle.std.specs.Prelude.{map, nat_lt}
+use Rattle.std.proofs.Common.{◌≡◌, ◌≢◌, ℕ, zero, suc, ◌+◌, ◌<◌, ◌≤◌, Bool, true, false, ◌||◌, cond, List, [], ◌∷◌, length, take, drop, Option, Some, None, refl, sym, ap, subst, ◌∙◌, arith}
+use Rattle.std.specs.Prelude.{nat_lt}
 use Rattle.std.specs.declared.cmp.Ordering.TheVariants.{Less, Equal, Greater}
 use Rattle.std.specs.Ordering.{is_eq, nat_cmp, match_ordering}
 use Rattle.std.specs.Cmp.Lexicographic.{slice_cmp}
@@ -12,12 +12,15 @@ use Rattle.std.proofs.lemmas.Bool.Decides.{nat_tests}
 use Rattle.std.proofs.lemmas.Map.Text.{is_eq-slice_cmp}
 use Rattle.std.proofs.lemmas.Slice.Eq.{bytes_eq-Decides}
 use Rattle.mem_files.specs.Name.{Name}
+use Rattle.std.proofs.Math.Bool.{or_comm}
+use Rattle.prog_parts.specs.NameSets.{both}
 use Rattle.conflict_check.specs.Names.{names}
 use Rattle.script_load.specs.declared.line.Line.{Line}
-use Rattle.script_load.specs.Line.{line_of, cd}
+use Rattle.script_load.specs.Line.{line_of}
 use Rattle.meaning_model.specs.Meaning.{line_tree}
 use Rattle.plain_run.specs.declared.name_lines.Span.{Span}
-use Rattle.plain_run.specs.Spans.{all_names, reach, reached, is_beside}
+use Rattle.plain_run.specs.Spans.{Reaches, all_names, has_at, other_line, reach, reached}
+use Rattle.plain_run.specs.Told.{is_some}
 use Rattle.plain_run.proofs.NameSets.{same}
 
 -- an entry more, under a name that may be there
@@ -72,18 +75,6 @@ reached_again true true line (Some span) = refl
 reached_again true false line span = refl
 reached_again false b line span = refl
 
--- of the lines before the one at i, those that have a name lie from the span's first to its last
-pub record Spans (has : ℕ → Bool) (i : ℕ) (span : Span) : Type 0 where
-  pub first : has span.first ≡ true
-  pub last : has span.last ≡ true
-  pub order : span.first ≤ span.last
-  pub below : span.last < i
-  pub each : (k : ℕ) → k < i → has k ≡ true → (span.first ≤ k) × (k ≤ span.last)
-
-abbrev pub Reaches : (ℕ → Bool) → ℕ → Option Span → Type 0
-Reaches has i None = (k : ℕ) → k < i → has k ≡ false
-Reaches has i (Some span) = Spans has i span
-
 at_or_below : {P : Type 0} (k i : ℕ) → k < i + 1 → (k < i → P) → (k ≡ i → P) → P
 at_or_below {P} k i low first second =
     elim (nat_lt k i) as (λ t. nat_lt k i ≡ t → P) [
@@ -118,10 +109,6 @@ reaches_one has i true (Some span) e so_far = record {
 -- one line more
 pub reaches_more : (has : ℕ → Bool) (i : ℕ) (b : Bool) (span new : Option Span) → b ≡ has i → new ≡ reached b i span → Reaches has i span → Reaches has (i + 1) new
 reaches_more has i b span new e is so_far = subst (Reaches has (i + 1)) (sym is) (reaches_one has i b span (sym e) so_far)
-
--- whether the line at a place has the name; behind the last there is none
-abbrev pub has_at : {B : _} → List (Line B) → Name → ℕ → Bool
-has_at lines name k = names (line_tree (get_or (map line_of lines) k (cd []))) name
 
 beyond : {B : _} (lines : List (Line B)) (name : Name) (k : ℕ) → length lines ≤ k → has_at lines name k ≡ false
 beyond [] name k over = refl
@@ -162,8 +149,13 @@ nowhere lines name n long none k =
       | false ↦ λ e. beyond lines name k (let high : n ≤ k = grind (arith, nat_tests) in omega arith)
     ] refl
 
+-- another line than this has the name
+abbrev is_beside : ℕ → Option Span → Bool
+is_beside line None = false
+is_beside line (Some span) = nat_lt span.first line || nat_lt line span.last
+
 -- the span of all lines says whether a line before or after has the name
-pub beside_told : {B : _} (lines : List (Line B)) (name : Name) (n line : ℕ) (span : Option Span) → length lines ≤ n → Reaches (has_at lines name) n span → is_beside line span ≡ (all_names (take line lines) name || all_names (drop (line + 1) lines) name)
+beside_told : {B : _} (lines : List (Line B)) (name : Name) (n line : ℕ) (span : Option Span) → length lines ≤ n → Reaches (has_at lines name) n span → is_beside line span ≡ (all_names (take line lines) name || all_names (drop (line + 1) lines) name)
 beside_told lines name n line None long none =
     let never = nowhere lines name n long none in
     sym (or_from (all_names (take line lines) name) (all_names (drop (line + 1) lines) name) (before_none lines name line (λ k low. never k)) (after_none lines name (line + 1) (λ k high. never k)))
@@ -187,5 +179,46 @@ beside_told lines name n line (Some span) long so_far =
                   | true ↦ λ g. false_from_ne_true (has_at lines name k) (λ is. let within : k < n = grind (arith, nat_tests) in let p = so_far.each k within is in omega (arith, p.1))
                   | false ↦ λ g. beyond lines name k (let high : n ≤ k = grind (arith, nat_tests) in omega arith)
                 ] refl)))
+          ] refl
+    ] refl
+
+other_so : (line : ℕ) (span : Option Span) → is_some (other_line line span) ≡ is_beside line span
+other_so line None = refl
+other_so line (Some span) = tests (nat_lt span.first line) (nat_lt line span.last) span.first span.last where
+  tests : (s t : Bool) (first last : ℕ) → is_some (cond s (Some first) (cond t (Some last) None)) ≡ (s || t)
+  tests true t first last = refl
+  tests false true first last = refl
+  tests false false first last = refl
+
+-- whether there is another line
+pub other_told : {B : _} (lines : List (Line B)) (name : Name) (line : ℕ) (span : Option Span) → Reaches (has_at lines name) (length lines) span → is_some (other_line line span) ≡ both (all_names (drop (line + 1) lines)) (all_names (take line lines)) name
+other_told lines name line span reaches =
+    other_so line span
+    ∙ beside_told lines name (length lines) line span (omega arith) reaches
+    ∙ or_comm (all_names (take line lines) name) (all_names (drop (line + 1) lines) name)
+
+-- this line is another one, and has the name
+pub record IsOther (has : ℕ → Bool) (count line other : ℕ) : Type 0 where
+  pub inside : other < count
+  pub apart : other ≢ line
+  pub names : has other ≡ true
+
+abbrev pub AreOther : (ℕ → Bool) → ℕ → ℕ → Option ℕ → Type 0
+AreOther has count line None = Unit {0}
+AreOther has count line (Some other) = IsOther has count line other
+
+pub other_is : (has : ℕ → Bool) (count line : ℕ) (span : Option Span) → Reaches has count span → AreOther has count line (other_line line span)
+other_is has count line None none = tt
+other_is has count line (Some span) so_far =
+    elim (nat_lt span.first line) as (λ s. nat_lt span.first line ≡ s → AreOther has count line (cond s (Some span.first) (cond (nat_lt line span.last) (Some span.last) None))) [
+      | true ↦ λ e.
+          let low : span.first < line = grind (arith, nat_tests) in
+          record { inside = omega (arith, so_far.order, so_far.below); apart = λ same. omega (arith, low, same); names = so_far.first }
+      | false ↦ λ e.
+          elim (nat_lt line span.last) as (λ t. nat_lt line span.last ≡ t → AreOther has count line (cond t (Some span.last) None)) [
+            | true ↦ λ f.
+                let high : line < span.last = grind (arith, nat_tests) in
+                record { inside = so_far.below; apart = λ same. omega (arith, high, same); names = so_far.last }
+            | false ↦ λ f. tt
           ] refl
     ] refl

@@ -57,6 +57,14 @@ list_gives profile L R input old mid new rest left F F1 F2 first second =
       files = then.files;
     }
 
+pub pipe_gives : (profile : Profile) (L R : Tree) (input middle old new rest left : Bytes) (F F1 F2 : FileMap) → Gives (meaning profile L input F) [] middle rest F1 → Gives (meaning profile R middle F1) old new left F2 → Gives (meaning profile (pipe L R) input F) old new rest F2
+pipe_gives profile L R input middle old new rest left F F1 F2 first second =
+    let same : meaning profile R middle F1 ≡ meaning profile R (meaning profile L input F).out (meaning profile L input F).files =
+    ap (λ i. meaning profile R i F1) first.out ∙ ap (λ G. meaning profile R (meaning profile L input F).out G) first.files
+    in
+    let then = subst (λ v. Gives v old new left F2) same second in
+    record { out = then.out; rest = first.rest; files = then.files }
+
 -- a redirection's file is there at the end of its body
 pub still_there : (profile : Profile) (mode : Mode) (name : Name) (T : Tree) (input written rest : Bytes) (F F1 : FileMap) → mode ≢ Input → Gives (meaning profile T input (opened mode name F)) [] written rest F1 → F1 name ≢ None
 still_there profile mode name T input written rest F F1 writes gives none =

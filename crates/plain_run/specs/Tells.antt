@@ -1,6 +1,6 @@
 -- What a verdict says of a value, and how verdicts are combined.
-use Rattle.std.specs.Prelude.{◌≡◌, Bool, not, ◌&&◌, List, ◌++◌, if◌then◌else◌}
-use Rattle.std.specs.List.{list_any}
+use Rattle.std.specs.Prelude.{◌≡◌, Bool, List, [], ◌∷◌, ◌++◌, if◌then◌else◌}
+use Rattle.std.specs.List.{filter}
 use Rattle.sh_tree.specs.Tree.{Tree}
 use Rattle.mem_files.specs.Name.{Name}
 use Rattle.prog_parts.specs.NameSets.{among}
@@ -13,9 +13,13 @@ pub record Tells (value : Value) (is_loose : Bool) (names : List Name) : Type 0 
   pub loose : is_loose ≡ value.loose
   pub soft : (name : Name) → among names name ≡ value.soft name
 
--- no soft name of one side is a name of the other
-abbrev pub are_apart : Tree → List Name → Tree → List Name → Bool
-are_apart left first right second = not (list_any (names right) first) && not (list_any (names left) second)
+-- a name where it is meant, else none
+abbrev pub only_if : Bool → Name → List Name
+only_if is_meant name = if is_meant then name ∷ [] else []
+
+-- of two sides, the names that are named again: those of each, and the soft ones of one that the other names
+abbrev pub all_again : Tree → List Name → List Name → Tree → List Name → List Name → List Name
+all_again left first soft right second later = ((first ++ second) ++ filter (names right) soft) ++ filter (names left) later
 
 -- soft names, and where the pipe is cut what its left side writes
 abbrev pub with_lost : Bool → List Name → Tree → List Name

@@ -6,9 +6,12 @@ mod name_lines;
 mod ordered;
 mod outcome;
 mod output;
+mod reason;
 mod run;
+mod told;
 mod verdict;
 
-pub use outcome::Plain;
+pub use outcome::{Plain, Reasoned};
 pub use plain_progs::PlainFault;
-pub use run::plain;
+pub use reason::Reason;
+pub use run::{plain, plain_with_reasons};

@@ -1,24 +1,48 @@
-//! Verdicts of lines that follow each other.
-ghost use Rattle.std.specs.Prelude.{◌≡◌, ◌↔◌, IsTrue, false, map, ◌++◌, ◌||◌, ◌&&◌, not, IfOk};
+//! Whether commands of lines run behind `&` or can meet at a file.
+ghost use Rattle.std.specs.Prelude.{◌≡◌, ◌↔◌, ℕ, List, IsTrue, false, map, ◌++◌, All, OnOk, IfOk, IfSome, IsNone};
 ghost use Rattle.sh_tree.specs.Tree.{tree_of};
+ghost use Rattle.mem_files.specs.Files.{FileMap};
+ghost use Rattle.prog_parts.specs.Program.{is_empty};
+ghost use Rattle.conflict_check.specs.Clash.{IsFirstClash};
 ghost use Rattle.conflict_check.specs.Clear.{has_back, IsClear};
-ghost use Rattle.conflict_check.specs.Names.{uses_input};
+ghost use Rattle.script_load.specs.declared.profile.Profile.{Profile};
 ghost use Rattle.script_load.specs.Line.{line_of};
 ghost use Rattle.meaning_model.specs.Meaning.{line_tree, script_tree};
+ghost use Rattle.plain_run.specs.Reasons.{IsReason};
+ghost use Rattle.plain_run.specs.Told.{background, clash_reason};
 
-use crate::verdict::{Verdict, joined};
-use conflict_check::{clash, has_back, uses_input};
+use crate::reason::Reason;
+use conflict_check::{Clash, clash, has_back};
 use script_load::Line;
+use sh_lexer::Bytes;
 use std::alloc::{AllocError, Allocator};
+
+// Whether a command of the line runs behind `&`.
+fn line_has_back<B: Allocator>(line: &Line<B>) -> bool
+    ensures { result ≡ has_back (line_tree (line_of line.now)) }
+{
+    match line {
+        Line::Tree(tree) => has_back(tree),
+        Line::Bad(..) | Line::Cd(_) => false,
+    }
+}
+
+// The first clash of the line.
+fn line_clash<B: Allocator>(line: &Line<B>) -> Option<Clash<'_>>
+    ensures none { IsNone result ↔ IsClear (line_tree (line_of line.now)) }
+    ensures some { IfSome result (λ found. IsFirstClash (line_tree (line_of line.now)) found.kind found.name.now) }
+{
+    match line {
+        Line::Tree(tree) => clash(tree),
+        Line::Bad(..) | Line::Cd(_) => None,
+    }
+}
 
 // Whether no command of the line runs behind `&`, and its commands can't meet at a file.
 fn is_clear<B: Allocator>(line: &Line<B>) -> bool
     ensures { IsTrue result ↔ ((has_back (line_tree (line_of line.now)) ≡ false) × IsClear (line_tree (line_of line.now))) }
 {
-    match line {
-        Line::Tree(tree) => !has_back(tree) && clash(tree).is_none(),
-        Line::Bad(..) | Line::Cd(_) => true,
-    }
+    !line_has_back(line) && line_clash(line).is_none()
 }
 
 // Whether this is so of each line.
@@ -33,43 +57,52 @@ pub fn are_clear<B: Allocator>(lines: &[Line<B>]) -> bool
     true
 }
 
-fn line_uses_input<B: Allocator>(line: &Line<B>) -> bool
-    ensures { result ≡ uses_input (line_tree (line_of line.now)) }
+// Adds that a command of the line of this number runs behind `&`, if one does.
+fn add_background<A: Allocator>(
+    number: usize,
+    is_back: bool,
+    reasons: &mut Vec<Reason<A>, A>,
+) -> Result<(), AllocError>
+    ensures { OnOk result (reasons.new.items ≡ reasons.old.items ++ background number is_back) }
 {
-    match line {
-        Line::Tree(tree) => uses_input(tree),
-        Line::Bad(..) | Line::Cd(_) => false,
+    if is_back {
+        reasons.push(Reason::Background { line: number })?;
     }
+    Ok(())
 }
 
-// Whether nothing else depends on the order either, once this line has followed those so far.
-fn is_still_settled<A: Allocator, B: Allocator>(
-    so_far: &Verdict<A>,
-    line: &Line<B>,
-    is_met: bool,
-    own: &Verdict<A>,
-) -> bool
-    ensures { result ≡ (so_far.now.is_settled && own.now.is_settled && not is_met && not (so_far.now.is_loose && uses_input (line_tree (line_of line.now)))) }
+// Adds the clash of the line of this number, if there is one.
+fn add_clash<A: Allocator + Copy>(
+    alloc: A,
+    number: usize,
+    found: Option<Clash<'_>>,
+    reasons: &mut Vec<Reason<A>, A>,
+) -> Result<(), AllocError>
+    ensures { OnOk result (reasons.new.items ≡ reasons.old.items ++ clash_reason number found.entry) }
 {
-    so_far.is_settled && own.is_settled && !is_met && !(so_far.is_loose && line_uses_input(line))
+    if let Some(Clash { name, kind }) = found {
+        let name = Bytes::copy_of(alloc, name)?;
+        reasons.push(Reason::Clash {
+            line: number,
+            kind,
+            name,
+        })?;
+    }
+    Ok(())
 }
 
-// The verdict of the lines so far, once this line has its own; a soft name of it may be met in another line.
-pub fn with_line<A: Allocator, B: Allocator>(
-    so_far: Verdict<A>,
-    line: &Line<B>,
-    is_met: bool,
-    own: Verdict<A>,
-) -> Result<Verdict<A>, AllocError>
-    ensures settled { IfOk result (λ all. all.is_settled ≡ (so_far.is_settled && own.is_settled && not is_met && not (so_far.is_loose && uses_input (line_tree (line_of line.now))))) }
-    ensures loose { IfOk result (λ all. all.is_loose ≡ (so_far.is_loose || own.is_loose)) }
-    ensures soft { IfOk result (λ all. all.soft.items ≡ so_far.soft.items ++ own.soft.items) }
+// Why lines aren't clear, in order.
+pub fn clear_reasons<A: Allocator + Copy, B: Allocator>(
+    alloc: A,
+    lines: &[Line<B>],
+) -> Result<Vec<Reason<A>, A>, AllocError>
+    ensures each { IfOk result (λ reasons. (profile : Profile) (input : List ℕ) (F : FileMap) → All (IsReason profile (map line_of lines.now) input F) reasons.items) }
+    ensures none { IfOk result (λ reasons. IsTrue (is_empty reasons.items) ↔ ((has_back (script_tree (map line_of lines.now)) ≡ false) × IsClear (script_tree (map line_of lines.now)))) }
 {
-    let is_loose = so_far.is_loose || own.is_loose;
-    let is_settled = is_still_settled(&so_far, line, is_met, &own);
-    Ok(Verdict {
-        is_settled,
-        is_loose,
-        soft: joined(so_far.soft, own.soft)?,
-    })
+    let mut reasons = Vec::new(alloc);
+    for (i, line) in lines.iter().enumerate() {
+        add_background(i + 1, line_has_back(line), &mut reasons)?;
+        add_clash(alloc, i + 1, line_clash(line), &mut reasons)?;
+    }
+    Ok(reasons)
 }

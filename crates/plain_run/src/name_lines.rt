@@ -1,5 +1,5 @@
 //! Which lines of a script name a file, so that no name is searched for in every line.
-ghost use Rattle.std.specs.Prelude.{◌≡◌, ◌+◌, List, ℕ, take, drop, OnOk, IfOk, IfSome};
+ghost use Rattle.std.specs.Prelude.{◌≡◌, ◌<◌, ◌+◌, ◌^◌, ◌++◌, List, ℕ, take, drop, length, not, All, OnOk, IfOk, IfSome};
 ghost use Rattle.std.specs.List.{list_any};
 ghost use Rattle.std.specs.Str.{bytes_eq};
 ghost use Rattle.sh_tree.specs.Tree.{tree_of};
@@ -7,8 +7,11 @@ ghost use Rattle.prog_parts.specs.NameSets.{among, both};
 ghost use Rattle.conflict_check.specs.Names.{names};
 ghost use Rattle.script_load.specs.Line.{line_of};
 ghost use Rattle.meaning_model.specs.Meaning.{line_tree};
-ghost use Rattle.plain_run.specs.Spans.{all_names, span_of, reached, is_beside, AreSpans};
+ghost use Rattle.prog_parts.specs.Program.{is_empty};
+ghost use Rattle.plain_run.specs.Spans.{all_names, span_of, reached, other_line, AreSpans};
+ghost use Rattle.plain_run.specs.Told.{IsBeside, beside_reason};
 
+use crate::reason::Reason;
 use prog_parts::file_words;
 use script_load::Line;
 use sh_lexer::Bytes;
@@ -109,47 +112,80 @@ impl<A: Allocator + Copy> NameLines<A> {
         Ok(index)
     }
 
-    // Whether another line than this has the name.
-    fn is_beside(&self, name: &[u8], line: usize) -> bool
-        ensures { result ≡ is_beside line (span_of self.now name.now) }
+    // Another line than this that has the name, if one has: the first of all that have it, or else the last.
+    fn other_line(&self, name: &[u8], line: usize) -> Option<usize>
+        ensures { result ≡ other_line line (span_of self.now name.now) }
     {
         match self.spans.get(name) {
-            Some(span) => span.first < line || line < span.last,
-            None => false,
+            Some(span) if span.first < line => Some(span.first),
+            Some(span) if line < span.last => Some(span.last),
+            _ => None,
         }
-    }
-
-    // Whether another line than this has one of the names.
-    pub fn are_beside<B: Allocator>(&self, names: &[Bytes<B>], line: usize) -> bool
-        ensures { result ≡ list_any (λ name. is_beside line (span_of self.now name)) names.now }
-    {
-        names
-            .iter()
-            .any(|name| self.is_beside(name.as_slice(), line))
     }
 }
 
-// Whether another line than the one at this place has one of the names. The spans are computed where
-// they are needed for the first time.
-pub fn is_met_beside<A: Allocator + Copy, B: Allocator>(
+// Adds the reason that a name of this line is named at another place, if it is.
+fn add_beside<A: Allocator + Copy>(
+    alloc: A,
+    line: usize,
+    name: &[u8],
+    other: Option<usize>,
+    reasons: &mut Vec<Reason<A>, A>,
+) -> Result<(), AllocError>
+    requires { IfSome other (λ place. place + 1 < 2 ^ 64) }
+    ensures { OnOk result (reasons.new.items ≡ reasons.old.items ++ beside_reason line name.now other) }
+{
+    if let Some(place) = other {
+        let name = Bytes::copy_of(alloc, name)?;
+        let again = place + 1;
+        reasons.push(Reason::CutPipe { line, name, again })?;
+    }
+    Ok(())
+}
+
+// The reasons of those of the names, of the line at this place, that another line names.
+fn of_names<A: Allocator + Copy, B: Allocator>(
+    alloc: A,
+    spans: &NameLines<A>,
+    lines: &[Line<B>],
+    at: usize,
+    names: &[Bytes<A>],
+) -> Result<Vec<Reason<A>, A>, AllocError>
+    requires told { AreSpans lines.now spans.now }
+    requires inside { at < length lines.now }
+    ensures each { IfOk result (λ reasons. All (IsBeside lines.now at names.now) reasons.items) }
+    ensures met { IfOk result (λ reasons. is_empty reasons.items ≡ not (list_any (both (all_names (drop (at + 1) lines.now)) (all_names (take at lines.now))) names.now)) }
+{
+    let mut reasons = Vec::new(alloc);
+    for name in names {
+        let other = spans.other_line(name.as_slice(), at);
+        add_beside(alloc, at + 1, name.as_slice(), other, &mut reasons)?;
+    }
+    Ok(reasons)
+}
+
+// The same. The spans are computed where they are needed for the first time.
+pub fn beside_line<A: Allocator + Copy, B: Allocator>(
     alloc: A,
     spans: &mut Option<NameLines<A>>,
     lines: &[Line<B>],
     at: usize,
     names: &[Bytes<A>],
-) -> Result<bool, AllocError>
+) -> Result<Vec<Reason<A>, A>, AllocError>
     requires told { IfSome spans.old (AreSpans lines.now) }
+    requires inside { at < length lines.now }
     ensures told { OnOk result (IfSome spans.new (AreSpans lines.now)) }
-    ensures met { IfOk result (λ is_met. is_met ≡ list_any (both (all_names (drop (at + 1) lines.now)) (all_names (take at lines.now))) names.now) }
+    ensures each { IfOk result (λ reasons. All (IsBeside lines.now at names.now) reasons.items) }
+    ensures met { IfOk result (λ reasons. is_empty reasons.items ≡ not (list_any (both (all_names (drop (at + 1) lines.now)) (all_names (take at lines.now))) names.now)) }
 {
     if names.is_empty() {
-        return Ok(false);
+        return Ok(Vec::new(alloc));
     }
     let known = match spans.take() {
         Some(known) => known,
         None => NameLines::of(alloc, lines)?,
     };
-    let is_met = known.are_beside(names, at);
+    let reasons = of_names(alloc, &known, lines, at, names)?;
     *spans = Some(known);
-    Ok(is_met)
+    Ok(reasons)
 }

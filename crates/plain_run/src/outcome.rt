@@ -1,3 +1,4 @@
+use crate::reason::Reason;
 use mem_files::Files;
 use sh_lexer::Bytes;
 use sh_tree::Words;
@@ -20,4 +21,13 @@ pub struct Plain<A: Allocator> {
     /// write, in byte order, each name once. A pipe is cut if its right side leaves some of its input
     /// unread, or may.
     pub soft: Words<A>,
+}
+
+/// The outcome of a script, and why it isn't settled (own).
+#[derive(Drop)]
+pub struct Reasoned<A: Allocator> {
+    /// The outcome.
+    pub plain: Plain<A>,
+    /// Why the script isn't settled; nothing where it is.
+    pub reasons: Vec<Reason<A>, A>,
 }

@@ -1,4 +1,4 @@
-ghost use Rattle.std.specs.Prelude.{IsTrue, ◌≡◌, ◌≢◌, ◌↔◌, ◌||◌, not, map, ℕ, List, [], IfOk, IfErr, false, true, Contains};
+ghost use Rattle.std.specs.Prelude.{IsTrue, ◌≡◌, ◌≢◌, ◌↔◌, ◌||◌, not, map, ℕ, List, [], IfOk, IfErr, false, true, All, Contains};
 ghost use Rattle.std.specs.List.Sorted.{IsStrictlySortedBy};
 ghost use Rattle.sh_tree.specs.declared.tree.Mode.TheVariants.{Input};
 ghost use Rattle.sh_tree.specs.Tree.{exec, list, pipe, redir, tree_of};
@@ -12,13 +12,16 @@ ghost use Rattle.script_load.specs.Line.{line_of, lines_of};
 ghost use Rattle.meaning_model.specs.Meaning.{meaning, line_tree, script_tree, script_meaning};
 ghost use Rattle.plain_progs.specs.Gives.{IsDue};
 ghost use Rattle.plain_run.specs.CatAlone.{cat_alone};
-ghost use Rattle.plain_run.specs.Means.{Means};
+ghost use Rattle.plain_run.specs.Means.{Means, MeanLines};
+ghost use Rattle.plain_run.specs.Reasons.{IsReason};
 
-use crate::line_verdicts::{are_clear, with_line};
-use crate::name_lines::is_met_beside;
+use crate::line_verdicts::{are_clear, clear_reasons};
+use crate::name_lines::beside_line;
 use crate::ordered::in_order;
-use crate::outcome::Plain;
+use crate::outcome::{Plain, Reasoned};
 use crate::output::{close_output, held_bytes, open_output};
+use crate::reason::Reason;
+use crate::told::Told;
 use crate::verdict::Verdict;
 use mem_files::Files;
 use plain_progs::{PlainFault, find, run_program};
@@ -38,7 +41,8 @@ impl<'i, A: Allocator + Copy> Ran<'i, A> {
     // Nothing was done.
     fn nothing(alloc: A, input: &'i [u8]) -> Self
         ensures rest { result.rest.now ≡ input.now }
-        ensures settled { result.verdict.is_settled ≡ true }
+        ensures again { result.verdict.again.items ≡ [] }
+        ensures reuses { result.verdict.reuses ≡ false }
         ensures loose { result.verdict.is_loose ≡ false }
         ensures soft { result.verdict.soft.items ≡ [] }
     {
@@ -128,7 +132,7 @@ fn run_from_file<'i, A: Allocator + Copy, B: Allocator>(
     let ran = run_tree(alloc, profile, body, bytes.as_slice(), store, out)?;
     Ok(Ran {
         rest: input,
-        verdict: ran.verdict.from_file(name),
+        verdict: ran.verdict.into_file(alloc, name)?.with_looseness(false),
     })
 }
 
@@ -155,7 +159,7 @@ fn run_into_file<'i, A: Allocator + Copy, B: Allocator>(
     close_output(profile, store, name, held, written)?;
     Ok(Ran {
         rest: ran.rest,
-        verdict: ran.verdict.into_file(name),
+        verdict: ran.verdict.into_file(alloc, name)?,
     })
 }
 
@@ -241,7 +245,7 @@ fn run_list<'i, A: Allocator + Copy, B: Allocator>(
 {
     let first = run_tree(alloc, profile, left, input, store, out)?;
     let second = run_tree(alloc, profile, right, first.rest, store, out)?;
-    let verdict = Verdict::of_list(left, first.verdict, right, second.verdict)?;
+    let verdict = Verdict::of_list(alloc, left, first.verdict, right, second.verdict)?;
     Ok(Ran {
         rest: second.rest,
         verdict,
@@ -265,7 +269,14 @@ fn run_line<'i, A: Allocator + Copy, B: Allocator>(
     }
 }
 
-// The same of lines that follow each other.
+// What the lines so far leave of the input, and why they aren't settled.
+#[derive(Drop)]
+struct RanLines<'i, A: Allocator> {
+    rest: &'i [u8],
+    told: Told<A>,
+}
+
+// The same of lines that follow each other, and why they aren't settled.
 fn run_lines<'i, A: Allocator + Copy, B: Allocator>(
     alloc: A,
     profile: Profile,
@@ -273,19 +284,74 @@ fn run_lines<'i, A: Allocator + Copy, B: Allocator>(
     input: &'i [u8],
     store: &mut Files<A>,
     out: &mut Vec<u8, A>,
-) -> Result<Ran<'i, A>, PlainFault>
-    ensures { Means profile (script_tree (map line_of lines.now)) input.now (files store.old) out.old.items out.new.items (files store.new) result }
+) -> Result<RanLines<'i, A>, PlainFault>
+    ensures { MeanLines profile (map line_of lines.now) input.now (files store.old) out.old.items out.new.items (files store.new) result }
 {
     let mut rest = input;
-    let mut verdict = Verdict::firm(alloc);
+    let mut told = Told::nothing(alloc);
     let mut spans = None;
     for (i, line) in lines.iter().enumerate() {
         let ran = run_line(alloc, profile, line, rest, store, out)?;
         rest = ran.rest;
-        let is_met = is_met_beside(alloc, &mut spans, lines, i, ran.verdict.soft.as_slice())?;
-        verdict = with_line(verdict, line, is_met, ran.verdict)?;
+        let beside = beside_line(alloc, &mut spans, lines, i, ran.verdict.soft.as_slice())?;
+        told = told.with_line(alloc, line, i + 1, ran.verdict, beside)?;
     }
-    Ok(Ran { rest, verdict })
+    Ok(RanLines { rest, told })
+}
+
+// The outcome of a script, and why it isn't settled, but for `&` and clashes.
+#[derive(Drop)]
+struct Outcome<A: Allocator> {
+    out: Bytes<A>,
+    files: Files<A>,
+    rest: Bytes<A>,
+    soft: Words<A>,
+    reasons: Vec<Reason<A>, A>,
+}
+
+// Whether there is no reason.
+fn is_none<A: Allocator>(reasons: &[Reason<A>]) -> bool
+    ensures { result ≡ is_empty reasons.now }
+{
+    reasons.is_empty()
+}
+
+// Runs a script.
+fn run_script<A: Allocator + Copy, B: Allocator, C: Allocator>(
+    alloc: A,
+    script: &Script<B>,
+    stdin: &[u8],
+    given: &Files<C>,
+) -> Result<Outcome<A>, PlainFault>
+    ensures out { IfOk result (λ p. p.out ≡ (script_meaning script.now.profile (lines_of script.now.lines) stdin.now (files given.now)).out) }
+    ensures rest { IfOk result (λ p. p.rest ≡ (script_meaning script.now.profile (lines_of script.now.lines) stdin.now (files given.now)).rest) }
+    ensures files { IfOk result (λ p. (name : List ℕ) → files p.files name ≡ (script_meaning script.now.profile (lines_of script.now.lines) stdin.now (files given.now)).files name) }
+    ensures settled { IfOk result (λ p. IsTrue (is_empty p.reasons.items) ↔ IsSettled script.now.profile (script_tree (lines_of script.now.lines)) no_names stdin.now (files given.now)) }
+    ensures each { IfOk result (λ p. All (IsReason script.now.profile (lines_of script.now.lines) stdin.now (files given.now)) p.reasons.items) }
+    ensures soft { IfOk result (λ p. (name : List ℕ) → Contains p.soft name ↔ ((script_meaning script.now.profile (lines_of script.now.lines) stdin.now (files given.now)).soft name ≡ true)) }
+    ensures soft_order { IfOk result (λ p. IsStrictlySortedBy name_cmp p.soft) }
+    ensures large { IfErr result (IsDue (Outgrows script.now.profile (script_tree (lines_of script.now.lines)) stdin.now (files given.now))) }
+{
+    let mut store = match given.copy(alloc) {
+        Ok(store) => store,
+        Err(_) => return Err(PlainFault::Memory),
+    };
+    let mut out = Vec::new(alloc);
+    let ran = run_lines(
+        alloc,
+        script.profile,
+        script.lines.as_slice(),
+        stdin,
+        &mut store,
+        &mut out,
+    )?;
+    Ok(Outcome {
+        out: Bytes::from_vec(out),
+        files: store,
+        rest: Bytes::copy_of(alloc, ran.rest)?,
+        soft: Words::from_vec(in_order(alloc, ran.told.soft.as_slice())?),
+        reasons: ran.told.reasons,
+    })
 }
 
 /// Runs a script on this standard input and these files by its recursive meaning under its profile (own): each
@@ -316,25 +382,51 @@ pub fn plain<A: Allocator + Copy, B: Allocator, C: Allocator>(
     ensures soft_order { IfOk result (λ p. IsStrictlySortedBy name_cmp p.soft) }
     ensures large { IfErr result (IsDue (Outgrows script.now.profile (script_tree (lines_of script.now.lines)) stdin.now (files given.now))) }
 {
-    let mut store = match given.copy(alloc) {
-        Ok(store) => store,
-        Err(_) => return Err(PlainFault::Memory),
-    };
-    let mut out = Vec::new(alloc);
-    let ran = run_lines(
-        alloc,
-        script.profile,
-        script.lines.as_slice(),
-        stdin,
-        &mut store,
-        &mut out,
-    )?;
-    let settled = are_clear(script.lines.as_slice()) && ran.verdict.is_settled;
+    let outcome = run_script(alloc, script, stdin, given)?;
+    let settled = is_none(outcome.reasons.as_slice()) && are_clear(script.lines.as_slice());
     Ok(Plain {
-        out: Bytes::from_vec(out),
-        files: store,
-        rest: Bytes::copy_of(alloc, ran.rest)?,
+        out: outcome.out,
+        files: outcome.files,
+        rest: outcome.rest,
         settled,
-        soft: Words::from_vec(in_order(alloc, ran.verdict.soft.as_slice())?),
+        soft: outcome.soft,
+    })
+}
+
+/// Runs a script as `plain` does, and returns beside its outcome why it isn't settled (own): first, line after line, the
+/// commands behind `&` and the first clash of each line; then, line after line, the names that cut pipes' left sides write and
+/// that are named again, each with one line that names it, and the inputs that are used after a command that is loose. The
+/// first loose line is told for each later line that uses the input. There is no reason where the script is settled.
+///
+/// The faults are those of `plain`. It takes the time of `plain`, and that of a search of each line for `&` and clashes.
+pub fn plain_with_reasons<A: Allocator + Copy, B: Allocator, C: Allocator>(
+    alloc: A,
+    script: &Script<B>,
+    stdin: &[u8],
+    given: &Files<C>,
+) -> Result<Reasoned<A>, PlainFault>
+    ensures out { IfOk result (λ r. r.plain.out ≡ (script_meaning script.now.profile (lines_of script.now.lines) stdin.now (files given.now)).out) }
+    ensures rest { IfOk result (λ r. r.plain.rest ≡ (script_meaning script.now.profile (lines_of script.now.lines) stdin.now (files given.now)).rest) }
+    ensures files { IfOk result (λ r. (name : List ℕ) → files r.plain.files name ≡ (script_meaning script.now.profile (lines_of script.now.lines) stdin.now (files given.now)).files name) }
+    ensures settled { IfOk result (λ r. IsTrue r.plain.settled ↔ IsSettledScript script.now.profile (lines_of script.now.lines) stdin.now (files given.now)) }
+    ensures none { IfOk result (λ r. (r.reasons.items ≡ []) ↔ IsSettledScript script.now.profile (lines_of script.now.lines) stdin.now (files given.now)) }
+    ensures each { IfOk result (λ r. All (IsReason script.now.profile (lines_of script.now.lines) stdin.now (files given.now)) r.reasons.items) }
+    ensures soft { IfOk result (λ r. (name : List ℕ) → Contains r.plain.soft name ↔ ((script_meaning script.now.profile (lines_of script.now.lines) stdin.now (files given.now)).soft name ≡ true)) }
+    ensures soft_order { IfOk result (λ r. IsStrictlySortedBy name_cmp r.plain.soft) }
+    ensures large { IfErr result (IsDue (Outgrows script.now.profile (script_tree (lines_of script.now.lines)) stdin.now (files given.now))) }
+{
+    let mut outcome = run_script(alloc, script, stdin, given)?;
+    let mut reasons = clear_reasons(alloc, script.lines.as_slice())?;
+    reasons.append(&mut outcome.reasons)?;
+    let settled = is_none(reasons.as_slice());
+    Ok(Reasoned {
+        plain: Plain {
+            out: outcome.out,
+            files: outcome.files,
+            rest: outcome.rest,
+            settled,
+            soft: outcome.soft,
+        },
+        reasons,
     })
 }

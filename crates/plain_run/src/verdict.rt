@@ -1,22 +1,24 @@
 //! What of a run may depend on the order in which processes run.
-ghost use Rattle.std.specs.Prelude.{◌≡◌, ◌++◌, ◌||◌, ◌&&◌, not, [], false, true, OnOk, IfOk};
-ghost use Rattle.std.specs.List.{list_any};
+ghost use Rattle.std.specs.Prelude.{◌≡◌, ◌++◌, ◌||◌, ◌&&◌, [], false, OnOk, IfOk};
+ghost use Rattle.std.specs.List.{filter};
+ghost use Rattle.std.specs.Str.{bytes_eq};
 ghost use Rattle.sh_tree.specs.Tree.{tree_of};
-ghost use Rattle.prog_parts.specs.NameSets.{among};
 ghost use Rattle.conflict_check.specs.Names.{names, uses_input};
 ghost use Rattle.conflict_check.specs.Occurrences.{written};
-ghost use Rattle.plain_run.specs.Tells.{are_apart, with_lost};
+ghost use Rattle.plain_run.specs.Tells.{all_again, only_if, with_lost};
 
-use conflict_check::{has_name_of, uses_input};
-use prog_parts::{is_among, words_written};
+use conflict_check::{names_it, uses_input};
+use prog_parts::words_written;
 use sh_lexer::Bytes;
 use sh_tree::{Cmd, Mode};
 use std::alloc::{AllocError, Allocator};
 
 #[derive(Drop)]
 pub struct Verdict<A: Allocator> {
-    // Nothing else may depend on it.
-    pub is_settled: bool,
+    // Names that the left sides of cut pipes write and that are named again.
+    pub again: Vec<Bytes<A>, A>,
+    // After a command that is loose another one uses the same input.
+    pub reuses: bool,
     // What is left unread of standard input may depend on it.
     pub is_loose: bool,
     // Names of files whose bytes may depend on it.
@@ -80,16 +82,51 @@ fn add_lost<A: Allocator + Copy, B: Allocator>(
     }
 }
 
-// Whether no soft name of one side is a name of the other.
-fn are_apart<A: Allocator, B: Allocator>(
-    left: &Cmd<B>,
-    first: &[Bytes<A>],
-    right: &Cmd<B>,
-    second: &[Bytes<A>],
-) -> bool
-    ensures { result ≡ are_apart (tree_of left.now) first.now (tree_of right.now) second.now }
+// Adds a word to a list, if it is one of those that are meant.
+fn add_if<A: Allocator + Copy>(
+    alloc: A,
+    is_meant: bool,
+    word: &[u8],
+    list: &mut Vec<Bytes<A>, A>,
+) -> Result<(), AllocError>
+    ensures { OnOk result (list.new.items ≡ list.old.items ++ only_if is_meant word.now) }
 {
-    !has_name_of(first, right) && !has_name_of(second, left)
+    if is_meant {
+        list.push(Bytes::copy_of(alloc, word)?)?;
+    }
+    Ok(())
+}
+
+// Adds those of the words that the tree names to a list.
+fn add_named<A: Allocator + Copy, B: Allocator>(
+    alloc: A,
+    words: &[Bytes<A>],
+    tree: &Cmd<B>,
+    list: &mut Vec<Bytes<A>, A>,
+) -> Result<(), AllocError>
+    ensures { OnOk result (list.new.items ≡ list.old.items ++ filter (names (tree_of tree.now)) words.now) }
+{
+    for word in words {
+        let is_named = names_it(tree, word.as_slice());
+        add_if(alloc, is_named, word.as_slice(), list)?;
+    }
+    Ok(())
+}
+
+// Adds those of the words that are this name to a list.
+fn add_same<A: Allocator + Copy>(
+    alloc: A,
+    words: &[Bytes<A>],
+    name: &[u8],
+    list: &mut Vec<Bytes<A>, A>,
+) -> Result<(), AllocError>
+    ensures { OnOk result (list.new.items ≡ list.old.items ++ filter (λ word. bytes_eq word name.now) words.now) }
+{
+    for word in words {
+        let is_same = word.as_slice() == name;
+        add_if(alloc, is_same, word.as_slice(), list)?;
+    }
+    Ok(())
 }
 
 // The names of one list and of the other.
@@ -109,51 +146,46 @@ pub fn joined<A: Allocator>(
 impl<A: Allocator + Copy> Verdict<A> {
     // Of what depends on no order.
     pub fn firm(alloc: A) -> Self
-        ensures settled { result.is_settled ≡ true }
+        ensures again { result.again.items ≡ [] }
+        ensures reuses { result.reuses ≡ false }
         ensures loose { result.is_loose ≡ false }
         ensures soft { result.soft.items ≡ [] }
     {
         Verdict {
-            is_settled: true,
+            again: Vec::new(alloc),
+            reuses: false,
             is_loose: false,
             soft: Vec::new(alloc),
         }
     }
 
     // Under a redirection of its output to this file.
-    pub fn into_file(self, name: &[u8]) -> Self
-        ensures settled { result.is_settled ≡ (self.is_settled && not (among self.soft.items name.now)) }
-        ensures loose { result.is_loose ≡ self.is_loose }
-        ensures soft { result.soft.items ≡ self.soft.items }
+    pub fn into_file(self, alloc: A, name: &[u8]) -> Result<Self, AllocError>
+        ensures again { IfOk result (λ all. all.again.items ≡ self.again.items ++ filter (λ word. bytes_eq word name.now) self.soft.items) }
+        ensures reuses { IfOk result (λ all. all.reuses ≡ self.reuses) }
+        ensures loose { IfOk result (λ all. all.is_loose ≡ self.is_loose) }
+        ensures soft { IfOk result (λ all. all.soft.items ≡ self.soft.items) }
     {
-        Verdict {
-            is_settled: self.is_settled && !is_among(self.soft.as_slice(), name),
+        let mut again = self.again;
+        add_same(alloc, self.soft.as_slice(), name, &mut again)?;
+        Ok(Verdict {
+            again,
+            reuses: self.reuses,
             is_loose: self.is_loose,
             soft: self.soft,
-        }
-    }
-
-    // With this file as its input: what it leaves of the file is read by no other command.
-    pub fn from_file(self, name: &[u8]) -> Self
-        ensures settled { result.is_settled ≡ (self.is_settled && not (among self.soft.items name.now)) }
-        ensures loose { result.is_loose ≡ false }
-        ensures soft { result.soft.items ≡ self.soft.items }
-    {
-        Verdict {
-            is_settled: self.is_settled && !is_among(self.soft.as_slice(), name),
-            is_loose: false,
-            soft: self.soft,
-        }
+        })
     }
 
     // The same of a command whose rest of the input depends on the order or does not, as is said here.
     pub fn with_looseness(self, is_loose: bool) -> Self
-        ensures settled { result.is_settled ≡ self.is_settled }
+        ensures again { result.again.items ≡ self.again.items }
+        ensures reuses { result.reuses ≡ self.reuses }
         ensures loose { result.is_loose ≡ is_loose }
         ensures soft { result.soft.items ≡ self.soft.items }
     {
         Verdict {
-            is_settled: self.is_settled,
+            again: self.again,
+            reuses: self.reuses,
             is_loose,
             soft: self.soft,
         }
@@ -161,20 +193,23 @@ impl<A: Allocator + Copy> Verdict<A> {
 
     // Of one command and then another.
     pub fn of_list<B: Allocator>(
+        alloc: A,
         left: &Cmd<B>,
         first: Self,
         right: &Cmd<B>,
         second: Self,
     ) -> Result<Self, AllocError>
-        ensures settled { IfOk result (λ both. both.is_settled ≡ (first.is_settled && second.is_settled && are_apart (tree_of left.now) first.soft.items (tree_of right.now) second.soft.items && not (first.is_loose && uses_input (tree_of right.now)))) }
+        ensures again { IfOk result (λ both. both.again.items ≡ all_again (tree_of left.now) first.again.items first.soft.items (tree_of right.now) second.again.items second.soft.items) }
+        ensures reuses { IfOk result (λ both. both.reuses ≡ ((first.reuses || second.reuses) || (first.is_loose && uses_input (tree_of right.now)))) }
         ensures loose { IfOk result (λ both. both.is_loose ≡ (first.is_loose || second.is_loose)) }
         ensures soft { IfOk result (λ both. both.soft.items ≡ first.soft.items ++ second.soft.items) }
     {
+        let mut again = joined(first.again, second.again)?;
+        add_named(alloc, first.soft.as_slice(), right, &mut again)?;
+        add_named(alloc, second.soft.as_slice(), left, &mut again)?;
         Ok(Verdict {
-            is_settled: first.is_settled
-                && second.is_settled
-                && are_apart(left, first.soft.as_slice(), right, second.soft.as_slice())
-                && !(first.is_loose && uses_input(right)),
+            again,
+            reuses: first.reuses || second.reuses || first.is_loose && uses_input(right),
             is_loose: first.is_loose || second.is_loose,
             soft: joined(first.soft, second.soft)?,
         })
@@ -189,15 +224,18 @@ impl<A: Allocator + Copy> Verdict<A> {
         right: &Cmd<B>,
         second: Self,
     ) -> Result<Self, AllocError>
-        ensures settled { IfOk result (λ both. both.is_settled ≡ (first.is_settled && second.is_settled && are_apart (tree_of left.now) (with_lost is_cut first.soft.items (tree_of left.now)) (tree_of right.now) second.soft.items)) }
+        ensures again { IfOk result (λ both. both.again.items ≡ all_again (tree_of left.now) first.again.items (with_lost is_cut first.soft.items (tree_of left.now)) (tree_of right.now) second.again.items second.soft.items) }
+        ensures reuses { IfOk result (λ both. both.reuses ≡ (first.reuses || second.reuses)) }
         ensures loose { IfOk result (λ both. both.is_loose ≡ (first.is_loose || (is_cut && uses_input (tree_of left.now)))) }
         ensures soft { IfOk result (λ both. both.soft.items ≡ with_lost is_cut first.soft.items (tree_of left.now) ++ second.soft.items) }
     {
         add_lost(alloc, is_cut, left, &mut first.soft)?;
+        let mut again = joined(first.again, second.again)?;
+        add_named(alloc, first.soft.as_slice(), right, &mut again)?;
+        add_named(alloc, second.soft.as_slice(), left, &mut again)?;
         Ok(Verdict {
-            is_settled: first.is_settled
-                && second.is_settled
-                && are_apart(left, first.soft.as_slice(), right, second.soft.as_slice()),
+            again,
+            reuses: first.reuses || second.reuses,
             is_loose: first.is_loose || is_cut && uses_input(left),
             soft: joined(first.soft, second.soft)?,
         })

@@ -137,7 +137,7 @@ fn write_call<M: Machine, A: Allocator>(kernel: &Kernel<M, A>, event: Event, cal
     ensures { CanHappen kernel.now.now.table event → IsCallOf M.call_of kernel.now.now event call.new }
 {
     if let Event::Trap(hart, pid) = event {
-        kernel.ask(hart, pid, call);
+        kernel.ask(hart, pid as usize, call);
     }
 }
 

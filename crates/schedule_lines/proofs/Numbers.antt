@@ -45,8 +45,8 @@ after_letter letter hart pid other small few =
 
 -- an event is on one line
 pub one_line : (event : Event) → IsHeld event → HasNoLf (event_text event)
-one_line (Dispatch hart pid) held = after_letter 68 hart pid (λ is. omega (arith, is)) held.0 held.1
-one_line (Trap hart pid) held = after_letter 84 hart pid (λ is. omega (arith, is)) held.0 held.1
+one_line (Dispatch hart pid) held = after_letter 68 hart pid (λ is. omega (arith, is)) held.0 (omega (arith, held.1))
+one_line (Trap hart pid) held = after_letter 84 hart pid (λ is. omega (arith, is)) held.0 (omega (arith, held.1))
 
 -- what stands before the first space, and after it
 pub one_space : (a b c d : List ℕ) → HasNoSpace a → HasNoSpace c → a ++ 32 ∷ b ≡ c ++ 32 ∷ d → (a ≡ c) × (b ≡ d)
@@ -73,12 +73,12 @@ first_same x y xs ys same = cc
 
 pub one_event : (e f : Event) → IsHeld e → IsHeld f → event_text e ≡ event_text f → e ≡ f
 one_event (Dispatch hart pid) (Dispatch h p) held kept same =
-    let own = one_numbers hart pid h p held.0 held.1 kept.0 kept.1 (two_rest 68 68 _ _ same) in
+    let own = one_numbers hart pid h p held.0 (omega (arith, held.1)) kept.0 (omega (arith, kept.1)) (two_rest 68 68 _ _ same) in
     let harts = own.0 in let pids = own.1 in cc
 one_event (Dispatch hart pid) (Trap h p) held kept same = let wrong : 68 ≡ 84 = first_same 68 84 _ _ same in absurd (omega (arith, wrong))
 one_event (Trap hart pid) (Dispatch h p) held kept same = let wrong : 84 ≡ 68 = first_same 84 68 _ _ same in absurd (omega (arith, wrong))
 one_event (Trap hart pid) (Trap h p) held kept same =
-    let own = one_numbers hart pid h p held.0 held.1 kept.0 kept.1 (two_rest 84 84 _ _ same) in
+    let own = one_numbers hart pid h p held.0 (omega (arith, held.1)) kept.0 (omega (arith, kept.1)) (two_rest 84 84 _ _ same) in
     let harts = own.0 in let pids = own.1 in cc
 
 pub space_inside : (a b : List ℕ) → HasNoSpace (a ++ 32 ∷ b) → ⊥

@@ -24,10 +24,10 @@ schedule_text (event ∷ events) = event_text event ++ 10 ∷ schedule_text even
 abbrev pub AreLinesOf : List ℕ → List Event → Type 0
 AreLinesOf bytes events = AreLines bytes (map event_text events)
 
--- the numbers of an event fit it: a hart's has 8 bits, and a process's 64
+-- the numbers of an event fit it: a hart's has 8 bits, and a process's 32
 abbrev pub IsHeld : Event → Type 0
-IsHeld (Dispatch hart pid) = (hart < 2 ^ 8) × (pid < 2 ^ 64)
-IsHeld (Trap hart pid) = (hart < 2 ^ 8) × (pid < 2 ^ 64)
+IsHeld (Dispatch hart pid) = (hart < 2 ^ 8) × (pid < 2 ^ 32)
+IsHeld (Trap hart pid) = (hart < 2 ^ 8) × (pid < 2 ^ 32)
 
 -- the line is that of no event
 abbrev pub IsNoEvent : List ℕ → Type 0

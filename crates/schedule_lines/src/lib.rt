@@ -5,5 +5,5 @@ pub mod laws;
 mod reading;
 mod writing;
 
-pub use reading::{ScheduleFault, read_schedule};
+pub use reading::{ScheduleFault, number_of, read_schedule};
 pub use writing::schedule_text;

@@ -35,8 +35,9 @@ impl From<AllocError> for ScheduleFault {
     }
 }
 
-// The number that is written so, in decimal and with nothing before it.
-fn number_of(text: &[u8]) -> Option<u64>
+/// The number below 2^64 that is written so, in decimal digits and with nothing before it, not even a zero; `None` where the text
+/// is that of no such number (own).
+pub fn number_of(text: &[u8]) -> Option<u64>
     ensures some { IfSome result (λ number. text.now ≡ decimal number) }
     ensures none { IfNone result ((number : ℕ) → number < 2 ^ 64 → text.now ≢ decimal number) }
 {
@@ -64,18 +65,20 @@ fn split_space(text: &[u8]) -> Option<(&[u8], &[u8])>
 }
 
 // The hart and the process that are written so.
-fn numbers_of(text: &[u8]) -> Option<(u8, usize)>
+fn numbers_of(text: &[u8]) -> Option<(u8, u32)>
     ensures some { IfSome result (λ numbers. text.now ≡ numbers_text numbers.0 numbers.1) }
-    ensures none { IfNone result ((hart pid : ℕ) → hart < 2 ^ 8 → pid < 2 ^ 64 → text.now ≢ numbers_text hart pid) }
+    ensures none { IfNone result ((hart pid : ℕ) → hart < 2 ^ 8 → pid < 2 ^ 32 → text.now ≢ numbers_text hart pid) }
 {
     let (hart, pid) = split_space(text)?;
     let hart = number_of(hart)?;
     let pid = number_of(pid)?;
-    if hart < 256 {
-        Some((hart as u8, pid as usize))
-    } else {
-        None
+    if 255 < hart {
+        return None;
     }
+    if 4_294_967_295 < pid {
+        return None;
+    }
+    Some((hart as u8, pid as u32))
 }
 
 // The event of a line.
@@ -116,8 +119,8 @@ fn add_event(events: &mut Vec<Event>, event: Event) -> Result<(), AllocError>
 }
 
 /// The events of a text, which has a line for each: `D h pid` for a dispatch of the process to the hart, and `T h pid` for
-/// a trap of the process on the hart (own). The numbers are in decimal without leading zeros, a hart's at most 255; one
-/// space stands before each, and nothing else on the line. The last line may lack its LF.
+/// a trap of the process on the hart (own). The numbers are in decimal without leading zeros, a hart's at most 255 and
+/// a process's at most 4,294,967,295; one space stands before each, and nothing else on the line. The last line may lack its LF.
 ///
 /// `NoEvent` names the first line that is no event, counted from 1; `Memory` where the allocator refused memory.
 pub fn read_schedule(alloc: Global, bytes: &[u8]) -> Result<Vec<Event>, ScheduleFault>

@@ -11,7 +11,7 @@ fn add_line(
     alloc: Global,
     letter: u8,
     hart: u8,
-    pid: usize,
+    pid: u32,
     text: &mut Vec<u8>,
 ) -> Result<(), AllocError>
     ensures { OnOk result (text.new.items ≡ text.old.items ++ letter ∷ 32 ∷ (numbers_text hart pid ++ 10 ∷ [])) }

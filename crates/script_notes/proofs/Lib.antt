@@ -3,3 +3,4 @@ pub mod Inside
 pub mod Reading
 pub mod Silence
 pub mod OneText
+pub mod Saying

@@ -14,7 +14,8 @@ use Rattle.script_load.specs.Line.{ScriptLine, command, bad, cd}
 use Rattle.script_load.specs.Script.{IsFine, IsLineOf, IsScript}
 use Rattle.script_load.proofs.OneScript.{one_script}
 use Rattle.script_notes.specs.Notes.{Note, notes_text}
-use Rattle.script_notes.specs.Letters.{byte_notes, letter_notes}
+use Rattle.script_notes.specs.Habits.{token_notes}
+use Rattle.script_notes.specs.Letters.{byte_notes}
 use Rattle.script_notes.specs.Commands.{command_notes}
 use Rattle.script_notes.specs.Whole.{fault_notes, places_of, clash_kind, IsClashNoted}
 use Rattle.script_notes.specs.Explained.{HasNotes, AreNotes, AreTold, IsExplained}
@@ -49,11 +50,11 @@ one_list : (number : ℕ) (text : Bytes) (line : ScriptLine) (notes others : Lis
 one_list number text (command tree) notes others (ts, last, list, clash, is) (us, end, also, other, are) =
     let tokens = unique text 0 us ts also list in
     let ends = one_clash tree text ts last end clash (subst (λ ts. IsClashNoted tree text ts end) tokens other) in
-    is ∙ ap (λ l. byte_notes number text ++ (letter_notes text ts ++ (command_notes text tree [] ts ++ l))) ends
-    ∙ ap (λ ts. byte_notes number text ++ (letter_notes text ts ++ (command_notes text tree [] ts ++ end))) (sym tokens) ∙ sym are
+    is ∙ ap (λ l. byte_notes number text ++ (token_notes text ts ++ (command_notes text tree [] ts ++ l))) ends
+    ∙ ap (λ ts. byte_notes number text ++ (token_notes text ts ++ (command_notes text tree [] ts ++ end))) (sym tokens) ∙ sym are
 one_list number text (bad fault whole) notes others (ts, list, is) (us, also, are) =
     let tokens = unique text 0 ts us list also in
-    is ∙ ap (λ ts. byte_notes number text ++ (letter_notes text ts ++ fault_notes fault)) tokens ∙ sym are
+    is ∙ ap (λ ts. byte_notes number text ++ (token_notes text ts ++ fault_notes text fault)) tokens ∙ sym are
 one_list number text (cd folder) notes others is are = is ∙ sym are
 
 one_notes : (number : ℕ) (text : Bytes) (notes others : List Note) → HasNoLf text → IsFine text → AreNotes number text notes → AreNotes number text others → notes ≡ others

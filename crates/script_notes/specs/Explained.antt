@@ -7,17 +7,18 @@ use Rattle.prog_parts.specs.Lines.{AreLines}
 use Rattle.script_load.specs.Line.{ScriptLine, command, bad, cd}
 use Rattle.script_load.specs.Script.{IsFine, IsLineOf}
 use Rattle.script_notes.specs.Notes.{Note, notes_text}
-use Rattle.script_notes.specs.Letters.{byte_notes, letter_notes}
+use Rattle.script_notes.specs.Habits.{token_notes}
+use Rattle.script_notes.specs.Letters.{byte_notes}
 use Rattle.script_notes.specs.Commands.{command_notes}
 use Rattle.script_notes.specs.Whole.{cd_note, fault_notes, IsClashNoted}
 
--- the notes of a text, which is this line: by its bytes and letters, of a command's tokens, and of the whole line
+-- the notes of a text, which is this line: by its bytes and tokens, of a command's tokens, and of the whole line
 abbrev pub HasNotes : ℕ → Bytes → ScriptLine → List Note → Type 0
 HasNotes number text (command tree) notes =
     (ts : List Token) × (last : List Note) × IsTokenList text ts × IsClashNoted tree text ts last
-    × (notes ≡ byte_notes number text ++ (letter_notes text ts ++ (command_notes text tree [] ts ++ last)))
+    × (notes ≡ byte_notes number text ++ (token_notes text ts ++ (command_notes text tree [] ts ++ last)))
 HasNotes number text (bad fault whole) notes =
-    (ts : List Token) × IsTokenList text ts × (notes ≡ byte_notes number text ++ (letter_notes text ts ++ fault_notes fault))
+    (ts : List Token) × IsTokenList text ts × (notes ≡ byte_notes number text ++ (token_notes text ts ++ fault_notes text fault))
 HasNotes number text (cd folder) notes = notes ≡ byte_notes number text ++ cd_note ∷ []
 
 -- the notes of a text

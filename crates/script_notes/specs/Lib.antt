@@ -3,6 +3,7 @@ pub mod Marks
 pub mod Notes
 pub mod Letters
 pub mod Segments
+pub mod Habits
 pub mod Commands
 pub mod Whole
 pub mod Explained

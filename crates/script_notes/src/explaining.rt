@@ -6,7 +6,8 @@ ghost use Rattle.script_notes.specs.Notes.{Note, notes_text};
 ghost use Rattle.script_notes.specs.Explained.{HasNotes, IsExplained};
 
 use crate::commands::add_command_notes;
-use crate::letters::{add_byte_notes, add_letter_notes};
+use crate::habits::add_token_notes;
+use crate::letters::add_byte_notes;
 use crate::whole::{add_cd_note, add_clash_note, add_fault_note};
 use prog_parts::split_line;
 use script_load::{Line, LoadFault, load};
@@ -45,7 +46,7 @@ fn explain_line(
     }
     let all = tokens(alloc, text)?;
     let tokens = all.as_slice();
-    add_letter_notes(alloc, number, text, tokens, told)?;
+    add_token_notes(alloc, number, text, tokens, told)?;
     match line {
         Line::Cd(_) => Ok(()),
         Line::Bad(fault, _) => add_fault_note(alloc, number, text, *fault, told),
@@ -57,9 +58,9 @@ fn explain_line(
 }
 
 /// The notes of a script, as text for a student (own): on a `#` that begins no comment, a quote that is none, a
-/// byte order mark, a carriage return, a line that is no command, a command that runs no program, a name that no
-/// file can have, a `cd`, a `&`, a `>>`, a redirection that another replaces, and the first clash of a line.
-/// Nothing is run.
+/// byte order mark, a carriage return, `||`, `&&`, `;;`, a `|` at the end, `2>`, a variable, a pattern, an option, a line that
+/// is no command, a command that runs no program, a name that no file can have, a `cd`, a `&`, a `>>`, a redirection that another
+/// replaces, and the first clash of a line. Nothing is run.
 ///
 /// Each note is three lines: `line N: SENTENCE`, the line without its carriage returns behind two spaces, and
 /// marks `^` under the places that it speaks of, behind two spaces too, with a tab under a tab. Lines are counted

@@ -11,6 +11,30 @@ pub enum NoteKind {
     NoComment,
     /// A word holds a quote, a backslash or a back quote.
     NoQuote,
+    /// A `|` right behind another: `||`.
+    NoOr,
+    /// A `&` right behind another: `&&`.
+    NoAnd,
+    /// A `;` right behind another: `;;`.
+    NoCommand,
+    /// A `|` at the end of the line.
+    LastBar,
+    /// A `>` or `>>` right behind a number: `2>`.
+    NoNumber,
+    /// A word holds a `$` before its end, and isn't grep's pattern.
+    NoVariable,
+    /// A word holds a `*` or a `[`, and isn't grep's pattern.
+    NoPattern,
+    /// An option of `cat` or `wc`, or behind the first argument of `grep` or `head`.
+    NoOption,
+    /// A first argument of `head` that is an option, and no number of lines.
+    HeadOption,
+    /// An option of `tee`.
+    TeeOption,
+    /// An option before the pattern of `grep`.
+    GrepOption,
+    /// An option of `echo`.
+    EchoOption,
     /// A command's name is none of the six programs.
     NoProgram,
     /// A word names a file, and no file can have that name.
@@ -35,6 +59,8 @@ pub enum NoteKind {
     TenthWord,
     /// The fault `Unexpected`.
     LateParen,
+    /// The fault `Leftover` at a `)`.
+    StrayParen,
     /// The fault `Leftover`.
     LeftOver,
     /// A clash between the sides of a pipe.
@@ -59,6 +85,28 @@ impl NoteKind {
                 b"there are no comments here: this and what follows is read like the rest of the line".as_slice(),
             NoteKind::NoQuote =>
                 b"quotes and backslashes mean nothing here: they are a part of the word, and white space or a sign ends it".as_slice(),
+            NoteKind::NoOr =>
+                b"|| is no 'or' here but two pipes with an empty command between them: what the left side writes is lost".as_slice(),
+            NoteKind::NoAnd =>
+                b"&& is no 'and' here: each & lets the command before it run in the background, so put what comes next on a line of its own".as_slice(),
+            NoteKind::NoCommand =>
+                b"no command stands between this ; and the one before it".as_slice(),
+            NoteKind::LastBar =>
+                b"no command stands behind the last |, so what its left side writes is lost".as_slice(),
+            NoteKind::NoNumber =>
+                b"the number before this sign is a word of the command: its output goes to the file, and its messages don't, for there is no 2> and no 2>&1".as_slice(),
+            NoteKind::NoVariable =>
+                b"there are no variables here: $ is a letter like others".as_slice(),
+            NoteKind::NoPattern =>
+                b"names of files have no patterns here: * and [ are letters like others".as_slice(),
+            NoteKind::NoOption =>
+                b"there is no such option here: the word is taken for a file's name".as_slice(),
+            NoteKind::HeadOption =>
+                b"head has the option -N, for N lines, and no other: it tells how it is used, and reads nothing".as_slice(),
+            NoteKind::TeeOption => b"tee has no options: it makes a file of this name".as_slice(),
+            NoteKind::GrepOption =>
+                b"grep has no options: it takes this word for the pattern, and the next for a file's name".as_slice(),
+            NoteKind::EchoOption => b"echo has no options: it writes this word as it is".as_slice(),
             NoteKind::NoProgram =>
                 b"no program has this name: there are cat, echo, grep, head, tee and wc".as_slice(),
             NoteKind::NoFileName =>
@@ -83,6 +131,8 @@ impl NoteKind {
                 b"this is the tenth word of a command, and a command has nine at most: the line is no command, and nothing of it runs".as_slice(),
             NoteKind::LateParen =>
                 b"a ( can't stand behind a word or a file's name: the line is no command, and nothing of it runs".as_slice(),
+            NoteKind::StrayParen =>
+                b"this ) closes nothing: the line is no command, and nothing of it runs".as_slice(),
             NoteKind::LeftOver =>
                 b"the line can't go on like this: it is no command, and nothing of it runs".as_slice(),
             NoteKind::PipeClash =>

@@ -4,6 +4,7 @@
 
 mod commands;
 mod explaining;
+mod habits;
 mod kind;
 pub mod laws;
 mod letters;

@@ -4,7 +4,7 @@ ghost use Rattle.sh_lexer.specs.Tokens.{IsTokenList};
 ghost use Rattle.sh_tree.specs.Fault.{place_told};
 ghost use Rattle.sh_tree.specs.Tree.{tree_of};
 ghost use Rattle.script_notes.specs.Notes.{Note, note_of, notes_text};
-ghost use Rattle.script_notes.specs.Whole.{cd_note, fault_notes, places_of, clash_kind, IsClashNoted};
+ghost use Rattle.script_notes.specs.Whole.{cd_note, fault_notes, is_paren, left_kind, places_of, clash_kind, IsClashNoted};
 
 use crate::kind::NoteKind;
 use crate::letters::{span_of, text_of};
@@ -28,16 +28,26 @@ pub fn add_cd_note(
     add_note(alloc, number, text, NoteKind::NoDirectories, &[span], told)
 }
 
+// The kind of the note of what is left, by its first byte.
+fn left_kind(byte: Option<u8>) -> NoteKind
+    ensures { result ≡ left_kind (is_paren byte) }
+{
+    match byte {
+        Some(b')') => NoteKind::StrayParen,
+        _ => NoteKind::LeftOver,
+    }
+}
+
 // The kind of the note of a fault, and its place.
-fn fault_note(fault: ParseFault) -> Option<(NoteKind, usize)>
-    ensures { MatchOption result (fault_notes fault ≡ []) (λ told. (fault_notes fault ≡ note_of told.0 told.1 told.1 ∷ []) × (told.1 ≡ place_told fault)) }
+fn fault_note(text: &[u8], fault: ParseFault) -> Option<(NoteKind, usize)>
+    ensures { MatchOption result (fault_notes text.now fault ≡ []) (λ told. (fault_notes text.now fault ≡ note_of told.0 told.1 told.1 ∷ []) × (told.1 ≡ place_told fault)) }
 {
     match fault {
         ParseFault::MissingFile(at) => Some((NoteKind::MissingName, at)),
         ParseFault::MissingParen(at) => Some((NoteKind::OpenParen, at)),
         ParseFault::TooManyWords(at) => Some((NoteKind::TenthWord, at)),
         ParseFault::Unexpected(at) => Some((NoteKind::LateParen, at)),
-        ParseFault::Leftover(at) => Some((NoteKind::LeftOver, at)),
+        ParseFault::Leftover(at) => Some((left_kind(text.get(at).copied()), at)),
         ParseFault::Memory => None,
     }
 }
@@ -51,9 +61,9 @@ pub fn add_fault_note(
     told: &mut Vec<u8>,
 ) -> Result<(), AllocError>
     requires { place_told fault ≤ length text.now }
-    ensures { OnOk result (told.new.items ≡ told.old.items ++ notes_text number text.now (fault_notes fault)) }
+    ensures { OnOk result (told.new.items ≡ told.old.items ++ notes_text number text.now (fault_notes text.now fault)) }
 {
-    let Some((kind, at)) = fault_note(fault) else {
+    let Some((kind, at)) = fault_note(text, fault) else {
         return Ok(());
     };
     let span = Span {

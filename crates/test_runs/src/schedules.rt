@@ -2,7 +2,7 @@
 
 use crate::given::{TURNS, file_of};
 use kernel_events::{Event, Report};
-use kernel_runs::{ReplayFault, RunOneFault, replay, run_one};
+use kernel_runs::{Order, ReplayFault, RunOneFault, replay, run_in_order, run_one};
 use mem_files::Files;
 use script_load::{MAX_TURNS, Script, load};
 use std::alloc::{AllocError, Global};
@@ -185,5 +185,42 @@ fn a_schedule_that_was_kept_replays(rt: HostRuntime) -> Result<(), Fail> {
     let big = "aaaaaaaaa\n".repeat(rt.alloc(), 130)?;
     let files = file_of(rt.alloc(), "big", big.as_bytes())?;
     assert!(&rt; both_count(rt.alloc(), &files)?);
+    Ok(())
+}
+
+// The run of a race in the order of this seed, if it is the same once more, and by its own events too.
+fn race(alloc: Global, seed: u64) -> Result<Option<Report<Global>>, Fail> {
+    let script = load(alloc, b"echo a &\necho b".as_slice())?;
+    let files = Files::new(alloc);
+    let order = Order::Drawn(seed);
+    let first = run_in_order(alloc, &script, &[], &files, TURNS, order)?;
+    let again = run_in_order(alloc, &script, &[], &files, TURNS, order)?;
+    let replayed = replay(alloc, &script, &[], &files, first.schedule.as_slice())?;
+    Ok(Some(first).filter(|first| first.same(&again) && first.same(&replayed)))
+}
+
+// Whether this is one of the outputs of the race.
+fn is_of_race(out: &[u8]) -> bool {
+    out == b"a\nb\n".as_slice()
+        || out == b"ab\n\n".as_slice()
+        || out == b"b\na\n".as_slice()
+        || out == b"ba\n\n".as_slice()
+}
+
+// A seed is one order; each prints what some order prints, and they don't all print the same.
+#[test]
+fn a_seed_is_one_order(rt: HostRuntime) -> Result<(), Fail> {
+    let mut others: u32 = 0;
+    for seed in 1..=30 {
+        let Some(report) = race(rt.alloc(), seed)? else {
+            return Err(Fail::new("the order of a seed changed"));
+        };
+        let out = report.out.as_slice();
+        assert!(&rt; is_of_race(out), "{seed}");
+        if out != b"a\nb\n".as_slice() {
+            others = others.saturating_add(1);
+        }
+    }
+    assert!(&rt; 0 < others && others < 30);
     Ok(())
 }

@@ -16,6 +16,10 @@ pub(crate) struct Taken {
 }
 
 impl Traces for Taken {
+    fn make_folder(&mut self, _path: &str) -> Result<(), Unwritten> {
+        Err(Unwritten)
+    }
+
     fn begin_trace(&mut self, path: &str) -> Result<(), Unwritten> {
         if path.is_empty() {
             Err(Unwritten)

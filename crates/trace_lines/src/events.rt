@@ -66,12 +66,12 @@ impl<'t> TraceLines<'t> {
         let mut line = Line::begin(self.alloc, text)?;
         match event {
             Event::Dispatch(hart, pid) => {
-                if let Some(pid) = Pid::new(pid) {
+                if let Some(pid) = Pid::new(pid as usize) {
                     self.write_dispatch(&mut line, tracer, hart, pid)?;
                 }
             }
             Event::Trap(hart, pid) => {
-                if let Some(pid) = Pid::new(pid) {
+                if let Some(pid) = Pid::new(pid as usize) {
                     self.write_trap(&mut line, tracer, hart, pid)?;
                 }
             }
@@ -87,9 +87,10 @@ impl<'t> TraceLines<'t> {
     ) -> Result<(), AllocError> {
         self.kept = None;
         self.was_there = false;
-        let Event::Trap(hart, index) = event else {
+        let Event::Trap(hart, number) = event else {
             return Ok(());
         };
+        let index = number as usize;
         let Some(pid) = Pid::new(index) else {
             return Ok(());
         };

@@ -39,9 +39,21 @@ IsNumber bits default found id number =
     (one_text found id ≡ None → number ≡ default)
     × ((text : List ℕ) → one_text found id ≡ Some text → IsNumeral 10 (without_leading_plus text) → digits_value 10 (without_leading_plus text) < 2 ^ bits → number ≡ digits_value 10 (without_leading_plus text))
 
--- the path of the trace, if there is one
-abbrev pub IsTrace : Found → Option (Bor Path) → Type 0
-IsTrace found trace = option_map (λ path. path.now) trace ≡ first_value found (codes "trace")
+-- the word under a name, if there is one
+abbrev pub IsWord : Found → List ℕ → Option (Bor Path) → Type 0
+IsWord found id word = option_map (λ text. text.now) word ≡ first_value found id
+
+-- what the order of the turns is drawn by, if it is: the number of the words, which has 64 bits
+abbrev pub IsSeed : Found → Option ℕ → Type 0
+IsSeed found seed =
+    (one_text found (codes "seed") ≡ None → seed ≡ None)
+    × ((text : List ℕ) → one_text found (codes "seed") ≡ Some text → IsNumeral 10 (without_leading_plus text) → digits_value 10 (without_leading_plus text) < 2 ^ 64 → seed ≡ Some (digits_value 10 (without_leading_plus text)))
+
+-- how many harts a run has if the words don't say: one, where they say in which order its processes take their turns
+abbrev pub default_harts : Option (Bor Path) → Option ℕ → ℕ
+default_harts None None = HARTS
+default_harts None (Some seed) = 1
+default_harts (Some word) seed = 1
 
 -- the script, its files and its profile
 pub record IsSourceOf (found : Found) (source : Source) : Type 0 where
@@ -54,24 +66,27 @@ pub record IsSourceOf (found : Found) (source : Source) : Type 0 where
 -- the words of each command make a request
 pub record IsRunOf (found : Found) (request : RunRequest) : Type 0 where
   pub source : IsSourceOf found request.source
-  pub harts : IsNumber 8 HARTS found (codes "harts") request.harts
+  pub order : IsWord found (codes "order") request.order
+  pub seed : IsSeed found request.seed
+  pub harts : IsNumber 8 (default_harts request.order request.seed) found (codes "harts") request.harts
   pub turns : IsNumber 64 TURNS found (codes "turns") request.turns
   pub files : IsFlag found (codes "files") request.lists.files
   pub schedule : IsFlag found (codes "schedule") request.lists.events
   pub strict : IsFlag found (codes "strict") request.is_strict
-  pub trace : IsTrace found request.trace
+  pub trace : IsWord found (codes "trace") request.trace
 
 pub record IsReplayOf (found : Found) (request : ReplayRequest) : Type 0 where
   pub schedule : IsPath found (codes "events") request.schedule.now
   pub source : IsSourceOf found request.source
   pub files : IsFlag found (codes "files") request.lists.files
   pub events : request.lists.events ≡ false
-  pub trace : IsTrace found request.trace
+  pub trace : IsWord found (codes "trace") request.trace
 
 pub record IsPlainOf (found : Found) (request : PlainRequest) : Type 0 where
   pub source : IsSourceOf found request.source
   pub files : IsFlag found (codes "files") request.lists_files
   pub strict : IsFlag found (codes "strict") request.is_strict
+  pub json : IsFlag found (codes "json") request.is_json
 
 pub record IsCheckOf (found : Found) (request : CheckRequest) : Type 0 where
   pub script : IsPath found (codes "script") request.script.now
@@ -85,6 +100,8 @@ pub record IsExploreOf (found : Found) (request : ExploreRequest) : Type 0 where
   pub source : IsSourceOf found request.source
   pub states : IsNumber 64 STATES found (codes "states") request.states
   pub all : IsFlag found (codes "all") request.is_thorough
+  pub witness : IsWord found (codes "witness") request.witness
+  pub json : IsFlag found (codes "json") request.is_json
 
 -- the words name a command, and this was found in those of it
 pub record Names (matches : ArgMatches) (name : List ℕ) (found : Found) : Type 0 where

@@ -32,7 +32,7 @@ fn command_ending<R: Threads + Wait + Clock + Sync, H: Host + Traces>(
     host: &mut H,
 ) -> Ending
     ensures due { (asked : Asked) × IsAskedBy matches.now asked × IsDue (H.input host.old) (H.file host.old) asked result }
-    ensures nothing { result.status ≢ 0 → result.status ≢ 3 → result.status ≢ 4 → out_text result.output ≡ [] }
+    ensures nothing { result.status ≢ 0 → result.status ≢ 1 → result.status ≢ 3 → result.status ≢ 4 → out_text result.output ≡ [] }
 {
     match request_of(matches) {
         Some(request) => ending_of(rt, alloc, &request, host),
@@ -89,7 +89,7 @@ fn words_ending<R: Threads + Wait + Clock + Sync, H: Host + Traces>(
     host: &mut H,
 ) -> Ending
     ensures due { (asked : Asked) × IsAskedByWords (map string_bytes words.now) asked × IsDue (H.input host.old) (H.file host.old) asked result }
-    ensures nothing { result.status ≢ 0 → result.status ≢ 3 → result.status ≢ 4 → out_text result.output ≡ [] }
+    ensures nothing { result.status ≢ 0 → result.status ≢ 1 → result.status ≢ 3 → result.status ≢ 4 → out_text result.output ≡ [] }
 {
     let Ok(command) = command_line(alloc, u64::from(MAX_HARTS), MAX_TURNS, MAX_STATES) else {
         return report_no_memory(alloc);
@@ -117,6 +117,7 @@ fn no_words_ending<R: Threads + Wait + Clock + Sync, H: Host + Traces>(
         },
         lists_files: false,
         is_strict: false,
+        is_json: false,
     });
     ending_of(rt, alloc, &request, host)
 }
@@ -130,7 +131,7 @@ fn ending_on<R: Threads + Wait + Clock + Sync, H: Host + Traces>(
 ) -> Ending
     ensures no_words { words.now ≡ [] → IsDue (H.input host.old) (H.file host.old) (asks_plain Profile.Xv6 (codes "-") [] false false) result }
     ensures due { words.now ≢ [] → (asked : Asked) × IsAskedByWords (map string_bytes words.now) asked × IsDue (H.input host.old) (H.file host.old) asked result }
-    ensures nothing { result.status ≢ 0 → result.status ≢ 3 → result.status ≢ 4 → out_text result.output ≡ [] }
+    ensures nothing { result.status ≢ 0 → result.status ≢ 1 → result.status ≢ 3 → result.status ≢ 4 → out_text result.output ≡ [] }
     ensures no_words_nothing { words.now ≡ [] → result.status ≢ 0 → out_text result.output ≡ [] }
 {
     if words.is_empty() {
@@ -143,13 +144,16 @@ fn ending_on<R: Threads + Wait + Clock + Sync, H: Host + Traces>(
 /// Runs the program on these words, its own name not among them, and returns the status with which it ends. Own, except what
 /// a script's commands do, which is as xv6's `sh.c`, kernel and programs do it.
 ///
-/// `plain [--append] [--files] [--strict] SCRIPT [FILE]..` reads the script, loads it, reads the files in order, each
+/// `plain [--append] [--files] [--strict] [--json] SCRIPT [FILE]..` reads the script, loads it, reads the files in order, each
 /// before the next, and then standard input, runs the script by its meaning, and writes its output and, with
 /// `--files`, all files, the soft ones marked. SCRIPT `-` is standard input, and the script's own input is then empty.
 /// With `--append` `>>` appends, and without it writes over a file from its beginning, as in xv6. Without words the program is
 /// `plain -`. A script and a standard input have at most 1,048,576 bytes, and a file at most 274,432. Then `settled` or
 /// `not settled` goes to standard error: whether the script prints the same in any order of its processes. With `--strict`
 /// the status of a script that isn't settled is 3.
+///
+/// With `--json` one object of JSON goes to standard output in place of the text, also where there is a fault, and nothing to
+/// standard error; its form is in `docs/FORMATS.md`, and the status is that of the text.
 ///
 /// `run [--harts N] [--turns N] [--schedule] [--trace FILE] [--append] [--files] [--strict] SCRIPT [FILE]..` reads the same and runs the
 /// script by its processes, on 4 harts or N, of which each is a thread, in at most 10,000,000 turns or N. It writes the output,
@@ -164,11 +168,13 @@ fn ending_on<R: Threads + Wait + Clock + Sync, H: Host + Traces>(
 /// `explain SCRIPT` reads and loads the script, runs nothing, and writes in sentences what its lines are not, or
 /// `nothing to tell`.
 ///
-/// `explore [--states N] [--all] [--append] SCRIPT [FILE]..` reads what `plain` reads, tries every order in which the script's
-/// processes can take their turns, through at most 200,000 states or N, and writes the outcomes, each with the events of a
-/// shortest run to it. A settled script has one output, which is written without trying, unless with `--all`.
+/// `explore [--states N] [--all] [--witness DIR] [--json] [--append] SCRIPT [FILE]..` reads what `plain` reads, tries every order
+/// in which the script's processes can take their turns, through at most 200,000 states or N, and writes the outcomes, each with
+/// the events of a shortest run to it, and where two of these runs part. A settled script has one output, which is written without
+/// trying, unless with `--all` or `--witness`. With `--witness` it writes first a schedule for each outcome to `DIR/1.schedule` and
+/// so on, which `replay` reads. With `--json` it writes one object instead, also of a fault.
 ///
-/// A fault goes to standard error as one line, and then nothing of the script was written. The status is 1 for what can't be
+/// A fault goes to standard error as one line, but with `--json`, and then nothing of the script was written. The status is 1 for what can't be
 /// read or is refused, and for a schedule that is not of a finished run; 2 for words that are no command line; 3 where `check`
 /// reported a clash or a `&`, or `explain` a note, or `explore` found more than one output or set of files, or as above; 4 for an
 /// exploration that didn't try every order, and for a run that is too large, is past its turns, is out of

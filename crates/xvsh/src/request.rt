@@ -1,7 +1,7 @@
 //! The request that the words of a command line make.
 ghost use Rattle.std.specs.Prelude.{◌≡◌, ◌≢◌, None, Some, IfSome, codes};
 ghost use Rattle.clap.specs.Matches.{found_of, subcommand_name_of};
-ghost use Rattle.xvsh.specs.Words.{IsCheckOf, IsExplainOf, IsExploreOf, IsFlag, IsNamed, IsNumber, IsPath, ArePaths, IsPlainOf, IsReplayOf, IsRequestOf, IsRunOf, IsSourceOf, IsTrace};
+ghost use Rattle.xvsh.specs.Words.{IsCheckOf, IsExplainOf, IsExploreOf, IsFlag, IsNamed, IsNumber, IsPath, ArePaths, IsPlainOf, IsReplayOf, IsRequestOf, IsRunOf, IsSeed, IsSourceOf, IsWord, default_harts};
 
 use clap::ArgMatches;
 use script_load::Profile;
@@ -55,12 +55,22 @@ fn source_of<'m>(words: &'m ArgMatches<'_>) -> Source<'m>
     }
 }
 
-fn harts_of(words: &ArgMatches<'_>) -> u8
-    ensures { IsNumber 8 HARTS (found_of words.now) (codes "harts") result }
+// How many harts a run has if the words don't say: one, where they say in which order its processes take their turns.
+fn default_harts(order: Option<&str>, seed: Option<u64>) -> u8
+    ensures { result ≡ default_harts order.entry seed }
+{
+    match (order, seed) {
+        (None, None) => HARTS,
+        _ => 1,
+    }
+}
+
+fn harts_of(words: &ArgMatches<'_>, default: u8) -> u8
+    ensures { IsNumber 8 default (found_of words.now) (codes "harts") result }
 {
     match words.get_one::<u8>("harts") {
         Some(harts) => harts,
-        None => HARTS,
+        None => default,
     }
 }
 
@@ -84,18 +94,43 @@ fn states_of(words: &ArgMatches<'_>) -> u64
 
 // The path of the trace, if there is to be one.
 fn trace_of<'m>(words: &'m ArgMatches<'_>) -> Option<&'m str>
-    ensures { IsTrace (found_of words.now) result }
+    ensures { IsWord (found_of words.now) (codes "trace") result }
 {
     words.get_str("trace")
+}
+
+// The word of the order of the turns, if there is one.
+fn order_of<'m>(words: &'m ArgMatches<'_>) -> Option<&'m str>
+    ensures { IsWord (found_of words.now) (codes "order") result }
+{
+    words.get_str("order")
+}
+
+// What the order of the turns is drawn by, if it is.
+fn seed_of(words: &ArgMatches<'_>) -> Option<u64>
+    ensures { IsSeed (found_of words.now) result }
+{
+    words.get_one::<u64>("seed")
+}
+
+// The path of the folder for schedules, if there is to be one.
+fn witness_of<'m>(words: &'m ArgMatches<'_>) -> Option<&'m str>
+    ensures { IsWord (found_of words.now) (codes "witness") result }
+{
+    words.get_str("witness")
 }
 
 fn run_of<'m>(words: &'m ArgMatches<'_>) -> RunRequest<'m>
     ensures { IsRunOf (found_of words.now) result }
 {
+    let order = order_of(words);
+    let seed = seed_of(words);
     RunRequest {
         source: source_of(words),
-        harts: harts_of(words),
+        harts: harts_of(words, default_harts(order, seed)),
         turns: turns_of(words),
+        order,
+        seed,
         lists: Lists {
             files: flag_of(words, "files"),
             events: flag_of(words, "schedule"),
@@ -126,6 +161,7 @@ fn plain_of<'m>(words: &'m ArgMatches<'_>) -> PlainRequest<'m>
         source: source_of(words),
         lists_files: flag_of(words, "files"),
         is_strict: flag_of(words, "strict"),
+        is_json: flag_of(words, "json"),
     }
 }
 
@@ -154,6 +190,8 @@ fn explore_of<'m>(words: &'m ArgMatches<'_>) -> ExploreRequest<'m>
         source: source_of(words),
         states: states_of(words),
         is_thorough: flag_of(words, "all"),
+        witness: witness_of(words),
+        is_json: flag_of(words, "json"),
     }
 }
 

@@ -1,7 +1,7 @@
 ghost use Rattle.std.specs.Prelude.{None};
 
 use std::alloc::Global;
-use std::fs::File;
+use std::fs::{File, create_dir_all};
 use std::io;
 use std::rt::Files;
 use xvsh_read::{Host, HostFault, STDIN, Unwritten, read_all, write};
@@ -49,6 +49,16 @@ impl<R: Input + Files> Host for System<R> {
 }
 
 impl<R: Files + Print> Traces for System<R> {
+    fn make_folder(&mut self, path: &str) -> Result<(), Unwritten> {
+        if path.is_empty() {
+            return Err(Unwritten);
+        }
+        match create_dir_all(&self.rt, path) {
+            Ok(()) => Ok(()),
+            Err(_) => Err(Unwritten),
+        }
+    }
+
     fn begin_trace(&mut self, path: &str) -> Result<(), Unwritten> {
         if path == STDIN {
             self.sink = Sink::StandardOutput;

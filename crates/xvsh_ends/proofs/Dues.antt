@@ -1,5 +1,5 @@
 -- What is due, by what a command returned and what is reported of it.
-use Rattle.std.proofs.Common.{◌≡◌, ◌≢◌, ℕ, Bool, true, false, [], Option, Some, None, Result, Ok, Err, refl, sym, subst}
+use Rattle.std.proofs.Common.{◌≡◌, ◌≢◌, ℕ, Bool, true, false, [], Option, Some, None, Result, Ok, Err, inl, inr, refl, sym, subst}
 use Rattle.std.specs.Prelude.{MatchResult, codes, if◌then◌else◌}
 use Rattle.std.specs.Str.{bytes_eq}
 use Rattle.std.specs.Io.KnownBytes.{Keeps}
@@ -11,10 +11,11 @@ use Rattle.xvsh_read.specs.Path.{Path}
 use Rattle.xvsh_read.specs.Status.{status_of, fault_told}
 use Rattle.xvsh_read.specs.Writing.{out_text}
 use Rattle.xvsh_runs.specs.declared.fault.ProcessFault.{ProcessFault}
-use Rattle.xvsh_runs.specs.declared.fault.ProcessFault.TheVariants.{Common, BadHarts, BadTurns, Spent, SharedInput, NoEvent, NotRunnable, NotRunning, Unfinished}
+use Rattle.xvsh_runs.specs.declared.fault.ProcessFault.TheVariants.{Common, BadHarts, BadTurns, BadOrder, Spent, SharedInput, NoEvent, NotRunnable, NotRunning, Unfinished}
 use Rattle.xvsh_runs.specs.Status.{run_status}
-use Rattle.xvsh_ends.specs.Ends.{Asked, asks_plain, asks_run, asks_strict, asks_check, asks_turns, asks_explain, asks_explore, help, misuse, verdict_status, check_status, explore_status, full_status, told_text, Due, plain_ran, no_plain, ran, no_run, ran_strict, no_strict, checked, no_check, counted, not_counted, explained, not_explained, explored, not_explored, helped, misused, no_memory, IsDue, Tells, TellsOr, tells, lacks_memory, asks_traced, traced, untraced, beside_trace}
-use Rattle.xvsh_ends.specs.Requests.{UnlessPrinted}
+use Rattle.xvsh_ends.specs.Ends.{Asked, asks_plain, asks_run, asks_strict, asks_check, asks_turns, asks_explain, asks_explore, help, misuse, verdict_status, check_status, explore_status, full_status, told_text, Due, plain_ran, no_plain, ran, no_run, ran_strict, no_strict, checked, no_check, counted, not_counted, explained, not_explained, explored, not_explored, helped, misused, no_memory, IsDue, Tells, TellsOr, tells, lacks_memory, asks_traced, traced, untraced, beside_trace, asks_witnessed, asks_json, witnessed, unwitnessed, valued, unvalued, IsObjectStatus, PrintsAlone}
+use Rattle.std.specs.Borrow.{Bor}
+use Rattle.xvsh_ends.specs.Requests.{UnlessPrinted, witnessed_asked, json_asked}
 use Rattle.xvsh_ends.specs.declared.ending.Ending.{Ending}
 
 -- what is known stays where nothing changes
@@ -37,6 +38,7 @@ pub some_run_status : (fault : ProcessFault) → run_status fault ≢ 0
 some_run_status (Common fault) is = some_status fault is
 some_run_status BadHarts is = cc
 some_run_status BadTurns is = cc
+some_run_status (BadOrder word) is = cc
 some_run_status Spent is = cc
 some_run_status SharedInput is = cc
 some_run_status (NoEvent path line) is = cc
@@ -65,6 +67,12 @@ module _ (input : Option Bytes) (file : Path → Option Bytes) (asked : Asked) w
   due_made (Ok text) bytes status ending is due = due_by [] (bytes text) status ending is.nothing is.reported is.with (due text)
   due_made (Err refused) bytes status ending is due = due_memory ending is
 
+module _ (input : Option Bytes) (file : Path → Option Bytes) (what : Asked) where
+  -- what is due without schedules is due with them too
+  pub due_witnessed : (witness : Option (Bor Path)) (text told : Bytes) (status : ℕ) → Due input file what text told status → Due input file (witnessed_asked witness what) text told status
+  due_witnessed None text told status due = due
+  due_witnessed (Some path) text told status due = witnessed due
+
 verdict_prints : {X : Type 0} (strict is_settled : Bool) → verdict_status strict is_settled ≢ 0 → (strict ≡ true → verdict_status strict is_settled ≢ 3) → X
 verdict_prints false is_settled some three = absurd (some refl)
 verdict_prints true true some three = absurd (some refl)
@@ -92,6 +100,8 @@ unless (asks_turns script paths) status same is = λ some three. is
 unless (asks_explain script) status same is = λ some three. is
 unless (asks_explore profile script paths states all) status same is = λ some three four. is
 unless (asks_traced what path) status same is = unless what status same is
+unless (asks_witnessed what path) status same is = unless what status same is
+unless (asks_json what) status same is = λ some one three four. is
 unless help status same is = λ some. is
 unless misuse status same is = is
 
@@ -104,8 +114,31 @@ unless_implied (asks_turns script paths) status same other implies is = λ some 
 unless_implied (asks_explain script) status same other implies is = λ some three. implies (is some three)
 unless_implied (asks_explore profile script paths states all) status same other implies is = λ some three four. implies (is some three four)
 unless_implied (asks_traced what path) status same other implies is = unless_implied what status same other implies is
+unless_implied (asks_witnessed what path) status same other implies is = unless_implied what status same other implies is
+unless_implied (asks_json what) status same other implies is = λ some one three four. implies (is some one three four)
 unless_implied help status same other implies is = λ some. implies (is some)
 unless_implied misuse status same other implies is = implies is
+
+-- where nothing is printed but with the statuses of a request, nothing is with others than these
+pub unless_any : (asked : Asked) (status : ℕ) (same : Type 0) → UnlessPrinted asked status same → status ≢ 0 → status ≢ 1 → status ≢ 3 → status ≢ 4 → same
+unless_any (asks_plain profile script paths lists strict) status same is some one three four = is some (λ _. three)
+unless_any (asks_run profile script paths how lists) status same is some one three four = is some four
+unless_any (asks_strict profile script paths harts turns lists) status same is some one three four = is some three four
+unless_any (asks_check script) status same is some one three four = is some three
+unless_any (asks_turns script paths) status same is some one three four = is some three
+unless_any (asks_explain script) status same is some one three four = is some three
+unless_any (asks_explore profile script paths states all) status same is some one three four = is some three four
+unless_any (asks_traced what path) status same is some one three four = unless_any what status same is some one three four
+unless_any (asks_witnessed what path) status same is some one three four = unless_any what status same is some one three four
+unless_any (asks_json what) status same is some one three four = is some one three four
+unless_any help status same is some one three four = is some
+unless_any misuse status same is some one three four = is
+
+object_prints : {X : Type 0} (status : ℕ) → IsObjectStatus status → status ≢ 0 → status ≢ 1 → status ≢ 3 → status ≢ 4 → X
+object_prints status (inl is) some one three four = absurd (some is)
+object_prints status (inr (inl is)) some one three four = absurd (one is)
+object_prints status (inr (inr (inl is))) some one three four = absurd (three is)
+object_prints status (inr (inr (inr is))) some one three four = absurd (four is)
 
 beside_nothing : (b : Bool) (text : Bytes) → text ≡ [] → (if b then [] else text) ≡ []
 beside_nothing true text is = refl
@@ -132,6 +165,31 @@ module _ (input : Option Bytes) (file : Path → Option Bytes) where
   nothing_due asked text told status (not_explored fault why) = λ some three four. refl
   nothing_due asked text told status (traced {what = what} {path = path} {text = inner} due) = unless_implied what status (inner ≡ []) (beside_trace path inner ≡ []) (beside_nothing (bytes_eq path (codes "-")) inner) (nothing_due what inner told status due)
   nothing_due asked text told status (untraced {what = what}) = unless what 1 ([] ≡ []) refl
+  nothing_due asked text told status (witnessed {what = what} due) = nothing_due what text told status due
+  nothing_due asked text told status (unwitnessed {what = what} of) = unless what 1 ([] ≡ []) refl
+  nothing_due asked text told status (valued object is due) = object_prints status is
+  nothing_due asked text told status (unvalued {what = what} is due) = unless_any what status (text ≡ []) (nothing_due what text told status due)
   nothing_due asked text told status (helped whole) = λ some. absurd (some refl)
   nothing_due asked text told status (misused whole) = refl
   nothing_due asked text told status no_memory = unless asked 4 ([] ≡ []) refl
+
+module _ (input : Option Bytes) (file : Path → Option Bytes) (what : Asked) where
+  -- an object that was made is due where the text is, or that memory was refused for it
+  pub due_valued : {T E : Type 0} (made : Result T E) (bytes : T → Bytes) (text told : Bytes) (status : ℕ) (ending : Ending) → MatchResult made (λ json. PrintsAlone (bytes json) status ending) (λ _. Tells (fault_told Memory) 4 ending) → IsObjectStatus status → Due input file what text told status → IsDue input file (asks_json what) ending
+  due_valued (Ok json) bytes text told status ending is with due = due_by input file (asks_json what) (bytes json) [] status ending is.out is.reported is.with (valued (bytes json) with due)
+  due_valued (Err refused) bytes text told status ending is with due = due_memory input file (asks_json what) ending is
+
+pub verdict_is_printed : (strict is_settled : Bool) → IsObjectStatus (verdict_status strict is_settled)
+verdict_is_printed false is_settled = inl refl
+verdict_is_printed true true = inl refl
+verdict_is_printed true false = inr (inr (inl refl))
+
+pub fault_is_printed : (fault : Fault) → IsObjectStatus (status_of fault)
+fault_is_printed (Unreadable path) = inr (inl refl)
+fault_is_printed (TooLong path) = inr (inl refl)
+fault_is_printed (LineTooLong n) = inr (inl refl)
+fault_is_printed (ByteZero n) = inr (inl refl)
+fault_is_printed (BadName path) = inr (inl refl)
+fault_is_printed TooManyFiles = inr (inl refl)
+fault_is_printed TooLarge = inr (inr (inr refl))
+fault_is_printed Memory = inr (inr (inr refl))

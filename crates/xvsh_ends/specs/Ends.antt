@@ -1,6 +1,7 @@
 -- With which status the program ends, why, and what it prints by then.
-use Rattle.std.specs.Prelude.{◌≡◌, ℕ, Bool, true, false, if◌then◌else◌, List, [], ◌∷◌, ◌++◌, Option, Some, None, codes, string_bytes}
+use Rattle.std.specs.Prelude.{◌≡◌, ◌⊎◌, ℕ, Bool, true, false, if◌then◌else◌, List, [], ◌∷◌, ◌++◌, Option, Some, None, codes, string_bytes}
 use Rattle.std.specs.Str.{bytes_eq}
+use Rattle.std.specs.Fmt.{decimal}
 use Rattle.std.specs.Borrow.{Bor}
 use Rattle.std.specs.Io.KnownBytes.{Appends, Keeps}
 use Rattle.mem_files.specs.Name.{Bytes}
@@ -46,6 +47,10 @@ pub data Asked : Type 0 where
   asks_explore : Profile → Path → List (Bor Path) → ℕ → Bool → Asked
   -- the same, with a trace of the run at a path
   asks_traced : Asked → Path → Asked
+  -- the same, with a schedule of each outcome in the folder at a path
+  asks_witnessed : Asked → Path → Asked
+  -- the same, with one object of JSON in place of what is printed
+  asks_json : Asked → Asked
   help : Asked
   misuse : Asked
 
@@ -89,6 +94,15 @@ beside_trace path text = if bytes_eq path (codes "-") then [] else text
 abbrev pub untraced_told : Path → Bytes
 untraced_told path = codes "xvsh: cannot write " ++ (path ++ 10 ∷ [])
 
+-- the folder at this path, or a schedule in it
+pub data IsOfWitness (path : Path) : Path → Type 0 where
+  itself : IsOfWitness path path
+  numbered : (number : ℕ) → IsOfWitness path (path ++ (codes "/" ++ (decimal number ++ codes ".schedule")))
+
+-- an object is printed with this status
+abbrev pub IsObjectStatus : ℕ → Type 0
+IsObjectStatus status = (status ≡ 0) ⊎ ((status ≡ 1) ⊎ ((status ≡ 3) ⊎ (status ≡ 4)))
+
 -- what follows is by what the host states of standard input and of the files at paths
 module _ (input : Option Bytes) (file : Path → Option Bytes) where
   -- the script at a path, run so by its processes, prints this text and these diagnostics, and this was full
@@ -127,6 +141,12 @@ module _ (input : Option Bytes) (file : Path → Option Bytes) where
     -- the same of a request with a trace, beside the trace; or that this can't be written
     traced : {what : Asked} {path : Path} {text told : Bytes} {status : ℕ} → Due what text told status → Due (asks_traced what path) (beside_trace path text) told status
     untraced : {what : Asked} {path : Path} → Due (asks_traced what path) [] (untraced_told path) 1
+    -- the same of a request with schedules in a folder, beside these; or that the folder or one of them can't be written
+    witnessed : {what : Asked} {path : Path} {text told : Bytes} {status : ℕ} → Due what text told status → Due (asks_witnessed what path) text told status
+    unwitnessed : {what : Asked} {path place : Path} → IsOfWitness path place → Due (asks_witnessed what path) [] (untraced_told place) 1
+    -- an object of what is due without it, or that itself where it has another status
+    valued : {what : Asked} {text told : Bytes} {status : ℕ} (object : Bytes) → IsObjectStatus status → Due what text told status → Due (asks_json what) object [] status
+    unvalued : {what : Asked} {text told : Bytes} {status : ℕ} → (IsObjectStatus status → ⊥) → Due what text told status → Due (asks_json what) text told status
     -- some text, of words that are no command line on standard error
     helped : (text : Bytes) → Due help text [] 0
     misused : (text : Bytes) → Due misuse [] text 2
@@ -164,6 +184,12 @@ IsDue input file asked ending = Due input file asked (out_text ending.output) (t
 pub record Tells (text : Bytes) (status : ℕ) (ending : Ending) : Type 0 where
   pub nothing : out_text ending.output ≡ []
   pub reported : told_text ending ≡ text
+  pub with : ending.status ≡ status
+
+-- it prints this to standard output, and nothing to standard error, with this status
+pub record PrintsAlone (text : Bytes) (status : ℕ) (ending : Ending) : Type 0 where
+  pub out : out_text ending.output ≡ text
+  pub reported : told_text ending ≡ []
   pub with : ending.status ≡ status
 
 -- the same, or that memory was refused

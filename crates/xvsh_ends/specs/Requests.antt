@@ -11,7 +11,7 @@ use Rattle.xvsh_checks.specs.declared.request.ExplainRequest.{ExplainRequest}
 use Rattle.xvsh_explores.specs.declared.request.ExploreRequest.{ExploreRequest}
 use Rattle.xvsh_ends.specs.declared.request.Request.{Request}
 use Rattle.xvsh_ends.specs.declared.request.Request.TheVariants.{Run, Replay, Plain, Check, Explain, Explore}
-use Rattle.xvsh_ends.specs.Ends.{Asked, asks_plain, asks_run, asks_strict, asks_check, asks_turns, asks_explain, asks_explore, help, misuse, on_harts, by_schedule, Ends, asks_traced}
+use Rattle.xvsh_ends.specs.Ends.{Asked, asks_plain, asks_run, asks_strict, asks_check, asks_turns, asks_explain, asks_explore, help, misuse, on_harts, by_schedule, Ends, asks_traced, asks_witnessed, asks_json}
 
 -- a run by processes, strictly or not
 abbrev pub run_asked : Bool → RunRequest → Asked
@@ -32,8 +32,25 @@ check_asked true request = asks_turns request.script.now request.files.now
 abbrev pub explain_asked : ExplainRequest → Asked
 explain_asked request = asks_explain request.script.now
 
+-- the same, with schedules in a folder, if there is to be one
+abbrev pub witnessed_asked : Option (Bor Path) → Asked → Asked
+witnessed_asked None what = what
+witnessed_asked (Some path) what = asks_witnessed what path.now
+
+-- the same, with an object or without
+abbrev pub json_asked : Bool → Asked → Asked
+json_asked false what = what
+json_asked true what = asks_json what
+
+-- an exploration, with schedules or without
+abbrev pub explore_plainly_asked : ExploreRequest → Asked
+explore_plainly_asked request = asks_explore request.source.profile request.source.script.now request.source.files.now request.states request.is_thorough
+
+abbrev pub explore_told_asked : ExploreRequest → Asked
+explore_told_asked request = witnessed_asked request.witness (explore_plainly_asked request)
+
 abbrev pub explore_asked : ExploreRequest → Asked
-explore_asked request = asks_explore request.source.profile request.source.script.now request.source.files.now request.states request.is_thorough
+explore_asked request = json_asked request.is_json (explore_told_asked request)
 
 -- the same, with a trace of the run, if there is to be one
 abbrev pub traced_asked : Option (Bor Path) → Asked → Asked
@@ -44,13 +61,14 @@ traced_asked (Some path) what = asks_traced what path.now
 abbrev pub asked : Request → Asked
 asked (Run request) = traced_asked request.trace (run_asked request.is_strict request)
 asked (Replay request) = traced_asked request.trace (replay_asked request)
-asked (Plain request) = plain_asked request
+asked (Plain request) = json_asked request.is_json (plain_asked request)
 asked (Check request) = check_asked request.counts_turns request
 asked (Explain request) = explain_asked request
 asked (Explore request) = explore_asked request
 
 -- this holds, unless what is due has a status with which something goes to standard output: 0; 3 of a strict run, of a check, of
--- notes and of an exploration; and 4 of a run by processes, where something was full, and of an exploration of a part
+-- notes and of an exploration; and 4 of a run by processes, where something was full, and of an exploration of a part; and each
+-- with which an object is printed
 abbrev pub UnlessPrinted : Asked → ℕ → Type 0 → Type 0
 UnlessPrinted (asks_plain profile script paths lists strict) status same = status ≢ 0 → (IsTrue strict → status ≢ 3) → same
 UnlessPrinted (asks_run profile script paths how lists) status same = status ≢ 0 → status ≢ 4 → same
@@ -60,6 +78,8 @@ UnlessPrinted (asks_turns script paths) status same = status ≢ 0 → status �
 UnlessPrinted (asks_explain script) status same = status ≢ 0 → status ≢ 3 → same
 UnlessPrinted (asks_explore profile script paths states all) status same = status ≢ 0 → status ≢ 3 → status ≢ 4 → same
 UnlessPrinted (asks_traced what path) status same = UnlessPrinted what status same
+UnlessPrinted (asks_witnessed what path) status same = UnlessPrinted what status same
+UnlessPrinted (asks_json what) status same = status ≢ 0 → status ≢ 1 → status ≢ 3 → status ≢ 4 → same
 UnlessPrinted help status same = status ≢ 0 → same
 UnlessPrinted misuse status same = same
 

@@ -23,7 +23,7 @@ impl Line {
     ghost use Rattle.std.specs.Prelude.{◌≡◌};
     ghost use Rattle.xvsh_ends.specs.Ends.{line_text};
 
-    fn as_bytes(&self) -> &[u8]
+    pub(crate) fn as_bytes(&self) -> &[u8]
         ensures { result.now ≡ line_text self.now }
     {
         match self {
@@ -101,7 +101,7 @@ pub fn report_run_fault(alloc: Global, fault: ProcessFault<'_>) -> Ending
     report_made(alloc, format!(in alloc; "xvsh: {fault}\n"), fault.status())
 }
 
-/// The report of a trace that can't be written at the path.
+/// The report of a trace or a schedule that can't be written at the path.
 pub fn report_untraced(alloc: Global, path: &str) -> Ending
     ensures { TellsOr (untraced_told path.now) 1 result }
 {

@@ -1,14 +1,18 @@
 //! How an exploration ends.
-ghost use Rattle.std.specs.Prelude.{◌≡◌, []};
+ghost use Rattle.std.specs.Prelude.{◌≡◌, ℕ, List, [], Option};
+ghost use Rattle.xvsh_read.specs.Path.{Path};
 ghost use Rattle.xvsh_read.specs.Writing.{out_text};
-ghost use Rattle.xvsh_ends.specs.Ends.{IsDue, explore_status, told_text};
-ghost use Rattle.xvsh_ends.specs.Requests.{explore_asked};
+ghost use Rattle.xvsh_ends.specs.Ends.{Asked, Due, IsDue, asks_witnessed, explore_status, told_text};
+ghost use Rattle.xvsh_ends.specs.Requests.{explore_asked, explore_told_asked, witnessed_asked};
 
-use crate::ending::{Ending, Line, no_output, report_fault};
+use crate::ending::{Ending, Line, no_output, report_fault, report_no_memory, report_untraced};
+use crate::objects::valued;
+use crate::witnesses::{WitnessFault, write_schedules};
 use sh_lexer::Bytes;
 use std::alloc::Global;
 use xvsh_explores::{ExploreRequest, Explored, run_explore};
 use xvsh_read::{Host, Output};
+use xvsh_traces::Traces;
 
 // The status, by whether every order was tried, and whether all outcomes have one output and one set of files.
 fn status_of(is_whole: bool, is_single: bool) -> u8
@@ -39,12 +43,59 @@ fn prints(alloc: Global, explored: Explored) -> Ending
     }
 }
 
-/// Explores a script, and returns what is told of its outcomes, or why nothing is.
-pub fn explore_ending<H: Host>(alloc: Global, request: &ExploreRequest<'_>, host: &mut H) -> Ending
-    ensures { IsDue (H.input host.old) (H.file host.old) (explore_asked request.now) result }
+// Writes the schedules, if there is to be a folder of them, and returns how the program ends then.
+fn written<T: Traces>(
+    alloc: Global,
+    explored: Explored,
+    witness: Option<&str>,
+    traces: &mut T,
+) -> Ending
+    ensures { (input : Option (List ℕ)) (file : Path → Option (List ℕ)) (what : Asked) → ((text : List ℕ) → Due input file what text [] (explore_status explored.is_whole explored.is_single)) → IsDue input file (witnessed_asked witness.entry what) result }
+{
+    match witness {
+        Some(folder) => written_at(alloc, explored, folder, traces),
+        None => prints(alloc, explored),
+    }
+}
+
+// Writes the schedules in the folder at this path, and returns how the program ends then.
+fn written_at<T: Traces>(alloc: Global, explored: Explored, folder: &str, traces: &mut T) -> Ending
+    ensures { (input : Option (List ℕ)) (file : Path → Option (List ℕ)) (what : Asked) → ((text : List ℕ) → Due input file what text [] (explore_status explored.is_whole explored.is_single)) → IsDue input file (asks_witnessed what folder.now) result }
+{
+    match write_schedules(alloc, traces, folder, explored.schedules.as_slice()) {
+        Ok(()) => prints(alloc, explored),
+        Err(WitnessFault::Unwritten(place)) => report_untraced(alloc, place.as_str()),
+        Err(WitnessFault::Memory) => report_no_memory(alloc),
+    }
+}
+
+// Explores a script, writes schedules, if there are to be any, and returns what is told of its outcomes, or why nothing is.
+fn told_ending<H: Host + Traces>(
+    alloc: Global,
+    request: &ExploreRequest<'_>,
+    host: &mut H,
+) -> Ending
+    ensures { IsDue (H.input host.old) (H.file host.old) (explore_told_asked request.now) result }
 {
     match run_explore(alloc, request, host) {
-        Ok(explored) => prints(alloc, explored),
+        Ok(explored) => written(alloc, explored, request.witness, host),
         Err(fault) => report_fault(alloc, fault),
+    }
+}
+
+/// Explores a script, writes schedules, if there are to be any, and returns what is told of its outcomes, as text or as an object,
+/// or why nothing is.
+pub fn explore_ending<H: Host + Traces>(
+    alloc: Global,
+    request: &ExploreRequest<'_>,
+    host: &mut H,
+) -> Ending
+    ensures { IsDue (H.input host.old) (H.file host.old) (explore_asked request.now) result }
+{
+    let ending = told_ending(alloc, request, host);
+    if request.is_json {
+        valued(alloc, ending, "explore")
+    } else {
+        ending
     }
 }

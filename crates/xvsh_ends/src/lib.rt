@@ -4,10 +4,13 @@
 mod checks;
 mod ending;
 mod explorations;
+mod objects;
 mod plain;
 mod processes;
 mod request;
 mod tracing;
+mod values;
+mod witnesses;
 
 pub use ending::{Ending, Line, no_output, report, report_made, report_no_memory, write_ending};
 pub use request::{Request, ending_of};

@@ -2,9 +2,10 @@
 ghost use Rattle.std.specs.Prelude.{◌≡◌, ◌++◌};
 ghost use Rattle.xvsh_read.specs.Writing.{out_text};
 ghost use Rattle.xvsh_ends.specs.Ends.{IsDue, told_text, verdict_status, verdict_text};
-ghost use Rattle.xvsh_ends.specs.Requests.{plain_asked};
+ghost use Rattle.xvsh_ends.specs.Requests.{json_asked, plain_asked};
 
 use crate::ending::{Ending, Line, report_fault};
+use crate::values::plain_json;
 use std::alloc::Global;
 use xvsh_plain::{PlainRequest, PlainRun, run_plain};
 use xvsh_read::Host;
@@ -41,12 +42,24 @@ fn settled(run: PlainRun, is_strict: bool) -> Ending
     }
 }
 
-/// Runs a script by its meaning, and returns what it prints and whether it is settled, or why it can't be run.
-pub fn plain_ending<H: Host>(alloc: Global, request: &PlainRequest<'_>, host: &mut H) -> Ending
+// Runs a script by its meaning, and returns what it prints and whether it is settled, or why it can't be run.
+fn text_ending<H: Host>(alloc: Global, request: &PlainRequest<'_>, host: &mut H) -> Ending
     ensures { IsDue (H.input host.old) (H.file host.old) (plain_asked request.now) result }
 {
     match run_plain(alloc, request, host) {
         Ok(run) => settled(run, request.is_strict),
         Err(fault) => report_fault(alloc, fault),
+    }
+}
+
+/// Runs a script by its meaning, and returns what it prints and whether it is settled, or why it can't be run; as one object of
+/// JSON, if that is requested.
+pub fn plain_ending<H: Host>(alloc: Global, request: &PlainRequest<'_>, host: &mut H) -> Ending
+    ensures { IsDue (H.input host.old) (H.file host.old) (json_asked request.now.is_json (plain_asked request.now)) result }
+{
+    if request.is_json {
+        plain_json(alloc, request, host)
+    } else {
+        text_ending(alloc, request, host)
     }
 }

@@ -39,7 +39,7 @@ pub enum Request<'a> {
 }
 
 /// Carries out a request, and returns how the program ends: what it prints, or why it can't. Nothing is written but the trace of
-/// a run, where one is requested.
+/// a run and the schedules of an exploration, where they are requested.
 pub fn ending_of<R: Threads + Wait + Clock + Sync, H: Host + Traces>(
     rt: &R,
     alloc: Global,

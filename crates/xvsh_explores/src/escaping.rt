@@ -30,6 +30,14 @@ fn add_byte(text: &mut Vec<u8>, byte: u8) -> Result<(), AllocError> {
     }
 }
 
+/// Adds bytes, each as it is told.
+pub fn add_escaped(text: &mut Vec<u8>, bytes: &[u8]) -> Result<(), AllocError> {
+    for byte in bytes {
+        add_byte(text, *byte)?;
+    }
+    Ok(())
+}
+
 // How many bytes are shown of longer ones.
 const SHOWN: usize = 200;
 
@@ -38,9 +46,7 @@ pub fn add_bytes(alloc: Global, text: &mut Vec<u8>, bytes: &[u8]) -> Result<(), 
     if bytes.is_empty() {
         return text.extend_from_slice(b"(nothing)".as_slice());
     }
-    for byte in &bytes[..bytes.len().min(SHOWN)] {
-        add_byte(text, *byte)?;
-    }
+    add_escaped(text, &bytes[..bytes.len().min(SHOWN)])?;
     if SHOWN < bytes.len() {
         let rest = format!(in alloc; ".. ({} bytes)", bytes.len())?;
         text.extend_from_slice(rest.as_bytes())?;

@@ -4,10 +4,13 @@ ghost use Rattle.script_load.specs.Line.{lines_of};
 ghost use Rattle.xvsh_explores.specs.Explores.{AreSingle, IsExploreFault, LeftTheSame, RanExplore, Told};
 ghost use Rattle.xvsh_read.specs.declared.fault.Fault.TheVariants.{Memory, TooLarge};
 
+use crate::findings::{Findings, findings_of, schedules_of};
+use crate::objects::{object_of, object_of_settled};
 use crate::request::ExploreRequest;
 use crate::telling::{told, told_settled};
 use every_order::{Exploration, ExploreFault, Outcome, explore};
-use plain_run::{PlainFault, plain};
+use order_partings::Scene;
+use plain_run::{Plain, PlainFault, plain};
 use std::alloc::{AllocError, Global};
 use xvsh_read::{Fault, Host, Start, prepare};
 
@@ -20,6 +23,8 @@ pub struct Explored {
     pub is_whole: bool,
     /// Whether there is an outcome, and all that were found have its output and its files.
     pub is_single: bool,
+    /// Where a folder for schedules was given, one of each outcome, as text, in the order of their numbers; else none.
+    pub schedules: Vec<Vec<u8>>,
 }
 
 // Why nothing is told.
@@ -49,43 +54,91 @@ fn are_single(outcomes: &[Outcome]) -> bool
     }
 }
 
+// The text or the object of what was found.
+fn text_of(
+    alloc: Global,
+    request: &ExploreRequest<'_>,
+    found: &Exploration,
+    findings: &Findings,
+) -> Result<Vec<u8>, AllocError> {
+    if request.is_json {
+        let is_single = are_single(found.outcomes.as_slice());
+        object_of(alloc, found, findings, is_single)
+    } else {
+        told(alloc, request, found, findings)
+    }
+}
+
 // What is told of what was found.
-fn tell(alloc: Global, found: &Exploration) -> Result<Explored, AllocError>
+fn tell(
+    alloc: Global,
+    start: &Start,
+    request: &ExploreRequest<'_>,
+    found: &Exploration,
+) -> Result<Explored, AllocError>
     ensures whole { IfOk result (λ explored. explored.is_whole ≡ found.now.whole) }
     ensures single { IfOk result (λ explored. IsTrue explored.is_single ↔ AreSingle found.now.outcomes.items) }
 {
+    let scene = Scene {
+        script: &start.script,
+        stdin: start.stdin.as_slice(),
+        files: &start.files,
+    };
+    let findings = findings_of(alloc, &scene, found.outcomes.as_slice())?;
     Ok(Explored {
-        text: told(alloc, found)?,
+        text: text_of(alloc, request, found, &findings)?,
         is_whole: found.whole,
         is_single: are_single(found.outcomes.as_slice()),
+        schedules: schedules_of(alloc, request, &findings)?,
     })
 }
 
 // What is found by trying every order.
-fn explore_all<'a>(alloc: Global, start: &Start, states: u64) -> Result<Explored, Fault<'a>>
+fn explore_all<'a>(
+    alloc: Global,
+    start: &Start,
+    request: &ExploreRequest<'a>,
+) -> Result<Explored, Fault<'a>>
     ensures told { IfOk result (λ explored. (all : Bool) → Told start.now.script.profile (lines_of start.now.script.lines) start.now.stdin.items start.now.files all explored.is_whole explored.is_single) }
     ensures fault { IfErr result (λ fault. (fault ≡ Memory) ⊎ (fault ≡ TooLarge)) }
 {
-    let most = usize::try_from(states).unwrap_or(usize::MAX);
+    let most = usize::try_from(request.states).unwrap_or(usize::MAX);
     let stdin = start.stdin.as_slice();
     let found = match explore(alloc, &start.script, stdin, &start.files, most) {
         Ok(found) => found,
         Err(fault) => return Err(of_explore(fault)),
     };
-    let explored = tell(alloc, &found)?;
+    let explored = tell(alloc, start, request, &found)?;
     Ok(explored)
 }
 
-// What is known without an order: of a settled script in which no file is soft, unless the request is thorough.
+// The text or the object of a settled script.
+fn text_of_settled(
+    alloc: Global,
+    request: &ExploreRequest<'_>,
+    value: &Plain<Global>,
+) -> Result<Vec<u8>, AllocError> {
+    if request.is_json {
+        object_of_settled(alloc, value.out.as_slice(), &value.files)
+    } else {
+        told_settled(alloc, value.out.as_slice())
+    }
+}
+
+// What is known without an order: of a settled script in which no file is soft, unless the request is thorough or asks for
+// schedules.
 fn explore_settled<'a>(
     alloc: Global,
     start: &Start,
-    is_thorough: bool,
+    request: &ExploreRequest<'a>,
 ) -> Result<Option<Explored>, Fault<'a>>
-    ensures told { IfOk result (λ known. IfSome known (λ explored. Told start.now.script.profile (lines_of start.now.script.lines) start.now.stdin.items start.now.files is_thorough explored.is_whole explored.is_single)) }
+    ensures told { IfOk result (λ known. IfSome known (λ explored. Told start.now.script.profile (lines_of start.now.script.lines) start.now.stdin.items start.now.files request.now.is_thorough explored.is_whole explored.is_single)) }
     ensures fault { IfErr result (λ fault. fault ≡ Memory) }
 {
-    if is_thorough {
+    if request.witness.is_some() {
+        return Ok(None);
+    }
+    if request.is_thorough {
         return Ok(None);
     }
     let stdin = start.stdin.as_slice();
@@ -97,11 +150,12 @@ fn explore_settled<'a>(
     if !value.settled || !value.soft.as_slice().is_empty() {
         return Ok(None);
     }
-    let text = told_settled(alloc, value.out.as_slice())?;
+    let text = text_of_settled(alloc, request, &value)?;
     Ok(Some(Explored {
         text,
         is_whole: true,
         is_single: true,
+        schedules: Vec::new(alloc),
     }))
 }
 
@@ -109,22 +163,21 @@ fn explore_settled<'a>(
 fn explore_start<'a>(
     alloc: Global,
     start: &Start,
-    states: u64,
-    is_thorough: bool,
+    request: &ExploreRequest<'a>,
 ) -> Result<Explored, Fault<'a>>
-    ensures told { IfOk result (λ explored. Told start.now.script.profile (lines_of start.now.script.lines) start.now.stdin.items start.now.files is_thorough explored.is_whole explored.is_single) }
+    ensures told { IfOk result (λ explored. Told start.now.script.profile (lines_of start.now.script.lines) start.now.stdin.items start.now.files request.now.is_thorough explored.is_whole explored.is_single) }
     ensures fault { IfErr result (λ fault. (fault ≡ Memory) ⊎ (fault ≡ TooLarge)) }
 {
-    if let Some(known) = explore_settled(alloc, start, is_thorough)? {
+    if let Some(known) = explore_settled(alloc, start, request)? {
         return Ok(known);
     }
-    let explored = explore_all(alloc, start, states)?;
+    let explored = explore_all(alloc, start, request)?;
     Ok(explored)
 }
 
 /// `explore`: reads the script, the files in order, and standard input unless that is the script, tries every order of its
 /// processes' turns, and returns what is told of the outcomes (own). A settled script has one, which is told without, unless
-/// the request is thorough or some file is soft. Nothing is written.
+/// the request is thorough or asks for schedules, or some file is soft. Nothing is written.
 ///
 /// A run with more turns than can be counted is the fault `TooLarge`.
 pub fn run_explore<'a, H: Host>(
@@ -136,6 +189,6 @@ pub fn run_explore<'a, H: Host>(
     ensures fault { IfErr result (IsExploreFault (H.input host.old) (H.file host.old) request.now.source.script.now request.now.source.files.now) }
 {
     let start = prepare(alloc, host, &request.source, false)?;
-    let explored = explore_start(alloc, &start, request.states, request.is_thorough)?;
+    let explored = explore_start(alloc, &start, request)?;
     Ok(explored)
 }

@@ -3,6 +3,9 @@
 
 mod escaping;
 mod exploring;
+mod findings;
+mod objects;
+mod replays;
 mod request;
 mod sorting;
 mod telling;

@@ -13,4 +13,8 @@ pub struct ExploreRequest<'a> {
     pub states: u64,
     /// Explore a settled script too, whose one output is known without.
     pub is_thorough: bool,
+    /// The folder for a schedule of each outcome. For these a settled script is explored too.
+    pub witness: Option<&'a str>,
+    /// Print an object of JSON.
+    pub is_json: bool,
 }

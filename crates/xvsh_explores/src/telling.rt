@@ -1,7 +1,9 @@
 //! What is printed of an exploration.
 
-use crate::escaping::add_bytes;
-use crate::sorting::order_of;
+use crate::escaping::{add_bytes, add_escaped};
+use crate::findings::Findings;
+use crate::replays::add_replay;
+use crate::request::ExploreRequest;
 use every_order::{Exploration, Outcome};
 use kernel_model::Full;
 use std::alloc::{AllocError, Global};
@@ -55,7 +57,8 @@ fn add_head(
     text.extend_from_slice(b")\n".as_slice())
 }
 
-fn full_word(full: Full) -> &'static str {
+/// The word for what was full.
+pub(crate) fn full_word(full: Full) -> &'static str {
     match full {
         Full::Procs => "procs",
         Full::Open => "open",
@@ -127,29 +130,57 @@ fn add_outcomes(
     Ok(())
 }
 
-/// The text of an exploration: a line on how many outputs there are and whether every order was tried, and then a line an
-/// outcome, by output, files and diagnostics, with the events of a shortest run to it. Where outcomes differ in more than the
-/// output, each has its files, its diagnostics and what was full below it. Bytes that aren't printable ASCII are shown by their
-/// escapes.
-pub fn told(alloc: Global, found: &Exploration) -> Result<Vec<u8>, AllocError> {
-    let mut text = Vec::new(alloc);
-    let order = order_of(alloc, found.outcomes.as_slice())?;
-    let outputs = outputs_of(found.outcomes.as_slice(), order.as_slice());
-    add_head(alloc, &mut text, found, outputs)?;
-    let shows_more = outputs < found.outcomes.len();
-    add_outcomes(
-        alloc,
-        &mut text,
-        found.outcomes.as_slice(),
-        order.as_slice(),
-        shows_more,
-    )?;
+// A line for each place at which the schedule of the first outcome and that of another part.
+fn add_partings(alloc: Global, text: &mut Vec<u8>, findings: &Findings) -> Result<(), AllocError> {
+    for (i, found) in findings.partings.iter().enumerate() {
+        if let Some(parting) = found {
+            let number = i.saturating_add(1);
+            let event = parting.event;
+            let begin = format!(in alloc; "1 and {number} part at event {event}: ")?;
+            text.extend_from_slice(begin.as_bytes())?;
+            add_escaped(text, parting.one.as_slice())?;
+            text.extend_from_slice(b", or ".as_slice())?;
+            add_escaped(text, parting.other.as_slice())?;
+            text.extend_from_slice(b" first\n".as_slice())?;
+        }
+    }
+    Ok(())
+}
+
+// A line where every process may come to sleep for ever.
+fn add_stuck(alloc: Global, text: &mut Vec<u8>, found: &Exploration) -> Result<(), AllocError> {
     if let Some(pids) = &found.stuck {
         let events = pids.len().saturating_mul(2);
         let line = format!(in alloc;
             "after {events} events of some order every process sleeps for ever\n"
         )?;
         text.extend_from_slice(line.as_bytes())?;
+    }
+    Ok(())
+}
+
+/// The text of an exploration: a line on how many outputs there are and whether every order was tried, and then a line an
+/// outcome, by output, files and diagnostics, with the events of a shortest run to it. Where outcomes differ in more than the
+/// output, each has its files, its diagnostics and what was full below it. Then comes where the schedule of the first outcome
+/// and those of others part, and, where schedules are written, how to replay one. Bytes that aren't printable ASCII are shown by
+/// their escapes.
+pub fn told(
+    alloc: Global,
+    request: &ExploreRequest<'_>,
+    found: &Exploration,
+    findings: &Findings,
+) -> Result<Vec<u8>, AllocError> {
+    let mut text = Vec::new(alloc);
+    let outcomes = found.outcomes.as_slice();
+    let order = findings.order.as_slice();
+    let outputs = outputs_of(outcomes, order);
+    add_head(alloc, &mut text, found, outputs)?;
+    let shows_more = outputs < outcomes.len();
+    add_outcomes(alloc, &mut text, outcomes, order, shows_more)?;
+    add_stuck(alloc, &mut text, found)?;
+    add_partings(alloc, &mut text, findings)?;
+    if !outcomes.is_empty() {
+        add_replay(&mut text, request)?;
     }
     Ok(text)
 }

@@ -10,4 +10,6 @@ pub struct PlainRequest<'a> {
     pub lists_files: bool,
     /// End with status 3 if the script isn't settled.
     pub is_strict: bool,
+    /// Print one object of JSON in place of the text.
+    pub is_json: bool,
 }

@@ -1,5 +1,6 @@
 pub mod Kernels
 pub mod Lists
+pub mod Orders
 pub mod Runs
 pub mod Status
 pub mod Why

@@ -11,13 +11,14 @@ use Rattle.kernel_threads.specs.declared.faults.RunFault.TheVariants.{BadHarts a
 use Rattle.xvsh_read.specs.declared.fault.Fault.TheVariants.{Memory as no_memory}
 use Rattle.xvsh_read.specs.Status.{status_of, fault_words}
 use Rattle.xvsh_runs.specs.declared.fault.ProcessFault.{ProcessFault}
-use Rattle.xvsh_runs.specs.declared.fault.ProcessFault.TheVariants.{Common, BadHarts, BadTurns, Spent, SharedInput, NoEvent, NotRunnable, NotRunning, Unfinished}
+use Rattle.xvsh_runs.specs.declared.fault.ProcessFault.TheVariants.{Common, BadHarts, BadTurns, BadOrder, Spent, SharedInput, NoEvent, NotRunnable, NotRunning, Unfinished}
 
 -- 1: an input that can't be read or is refused; 2: usage; 4: no room
 abbrev pub run_status : ProcessFault → ℕ
 run_status (Common fault) = status_of fault
 run_status BadHarts = 2
 run_status BadTurns = 2
+run_status (BadOrder word) = 2
 run_status Spent = 4
 run_status SharedInput = 2
 run_status (NoEvent path line) = 1
@@ -30,6 +31,7 @@ abbrev pub run_words : ProcessFault → Bytes
 run_words (Common fault) = fault_words fault
 run_words BadHarts = codes "the harts are 1 to 8"
 run_words BadTurns = codes "the turns are 1 to 1000000000"
+run_words (BadOrder word) = word.now ++ codes " is no order: there are low, high, eager, and starve:P with P from 0 to 63"
 run_words Spent = codes "spent"
 run_words SharedInput = codes "the schedule and the script are both standard input"
 run_words (NoEvent path line) = path.now ++ (codes " line " ++ (decimal line ++ codes " is no event"))

@@ -21,6 +21,7 @@ use Rattle.xvsh_read.specs.declared.fault.Fault.TheVariants.{Memory}
 use Rattle.xvsh_read.specs.Path.{Path}
 use Rattle.xvsh_read.specs.Reading.{Agree, told_at, IsReadFault}
 use Rattle.xvsh_read.specs.Starting.{Starts, IsStartFault}
+use Rattle.xvsh_runs.specs.Orders.{IsOrderFault}
 use Rattle.xvsh_runs.specs.declared.fault.ProcessFault.{ProcessFault}
 use Rattle.xvsh_runs.specs.declared.fault.ProcessFault.TheVariants.{Common, BadHarts, BadTurns, Spent, SharedInput, NoEvent, NotRunnable, NotRunning, Unfinished}
 use Rattle.xvsh_runs.specs.declared.replaying.TheConstants.{MAX_SCHEDULE}
@@ -58,8 +59,9 @@ IsBytesFault start path bytes fault =
 -- what follows is by what the host states of standard input and of the files at paths, of the script at a path
 -- under a profile and on the files at these paths
 module _ (input : Option Bytes) (file : Path → Option Bytes) (profile : Profile) (script : Path) (paths : List (Bor Path)) where
-  -- why `run` prints no run: it couldn't begin, or there is none
+  -- why `run` prints no run: a word names no order of turns, it couldn't begin, or there is none
   pub data IsRunFault (harts turns : ℕ) : ProcessFault → Type 0 where
+    bad_order : {fault : ProcessFault} → IsOrderFault fault → IsRunFault harts turns fault
     no_start : {fault : Fault} → IsStartFault input file false script paths fault → IsRunFault harts turns (Common fault)
     no_run : {fault : ProcessFault} (lines : List ScriptLine) (given : List (Name × Bytes)) (stdin : Bytes) → Starts input file false script paths lines given stdin → IsHartsFault (script_kernel profile lines stdin given) harts turns fault → IsRunFault harts turns fault
 

@@ -18,6 +18,8 @@ pub enum ProcessFault<'a> {
     BadHarts,
     /// No turns, or more than 1,000,000,000.
     BadTurns,
+    /// This word names no order of turns.
+    BadOrder(&'a str),
     /// The turns are over before the run is finished, or nothing can run any more.
     Spent,
     /// The schedule and the script would both be read from standard input.
@@ -40,7 +42,10 @@ impl ProcessFault<'_> {
         match self {
             ProcessFault::Common(fault) => fault.status(),
             ProcessFault::Spent => 4,
-            ProcessFault::BadHarts | ProcessFault::BadTurns | ProcessFault::SharedInput => 2,
+            ProcessFault::BadHarts
+            | ProcessFault::BadTurns
+            | ProcessFault::BadOrder(_)
+            | ProcessFault::SharedInput => 2,
             ProcessFault::NoEvent(_, _)
             | ProcessFault::NotRunnable(_, _)
             | ProcessFault::NotRunning(_, _, _)
@@ -60,6 +65,10 @@ impl fmt::Display for ProcessFault<'_> {
             ProcessFault::Common(fault) => write!(f, "{fault}"),
             ProcessFault::BadHarts => f.write_str("the harts are 1 to 8"),
             ProcessFault::BadTurns => f.write_str("the turns are 1 to 1000000000"),
+            ProcessFault::BadOrder(word) => write!(
+                f,
+                "{word} is no order: there are low, high, eager, and starve:P with P from 0 to 63"
+            ),
             ProcessFault::Spent => f.write_str("spent"),
             ProcessFault::SharedInput => {
                 f.write_str("the schedule and the script are both standard input")

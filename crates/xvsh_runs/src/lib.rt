@@ -2,6 +2,7 @@
 #![tactic(auto)]
 
 mod fault;
+mod ordering;
 mod replaying;
 mod report;
 mod request;

@@ -45,11 +45,11 @@ fn fault_of<'a>(events: &[Event], fault: ReplayFault) -> ProcessFault<'a>
 {
     match fault {
         ReplayFault::NotRunnable(number) => match events.get(number - 1) {
-            Some(Event::Dispatch(_, pid)) => ProcessFault::NotRunnable(number, *pid),
+            Some(Event::Dispatch(_, pid)) => ProcessFault::NotRunnable(number, *pid as usize),
             _ => unreachable!(),
         },
         ReplayFault::NotRunning(number) => match events.get(number - 1) {
-            Some(Event::Trap(hart, pid)) => ProcessFault::NotRunning(number, *pid, *hart),
+            Some(Event::Trap(hart, pid)) => ProcessFault::NotRunning(number, *pid as usize, *hart),
             _ => unreachable!(),
         },
         ReplayFault::Unfinished => ProcessFault::Unfinished(events.len()),

@@ -11,6 +11,10 @@ pub struct RunRequest<'a> {
     pub harts: u8,
     /// The most events that it may take, 1 to 1,000,000,000.
     pub turns: u64,
+    /// The word of the order in which one hart gives the turns; more than one find their own.
+    pub order: Option<&'a str>,
+    /// What that order is drawn by, where no word names one.
+    pub seed: Option<u64>,
     pub lists: Lists,
     /// End with status 3 if the script isn't settled.
     pub is_strict: bool,

@@ -8,33 +8,36 @@ ghost use Rattle.xvsh_runs.specs.Runs.{DidRun, DidRunFrom};
 ghost use Rattle.xvsh_runs.specs.Why.{IsHartsFault, IsRunRefusal};
 
 use crate::fault::ProcessFault;
+use crate::ordering::order_of;
 use crate::report::{Run, run_of};
 use crate::request::RunRequest;
 use hart_run::{OpenGate, run_harts};
-use kernel_core::{Report, run_one};
+use kernel_core::{Order, Report, run_in_order};
 use std::alloc::Global;
 use std::sync::Wait;
 use std::thread::Threads;
 use std::time::Clock;
 use xvsh_read::{Host, Start, prepare};
 
-// Runs what was read on hart 0, on this thread alone, in at most so many turns.
+// Runs what was read on hart 0, on this thread alone, in at most so many turns, in this order.
 fn run_alone<'a>(
     alloc: Global,
     start: &Start,
     turns: u64,
+    order: Order,
 ) -> Result<Report<Global>, ProcessFault<'a>>
     ensures run { IfOk result (IsRunFrom (kernel_of start.now)) }
     ensures harts { IfOk result (λ report. AreOfHarts 1 report.schedule) }
     ensures turns { IfOk result (λ report. length report.schedule ≤ turns) }
     ensures fault { IfErr result (IsHartsFault (kernel_of start.now) 1 turns) }
 {
-    let report = run_one(
+    let report = run_in_order(
         alloc,
         &start.script,
         start.stdin.as_slice(),
         &start.files,
         turns,
+        order,
     )?;
     Ok(report)
 }
@@ -70,38 +73,39 @@ fn run_started<'a, R: Threads + Wait + Clock + Sync>(
     rt: &R,
     alloc: Global,
     start: &Start,
-    harts: u8,
-    turns: u64,
+    request: &RunRequest<'a>,
+    order: Order,
 ) -> Result<Report<Global>, ProcessFault<'a>>
     ensures run { IfOk result (IsRunFrom (kernel_of start.now)) }
-    ensures harts { IfOk result (λ report. AreOfHarts harts report.schedule) }
-    ensures turns { IfOk result (λ report. length report.schedule ≤ turns) }
-    ensures fault { IfErr result (IsHartsFault (kernel_of start.now) harts turns) }
+    ensures harts { IfOk result (λ report. AreOfHarts request.now.harts report.schedule) }
+    ensures turns { IfOk result (λ report. length report.schedule ≤ request.now.turns) }
+    ensures fault { IfErr result (IsHartsFault (kernel_of start.now) request.now.harts request.now.turns) }
 {
-    if harts == 1 {
-        run_alone(alloc, start, turns)
+    if request.harts == 1 {
+        run_alone(alloc, start, request.turns, order)
     } else {
-        run_on_threads(rt, alloc, start, harts, turns)
+        run_on_threads(rt, alloc, start, request.harts, request.turns)
     }
 }
 
-// Runs what was read by its processes as the request says, and returns what it prints.
+// Runs what was read by its processes as the request says, in this order, and returns what it prints.
 pub(crate) fn run_prepared<'a, R: Threads + Wait + Clock + Sync>(
     rt: &R,
     alloc: Global,
     start: Start,
     request: &RunRequest<'a>,
+    order: Order,
 ) -> Result<Run, ProcessFault<'a>>
     ensures ran { IfOk result (λ run. DidRunFrom (kernel_of start) request.now run.full (out_text run.output) run.output.err.items) }
     ensures fault { IfErr result (IsHartsFault (kernel_of start) request.now.harts request.now.turns) }
 {
-    let report = run_started(rt, alloc, &start, request.harts, request.turns)?;
+    let report = run_started(rt, alloc, &start, request, order)?;
     let run = run_of(alloc, start, request.harts, report, request.lists)?;
     Ok(run)
 }
 
 /// `run`: reads the script, the files in order, and standard input unless that is the script, and runs the script by its
-/// processes on so many harts in at most so many turns. Returns its output with the lists that are requested, its diagnostics,
+/// processes on so many harts in at most so many turns, on one hart in the order that is asked for. Returns its output with the lists that are requested, its diagnostics,
 /// and what was full, if something was. Nothing is written.
 pub fn run_processes<'a, R: Threads + Wait + Clock + Sync, H: Host>(
     rt: &R,
@@ -112,6 +116,7 @@ pub fn run_processes<'a, R: Threads + Wait + Clock + Sync, H: Host>(
     ensures ran { IfOk result (λ run. DidRun (H.input host.old) (H.file host.old) request.now run.full (out_text run.output) run.output.err.items) }
     ensures fault { IfErr result (IsRunRefusal (H.input host.old) (H.file host.old) request.now) }
 {
+    let order = order_of(request)?;
     let start = prepare(alloc, host, &request.source, false)?;
-    run_prepared(rt, alloc, start, request)
+    run_prepared(rt, alloc, start, request, order)
 }

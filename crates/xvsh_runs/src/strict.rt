@@ -8,6 +8,7 @@ ghost use Rattle.xvsh_read.specs.Writing.{out_text};
 ghost use Rattle.xvsh_runs.specs.Strict.{DidStrict, IsStrictRefusal};
 
 use crate::fault::ProcessFault;
+use crate::ordering::order_of;
 use crate::report::Run;
 use crate::request::RunRequest;
 use crate::running::run_prepared;
@@ -51,8 +52,9 @@ pub fn run_strict<'a, R: Threads + Wait + Clock + Sync, H: Host>(
     ensures ran { IfOk result (λ strict. DidStrict (H.input host.old) (H.file host.old) request.now strict.run.full strict.is_settled (out_text strict.run.output) strict.run.output.err.items) }
     ensures fault { IfErr result (IsStrictRefusal (H.input host.old) (H.file host.old) request.now) }
 {
+    let order = order_of(request)?;
     let start = prepare(alloc, host, &request.source, false)?;
     let is_settled = is_settled(alloc, &start)?;
-    let run = run_prepared(rt, alloc, start, request)?;
+    let run = run_prepared(rt, alloc, start, request, order)?;
     Ok(StrictRun { run, is_settled })
 }

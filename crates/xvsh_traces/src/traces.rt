@@ -1,4 +1,4 @@
-//! Where traces are written.
+//! Where traces and schedules are written.
 
 use crate::writing::write_run;
 use kernel_model::Event;
@@ -39,8 +39,13 @@ impl From<Unwritten> for TraceFault {
     }
 }
 
-/// Where traces are written: the system, or a test's memory.
+/// Where traces and schedules are written: the system, or a test's memory.
 pub trait Traces {
+    /// Makes the folder at the path, and those that it is in, unless they are there.
+    ///
+    /// `Unwritten` where it can't be made, and for an empty path.
+    fn make_folder(&mut self, path: &str) -> Result<(), Unwritten>;
+
     /// Begins a trace at the path, which is empty then; for `-` on standard output.
     ///
     /// `Unwritten` where it can't be made.

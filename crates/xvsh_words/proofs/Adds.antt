@@ -1,7 +1,7 @@
 -- What arguments and commands make of a command to which they are added.
 use Rattle.std.proofs.Common.{◌≡◌, Bool, true, false, ◌&&◌, ◌||◌, not, length, ne_eqb, arith, List, [], ◌∷◌, ◌++◌, Result, Ok, Err, refl, sym, ◌∙◌, ap, subst}
 use Rattle.std.specs.Prelude.{IfOk, map}
-use Rattle.clap.specs.Adds.{AddsRequirements}
+use Rattle.clap.specs.Adds.{AddsConflicts, AddsRequirements}
 use Rattle.clap.specs.Built.{AddsArg, AddsInTurn, AddsSubcommand}
 use Rattle.clap.specs.Simple.{App, Shape, app_of, new_app, with_rule, with_subcommand}
 use Rattle.clap.specs.Walk.{Rule, Text, is_empty, rule_of}
@@ -49,6 +49,19 @@ needing_rule old new needs adds =
     ap rule_of adds.0
     ∙ ap (λ b. record (rule_of old) { is_free = not old.exclusive && (is_empty old.conflicts.items && (b && (is_empty old.r_ifs.items && (is_empty old.r_ifs_all.items && (is_empty old.r_unless.items && is_empty old.r_unless_all.items))))) }) some
     ∙ ap (λ b. record (rule_of old) { is_free = b }) (never old.exclusive (is_empty old.conflicts.items) (is_empty old.r_ifs.items && (is_empty old.r_ifs_all.items && (is_empty old.r_unless.items && is_empty old.r_unless_all.items))))
+
+unfree : (exclusive later : Bool) → (not exclusive && (false && later)) ≡ false
+unfree true later = refl
+unfree false later = refl
+
+-- an argument that can't be beside another has a rule on another
+pub apart_rule : (old new : Arg) (other : _) → AddsConflicts old new (other ∷ []) → rule_of new ≡ record (rule_of old) { is_free = false }
+apart_rule old new other adds =
+    let some : is_empty new.conflicts.items ≡ false = ap is_empty adds.1 ∙ some_last old.conflicts.items other in
+    let later = is_empty old.needs.items && (is_empty old.r_ifs.items && (is_empty old.r_ifs_all.items && (is_empty old.r_unless.items && is_empty old.r_unless_all.items))) in
+    ap rule_of adds.0
+    ∙ ap (λ b. record (rule_of old) { is_free = not old.exclusive && (b && later) }) some
+    ∙ ap (λ b. record (rule_of old) { is_free = b }) (unfree old.exclusive later)
 
 pub added : (shape : Shape) (app : App) (old sub new : Command) → AddsSubcommand old sub new → IsCommand shape sub → app_of old ≡ app → app_of new ≡ with_subcommand app shape
 added shape app old sub new adds is known =

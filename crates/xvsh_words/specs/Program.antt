@@ -15,7 +15,7 @@ flag_rule name = record (new_rule name) { long = Some name; action = Some SetTru
 abbrev pub number_rule : List ℕ → ℕ → Rule
 number_rule name most = record (new_rule name) { long = Some name; value_names = 1; parser = Some (Unsigned 1 most); action = Some Set }
 
--- an option with a path
+-- an option with a path, of a file or of a folder
 abbrev pub path_rule : List ℕ → Rule
 path_rule name = record (new_rule name) { long = Some name; value_names = 1; action = Some Set }
 
@@ -25,10 +25,18 @@ word_rule name = record (new_rule name) { value_names = 1; required = true; acti
 abbrev pub files_rule : Rule
 files_rule = record (new_rule (codes "paths")) { value_names = 1; range = Some (record { start_inclusive = 0; end_inclusive = usize_max }); action = Some Append }
 
+-- the most that a seed may be
+abbrev pub most_seed : ℕ
+most_seed = 18446744073709551615
+
+-- an argument that can't be beside some others
+abbrev pub apart : Rule → Rule
+apart rule = record rule { is_free = false }
+
 -- the commands; `run` by the most harts and the most turns that it may have
 abbrev pub run_shape : ℕ → ℕ → Shape
 run_shape harts turns = record (new_shape (codes "run")) {
-  rules = number_rule (codes "harts") harts ∷ number_rule (codes "turns") turns ∷ flag_rule (codes "schedule") ∷ path_rule (codes "trace") ∷ flag_rule (codes "strict") ∷ flag_rule (codes "append") ∷ flag_rule (codes "files") ∷ word_rule (codes "script") ∷ files_rule ∷ [];
+  rules = number_rule (codes "harts") harts ∷ number_rule (codes "turns") turns ∷ apart (number_rule (codes "seed") most_seed) ∷ apart (path_rule (codes "order")) ∷ flag_rule (codes "schedule") ∷ path_rule (codes "trace") ∷ flag_rule (codes "strict") ∷ flag_rule (codes "append") ∷ flag_rule (codes "files") ∷ word_rule (codes "script") ∷ files_rule ∷ [];
 }
 
 abbrev pub replay_shape : Shape
@@ -38,7 +46,7 @@ replay_shape = record (new_shape (codes "replay")) {
 
 abbrev pub plain_shape : Shape
 plain_shape = record (new_shape (codes "plain")) {
-  rules = flag_rule (codes "strict") ∷ flag_rule (codes "append") ∷ flag_rule (codes "files") ∷ word_rule (codes "script") ∷ files_rule ∷ [];
+  rules = flag_rule (codes "strict") ∷ flag_rule (codes "append") ∷ flag_rule (codes "files") ∷ flag_rule (codes "json") ∷ word_rule (codes "script") ∷ files_rule ∷ [];
 }
 
 -- files only beside `--turns`
@@ -50,7 +58,7 @@ check_shape = record (new_shape (codes "check")) {
 -- `explore` by the most states that it may keep
 abbrev pub explore_shape : ℕ → Shape
 explore_shape states = record (new_shape (codes "explore")) {
-  rules = number_rule (codes "states") states ∷ flag_rule (codes "all") ∷ flag_rule (codes "append") ∷ word_rule (codes "script") ∷ files_rule ∷ [];
+  rules = number_rule (codes "states") states ∷ flag_rule (codes "all") ∷ path_rule (codes "witness") ∷ flag_rule (codes "json") ∷ flag_rule (codes "append") ∷ word_rule (codes "script") ∷ files_rule ∷ [];
 }
 
 abbrev pub explain_shape : Shape

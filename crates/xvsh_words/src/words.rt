@@ -48,6 +48,10 @@ After `plain` one line goes to standard error: `settled` where the script prints
 order its processes run, and else `not settled`. `--files` marks as `soft` a file whose bytes may
 depend on that order.
 
+`plain --json` writes one object of JSON instead, with the output, all files, whether the script is settled,
+and why it isn't: the lines with a `&` or a clash, the files that cut pipes write and that are named
+again, and the lines that use an input of which an unknown part is left.
+
 `xvsh check SCRIPT` writes, for the script's line N: `N fault K NAME at P` where it is no command,
 `N background` where it has a `&`, and `N clash KIND NAME` where two of its commands may come upon
 each other at a file: at the two sides of a pipe (PipeSides), or inside a redirection (Enclosing).
@@ -59,7 +63,8 @@ command that is no program, a name that no file can have, a `>>` that writes ove
 with its line and marks under the place.
 
 `xvsh explore SCRIPT [FILE]..` tries every order in which the script's processes can take their turns,
-and writes a line for each output that the script can have, with the events of a shortest run to it.
+and writes a line for each output that the script can have, with the events of a shortest run to it,
+and then where two of these runs part. With `--witness DIR` it writes the schedule of each run to DIR.
 
 Status: 0 done; 1 something can't be read, is refused, or can't be written, or is no schedule of a
 whole run; 2 usage; 3 `check` told of a clash or a `&`, `explain` told anything, `explore` found more
@@ -91,14 +96,19 @@ fn number_option<'a>(alloc: Global, name: &'static str, help: &'static str, most
         .action(ArgAction::Set)
 }
 
-// An option that takes a path.
-fn path_option<'a>(alloc: Global, name: &'static str, help: &'static str) -> Arg<'a>
+// An option that takes a path, or a word that is shown so.
+fn path_option<'a>(
+    alloc: Global,
+    name: &'static str,
+    shown: &'static str,
+    help: &'static str,
+) -> Arg<'a>
     ensures rule { rule_of result ≡ path_rule name.now }
     ensures local { result.global ≡ false }
 {
     Arg::new(alloc, name)
         .long(name)
-        .value_name("FILE")
+        .value_name(shown)
         .help(help)
         .action(ArgAction::Set)
 }
@@ -147,6 +157,9 @@ const RUN_ABOUT: &str = "Runs a script by its processes, as xv6 does, and tells 
 
 const STRICT_HELP: &str = "End with status 3 if the script isn't settled";
 
+const JSON_HELP: &str =
+    "Write one object of JSON in place of the text, and nothing to standard error";
+
 const APPEND_HELP: &str =
     "`>>` writes at a file's end; without it, from its beginning, as xv6 does";
 
@@ -154,6 +167,11 @@ const HARTS_HELP: &str =
     "On so many harts (hardware threads, each a thread here), 1 to 8; 4 without it";
 
 const TURNS_HELP: &str = "In at most so many events, 1 to 1000000000; 10000000 without it";
+
+const SEED_HELP: &str = "On one hart, each turn by a process that is drawn; N stands for one order";
+
+const ORDER_HELP: &str =
+    "On one hart, each turn by the lowest process (low), the highest (high), the same as long as it can (eager), or any but P (starve:P)";
 
 const LISTED_HELP: &str = "Write a line an event last: `D HART PROCESS` or `T HART PROCESS`";
 
@@ -167,11 +185,16 @@ fn run_command<'a>(
 ) -> Result<Command<'a>, AllocError>
     ensures { IfOk result (IsCommand (run_shape most_harts most_turns)) }
 {
+    let seed = number_option(alloc, "seed", SEED_HELP, u64::MAX).conflicts_with("harts")?;
+    let alone = path_option(alloc, "order", "ORDER", ORDER_HELP).conflicts_with("harts")?;
+    let order = alone.conflicts_with("seed")?;
     let args = vec![in alloc;
         number_option(alloc, "harts", HARTS_HELP, most_harts),
         number_option(alloc, "turns", TURNS_HELP, most_turns),
+        seed,
+        order,
         flag(alloc, "schedule", LISTED_HELP),
-        path_option(alloc, "trace", TRACE_HELP),
+        path_option(alloc, "trace", "FILE", TRACE_HELP),
         flag(alloc, "strict", STRICT_HELP),
         flag(alloc, "append", APPEND_HELP),
         flag(alloc, "files", RUN_FILES_HELP),
@@ -193,7 +216,7 @@ fn replay_command<'a>(alloc: Global) -> Result<Command<'a>, AllocError>
     ensures { IfOk result (IsCommand replay_shape) }
 {
     let args = vec![in alloc;
-        path_option(alloc, "trace", TRACE_HELP),
+        path_option(alloc, "trace", "FILE", TRACE_HELP),
         flag(alloc, "append", APPEND_HELP),
         flag(alloc, "files", RUN_FILES_HELP),
         needed_word(alloc, "events", "SCHEDULE", SCHEDULE_HELP),
@@ -215,6 +238,7 @@ fn plain_command<'a>(alloc: Global) -> Result<Command<'a>, AllocError>
         flag(alloc, "strict", STRICT_HELP),
         flag(alloc, "append", APPEND_HELP),
         flag(alloc, "files", PLAIN_FILES_HELP),
+        flag(alloc, "json", JSON_HELP),
         script_word(alloc, SCRIPT_HELP),
         file_words(alloc),
     ]?;
@@ -257,12 +281,19 @@ const STATES_HELP: &str = "Keep at most so many states, 1 to 10000000; 200000 wi
 
 const ALL_HELP: &str = "Try every order of a settled script too";
 
+const WITNESS_HELP: &str =
+    "Write a schedule for each outcome to DIR/1.schedule and so on, for `xvsh replay`";
+
+const EXPLORED_JSON_HELP: &str = "Write one object of JSON";
+
 fn explore_command<'a>(alloc: Global, most_states: u64) -> Result<Command<'a>, AllocError>
     ensures { IfOk result (IsCommand (explore_shape most_states)) }
 {
     let args = vec![in alloc;
         number_option(alloc, "states", STATES_HELP, most_states),
         flag(alloc, "all", ALL_HELP),
+        path_option(alloc, "witness", "DIR", WITNESS_HELP),
+        flag(alloc, "json", EXPLORED_JSON_HELP),
         flag(alloc, "append", APPEND_HELP),
         script_word(alloc, SCRIPT_HELP),
         file_words(alloc),

@@ -5,11 +5,11 @@ use Rattle.kernel_runs.proofs.run.take_turns.Goals as goal
 
 pub loop-turn-preserved : goal.loop-turn-preserved
 loop-turn-preserved g c =
-    let steps : Steps g.M.Machine.call_of g.M.Machine.next_of c.loop-turn.kernel 0 c.step.new.self = search rules in
+    let steps : Steps g.M.Machine.call_of g.M.Machine.next_of c.loop-turn.kernel 0 c.take_turn.new.kernel = search rules in
     let call = g.M.Machine.call_of in
     let next = g.M.Machine.next_of in (
-      turn_boot call next c.loop-turn.kernel c.step.new.self 0 steps ∙ c.loop-turn.invariant.0,
+      turn_boot call next c.loop-turn.kernel c.take_turn.new.kernel 0 steps ∙ c.loop-turn.invariant.0,
       search rules,
-      turn_hart call next c.loop-turn.kernel c.step.new.self 0 steps c.loop-turn.invariant.2,
-      omega (arith, turn_length call next c.loop-turn.kernel c.step.new.self 0 steps, c.loop-turn.invariant.3),
+      turn_hart call next c.loop-turn.kernel c.take_turn.new.kernel 0 steps c.loop-turn.invariant.2,
+      omega (arith, turn_length call next c.loop-turn.kernel c.take_turn.new.kernel 0 steps, c.loop-turn.invariant.3),
     )

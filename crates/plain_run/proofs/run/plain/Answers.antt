@@ -1,86 +1,25 @@
--- The soft names are those of the run, in order.
-use Rattle.std.proofs.Common.{◌≡◌, ◌↔◌, IsTrue, false, subst, ap, sym, ◌∙◌, ◌++◌, rules, List, ℕ}
-use Rattle.mem_files.specs.Files.{FileMap, files}
-use Rattle.prog_parts.specs.NameSets.{among}
-use Rattle.script_load.specs.Line.{lines_of}
-use Rattle.meaning_model.specs.Meaning.{script_meaning}
-use Rattle.plain_progs.specs.Gives.{Gives}
-use Rattle.plain_run.specs.Tells.{Tells}
-use Rattle.plain_run.proofs.NameSets.{contained, contains}
-use Rattle.conflict_check.specs.Clear.{has_back, IsClear}
+-- The verdict is that of the lines, and of their reasons.
+use Rattle.std.proofs.Common.{◌≡◌, ◌↔◌, IsTrue, false, sym, ap, subst, ◌∙◌}
+use Rattle.mem_files.specs.Files.{files}
 use Rattle.prog_parts.specs.NameSets.{no_names}
+use Rattle.prog_parts.specs.Program.{is_empty}
+use Rattle.conflict_check.specs.Clear.{has_back, IsClear}
+use Rattle.script_load.specs.Line.{lines_of}
 use Rattle.meaning_model.specs.Meaning.{script_tree}
 use Rattle.meaning_model.specs.Settled.{IsSettled}
-use Rattle.plain_run.proofs.SettledLines.{clear_and_settled, not_clear}
-use Rattle.plain_run.proofs.run.plain.Goals.{then-are_clear, else-are_clear}
+use Rattle.plain_run.proofs.Telling.{clear_then, unsettled}
+use Rattle.plain_run.proofs.run.plain.Goals.{then-is_none, else-is_none}
 use Rattle.plain_run.proofs.run.plain.Goals as goal
-
-pub returns-clause-out : goal.returns-clause-out
-returns-clause-out g c =
-    let P = c.args.script.now.profile in
-    let lines = lines_of c.args.script.now.lines in
-    let stdin = c.args.stdin.now in
-    let F = files c.args.given.now in
-    let same : files c.in-Ok.store ≡ F = search rules in
-    let old = c.new-out.result.items in
-    let new = c.run_lines.new.out.items in
-    let rest = c.in_ok-ran.ran.rest.now in
-    let H = files c.run_lines.new.store in
-    let gives = subst (λ G. Gives (script_meaning P lines stdin G) old new rest H) same (subst (λ ls. Gives (script_meaning P ls stdin (files c.in-Ok.store)) old new rest H) c.as_slice.ensures c.in_ok-ran.ensures.gives) in
-    c.from_vec.ensures ∙ gives.out ∙ ap (λ before. before ++ (script_meaning P lines stdin F).out) c.new-out.ensures.items
-
-pub returns-clause-rest : goal.returns-clause-rest
-returns-clause-rest g c =
-    let P = c.args.script.now.profile in
-    let lines = lines_of c.args.script.now.lines in
-    let stdin = c.args.stdin.now in
-    let F = files c.args.given.now in
-    let same : files c.in-Ok.store ≡ F = search rules in
-    let old = c.new-out.result.items in
-    let new = c.run_lines.new.out.items in
-    let rest = c.in_ok-ran.ran.rest.now in
-    let H = files c.run_lines.new.store in
-    let gives = subst (λ G. Gives (script_meaning P lines stdin G) old new rest H) same (subst (λ ls. Gives (script_meaning P ls stdin (files c.in-Ok.store)) old new rest H) c.as_slice.ensures c.in_ok-ran.ensures.gives) in
-    c.in_ok-copy_of.ensures ∙ gives.rest
-
-pub returns-clause-files : goal.returns-clause-files
-returns-clause-files g c =
-    let P = c.args.script.now.profile in
-    let lines = lines_of c.args.script.now.lines in
-    let stdin = c.args.stdin.now in
-    let F = files c.args.given.now in
-    let same : files c.in-Ok.store ≡ F = search rules in
-    let old = c.new-out.result.items in
-    let new = c.run_lines.new.out.items in
-    let rest = c.in_ok-ran.ran.rest.now in
-    let H = files c.run_lines.new.store in
-    let gives = subst (λ G. Gives (script_meaning P lines stdin G) old new rest H) same (subst (λ ls. Gives (script_meaning P ls stdin (files c.in-Ok.store)) old new rest H) c.as_slice.ensures c.in_ok-ran.ensures.gives) in
-    λ name. ap (λ store. files store name) c.store.view_is ∙ ap (λ (G : FileMap). G name) gives.files
-
-pub returns-clause-soft : goal.returns-clause-soft
-returns-clause-soft g c =
-    let value = script_meaning c.args.script.now.profile (lines_of c.args.script.now.lines) c.args.stdin.now (files c.args.given.now) in
-    let same_files : files c.in-Ok.store ≡ files c.args.given.now = search rules in
-    let told = subst (λ G. Tells (script_meaning c.args.script.now.profile (lines_of c.args.script.now.lines) c.args.stdin.now G) c.in_ok-ran.ran.verdict.is_loose c.in_ok-ran.ran.verdict.soft.items) same_files
-    (subst (λ ls. Tells (script_meaning c.args.script.now.profile ls c.args.stdin.now (files c.in-Ok.store)) c.in_ok-ran.ran.verdict.is_loose c.in_ok-ran.ran.verdict.soft.items) c.as_slice.ensures c.in_ok-ran.ensures.tells)
-    in
-    let same : (name : List ℕ) → among c.from_vec-2.result name ≡ value.soft name =
-    λ name. ap (λ ns. among ns name) c.from_vec-2.ensures ∙ c.in_ok-in_order.ensures.names name ∙ ap (λ ns. among ns name) c.as_slice-3.ensures.value ∙ told.soft name
-    in
-    λ name. (λ has. sym (same name) ∙ contained c.from_vec-2.result name has, λ is. contains c.from_vec-2.result name (same name ∙ is))
 
 pub returns-clause-settled : goal.returns-clause-settled
 returns-clause-settled g c =
-    let lines = lines_of c.args.script.now.lines in
-    let F = files c.args.given.now in
-    let same : files c.in-Ok.store ≡ F = search rules in
-    let clear = subst (λ ls. IsTrue c.are_clear.result ↔ ((has_back (script_tree ls) ≡ false) × IsClear (script_tree ls))) c.as_slice-2.ensures c.are_clear.ensures in
-    let inner = subst (λ G. IsTrue c.in_ok-ran.ran.verdict.is_settled ↔ IsSettled c.args.script.now.profile (script_tree lines) no_names c.args.stdin.now G) same
-    (subst (λ ls. IsTrue c.in_ok-ran.ran.verdict.is_settled ↔ IsSettled c.args.script.now.profile (script_tree ls) no_names c.args.stdin.now (files c.in-Ok.store)) c.as_slice.ensures c.in_ok-ran.ensures.settled) in
-    let B = has_back (script_tree lines) ≡ false in
-    let C = IsClear (script_tree lines) in
-    let S = IsSettled c.args.script.now.profile (script_tree lines) no_names c.args.stdin.now F in
-    elim c.if-are_clear.branch [
-      | then-are_clear w ↦ clear_and_settled B C S c.if-are_clear.settled c.are_clear.result c.in_ok-ran.ran.verdict.is_settled w.if-are_clear.true w.settled-is clear inner
-      | else-are_clear w ↦ not_clear B C S c.if-are_clear.settled c.are_clear.result w.if-are_clear.false (w.settled-is ∙ w.if-are_clear.false) clear
+    let T = script_tree (lines_of c.args.script.now.lines) in
+    let B = has_back T ≡ false in
+    let C = IsClear T in
+    let S = IsSettled c.args.script.now.profile T no_names c.args.stdin.now (files c.args.given.now) in
+    let none : c.is_none.result ≡ is_empty c.in_ok-outcome.outcome.reasons.items = c.is_none.ensures ∙ ap is_empty c.as_slice.ensures.value in
+    let inner = subst (λ b. IsTrue b ↔ S) (sym none) c.in_ok-outcome.ensures.settled in
+    elim c.if-is_none.branch [
+      | then-is_none w ↦ clear_then B C S c.if-is_none.settled w.are_clear-settled.result c.is_none.result w.if-is_none.true w.settled-is (subst (λ ls. IsTrue w.are_clear-settled.result ↔ ((has_back (script_tree ls) ≡ false) × IsClear (script_tree ls))) w.as_slice-then-is_none.ensures w.are_clear-settled.ensures) inner
+      | else-is_none w ↦ unsettled B C S c.if-is_none.settled c.is_none.result w.if-is_none.false (w.settled-is ∙ w.if-is_none.false) inner
     ]

@@ -1,17 +1,24 @@
 use Rattle.std.proofs.Common.{drop, take}
-use Rattle.std.specs.Prelude.{map, IfSome}
+use Rattle.std.specs.Prelude.{All, map, IfSome}
 use Rattle.mem_files.specs.Files.{files}
+use Rattle.prog_parts.specs.Program.{is_empty}
 use Rattle.script_load.specs.Line.{line_of}
 use Rattle.plain_run.proofs.Lines.{IsRunTo, IsToldTo}
+use Rattle.plain_run.specs.Reasons.{IsReason}
 use Rattle.plain_run.specs.Spans.{all_names, AreSpans}
+use Rattle.plain_run.specs.Told.{is_some}
 use Rattle.plain_run.proofs.SettledLines.{IsSettledTo}
+use Rattle.plain_run.proofs.Telling.{AreLoose, IsBefore}
 use Rattle.plain_run.proofs.run.run_lines.Given as goal
 
--- the lines that are left complete what was done and its verdict
+-- the lines that are left complete what was done and its verdict, and the reasons so far are reasons
 abbrev pub invariant-loop-i : goal.invariant-loop-i
 invariant-loop-i g l = record {
   runs : IsRunTo l.profile (map line_of l.lines) l.fn.input (files l.fn.store) l.fn.out.items (map line_of (drop l.i l.lines)) l.rest (files l.store) l.out.items;
-  tells : IsToldTo l.profile (map line_of l.lines) l.fn.input (files l.fn.store) (map line_of (drop l.i l.lines)) l.rest (files l.store) l.verdict.is_loose l.verdict.soft.items;
-  told : IfSome l.spans (AreSpans l.lines);
-  settled : IsSettledTo l.profile (map line_of l.lines) l.fn.input (files l.fn.store) (all_names (take l.i l.lines)) (map line_of (drop l.i l.lines)) l.rest (files l.store) l.verdict.is_settled l.verdict.is_loose;
+  tells : IsToldTo l.profile (map line_of l.lines) l.fn.input (files l.fn.store) (map line_of (drop l.i l.lines)) l.rest (files l.store) (is_some l.told.loose) l.told.soft.items;
+  spans : IfSome l.spans (AreSpans l.lines);
+  settled : IsSettledTo l.profile (map line_of l.lines) l.fn.input (files l.fn.store) (all_names (take l.i l.lines)) (map line_of (drop l.i l.lines)) l.rest (files l.store) (is_empty l.told.reasons.items) (is_some l.told.loose);
+  before : IsBefore l.profile (map line_of l.lines) l.fn.input (files l.fn.store) l.i l.rest (files l.store);
+  loose : AreLoose l.profile (map line_of l.lines) l.fn.input (files l.fn.store) l.i l.told.loose;
+  each : All (IsReason l.profile (map line_of l.lines) l.fn.input (files l.fn.store)) l.told.reasons.items;
 }

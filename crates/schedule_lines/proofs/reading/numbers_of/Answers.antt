@@ -19,10 +19,16 @@ returns-in_err-hart-2-clause-none c =
 
 pub returns-in_err-pid-clause-none : goal.returns-in_err-pid-clause-none
 returns-in_err-pid-clause-none c =
-    rw c.from_residual-in_err-pid.ensures (λ hart pid small few is. c.in_err-pid.ensures.none pid few (cut c.args.text.now c.in_ok-hart.hart.now c.in_ok-hart.pid.now hart pid small c.in_ok-hart.ensures.word c.in_ok-hart.ensures.some is).1)
+    rw c.from_residual-in_err-pid.ensures (λ hart pid small few is. c.in_err-pid.ensures.none pid (omega (arith, few)) (cut c.args.text.now c.in_ok-hart.hart.now c.in_ok-hart.pid.now hart pid small c.in_ok-hart.ensures.word c.in_ok-hart.ensures.some is).1)
 
-pub returns-else-hart-lt256-clause-none : goal.returns-else-hart-lt256-clause-none
-returns-else-hart-lt256-clause-none c hart pid small few is =
+pub returns-then-hart-gt255-clause-none : goal.returns-then-hart-gt255-clause-none
+returns-then-hart-gt255-clause-none c hart pid small few is =
     let first = (cut c.args.text.now c.in_ok-hart.hart.now c.in_ok-hart.pid.now hart pid small c.in_ok-hart.ensures.word c.in_ok-hart.ensures.some is).0 in
     let own : c.in_ok-hart-2.hart ≡ hart = decimal_injective c.in_ok-hart-2.hart hart (omega arith) (omega arith) (sym c.in_ok-hart-2.ensures.some ∙ first) in
-    omega (arith, own, c.if-hart-lt256.false)
+    omega (arith, own, small, c.if-hart-gt255.true)
+
+pub returns-then-pid-gt4294967295-clause-none : goal.returns-then-pid-gt4294967295-clause-none
+returns-then-pid-gt4294967295-clause-none c hart pid small few is =
+    let second = (cut c.args.text.now c.in_ok-hart.hart.now c.in_ok-hart.pid.now hart pid small c.in_ok-hart.ensures.word c.in_ok-hart.ensures.some is).1 in
+    let own : c.in_ok-pid.pid ≡ pid = decimal_injective c.in_ok-pid.pid pid (omega arith) (omega (arith, few)) (sym c.in_ok-pid.ensures.some ∙ second) in
+    omega (arith, own, few, c.if-pid-gt4294967295.true)

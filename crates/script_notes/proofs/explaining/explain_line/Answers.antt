@@ -4,7 +4,8 @@ use Rattle.sh_tree.specs.Tree.{tree_of}
 use Rattle.script_load.specs.Line.{line_of}
 use Rattle.script_load.specs.Script.{IsLineOf}
 use Rattle.script_notes.specs.Explained.{HasNotes}
-use Rattle.script_notes.specs.Letters.{byte_notes, letter_notes}
+use Rattle.script_notes.specs.Habits.{token_notes}
+use Rattle.script_notes.specs.Letters.{byte_notes}
 use Rattle.script_notes.specs.Commands.{command_notes}
 use Rattle.script_notes.specs.Whole.{cd_note, fault_notes}
 use Rattle.script_notes.proofs.Adding.{added_two, on_ok}
@@ -35,15 +36,15 @@ returns-in-Bad c =
     let text = c.args.text.now in
     let tokens = c.as_slice-tokens.result.now in
     let list = subst (IsTokenList text) (sym c.as_slice-tokens.ensures.value) c.in_ok-all.ensures in
-    let last = fault_notes c.in-Bad.fault in
-    let later = letter_notes text tokens ++ last in
+    let last = fault_notes text c.in-Bad.fault in
+    let later = token_notes text tokens ++ last in
     let notes = byte_notes number text ++ later in
     on_ok c.add_fault_note.result
     (λ added. (
       notes,
       subst (λ line. HasNotes number text (line_of line) notes) (sym c.in-Bad.is) (tokens, list, refl),
       added_two number text c.args.told.now.items c.add_byte_notes.new.told.items c.add_fault_note.new.told.items (byte_notes number text) later c.in_ok-add_byte_notes.ensures
-          (added_two number text c.add_byte_notes.new.told.items c.add_letter_notes.new.told.items c.add_fault_note.new.told.items (letter_notes text tokens) last c.in_ok-add_letter_notes.ensures added),
+          (added_two number text c.add_byte_notes.new.told.items c.add_token_notes.new.told.items c.add_fault_note.new.told.items (token_notes text tokens) last c.in_ok-add_token_notes.ensures added),
     ))
     c.add_fault_note.ensures
 
@@ -57,12 +58,12 @@ returns c =
     on_ok c.add_clash_note.result
     (λ (last, is, added).
     let commands = command_notes text tree [] tokens ++ last in
-    let later = letter_notes text tokens ++ commands in
+    let later = token_notes text tokens ++ commands in
     let notes = byte_notes number text ++ later in (
       notes,
       subst (λ line. HasNotes number text (line_of line) notes) (sym c.in-Tree.is) (tokens, last, list, is, refl),
       added_two number text c.args.told.now.items c.add_byte_notes.new.told.items c.add_clash_note.new.told.items (byte_notes number text) later c.in_ok-add_byte_notes.ensures
-          (added_two number text c.add_byte_notes.new.told.items c.add_letter_notes.new.told.items c.add_clash_note.new.told.items (letter_notes text tokens) commands c.in_ok-add_letter_notes.ensures
-          (added_two number text c.add_letter_notes.new.told.items c.add_command_notes.new.told.items c.add_clash_note.new.told.items (command_notes text tree [] tokens) last c.in_ok-add_command_notes-in-Tree.ensures added)),
+          (added_two number text c.add_byte_notes.new.told.items c.add_token_notes.new.told.items c.add_clash_note.new.told.items (token_notes text tokens) commands c.in_ok-add_token_notes.ensures
+          (added_two number text c.add_token_notes.new.told.items c.add_command_notes.new.told.items c.add_clash_note.new.told.items (command_notes text tree [] tokens) last c.in_ok-add_command_notes-in-Tree.ensures added)),
     ))
     c.add_clash_note.ensures

@@ -32,7 +32,7 @@ pub returns-clause-nothing_written : goal.returns-clause-nothing_written
 returns-clause-nothing_written g c some one three four =
     let ending = c.ending_on-ending.result in
     let same = status_due (out_text ending.output) (told_text ending) ending.status (g.W.Write.contents c.args.console.now.out) (g.W.Write.contents c.write_ending.new.out) (g.E.Write.contents c.args.console.now.err) (g.E.Write.contents c.write_ending.new.err) c.write_ending.result c.write_ending.ensures.writes one in
-    c.write_ending.ensures.nothing (c.ending_on-ending.ensures.nothing (λ is. some (same ∙ is)) (λ is. three (same ∙ is)) (λ is. four (same ∙ is)))
+    c.write_ending.ensures.nothing (c.ending_on-ending.ensures.nothing (λ is. some (same ∙ is)) (λ is. one (same ∙ is)) (λ is. three (same ∙ is)) (λ is. four (same ∙ is)))
 
 pub returns-clause-no_words_written : goal.returns-clause-no_words_written
 returns-clause-no_words_written g c none some one =

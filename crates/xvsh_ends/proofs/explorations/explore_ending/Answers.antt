@@ -1,11 +1,18 @@
-use Rattle.xvsh_ends.specs.Ends.{explored, not_explored}
-use Rattle.xvsh_ends.specs.Requests.{explore_asked}
-use Rattle.xvsh_ends.proofs.Dues.{due_by, due_told}
+use Rattle.std.proofs.Common.{sym, subst}
+use Rattle.xvsh_ends.specs.Ends.{IsDue}
+use Rattle.xvsh_ends.specs.Requests.{explore_told_asked, json_asked}
 use Rattle.xvsh_ends.proofs.explorations.explore_ending.Goals as goal
 
-pub returns-in-Ok : goal.returns-in-Ok
-returns-in-Ok g c =
-    due_by (g.H.Host.input c.args.host.now) (g.H.Host.file c.args.host.now) (explore_asked c.args.request.now) _ _ _ c.prints.result c.prints.ensures.out c.prints.ensures.told c.prints.ensures.status (explored c.in-Ok.explored.is_whole c.in-Ok.explored.is_single c.in-Ok.ensures.ran)
+pub returns-then-request : goal.returns-then-request
+returns-then-request g c =
+    let input = g.H.Host.input c.args.host.now in
+    let file = g.H.Host.file c.args.host.now in
+    let what = explore_told_asked c.args.request.now in
+    subst (λ b. IsDue input file (json_asked b what) c.valued.result) (sym c.if-request.true) (c.valued.ensures input file what c.told_ending-ending.ensures)
 
-pub returns-in-Err : goal.returns-in-Err
-returns-in-Err g c = due_told (g.H.Host.input c.args.host.now) (g.H.Host.file c.args.host.now) (explore_asked c.args.request.now) _ _ c.report_fault.result c.report_fault.ensures (not_explored c.in-Err.fault c.in-Err.ensures.fault)
+pub returns-else-request : goal.returns-else-request
+returns-else-request g c =
+    let input = g.H.Host.input c.args.host.now in
+    let file = g.H.Host.file c.args.host.now in
+    let what = explore_told_asked c.args.request.now in
+    subst (λ b. IsDue input file (json_asked b what) c.told_ending-ending.result) (sym c.if-request.false) c.told_ending-ending.ensures

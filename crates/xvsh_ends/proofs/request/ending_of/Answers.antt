@@ -1,6 +1,6 @@
 use Rattle.std.proofs.Common.{◌≡◌, [], sym, subst}
 use Rattle.xvsh_read.specs.Writing.{out_text}
-use Rattle.xvsh_ends.specs.Requests.{UnlessPrinted, asked, run_asked, replay_asked, traced_asked}
+use Rattle.xvsh_ends.specs.Requests.{UnlessPrinted, asked, explore_asked, json_asked, plain_asked, run_asked, replay_asked, traced_asked}
 use Rattle.xvsh_ends.proofs.Dues.{nothing_due}
 use Rattle.xvsh_ends.proofs.request.ending_of.Goals as goal
 
@@ -23,3 +23,17 @@ returns-in-Replay-clause-nothing g c =
     let ending = c.traced-in-Replay.result in
     subst (λ r. UnlessPrinted (asked r) ending.status (out_text ending.output ≡ [])) (sym c.in-Replay.is)
     (nothing_due input file (traced_asked request.trace what) _ _ _ (c.traced-in-Replay.ensures input file what c.replay_ending-ending.ensures))
+
+pub returns-in-Plain-clause-nothing : goal.returns-in-Plain-clause-nothing
+returns-in-Plain-clause-nothing g c =
+    let request = c.in-Plain.plain in
+    let ending = c.plain_ending.result in
+    subst (λ r. UnlessPrinted (asked r) ending.status (out_text ending.output ≡ [])) (sym c.in-Plain.is)
+    (nothing_due (g.H.Host.input c.args.host.now) (g.H.Host.file c.args.host.now) (json_asked request.is_json (plain_asked request)) _ _ _ c.plain_ending.ensures)
+
+pub returns-in-Explore-clause-nothing : goal.returns-in-Explore-clause-nothing
+returns-in-Explore-clause-nothing g c =
+    let request = c.in-Explore.explore in
+    let ending = c.explore_ending.result in
+    subst (λ r. UnlessPrinted (asked r) ending.status (out_text ending.output ≡ [])) (sym c.in-Explore.is)
+    (nothing_due (g.H.Host.input c.args.host.now) (g.H.Host.file c.args.host.now) (explore_asked request) _ _ _ c.explore_ending.ensures)

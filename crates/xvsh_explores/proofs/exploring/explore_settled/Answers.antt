@@ -23,4 +23,4 @@ returns-clause-told c =
     known
     (subst (λ s. IsSettledScript profile lines s (files start.files)) c.as_slice-stdin.ensures.value (plain.settled.0 c.if-not-value.false))
     (subst (λ s. (name : Name) → (script_meaning profile lines s (files start.files)).soft name ≡ false) c.as_slice-stdin.ensures.value soft) in
-    subst (λ all. Told profile lines start.stdin.items start.files all true true) (sym c.if-is_thorough.false) found
+    subst (λ all. Told profile lines start.stdin.items start.files all true true) (sym c.if-request.false) found

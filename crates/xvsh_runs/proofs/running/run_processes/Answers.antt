@@ -1,12 +1,16 @@
 use Rattle.script_load.specs.Line.{lines_of}
 use Rattle.xvsh_read.proofs.Faults.{at_fault}
-use Rattle.xvsh_runs.specs.Why.{no_start}
+use Rattle.xvsh_runs.specs.Why.{bad_order, no_start}
 use Rattle.xvsh_runs.proofs.Prepared.{prepared_ran, prepared_fault}
 use Rattle.xvsh_runs.proofs.running.run_processes.Goals as goal
 
+pub returns-in_err-order-clause-fault : goal.returns-in_err-order-clause-fault
+returns-in_err-order-clause-fault g c =
+    at_fault c.from_residual.result _ _ c.from_residual.ensures.1 (bad_order c.in_err-order.ensures)
+
 pub returns-in_err-start-clause-fault : goal.returns-in_err-start-clause-fault
 returns-in_err-start-clause-fault g c =
-    at_fault c.from_residual.result _ _ c.from_residual.ensures.1 (no_start c.in_err-start.ensures.fault)
+    at_fault c.from_residual-in_err-start.result _ _ c.from_residual-in_err-start.ensures.1 (no_start c.in_err-start.ensures.fault)
 
 pub returns-clause-ran : goal.returns-clause-ran
 returns-clause-ran g c =

@@ -7,14 +7,18 @@ use Rattle.run_model.specs.ScriptRun.{script_kernel}
 use Rattle.xvsh_read.specs.Writing.{out_text}
 use Rattle.xvsh_read.proofs.Faults.{at_fault}
 use Rattle.xvsh_runs.specs.Runs.{RanOn}
-use Rattle.xvsh_runs.specs.Why.{IsHartsFault, no_start, no_run}
+use Rattle.xvsh_runs.specs.Why.{IsHartsFault, bad_order, no_start, no_run}
 use Rattle.xvsh_plain.specs.Running.{IsMeaningFault}
 use Rattle.xvsh_runs.specs.Strict.{no_verdict, no_strict_run}
 use Rattle.xvsh_runs.proofs.strict.run_strict.Goals as goal
 
+pub returns-in_err-order-clause-fault : goal.returns-in_err-order-clause-fault
+returns-in_err-order-clause-fault g c =
+    at_fault c.from_residual.result _ _ c.from_residual.ensures.1 (no_strict_run (bad_order c.in_err-order.ensures))
+
 pub returns-in_err-start-clause-fault : goal.returns-in_err-start-clause-fault
 returns-in_err-start-clause-fault g c =
-    at_fault c.from_residual.result _ _ c.from_residual.ensures.1 (no_strict_run (no_start c.in_err-start.ensures.fault))
+    at_fault c.from_residual-in_err-start.result _ _ c.from_residual-in_err-start.ensures.1 (no_strict_run (no_start c.in_err-start.ensures.fault))
 
 pub returns-in_err-is_settled-clause-fault : goal.returns-in_err-is_settled-clause-fault
 returns-in_err-is_settled-clause-fault g c =

@@ -1,16 +1,26 @@
-use Rattle.std.proofs.Common.{[], ◌∷◌, codes, sym, ◌∙◌, ap, subst}
+use Rattle.std.proofs.Common.{[], ◌∷◌, codes, false, sym, ◌∙◌, ap, subst}
 use Rattle.std.specs.Prelude.{map}
 use Rattle.clap.specs.Simple.{app_of_fields}
-use Rattle.clap.specs.Walk.{rule_of}
-use Rattle.xvsh_words.specs.Program.{files_rule, flag_rule, number_rule, path_rule, word_rule}
-use Rattle.xvsh_words.proofs.Adds.{AreLocal, command_made}
+use Rattle.clap.specs.Walk.{Rule, rule_of}
+use Rattle.clap.specs.declared.builder.arg.Arg.{Arg}
+use Rattle.xvsh_words.specs.Program.{apart, files_rule, flag_rule, most_seed, number_rule, path_rule, word_rule}
+use Rattle.xvsh_words.proofs.Adds.{AreLocal, apart_rule, command_made}
 use Rattle.xvsh_words.proofs.words.run_command.Goals as goal
 
 pub returns : goal.returns
 returns c =
     let items = c.in_ok-args.ensures.items in
-    command_made c.in_ok-args.args.items (number_rule (codes "harts") c.args.most_harts ∷ number_rule (codes "turns") c.args.most_turns ∷ flag_rule (codes "schedule") ∷ path_rule (codes "trace") ∷ flag_rule (codes "strict") ∷ flag_rule (codes "append") ∷ flag_rule (codes "files") ∷ word_rule (codes "script") ∷ files_rule ∷ []) (codes "run") c.about.result c.args-2.result c.args-2.ensures
-    (subst AreLocal (sym items) (c.number_option.ensures.local, (c.number_option-2.ensures.local, (c.flag.ensures.local, (c.path_option.ensures.local, (c.flag-2.ensures.local, (c.flag-3.ensures.local, (c.flag-4.ensures.local, (c.script_word.ensures.local, (c.file_words.ensures.local, tt))))))))))
-    (ap (map rule_of) items ∙ (λ i. c.number_option.ensures.rule i ∷ c.number_option-2.ensures.rule i ∷ c.flag.ensures.rule i ∷ c.path_option.ensures.rule i ∷ c.flag-2.ensures.rule i ∷ c.flag-3.ensures.rule i ∷ c.flag-4.ensures.rule i ∷ c.script_word.ensures.rule i ∷ c.file_words.ensures.rule i ∷ []))
+    let seeds = c.in_ok-seed.ensures in
+    let alones = c.in_ok-alone.ensures in
+    let orders = c.in_ok-order.ensures in
+    let seed = apart_rule c.number_option.result c.in_ok-seed.seed _ seeds ∙ ap {A = Rule} (λ r. record r { is_free = false }) c.number_option.ensures.rule in
+    let alone = apart_rule c.path_option.result c.in_ok-alone.alone _ alones ∙ ap {A = Rule} (λ r. record r { is_free = false }) c.path_option.ensures.rule in
+    let order = apart_rule c.in_ok-alone.alone c.in_ok-order.order _ orders ∙ ap {A = Rule} (λ r. record r { is_free = false }) alone in
+    let seed_local = ap {A = Arg} (λ a. a.global) seeds.0 ∙ c.number_option.ensures.local in
+    let alone_local = ap {A = Arg} (λ a. a.global) alones.0 ∙ c.path_option.ensures.local in
+    let order_local = ap {A = Arg} (λ a. a.global) orders.0 ∙ alone_local in
+    command_made c.in_ok-args.args.items (number_rule (codes "harts") c.args.most_harts ∷ number_rule (codes "turns") c.args.most_turns ∷ apart (number_rule (codes "seed") most_seed) ∷ apart (path_rule (codes "order")) ∷ flag_rule (codes "schedule") ∷ path_rule (codes "trace") ∷ flag_rule (codes "strict") ∷ flag_rule (codes "append") ∷ flag_rule (codes "files") ∷ word_rule (codes "script") ∷ files_rule ∷ []) (codes "run") c.about.result c.args-2.result c.args-2.ensures
+    (subst AreLocal (sym items) (c.number_option-2.ensures.local, (c.number_option-3.ensures.local, (seed_local, (order_local, (c.flag.ensures.local, (c.path_option-2.ensures.local, (c.flag-2.ensures.local, (c.flag-3.ensures.local, (c.flag-4.ensures.local, (c.script_word.ensures.local, (c.file_words.ensures.local, tt))))))))))))
+    (ap (map rule_of) items ∙ (λ i. c.number_option-2.ensures.rule i ∷ c.number_option-3.ensures.rule i ∷ seed i ∷ order i ∷ c.flag.ensures.rule i ∷ c.path_option-2.ensures.rule i ∷ c.flag-2.ensures.rule i ∷ c.flag-3.ensures.rule i ∷ c.flag-4.ensures.rule i ∷ c.script_word.ensures.rule i ∷ c.file_words.ensures.rule i ∷ []))
     (ap app_of_fields c.about.ensures ∙ c.new.ensures.app)
     (ap (λ f. f.has_globals) c.about.ensures ∙ c.new.ensures.local)

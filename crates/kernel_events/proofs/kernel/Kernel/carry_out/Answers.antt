@@ -13,7 +13,7 @@ invariant_of-self g c =
     let runs : is_running_on c.args.hart (at state.table c.args.pid) ≡ true = rw (← c.self.view_is) at c.requires.runs in
     kept_after g.M.Machine.call_of g.M.Machine.next_of c.self.inside.boot.value state c.trap-memory.new.state c.self.inside.log c.write.new.self (Trap c.args.hart c.args.pid) (is_refused c.trap-memory.result) c.self.invariant
     (trap_goes g.M.Machine.call_of g.M.Machine.next_of state c.trap-memory.new.state c.args.hart c.args.pid c.write_call.new.call (is_refused c.trap-memory.result) runs c.write_call.ensures c.trap-memory.ensures.after)
-    (c.write.ensures.events ∙ ap (λ n. c.self.inside.log.events ++ Trap c.args.hart n ∷ []) c.index.ensures.value)
+    (c.write.ensures.events ∙ ap (λ n. c.self.inside.log.events ++ Trap c.args.hart n ∷ []) c.number_of.ensures)
     c.write.ensures.notes
     (omega (arith, c.trap-memory.ensures.keeps.count, c.self.invariant.owed, c.write.ensures.room))
     (omega (arith, c.trap-memory.ensures.keeps.count))
@@ -30,7 +30,7 @@ returns-clause-event g c =
     let goes : GoesOn call next old (Trap c.args.hart c.args.pid) new =
     record {
       boot = refl;
-      schedule = c.write.ensures.events ∙ ap (λ n. c.self.inside.log.events ++ Trap c.args.hart n ∷ []) c.index.ensures.value;
+      schedule = c.write.ensures.events ∙ ap (λ n. c.self.inside.log.events ++ Trap c.args.hart n ∷ []) c.number_of.ensures;
       note = ((is_refused c.trap-memory.result), c.write.ensures.notes, trap_goes call next state c.trap-memory.new.state c.args.hart c.args.pid c.write_call.new.call (is_refused c.trap-memory.result) runs c.write_call.ensures c.trap-memory.ensures.after);
     } in
     subst (λ (k : History g.row.M-State.Denot). GoesOn call next k (Trap c.args.hart c.args.pid) new) c.self.view_is goes

@@ -15,7 +15,7 @@ invariant_of-self-2 g c =
     let idle : All (λ slot. is_running_on c.args.hart slot ≡ false) c.self.inside.state.table = rw (← c.self.view_is) at c.requires.idle in
     dispatch_kept g.M.Machine.call_of g.M.Machine.next_of c.self.inside.state c.dispatch.new.self c.args.hart c.in-Some.pid c.requires.hart idle c.in-Some.ensures.was c.in-Some.ensures.after
     c.self.inside.boot.value c.self.inside.log c.write.new.self c.self.invariant
-    (c.write.ensures.events ∙ (λ i. c.in_ok-reserve.ensures.events i ++ Dispatch c.args.hart (c.index.ensures.value i) ∷ []))
+    (c.write.ensures.events ∙ (λ i. c.in_ok-reserve.ensures.events i ++ Dispatch c.args.hart (c.number_of.ensures i) ∷ []))
     (c.write.ensures.notes ∙ ap (λ ns. ns ++ false ∷ []) c.in_ok-reserve.ensures.notes)
     (omega (arith, c.in_ok-reserve.ensures.ok, all_fit c.self.inside.state.table c.self.invariant.sound.slots, c.write.ensures.room))
 
@@ -27,7 +27,7 @@ returns-clause-event g c =
     let goes : GoesOn g.M.Machine.call_of g.M.Machine.next_of old (Dispatch c.args.hart c.in-Some.pid) new =
     record {
       boot = refl;
-      schedule = c.write.ensures.events ∙ (λ i. c.in_ok-reserve.ensures.events i ++ Dispatch c.args.hart (c.index.ensures.value i) ∷ []);
+      schedule = c.write.ensures.events ∙ (λ i. c.in_ok-reserve.ensures.events i ++ Dispatch c.args.hart (c.number_of.ensures i) ∷ []);
       note = (false, c.write.ensures.notes ∙ ap (λ ns. ns ++ false ∷ []) c.in_ok-reserve.ensures.notes, dispatch_goes g.M.Machine.call_of g.M.Machine.next_of c.self.inside.state c.dispatch.new.self c.args.hart c.in-Some.pid c.requires.hart idle c.in-Some.ensures.was c.in-Some.ensures.after);
     } in
     subst (λ (k : History g.row.M-State.Denot). GoesOn g.M.Machine.call_of g.M.Machine.next_of k (Dispatch c.args.hart c.in-Some.pid) new) c.self.view_is goes

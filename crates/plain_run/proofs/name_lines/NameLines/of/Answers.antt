@@ -1,14 +1,13 @@
-use Rattle.std.proofs.Common.{◌≡◌, ◌∙◌, sym, ap, subst, arith, ◌+◌, take, drop, []}
+use Rattle.std.proofs.Common.{◌≡◌, ◌∙◌, sym, ap, subst, arith, length, []}
 use Rattle.std.specs.Ordering.{is_eq, nat_cmp}
 use Rattle.std.specs.Cmp.Lexicographic.{slice_cmp}
 use Rattle.std.specs.Map.{lookup}
-use Rattle.std.proofs.Math.Bool.{or_comm}
 use Rattle.std.proofs.lemmas.List.{get_or-map}
 use Rattle.conflict_check.specs.Names.{names}
 use Rattle.script_load.specs.Line.{line_of, cd}
 use Rattle.meaning_model.specs.Meaning.{line_tree}
-use Rattle.plain_run.specs.Spans.{all_names, span_of}
-use Rattle.plain_run.proofs.Spans.{Reaches, has_at, reaches_more, beside_told}
+use Rattle.plain_run.specs.Spans.{Reaches, has_at, span_of}
+use Rattle.plain_run.proofs.Spans.{reaches_more}
 use Rattle.plain_run.proofs.name_lines.NameLines.of.Goals as goal
 
 pub loop-at-init : goal.loop-at-init
@@ -24,4 +23,6 @@ loop-at-preserved g c = λ name.
     reaches_more (has_at lines name) i (names (line_tree (line_of line)) name) (span_of c.loop-at.index name) (span_of c.reach_line.new.self name) here (c.in_ok-reach_line.ensures name) (c.loop-at.invariant name)
 
 pub returns : goal.returns
-returns g c = λ name line. beside_told c.args.lines.now name c.loop-at.at line (span_of c.loop-at.index name) (omega arith) (c.loop-at.invariant name) ∙ or_comm (all_names (take line c.args.lines.now) name) (all_names (drop (line + 1) c.args.lines.now) name)
+returns g c = λ name.
+    let all : c.loop-at.at ≡ length c.args.lines.now = omega arith in
+    subst (λ n. Reaches (has_at c.args.lines.now name) n (span_of c.loop-at.index name)) all (c.loop-at.invariant name)

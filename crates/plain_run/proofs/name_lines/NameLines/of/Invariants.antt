@@ -1,6 +1,5 @@
 use Rattle.std.proofs.Common.{List, ℕ}
-use Rattle.plain_run.specs.Spans.{span_of}
-use Rattle.plain_run.proofs.Spans.{Reaches, has_at}
+use Rattle.plain_run.specs.Spans.{Reaches, has_at, span_of}
 use Rattle.plain_run.proofs.name_lines.NameLines.of.Given as goal
 
 -- the spans of the lines so far

@@ -1,0 +1,10 @@
+use Rattle.std.proofs.Common.{◌∙◌, ap, sym, arith}
+use Rattle.sh_tree.specs.Tree.{tree_of}
+use Rattle.conflict_check.specs.Names.{names}
+use Rattle.plain_run.proofs.AgainSteps.{filter_more}
+use Rattle.plain_run.proofs.verdict.add_named.Goals as goal
+
+pub loop-word-preserved : goal.loop-word-preserved
+loop-word-preserved g c =
+    filter_more (names (tree_of c.args.tree.now)) c.loop-word.list.items c.add_if.new.list.items c.args.list.now.items c.args.words.now c.loop-word.word-index c.word-item.result c.as_slice-in-loop-word.result.now _ (omega arith)
+    (c.as_slice-in-loop-word.ensures ∙ c.word-item.is) (c.names_it-is_named.ensures ∙ ap (names (tree_of c.args.tree.now)) (c.as_slice.ensures ∙ sym c.as_slice-in-loop-word.ensures)) c.in_ok-add_if.ensures c.loop-word.invariant

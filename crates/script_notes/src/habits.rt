@@ -1,0 +1,315 @@
+//! Notes on habits from other shells and systems.
+ghost use Rattle.std.specs.Prelude.{◌≡◌, ◌++◌, ◌≤◌, ◌∷◌, [], List, OnOk, length};
+ghost use Rattle.sh_lexer.specs.declared.token.Token.{Token};
+ghost use Rattle.sh_lexer.specs.Tokens.{IsToken, IsTokenList};
+ghost use Rattle.script_notes.specs.Habits.{after_word, begins_option, habit_notes, habits_of, has_glob, has_variable, is_argument, is_bar, is_digit, is_grep, is_numbered, is_option, is_pattern, note_if, option_kind, pair_kind, said_of, token_notes, word_habits};
+ghost use Rattle.script_notes.specs.Letters.{text_of};
+ghost use Rattle.script_notes.specs.Notes.{notes_text};
+
+use crate::kind::NoteKind;
+use crate::letters::{add_letter_notes, add_where, span_of, text_of};
+use crate::marks::Span;
+use prog_parts::Program;
+use sh_lexer::{Kind, Token};
+use std::alloc::{AllocError, Global};
+
+/// What the tokens before a token say of it.
+#[derive(Clone, Copy)]
+pub struct Said {
+    /// The kind of the nearest.
+    pub last: Option<Kind>,
+    /// Where that ends, if it is a word of one digit.
+    pub number_end: Option<usize>,
+    /// A word here is a file's name.
+    pub names_file: bool,
+    /// The command has its name.
+    pub has_name: bool,
+    /// It has an argument.
+    pub has_argument: bool,
+    /// The program of that name.
+    pub program: Option<Program>,
+}
+
+// At a line's beginning.
+const NOTHING: Said = Said {
+    last: None,
+    number_end: None,
+    names_file: false,
+    has_name: false,
+    has_argument: false,
+    program: None,
+};
+
+// A word of one digit.
+fn is_digit(word: &[u8]) -> bool
+    ensures { result ≡ is_digit word.now }
+{
+    match word.split_first() {
+        Some((byte, rest)) => b'0' <= *byte && *byte <= b'9' && rest.is_empty(),
+        None => false,
+    }
+}
+
+impl Said {
+    // What is said after this word too.
+    fn after_word(self, word: &[u8], past: usize) -> Said
+        ensures { result ≡ after_word self word.now past }
+    {
+        let number_end = if is_digit(word) { Some(past) } else { None };
+        let last = Some(Kind::Word);
+        if self.names_file {
+            return Said {
+                last,
+                number_end,
+                names_file: false,
+                ..self
+            };
+        }
+        Said {
+            last,
+            number_end,
+            names_file: false,
+            has_name: true,
+            has_argument: self.has_name,
+            program: if self.has_name {
+                self.program
+            } else {
+                Program::named(word)
+            },
+        }
+    }
+
+    // What is said after this token too.
+    fn after(self, text: &[u8], token: &Token) -> Said
+        requires { IsToken text.now token.now }
+        ensures { (back : List Token) → self ≡ said_of text.now back → result ≡ said_of text.now (token.now ∷ back) }
+    {
+        match token.kind {
+            Kind::Word => self.after_word(text_of(text, token), token.past),
+            Kind::Less | Kind::More | Kind::MoreMore => Said {
+                last: Some(token.kind),
+                number_end: None,
+                names_file: true,
+                ..self
+            },
+            Kind::Bar | Kind::Amp | Kind::Semi | Kind::LeftParen | Kind::RightParen => Said {
+                last: Some(token.kind),
+                ..NOTHING
+            },
+        }
+    }
+
+    fn is_argument(self) -> bool
+        ensures { result ≡ is_argument self }
+    {
+        !self.names_file && self.has_name
+    }
+
+    // Whether a word here is grep's pattern.
+    fn is_pattern(self) -> bool
+        ensures { result ≡ is_pattern self }
+    {
+        self.is_argument() && !self.has_argument && is_grep(self.program)
+    }
+}
+
+fn is_grep(program: Option<Program>) -> bool
+    ensures { result ≡ is_grep program }
+{
+    matches!(program, Some(Program::Grep))
+}
+
+fn has_variable(word: &[u8]) -> bool
+    ensures { result ≡ has_variable word.now }
+{
+    word[..word.len().saturating_sub(1)]
+        .iter()
+        .any(|byte| *byte == b'$')
+}
+
+fn has_glob(word: &[u8]) -> bool
+    ensures { result ≡ has_glob word.now }
+{
+    word.iter().any(|byte| *byte == b'*' || *byte == b'[')
+}
+
+fn begins_option(byte: u8) -> bool
+    ensures { result ≡ begins_option byte }
+{
+    byte == b'-' || (b'A' <= byte && byte <= b'Z') || (b'a' <= byte && byte <= b'z')
+}
+
+fn is_option(word: &[u8]) -> bool
+    ensures { result ≡ is_option word.now }
+{
+    match word {
+        [byte, next, ..] => *byte == b'-' && begins_option(*next),
+        _ => false,
+    }
+}
+
+// What a program takes an option for.
+fn option_kind(program: Option<Program>, is_first: bool) -> Option<NoteKind>
+    ensures { result ≡ option_kind program is_first }
+{
+    match program? {
+        Program::Cat | Program::Wc => Some(NoteKind::NoOption),
+        Program::Echo => Some(NoteKind::EchoOption),
+        Program::Grep if is_first => Some(NoteKind::GrepOption),
+        Program::Head if is_first => Some(NoteKind::HeadOption),
+        Program::Grep | Program::Head => Some(NoteKind::NoOption),
+        Program::Tee => Some(NoteKind::TeeOption),
+    }
+}
+
+// The kind of the note of a sign behind another.
+fn pair_kind(last: Option<Kind>, kind: Kind) -> Option<NoteKind>
+    ensures { result ≡ pair_kind last kind }
+{
+    match (last, kind) {
+        (Some(Kind::Bar), Kind::Bar) => Some(NoteKind::NoOr),
+        (Some(Kind::Amp), Kind::Amp) => Some(NoteKind::NoAnd),
+        (Some(Kind::Semi), Kind::Semi) => Some(NoteKind::NoCommand),
+        _ => None,
+    }
+}
+
+fn is_numbered(number_end: Option<usize>, first: usize) -> bool
+    ensures { result ≡ is_numbered number_end first }
+{
+    match number_end {
+        Some(past) => past == first,
+        None => false,
+    }
+}
+
+// Adds the note of this kind and place, if there is a kind and the condition holds.
+fn add_if(
+    alloc: Global,
+    number: usize,
+    text: &[u8],
+    holds: bool,
+    kind: Option<NoteKind>,
+    span: Span,
+    told: &mut Vec<u8>,
+) -> Result<(), AllocError>
+    requires order { span.first ≤ span.past }
+    requires inside { span.past ≤ length text.now }
+    ensures { OnOk result (told.new.items ≡ told.old.items ++ notes_text number text.now (note_if holds kind span.first span.past)) }
+{
+    match kind {
+        Some(kind) => add_where(alloc, number, text, holds, kind, span, told),
+        None => Ok(()),
+    }
+}
+
+// Adds the notes of a word.
+fn add_word(
+    alloc: Global,
+    number: usize,
+    text: &[u8],
+    said: Said,
+    token: &Token,
+    told: &mut Vec<u8>,
+) -> Result<(), AllocError>
+    requires { IsToken text.now token.now }
+    ensures { OnOk result (told.new.items ≡ told.old.items ++ notes_text number text.now (word_habits said (text_of text.now token.now) token.now)) }
+{
+    let word = text_of(text, token);
+    let span = span_of(token);
+    let is_variable = has_variable(word) && !said.is_pattern();
+    add_where(
+        alloc,
+        number,
+        text,
+        is_variable,
+        NoteKind::NoVariable,
+        span,
+        told,
+    )?;
+    let is_glob = has_glob(word) && !said.is_pattern();
+    add_where(
+        alloc,
+        number,
+        text,
+        is_glob,
+        NoteKind::NoPattern,
+        span,
+        told,
+    )?;
+    let is_option = is_option(word) && said.is_argument();
+    let kind = option_kind(said.program, !said.has_argument);
+    add_if(alloc, number, text, is_option, kind, span, told)
+}
+
+// Adds the notes of a token.
+fn add_habits(
+    alloc: Global,
+    number: usize,
+    text: &[u8],
+    said: Said,
+    token: &Token,
+    told: &mut Vec<u8>,
+) -> Result<(), AllocError>
+    requires { IsToken text.now token.now }
+    ensures { OnOk result (told.new.items ≡ told.old.items ++ notes_text number text.now (habits_of text.now said token.now)) }
+{
+    let span = span_of(token);
+    let (holds, kind) = match token.kind {
+        Kind::Word => return add_word(alloc, number, text, said, token, told),
+        Kind::More | Kind::MoreMore => {
+            let holds = is_numbered(said.number_end, token.first);
+            (holds, Some(NoteKind::NoNumber))
+        }
+        Kind::Bar | Kind::Amp | Kind::Semi => (true, pair_kind(said.last, token.kind)),
+        Kind::Less | Kind::LeftParen | Kind::RightParen => return Ok(()),
+    };
+    add_if(alloc, number, text, holds, kind, span, told)
+}
+
+fn is_bar(last: Option<Kind>) -> bool
+    ensures { result ≡ is_bar last }
+{
+    matches!(last, Some(Kind::Bar))
+}
+
+// Adds the notes on habits by a line's tokens.
+fn add_habit_notes(
+    alloc: Global,
+    number: usize,
+    text: &[u8],
+    tokens: &[Token],
+    told: &mut Vec<u8>,
+) -> Result<(), AllocError>
+    requires { IsTokenList text.now tokens.now }
+    ensures { OnOk result (told.new.items ≡ told.old.items ++ notes_text number text.now (habit_notes text.now [] tokens.now)) }
+{
+    let mut said = NOTHING;
+    let mut rest = tokens;
+    while let Some((token, after)) = rest.split_first() {
+        add_habits(alloc, number, text, said, token, told)?;
+        said = said.after(text, token);
+        rest = after;
+    }
+    let end = Span {
+        first: text.len(),
+        past: text.len(),
+    };
+    let is_open = is_bar(said.last);
+    add_where(alloc, number, text, is_open, NoteKind::LastBar, end, told)
+}
+
+/// Adds the notes by a line's tokens: by their letters, and on habits from other shells and systems.
+pub fn add_token_notes(
+    alloc: Global,
+    number: usize,
+    text: &[u8],
+    tokens: &[Token],
+    told: &mut Vec<u8>,
+) -> Result<(), AllocError>
+    requires { IsTokenList text.now tokens.now }
+    ensures { OnOk result (told.new.items ≡ told.old.items ++ notes_text number text.now (token_notes text.now tokens.now)) }
+{
+    add_letter_notes(alloc, number, text, tokens, told)?;
+    add_habit_notes(alloc, number, text, tokens, told)
+}

@@ -1,0 +1,9 @@
+//! Tests of results: objects are read back as JSON, and compared with what the run was.
+#![tactic(auto)]
+
+#[cfg(test)]
+mod faults;
+#[cfg(test)]
+mod plain;
+#[cfg(test)]
+mod read_back;

@@ -1,0 +1,55 @@
+//! How commands end that print one object of JSON.
+ghost use Rattle.std.specs.Prelude.{◌≡◌, [], MatchResult};
+ghost use Rattle.xvsh_read.specs.Status.{fault_told};
+ghost use Rattle.xvsh_ends.specs.Ends.{IsDue, PrintsAlone, Tells, asks_json};
+ghost use Rattle.xvsh_ends.specs.Requests.{plain_asked};
+
+use crate::ending::{Ending, Line, no_output, report_no_memory};
+use crate::plain::verdict_status;
+use result_json::{fault_result, plain_result};
+use sh_lexer::Bytes;
+use std::alloc::{AllocError, Global};
+use xvsh_plain::{PlainRequest, run_reasoned};
+use xvsh_read::{Fault, Host, Output};
+
+// Prints this text and nothing else, with this status.
+fn print_alone(alloc: Global, text: Vec<u8>, status: u8) -> Ending
+    ensures { PrintsAlone text.items status result }
+{
+    Ending {
+        output: Output {
+            out: Bytes::from_vec(text),
+            ..no_output(alloc)
+        },
+        line: Line::Fixed(""),
+        status,
+        recording: None,
+    }
+}
+
+// Prints an object that was made, with this status, or reports that memory was refused for it.
+fn print_made(alloc: Global, made: Result<Vec<u8>, AllocError>, status: u8) -> Ending
+    ensures { MatchResult made (λ text. PrintsAlone text.items status result) (λ _. Tells (fault_told Fault.Memory) 4 result) }
+{
+    match made {
+        Ok(text) => print_alone(alloc, text, status),
+        Err(_) => report_no_memory(alloc),
+    }
+}
+
+/// Runs a script by its meaning, and returns its outcome as one object of JSON, or why it can't be run as another.
+pub fn plain_json<H: Host>(alloc: Global, request: &PlainRequest<'_>, host: &mut H) -> Ending
+    ensures { IsDue (H.input host.old) (H.file host.old) (asks_json (plain_asked request.now)) result }
+{
+    match run_reasoned(alloc, request, host) {
+        Ok(run) => {
+            let status = verdict_status(request.is_strict, run.plain.settled);
+            let made = plain_result(alloc, &run, status);
+            print_made(alloc, made, status)
+        }
+        Err(fault) => {
+            let made = fault_result(alloc, "plain", fault);
+            print_made(alloc, made, fault.status())
+        }
+    }
+}

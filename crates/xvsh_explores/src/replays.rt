@@ -1,0 +1,53 @@
+//! How a schedule is replayed.
+
+use crate::request::ExploreRequest;
+use script_load::Profile;
+use std::alloc::AllocError;
+
+// Whether a byte of a word stands for itself in a shell.
+fn is_plain(byte: u8) -> bool {
+    byte.is_ascii_alphanumeric() || b"_-./,:+@%=".contains(&byte)
+}
+
+// Adds a space and a word, between quotes where a shell would else read it otherwise.
+fn add_word(text: &mut Vec<u8>, word: &str) -> Result<(), AllocError> {
+    text.push(b' ')?;
+    let bytes = word.as_bytes();
+    if !bytes.is_empty() && bytes.iter().all(|byte| is_plain(*byte)) {
+        return text.extend_from_slice(bytes);
+    }
+    text.push(b'\'')?;
+    for byte in bytes {
+        if *byte == b'\'' {
+            text.extend_from_slice(b"'\\''".as_slice())?;
+        } else {
+            text.push(*byte)?;
+        }
+    }
+    text.push(b'\'')?;
+    Ok(())
+}
+
+// Adds a space and the path of the first schedule in the folder.
+fn add_schedule(text: &mut Vec<u8>, folder: &str) -> Result<(), AllocError> {
+    add_word(text, folder)?;
+    text.extend_from_slice(b"/1.schedule".as_slice())
+}
+
+/// Adds a line with the command that replays the first schedule, where schedules are written.
+pub fn add_replay(text: &mut Vec<u8>, request: &ExploreRequest<'_>) -> Result<(), AllocError> {
+    let Some(folder) = request.witness else {
+        return Ok(());
+    };
+    text.extend_from_slice(b"replay 1 by: xvsh replay".as_slice())?;
+    if request.source.profile == Profile::Append {
+        add_word(text, "--append")?;
+    }
+    add_schedule(text, folder)?;
+    add_word(text, request.source.script)?;
+    for path in request.source.files {
+        add_word(text, path)?;
+    }
+    text.push(b'\n')?;
+    Ok(())
+}

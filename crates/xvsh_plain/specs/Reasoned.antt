@@ -1,0 +1,38 @@
+-- The values of a run of a script by its meaning: what `plain --json` prints.
+use Rattle.std.specs.Prelude.{◌≡◌, ◌↔◌, true, false, IsTrue, List, [], All, Contains, Option}
+use Rattle.std.specs.Borrow.{Bor}
+use Rattle.mem_files.specs.Name.{Name, Bytes}
+use Rattle.mem_files.specs.Files.{FileMap, files}
+use Rattle.mem_files.specs.Listing.{AreFiles}
+use Rattle.script_load.specs.declared.profile.Profile.{Profile}
+use Rattle.script_load.specs.Line.{ScriptLine}
+use Rattle.meaning_model.specs.Meaning.{script_meaning}
+use Rattle.meaning_model.specs.Settled.{IsSettledScript}
+use Rattle.plain_run.specs.declared.outcome.Reasoned.{Reasoned}
+use Rattle.plain_run.specs.Reasons.{IsReason}
+use Rattle.xvsh_read.specs.Path.{Path}
+use Rattle.xvsh_read.specs.Starting.{Starts}
+use Rattle.xvsh_plain.specs.declared.request.PlainRequest.{PlainRequest}
+
+-- the output, the files and the soft names are those of the script's meaning, and the reasons are why it isn't settled
+pub record IsReasoned {A : _} (profile : Profile) (lines : List ScriptLine) (input : Bytes) (F : FileMap) (run : Reasoned A) : Type 0 where
+  pub out : run.plain.out ≡ (script_meaning profile lines input F).out
+  pub listed : AreFiles run.plain.files
+  pub left : (name : Name) → files run.plain.files name ≡ (script_meaning profile lines input F).files name
+  pub soft : (name : Name) → Contains run.plain.soft name ↔ ((script_meaning profile lines input F).soft name ≡ true)
+  pub settled : IsTrue run.plain.settled ↔ IsSettledScript profile lines input F
+  pub none : (run.reasons.items ≡ []) ↔ IsSettledScript profile lines input F
+  pub each : All (IsReason profile lines input F) run.reasons.items
+
+-- by what the host states of standard input and of the files at paths, the script at a path was run under a profile on the
+-- files at these paths, which gave these values
+pub record RanReasoned {A : _} (input : Option Bytes) (file : Path → Option Bytes) (profile : Profile) (script : Path) (paths : List (Bor Path)) (run : Reasoned A) : Type 0 where
+  pub lines : List ScriptLine
+  pub given : List (Name × Bytes)
+  pub stdin : Bytes
+  pub starts : Starts input file false script paths lines given stdin
+  pub gives : IsReasoned profile lines stdin (files given) run
+
+-- a request was carried out, and gave these values
+abbrev pub DidReasoned : {A : _} → Option Bytes → (Path → Option Bytes) → PlainRequest → Reasoned A → Type 0
+DidReasoned input file request run = RanReasoned input file request.source.profile request.source.script.now request.source.files.now run
