@@ -5,6 +5,7 @@ ghost use Rattle.closed_search.specs.Searched.{HasLike, IsExpanded, IsReached, I
 
 use crate::indexes::Index;
 use crate::nodes::Node;
+use crate::watches::Watch;
 use std::alloc::{AllocError, Global};
 
 /// What a search found.
@@ -14,6 +15,15 @@ pub struct Found<T: Node> {
     pub nodes: Vec<T>,
     /// Whether the search went to its end, so that nothing else is reached.
     pub whole: bool,
+}
+
+/// How far a search may go.
+#[derive(Clone, Copy, Debug)]
+pub struct Bounds {
+    /// How many moves are tried in each state: those whose numbers are below this.
+    pub moves: usize,
+    /// With how many nodes it goes on. With more it stops.
+    pub limit: usize,
 }
 
 // Whether the state of one of the nodes, of those with this digest, stands for the node's.
@@ -94,20 +104,16 @@ fn expand<T: Node>(
     Ok(())
 }
 
-/// Searches the states that the first `moves` moves lead to from the start, breadth first. It stops, with a part, once it
-/// found more than `limit` nodes.
-///
-/// Each state that it found is one that moves lead to (`reached`). Where it went to its end, the states are closed under
-/// moves but for states that others stand for (`whole`). The fault is one of the nodes', or that of refused memory.
-pub fn search<T: Node>(
+// What `search` finds.
+fn search_from<T: Node, W: Watch>(
     alloc: Global,
     tools: &mut T::Tools,
     start: T,
-    moves: usize,
-    limit: usize,
+    bounds: Bounds,
+    watch: &mut W,
 ) -> Result<Found<T>, T::Fault>
     ensures reached { IfOk result (λ found. All (IsReached T.step (T.state start)) (map T.state found.nodes.items)) }
-    ensures whole { IfOk result (λ found. found.whole ≡ true → IsClosedUnder T.step T.stands moves (T.state start) (map T.state found.nodes.items)) }
+    ensures whole { IfOk result (λ found. found.whole ≡ true → IsClosedUnder T.step T.stands bounds.moves (T.state start) (map T.state found.nodes.items)) }
 {
     let mut nodes = Vec::new(alloc);
     let mut index = Index::new(alloc);
@@ -115,14 +121,35 @@ pub fn search<T: Node>(
     keep(&mut nodes, &mut index, start, digest)?;
     let mut place = 0;
     while place < nodes.len() {
-        if limit < nodes.len() {
+        if bounds.limit < nodes.len() {
             return Ok(Found {
                 nodes,
                 whole: false,
             });
         }
-        expand(&mut nodes, &mut index, tools, place, moves)?;
+        watch.found(nodes.len());
+        expand(&mut nodes, &mut index, tools, place, bounds.moves)?;
         place += 1;
     }
     Ok(Found { nodes, whole: true })
+}
+
+/// Searches the states that the first `bounds.moves` moves lead to from the start, breadth first. It stops, with a part, once
+/// it found more than `bounds.limit` nodes. `watch` is told how many it found, and when it ends.
+///
+/// Each state that it found is one that moves lead to (`reached`). Where it went to its end, the states are closed under
+/// moves but for states that others stand for (`whole`). The fault is one of the nodes', or that of refused memory.
+pub fn search<T: Node, W: Watch>(
+    alloc: Global,
+    tools: &mut T::Tools,
+    start: T,
+    bounds: Bounds,
+    watch: &mut W,
+) -> Result<Found<T>, T::Fault>
+    ensures reached { IfOk result (λ found. All (IsReached T.step (T.state start)) (map T.state found.nodes.items)) }
+    ensures whole { IfOk result (λ found. found.whole ≡ true → IsClosedUnder T.step T.stands bounds.moves (T.state start) (map T.state found.nodes.items)) }
+{
+    let found = search_from(alloc, tools, start, bounds, watch);
+    watch.ended();
+    found
 }

@@ -13,11 +13,20 @@ use law_every_outcome::laws::{
 };
 use mem_files::Files;
 use mem_files::laws::are_files;
-use order_search::{Exploration, ExploreFault, Origin, explore_from};
+use order_search::{Exploration, ExploreFault, Origin, Unwatched, Watch, explore_from};
 use script_load::Script;
 use sh_machine::{Naming, User};
 use std::alloc::{Allocator, Global};
 use std::marker::Brand;
+
+/// What the runs of a script begin with.
+#[derive(Clone, Copy)]
+pub struct Setting<'a, B: Allocator, C: Allocator> {
+    pub script: &'a Script<B>,
+    /// The standard input.
+    pub stdin: &'a [u8],
+    pub files: &'a Files<C>,
+}
 
 /// Tries the orders in which the processes of a script can take their turns, with this standard input and these files: all
 /// orders, unless they lead to more than `states` states.
@@ -38,32 +47,51 @@ pub fn explore<B: Allocator, C: Allocator>(
     ensures complete { IfOk result (λ found. found.whole ≡ true → AreAllOutcomes call_of next_of (script_kernel script.now.profile (lines_of script.now.lines) stdin.now files.now) (map outcome_by found.outcomes.items)) }
     ensures awake { IfOk result (λ found. found.whole ≡ true → found.stuck ≡ None → IsNeverStuck call_of next_of (script_kernel script.now.profile (lines_of script.now.lines) stdin.now files.now)) }
 {
-    explore_named::<Brand, B, C>(alloc, script, stdin, files, states)
+    let setting = Setting {
+        script,
+        stdin,
+        files,
+    };
+    explore_watched(alloc, &setting, states, &mut Unwatched)
+}
+
+/// `explore`, which tells `watch` how many states it found, each time before it tries the turns of one more.
+pub fn explore_watched<B: Allocator, C: Allocator, W: Watch>(
+    alloc: Global,
+    setting: &Setting<'_, B, C>,
+    states: usize,
+    watch: &mut W,
+) -> Result<Exploration, ExploreFault>
+    ensures sound { IfOk result (λ found. All (IsReplayed call_of next_of (script_kernel setting.now.script.now.profile (lines_of setting.now.script.now.lines) setting.now.stdin.now setting.now.files.now)) found.outcomes.items) }
+    ensures apart { IfOk result (λ found. AreApart found.outcomes.items) }
+    ensures complete { IfOk result (λ found. found.whole ≡ true → AreAllOutcomes call_of next_of (script_kernel setting.now.script.now.profile (lines_of setting.now.script.now.lines) setting.now.stdin.now setting.now.files.now) (map outcome_by found.outcomes.items)) }
+    ensures awake { IfOk result (λ found. found.whole ≡ true → found.stuck ≡ None → IsNeverStuck call_of next_of (script_kernel setting.now.script.now.profile (lines_of setting.now.script.now.lines) setting.now.stdin.now setting.now.files.now)) }
+{
+    explore_named::<Brand, B, C, W>(alloc, setting, states, watch)
 }
 
 // Explores the script that `N` names.
-fn explore_named<N: Naming, B: Allocator, C: Allocator>(
+fn explore_named<N: Naming, B: Allocator, C: Allocator, W: Watch>(
     alloc: Global,
-    script: &Script<B>,
-    stdin: &[u8],
-    files: &Files<C>,
+    setting: &Setting<'_, B, C>,
     states: usize,
+    watch: &mut W,
 ) -> Result<Exploration, ExploreFault>
-    requires { lines_of script.now.lines ≡ N.script }
-    ensures sound { IfOk result (λ found. All (IsReplayed call_of next_of (script_kernel script.now.profile (lines_of script.now.lines) stdin.now files.now)) found.outcomes.items) }
+    requires { lines_of setting.now.script.now.lines ≡ N.script }
+    ensures sound { IfOk result (λ found. All (IsReplayed call_of next_of (script_kernel setting.now.script.now.profile (lines_of setting.now.script.now.lines) setting.now.stdin.now setting.now.files.now)) found.outcomes.items) }
     ensures apart { IfOk result (λ found. AreApart found.outcomes.items) }
-    ensures complete { IfOk result (λ found. found.whole ≡ true → AreAllOutcomes call_of next_of (script_kernel script.now.profile (lines_of script.now.lines) stdin.now files.now) (map outcome_by found.outcomes.items)) }
-    ensures awake { IfOk result (λ found. found.whole ≡ true → found.stuck ≡ None → IsNeverStuck call_of next_of (script_kernel script.now.profile (lines_of script.now.lines) stdin.now files.now)) }
+    ensures complete { IfOk result (λ found. found.whole ≡ true → AreAllOutcomes call_of next_of (script_kernel setting.now.script.now.profile (lines_of setting.now.script.now.lines) setting.now.stdin.now setting.now.files.now) (map outcome_by found.outcomes.items)) }
+    ensures awake { IfOk result (λ found. found.whole ≡ true → found.stuck ≡ None → IsNeverStuck call_of next_of (script_kernel setting.now.script.now.profile (lines_of setting.now.script.now.lines) setting.now.stdin.now setting.now.files.now)) }
 {
-    are_files(files);
+    are_files(setting.files);
     what_a_search_found_is_explored::<User<B, N>>();
     every_outcome_of_a_script_is_told();
     no_run_of_a_script_is_stuck_if_no_kernel_of_the_list_is();
     let origin = Origin {
         init: User::<B, N>::init(),
-        shell: User::shell(script),
-        stdin,
-        files,
+        shell: User::shell(setting.script),
+        stdin: setting.stdin,
+        files: setting.files,
     };
-    explore_from(alloc, &origin, states)
+    explore_from(alloc, &origin, states, watch)
 }

@@ -3,5 +3,5 @@
 
 mod exploring;
 
-pub use exploring::explore;
-pub use order_search::{Exploration, ExploreFault, Outcome};
+pub use exploring::{Setting, explore, explore_watched};
+pub use order_search::{Exploration, ExploreFault, Outcome, Watch};

@@ -2,11 +2,14 @@
 use Rattle.std.proofs.Common.{◌≡◌, ◌≢◌, ℕ, Bool, true, false, List, ◌++◌, codes, length, Option, Some, None, refl, ◌∙◌, ap, subst, arith}
 use Rattle.std.specs.Borrow.{Bor}
 use Rattle.std.specs.Io.KnownBytes.{Appends}
-use Rattle.std.proofs.lemmas.List.{append_cancel_left}
+use Rattle.std.proofs.lemmas.List.{append-nil, append_cancel_left}
 use Rattle.mem_files.specs.Name.{Bytes}
+use Rattle.mem_files.specs.Files.{FileMap, files}
 use Rattle.script_load.specs.declared.profile.Profile.{Profile}
+use Rattle.script_load.specs.Line.{ScriptLine}
+use Rattle.reason_sentences.specs.Whys.{IsWhy}
 use Rattle.xvsh_read.specs.Path.{Path}
-use Rattle.xvsh_ends.specs.Ends.{verdict_text, Asked, asks_plain, asks_run, asks_strict, asks_check, asks_turns, asks_explain, asks_explore, asks_traced, asks_witnessed, asks_json, verdict_status, help, misuse, How, by_schedule, RanBy, Due, plain_ran, no_plain, ran, no_run, ran_strict, no_strict, checked, no_check, counted, not_counted, explained, not_explained, explored, not_explored, traced, untraced, witnessed, unwitnessed, valued, unvalued, helped, misused, no_memory, Writes, whole, out_stopped, err_stopped, Ends}
+use Rattle.xvsh_ends.specs.Ends.{verdict_text, Asked, asks_plain, asks_run, asks_strict, asks_check, asks_turns, asks_explain, asks_whys, asks_explore, asks_traced, asks_witnessed, asks_json, asks_draw, drawn, undrawn, asks_input, verdict_status, help, misuse, How, by_schedule, RanBy, Due, plain_ran, no_plain, ran, no_run, ran_strict, no_strict, checked, no_check, counted, not_counted, explained, not_explained, whys_told, no_whys_told, explored, not_explored, traced, untraced, witnessed, unwitnessed, valued, unvalued, unread, helped, misused, no_memory, Writes, whole, out_stopped, err_stopped, Ends}
 use Rattle.xvsh_plain.specs.Running.{RanPlain}
 use Rattle.xvsh_runs.specs.Strict.{RanStrict}
 use Rattle.xvsh_ends.proofs.Dues.{some_status, some_run_status}
@@ -25,30 +28,39 @@ written_well text told status out out' err err' result (whole printed reported) 
 written_well text told status out out' err err' result (out_stopped part kept) zero = cc
 written_well text told status out out' err err' result (err_stopped printed part) zero = cc
 
+-- with status 0 no reason is told
+told_well : (profile : Profile) (lines : List ScriptLine) (stdin : Bytes) (F : FileMap) (strict is_settled : Bool) (why : Bytes) → verdict_status strict is_settled ≡ 0 → IsWhy profile lines stdin F strict is_settled why → verdict_text is_settled ++ why ≡ verdict_text is_settled
+told_well profile lines stdin F false is_settled why zero is = ap (λ w. verdict_text is_settled ++ w) is ∙ append-nil (verdict_text is_settled)
+told_well profile lines stdin F true true why zero is = ap (λ w. verdict_text true ++ w) is ∙ append-nil (verdict_text true)
+told_well profile lines stdin F true false why zero is = cc
+
 module _ (input : Option Bytes) (file : Path → Option Bytes) where
   -- what a run of the request did that ended well
   abbrev pub DidRun : Asked → Bytes → Bytes → Type 0
   DidRun (asks_plain profile script paths lists strict) text told = (is_settled : Bool) × RanPlain input file profile script paths lists is_settled text × (told ≡ verdict_text is_settled) × (verdict_status strict is_settled ≡ 0)
   DidRun (asks_run profile script paths how lists) text told = (diag : Bytes) × RanBy input file how profile script paths lists None text diag
-  DidRun (asks_strict profile script paths harts turns lists) text told = (diag : Bytes) × RanStrict input file profile script paths harts turns lists None true text diag
+  DidRun (asks_strict profile script paths harts turns lists) text told = (why : Bytes) × (diag : Bytes) × RanStrict input file profile script paths harts turns lists None true why text diag
   DidRun (asks_check script) text told = Unit {0}
   DidRun (asks_turns script paths) text told = Unit {0}
   DidRun (asks_explain script) text told = Unit {0}
+  DidRun (asks_whys profile script paths) text told = Unit {0}
   DidRun (asks_explore profile script paths states all) text told = Unit {0}
   DidRun (asks_traced what path) text told = Unit {0}
   DidRun (asks_witnessed what path) text told = Unit {0}
   DidRun (asks_json what) text told = Unit {0}
+  DidRun asks_draw text told = Unit {0}
+  DidRun (asks_input path) text told = Unit {0}
   DidRun help text told = Unit {0}
   DidRun misuse text told = Unit {0}
 
   due_well : (request : Asked) (text told : Bytes) (status : ℕ) → Due input file request text told status → status ≡ 0 → DidRun request text told
-  due_well request text told status (plain_ran is_settled gave) zero = (is_settled, gave, refl, zero)
+  due_well request text told status (plain_ran {profile = profile} {strict = strict} is_settled why gave told_why) zero = (is_settled, gave, told_well profile gave.lines gave.stdin (files gave.given) strict is_settled why zero told_why, zero)
   due_well request text told status (no_plain fault why) zero = absurd (some_status fault zero)
   due_well request text told status (ran diag None gave) zero = (diag, gave)
   due_well request text told status (ran diag (Some full) gave) zero = cc
   due_well request text told status (no_run fault why) zero = absurd (some_run_status fault zero)
-  due_well request text told status (ran_strict {profile = profile} {script = script} {paths = paths} {harts = harts} {turns = turns} {lists = lists} diag is_settled None gave) zero = (diag, subst (λ is. RanStrict input file profile script paths harts turns lists None is text diag) (strictly_settled is_settled zero) gave)
-  due_well request text told status (ran_strict diag is_settled (Some full) gave) zero = cc
+  due_well request text told status (ran_strict {profile = profile} {script = script} {paths = paths} {harts = harts} {turns = turns} {lists = lists} diag why is_settled None gave) zero = (why, diag, subst (λ is. RanStrict input file profile script paths harts turns lists None is why text diag) (strictly_settled is_settled zero) gave)
+  due_well request text told status (ran_strict diag why is_settled (Some full) gave) zero = cc
   due_well request text told status (no_strict fault why) zero = absurd (some_run_status fault zero)
   due_well request text told status (checked is_harmless gave) zero = tt
   due_well request text told status (no_check fault why) zero = tt
@@ -56,6 +68,8 @@ module _ (input : Option Bytes) (file : Path → Option Bytes) where
   due_well request text told status (not_counted fault why) zero = tt
   due_well request text told status (explained is_fine gave) zero = tt
   due_well request text told status (not_explained fault why) zero = tt
+  due_well request text told status (whys_told is_fine gave) zero = tt
+  due_well request text told status (no_whys_told fault why) zero = tt
   due_well request text told status (explored is_whole is_single gave) zero = tt
   due_well request text told status (not_explored fault why) zero = tt
   due_well request text told status (traced due) zero = tt
@@ -64,6 +78,9 @@ module _ (input : Option Bytes) (file : Path → Option Bytes) where
   due_well request text told status (unwitnessed of) zero = tt
   due_well request text told status (valued object is due) zero = tt
   due_well request text told status (unvalued is due) zero = tt
+  due_well request text told status (drawn page) zero = tt
+  due_well request text told status (undrawn report number) zero = tt
+  due_well request text told status (unread fault why) zero = tt
   due_well request text told status (helped shown) zero = tt
   due_well request text told status (misused shown) zero = tt
   due_well request text told status no_memory zero = cc

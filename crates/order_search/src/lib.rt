@@ -15,6 +15,7 @@ mod reading;
 mod standing;
 mod turning;
 
+pub use closed_search::{Unwatched, Watch};
 pub use fault::ExploreFault;
 pub use ordering::{Exploration, explore_from};
 pub use origin::Origin;

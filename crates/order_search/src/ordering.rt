@@ -12,7 +12,7 @@ use crate::origin::Origin;
 use crate::outcomes::{Outcome, outcomes_of, stuck_of};
 use crate::reading::Reader;
 use crate::standing::Standing;
-use closed_search::{Found, search};
+use closed_search::{Bounds, Found, Watch, search};
 use proc_table::PROCS;
 use std::alloc::{Allocator, Global};
 use user_calls::Machine;
@@ -32,17 +32,22 @@ pub struct Exploration {
 }
 
 /// Tries the orders in which the processes of a kernel can take their turns: all orders, unless they lead to more than
-/// `states` states.
-pub fn explore_from<M: Machine, C: Allocator>(
+/// `states` states. `watch` is told how many were found.
+pub fn explore_from<M: Machine, C: Allocator, W: Watch>(
     alloc: Global,
     origin: &Origin<'_, M, C>,
     states: usize,
+    watch: &mut W,
 ) -> Result<Exploration, ExploreFault>
     ensures { IfOk result (Explores M.call_of M.next_of (start_kernel (M.view origin.now.init) (M.view origin.now.shell) origin.now.stdin.now origin.now.files.now)) }
 {
     let mut reader = Reader::new(alloc)?;
     let start = Standing::start(&mut reader, origin)?;
-    let found = search(alloc, &mut reader, start, PROCS, states)?;
+    let bounds = Bounds {
+        moves: PROCS,
+        limit: states,
+    };
+    let found = search(alloc, &mut reader, start, bounds, watch)?;
     let told = tell(alloc, origin, &found)?;
     Ok(told)
 }

@@ -1,8 +1,48 @@
 //! The result of a command that failed.
 
-use crate::object::Object;
+use crate::head::begin_result;
 use std::alloc::{AllocError, Global};
+use trace_lines::Line;
 use xvsh_read::Fault;
+
+/// What a fault is about, as far as it says.
+#[derive(Clone, Copy, Debug)]
+pub struct FaultPlace<'a> {
+    /// A line of the script or of the schedule, counted from 1.
+    pub line: Option<usize>,
+    /// The path of a file.
+    pub path: Option<&'a str>,
+    /// An event of the schedule, counted from 1.
+    pub event: Option<usize>,
+    /// A process, by its slot.
+    pub pid: Option<usize>,
+    /// A hart, counted from 0.
+    pub hart: Option<u8>,
+}
+
+impl FaultPlace<'_> {
+    /// Nothing.
+    pub const NOWHERE: FaultPlace<'static> = FaultPlace {
+        line: None,
+        path: None,
+        event: None,
+        pid: None,
+        hart: None,
+    };
+}
+
+/// What is told of a fault.
+#[derive(Clone, Copy, Debug)]
+pub struct FaultValues<'a> {
+    /// Its number, which no other fault has.
+    pub number: u64,
+    /// Its name.
+    pub name: &'static str,
+    /// The program's line on standard error, without `xvsh: ` and LF.
+    pub text: &'a [u8],
+    /// What it is about.
+    pub place: FaultPlace<'a>,
+}
 
 // The number and the name of a fault: its place in the type, counted from 1, and its variant.
 fn number_of(fault: Fault<'_>) -> (u64, &'static str) {
@@ -19,30 +59,71 @@ fn number_of(fault: Fault<'_>) -> (u64, &'static str) {
 }
 
 // The line or the path of a fault that has one.
-fn write_place(object: &mut Object, fault: Fault<'_>) -> Result<(), AllocError> {
+fn place_of(fault: Fault<'_>) -> FaultPlace<'_> {
     match fault {
-        Fault::LineTooLong(line) | Fault::ByteZero(line) => object.count("line", line as u64),
-        Fault::Unreadable(path) | Fault::TooLong(path) | Fault::BadName(path) => {
-            object.word("path", path)
-        }
-        Fault::TooManyFiles | Fault::TooLarge | Fault::Memory => Ok(()),
+        Fault::LineTooLong(line) | Fault::ByteZero(line) => FaultPlace {
+            line: Some(line),
+            ..FaultPlace::NOWHERE
+        },
+        Fault::Unreadable(path) | Fault::TooLong(path) | Fault::BadName(path) => FaultPlace {
+            path: Some(path),
+            ..FaultPlace::NOWHERE
+        },
+        Fault::TooManyFiles | Fault::TooLarge | Fault::Memory => FaultPlace::NOWHERE,
     }
 }
 
+fn write_some(line: &mut Line, key: &str, count: Option<u64>) -> Result<(), AllocError> {
+    match count {
+        Some(count) => line.count(key, count),
+        None => Ok(()),
+    }
+}
+
+// What a fault is about.
+fn write_place(line: &mut Line, place: FaultPlace<'_>) -> Result<(), AllocError> {
+    write_some(line, "line", place.line.map(|line| line as u64))?;
+    if let Some(path) = place.path {
+        line.word("path", path)?;
+    }
+    write_some(line, "event", place.event.map(|event| event as u64))?;
+    write_some(line, "pid", place.pid.map(|pid| pid as u64))?;
+    write_some(line, "hart", place.hart.map(|hart| u64::from(hart)))
+}
+
 /// The result of a command that failed, as one object of JSON, and LF (own): `format`, `version`, `command`, `status` `fault`,
-/// `code`, the status with which the program ends, and `fault`: its `number` and its `name`, its `text`, which is the program's
-/// line on standard error without `xvsh: `, and the `line`, counted from 1, or the `path` that it has.
+/// `code`, the status with which the program ends, and `fault`: its `number`, its `name`, its `text`, and those of `line`,
+/// `path`, `event`, `pid` and `hart` that it is about.
+///
+/// `AllocError` where memory for the text is refused.
+pub fn told_fault_result(
+    alloc: Global,
+    command: &str,
+    told: &FaultValues<'_>,
+    code: u8,
+) -> Result<Vec<u8>, AllocError> {
+    let mut line = begin_result(alloc, command, "fault", code)?;
+    line.begin_object("fault")?;
+    line.count("number", told.number)?;
+    line.word("name", told.name)?;
+    line.bytes("text", told.text)?;
+    write_place(&mut line, told.place)?;
+    line.end_object()?;
+    line.end()
+}
+
+/// The same of a fault that any command may meet (own). Its number is its place in `Fault`, counted from 1, its name that of its
+/// variant, and its text what it displays.
 ///
 /// `AllocError` where memory for the text is refused.
 pub fn fault_result(alloc: Global, command: &str, fault: Fault<'_>) -> Result<Vec<u8>, AllocError> {
-    let mut object = Object::begin(alloc, command, "fault", fault.status())?;
     let (number, name) = number_of(fault);
     let text = format!(in alloc; "{fault}")?;
-    object.begin_object("fault")?;
-    object.count("number", number)?;
-    object.word("name", name)?;
-    object.word("text", text.as_str())?;
-    write_place(&mut object, fault)?;
-    object.end_object()?;
-    object.end()
+    let told = FaultValues {
+        number,
+        name,
+        text: text.as_bytes(),
+        place: place_of(fault),
+    };
+    told_fault_result(alloc, command, &told, fault.status())
 }

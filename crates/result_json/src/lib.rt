@@ -1,10 +1,21 @@
 //! Results as one object of JSON: what the program's text says, as values that other programs read.
 #![tactic(auto)]
 
+mod check;
+mod explain;
 mod faults;
-mod object;
+mod files;
+mod head;
 mod plain;
 mod reasons;
+mod run;
+mod words;
 
-pub use faults::fault_result;
+pub use check::{check_result, counted_result};
+pub use explain::explain_result;
+pub use faults::{FaultPlace, FaultValues, fault_result, told_fault_result};
+pub use files::write_files;
+pub use head::begin_result;
 pub use plain::plain_result;
+pub use run::{RunValues, Verdict, run_result};
+pub use words::full_word;

@@ -1,20 +1,12 @@
 //! Why a script isn't settled, in an object.
 
-use crate::object::Object;
-use conflict_check::ClashKind;
+use crate::words::clash_word;
 use plain_run::Reason;
 use std::alloc::{AllocError, Global};
-
-// The word of a kind of clash, as `check` reports it.
-fn clash_word(kind: ClashKind) -> &'static str {
-    match kind {
-        ClashKind::PipeSides => "PipeSides",
-        ClashKind::Enclosing => "Enclosing",
-    }
-}
+use trace_lines::Line;
 
 // What a reason says.
-fn write_reason(object: &mut Object, reason: &Reason<Global>) -> Result<(), AllocError> {
+fn write_reason(object: &mut Line, reason: &Reason<Global>) -> Result<(), AllocError> {
     match reason {
         Reason::Background { line } => {
             object.word("kind", "background")?;
@@ -42,12 +34,12 @@ fn write_reason(object: &mut Object, reason: &Reason<Global>) -> Result<(), Allo
 
 // All reasons, in order, as the list `reasons`.
 pub(crate) fn write_reasons(
-    object: &mut Object,
+    object: &mut Line,
     reasons: &[Reason<Global>],
 ) -> Result<(), AllocError> {
     object.begin_list("reasons")?;
     for reason in reasons {
-        object.begin_item()?;
+        object.begin_raw_object()?;
         write_reason(object, reason)?;
         object.end_object()?;
     }

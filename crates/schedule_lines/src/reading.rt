@@ -4,7 +4,7 @@ ghost use Rattle.std.specs.Prelude.{◌≡◌, ◌≢◌, ◌<◌, ◌^◌, ◌+
 ghost use Rattle.std.specs.Fmt.{decimal};
 ghost use Rattle.prog_parts.specs.Lines.{IsFirstLine};
 ghost use Rattle.kernel_model.specs.declared.events.Event.{Event};
-ghost use Rattle.schedule_lines.specs.EventLines.{numbers_text, event_text, AreLinesOf, HasNoSpace, IsHeld, IsNoEvent, IsScheduleFault};
+ghost use Rattle.schedule_lines.specs.EventLines.{numbers_text, event_text, is_note, AddsLine, AreLinesOf, HasNoSpace, IsHeld, IsLineFault, IsNoEvent, IsScheduleFault};
 
 use itoa::Buffer;
 use kernel_model::Event;
@@ -118,24 +118,49 @@ fn add_event(events: &mut Vec<Event>, event: Event) -> Result<(), AllocError>
     Ok(())
 }
 
+// Whether a line is empty or begins with `#`.
+fn is_note(line: &[u8]) -> bool
+    ensures { result ≡ is_note line.now }
+{
+    match line {
+        [] => true,
+        [first, ..] => *first == b'#',
+    }
+}
+
+// Adds the event of the line of this number, unless it is a note.
+fn add_line(events: &mut Vec<Event>, line: &[u8], number: usize) -> Result<(), ScheduleFault>
+    ensures added { OnOk result (AddsLine line.now events.old.items events.new.items) }
+    ensures fault { IfErr result (IsLineFault line.now number) }
+{
+    if is_note(line) {
+        return Ok(());
+    }
+    let Some(event) = event_of(line) else {
+        return Err(ScheduleFault::NoEvent(number));
+    };
+    add_event(events, event)?;
+    Ok(())
+}
+
 /// The events of a text, which has a line for each: `D h pid` for a dispatch of the process to the hart, and `T h pid` for
 /// a trap of the process on the hart (own). The numbers are in decimal without leading zeros, a hart's at most 255 and
 /// a process's at most 4,294,967,295; one space stands before each, and nothing else on the line. The last line may lack its LF.
+/// An empty line, and one that begins with `#`, is a note, and no event.
 ///
-/// `NoEvent` names the first line that is no event, counted from 1; `Memory` where the allocator refused memory.
+/// `NoEvent` names the first line that is neither, counted from 1; `Memory` where the allocator refused memory.
 pub fn read_schedule(alloc: Global, bytes: &[u8]) -> Result<Vec<Event>, ScheduleFault>
     ensures lines { IfOk result (λ events. AreLinesOf bytes.now events.items) }
     ensures held { IfOk result (λ events. All IsHeld events.items) }
     ensures fault { IfErr result (IsScheduleFault bytes.now) }
 {
     let mut events = Vec::new(alloc);
+    let mut count = 0;
     let mut rest = bytes;
     while !rest.is_empty() {
         let (line, after) = first_line(rest);
-        let Some(event) = event_of(line) else {
-            return Err(ScheduleFault::NoEvent(events.len() + 1));
-        };
-        add_event(&mut events, event)?;
+        add_line(&mut events, line, count + 1)?;
+        count += 1;
         rest = after;
     }
     Ok(events)

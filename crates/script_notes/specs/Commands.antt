@@ -8,10 +8,11 @@ use Rattle.mem_files.specs.Name.{Bytes, is_openable}
 use Rattle.prog_parts.specs.Program.{program_of}
 use Rattle.conflict_check.specs.Names.{names}
 use Rattle.script_notes.specs.declared.kind.NoteKind.{NoteKind}
-use Rattle.script_notes.specs.declared.kind.NoteKind.TheVariants.{NoProgram, NoFileName, Background, WritesOver, InputUnread, OutputEmptied, OutputUnwritten}
+use Rattle.script_notes.specs.declared.kind.NoteKind.TheVariants.{NoFileName, Background, WritesOver, InputUnread, OutputEmptied, OutputUnwritten}
 use Rattle.script_notes.specs.declared.commands.Seen.{Seen}
 use Rattle.script_notes.specs.Letters.{text_of}
 use Rattle.script_notes.specs.Notes.{Note, note_where}
+use Rattle.script_notes.specs.Others.{lacking_kind}
 use Rattle.script_notes.specs.Segments.{seen_of}
 
 -- the word is a command's name, and no program has it
@@ -30,7 +31,7 @@ over_kind false = WritesOver
 -- of a token of this kind, with this text
 abbrev pub senses_by : Kind → Tree → Seen → Bytes → Token → List Note
 senses_by Word tree seen word t =
-    note_where (lacks_program seen word) NoProgram t.first t.past ++ note_where (lacks_file tree word) NoFileName t.first t.past
+    note_where (lacks_program seen word) (lacking_kind word) t.first t.past ++ note_where (lacks_file tree word) NoFileName t.first t.past
 senses_by Less tree seen word t = note_where seen.has_input InputUnread t.first t.past
 senses_by More tree seen word t = note_where seen.has_output OutputEmptied t.first t.past
 senses_by MoreMore tree seen word t = note_where true (over_kind seen.has_output) t.first t.past

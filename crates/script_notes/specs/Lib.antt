@@ -4,6 +4,8 @@ pub mod Notes
 pub mod Letters
 pub mod Segments
 pub mod Habits
+pub mod Others
 pub mod Commands
 pub mod Whole
 pub mod Explained
+pub mod Written

@@ -2,7 +2,7 @@
 use Rattle.std.specs.Prelude.{codes}
 use Rattle.mem_files.specs.Name.{Bytes}
 use Rattle.script_notes.specs.declared.kind.NoteKind.{NoteKind}
-use Rattle.script_notes.specs.declared.kind.NoteKind.TheVariants.{ByteOrderMark, CarriageReturn, NoComment, NoQuote, NoOr, NoAnd, NoCommand, LastBar, NoNumber, NoVariable, NoPattern, NoOption, HeadOption, TeeOption, GrepOption, EchoOption, NoProgram, NoFileName, Background, WritesOver, InputUnread, OutputEmptied, OutputUnwritten, NoDirectories, MissingName, OpenParen, TenthWord, LateParen, StrayParen, LeftOver, PipeClash, RedirectionClash}
+use Rattle.script_notes.specs.declared.kind.NoteKind.TheVariants.{ByteOrderMark, CarriageReturn, NoComment, NoQuote, NoOr, NoAnd, NoCommand, LastBar, NoNumber, NoVariable, NoPattern, NoOption, HeadOption, TeeOption, GrepOption, EchoOption, NoProgram, NoFileName, Background, WritesOver, InputUnread, OutputEmptied, OutputUnwritten, NoDirectories, MissingName, OpenParen, TenthWord, LateParen, StrayParen, LeftOver, PipeClash, RedirectionClash, NoListing, NoCopy, NoRemoval, NoFolder, NoFilter, NoProcess, NoPrinter, NoShellWord}
 
 abbrev pub sentence : NoteKind → Bytes
 sentence ByteOrderMark = codes "the file begins with a byte order mark, which the shell takes for a part of the first word"
@@ -37,3 +37,11 @@ sentence StrayParen = codes "this ) closes nothing: the line is no command, and 
 sentence LeftOver = codes "the line can't go on like this: it is no command, and nothing of it runs"
 sentence PipeClash = codes "both sides of a pipe use this file and one of them writes it: what comes out may depend on which is faster"
 sentence RedirectionClash = codes "a redirection opens this file and the command uses it too, so it may be emptied or changed before it is read"
+sentence NoListing = codes "there is no program here that lists files: the command does nothing but tell that it can't run, and cat or wc with a file's name shows whether it is there"
+sentence NoCopy = codes "there is no such program here, and no name of a file can be changed: the command does nothing but tell that it can't run, and cat FILE > COPY makes a copy"
+sentence NoRemoval = codes "there is no such program here, and no file can be removed: the command does nothing but tell that it can't run, and > FILE makes a file or empties it"
+sentence NoFolder = codes "there are no directories here: the command does nothing but tell that it can't run"
+sentence NoFilter = codes "there is no such filter here: the command does nothing but tell that it can't run, and it reads nothing; there are cat, grep, head, tee and wc"
+sentence NoProcess = codes "there is no program here for processes or time: the command does nothing but tell that it can't run, and the shell waits for each command without & by itself"
+sentence NoPrinter = codes "there is no such program here: the command does nothing but tell that it can't run, and echo writes words"
+sentence NoShellWord = codes "this is no word of the shell here, which has no conditions, loops or settings: it is taken for a command's name, and no program has it"

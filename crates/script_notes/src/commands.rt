@@ -6,10 +6,13 @@ ghost use Rattle.sh_tree.specs.Tree.{tree_of};
 ghost use Rattle.script_notes.specs.Commands.{lacks_program, lacks_file, over_kind, senses_by, senses_of, command_notes};
 ghost use Rattle.script_notes.specs.Letters.{text_of};
 ghost use Rattle.script_notes.specs.Notes.{notes_text};
+ghost use Rattle.script_notes.specs.Written.{written};
 ghost use Rattle.script_notes.specs.Segments.{seen_of};
 
 use crate::kind::NoteKind;
 use crate::letters::{add_where, span_of, text_of};
+use crate::line_note::LineNote;
+use crate::others::lacking_kind;
 use conflict_check::names_it;
 use mem_files::is_openable;
 use prog_parts::Program;
@@ -94,10 +97,10 @@ fn add_word(
     tree: &Cmd<Global>,
     seen: Seen,
     token: &Token,
-    told: &mut Vec<u8>,
+    told: &mut Vec<LineNote>,
 ) -> Result<(), AllocError>
     requires { IsToken text.now token.now }
-    ensures { OnOk result (told.new.items ≡ told.old.items ++ notes_text number text.now (senses_by Kind.Word (tree_of tree.now) seen (text_of text.now token.now) token.now)) }
+    ensures { OnOk result (written told.new.items ≡ written told.old.items ++ notes_text number text.now (senses_by Kind.Word (tree_of tree.now) seen (text_of text.now token.now) token.now)) }
 {
     let word = text_of(text, token);
     let span = span_of(token);
@@ -107,7 +110,7 @@ fn add_word(
         number,
         text,
         is_unknown,
-        NoteKind::NoProgram,
+        lacking_kind(word),
         span,
         told,
     )?;
@@ -131,10 +134,10 @@ fn add_senses(
     tree: &Cmd<Global>,
     seen: Seen,
     token: &Token,
-    told: &mut Vec<u8>,
+    told: &mut Vec<LineNote>,
 ) -> Result<(), AllocError>
     requires { IsToken text.now token.now }
-    ensures { OnOk result (told.new.items ≡ told.old.items ++ notes_text number text.now (senses_of text.now (tree_of tree.now) seen token.now)) }
+    ensures { OnOk result (written told.new.items ≡ written told.old.items ++ notes_text number text.now (senses_of text.now (tree_of tree.now) seen token.now)) }
 {
     let (holds, kind) = match token.kind {
         Kind::Word => return add_word(alloc, number, text, tree, seen, token, told),
@@ -154,10 +157,10 @@ pub fn add_command_notes(
     text: &[u8],
     tree: &Cmd<Global>,
     tokens: &[Token],
-    told: &mut Vec<u8>,
+    told: &mut Vec<LineNote>,
 ) -> Result<(), AllocError>
     requires { IsTokenList text.now tokens.now }
-    ensures { OnOk result (told.new.items ≡ told.old.items ++ notes_text number text.now (command_notes text.now (tree_of tree.now) [] tokens.now)) }
+    ensures { OnOk result (written told.new.items ≡ written told.old.items ++ notes_text number text.now (command_notes text.now (tree_of tree.now) [] tokens.now)) }
 {
     let mut seen = NOTHING;
     let mut rest = tokens;

@@ -4,10 +4,13 @@ ghost use Rattle.script_load.specs.Line.{line_of};
 ghost use Rattle.script_load.specs.Script.{HasLoadFault, IsLineOf};
 ghost use Rattle.script_notes.specs.Notes.{Note, notes_text};
 ghost use Rattle.script_notes.specs.Explained.{HasNotes, IsExplained};
+ghost use Rattle.script_notes.specs.Written.{written};
 
 use crate::commands::add_command_notes;
 use crate::habits::add_token_notes;
 use crate::letters::add_byte_notes;
+use crate::line_note::LineNote;
+use crate::marks::add_note_text;
 use crate::whole::{add_cd_note, add_clash_note, add_fault_note};
 use prog_parts::split_line;
 use script_load::{Line, LoadFault, load};
@@ -34,11 +37,11 @@ fn explain_line(
     number: usize,
     text: &[u8],
     line: &Line<Global>,
-    told: &mut Vec<u8>,
+    told: &mut Vec<LineNote>,
 ) -> Result<(), AllocError>
     requires { IsLineOf text.now (line_of line.now) }
     ensures { OnOk result ((notes : List Note) × HasNotes number text.now (line_of line.now) notes
-        × (told.new.items ≡ told.old.items ++ notes_text number text.now notes)) }
+        × (written told.new.items ≡ written told.old.items ++ notes_text number text.now notes)) }
 {
     add_byte_notes(alloc, number, text, told)?;
     if let Line::Cd(_) = line {
@@ -57,16 +60,12 @@ fn explain_line(
     }
 }
 
-/// The notes of a script, as text for a student (own): on a `#` that begins no comment, a quote that is none, a
+/// The notes of a script, in the order of its lines (own): on a `#` that begins no comment, a quote that is none, a
 /// byte order mark, a carriage return, `||`, `&&`, `;;`, a `|` at the end, `2>`, a variable, a pattern, an option, a line that
 /// is no command, a command that runs no program, a name that no file can have, a `cd`, a `&`, a `>>`, a redirection that another
-/// replaces, and the first clash of a line. Nothing is run.
-///
-/// Each note is three lines: `line N: SENTENCE`, the line without its carriage returns behind two spaces, and
-/// marks `^` under the places that it speaks of, behind two spaces too, with a tab under a tab. Lines are counted
-/// from 1. The text is empty where no line has a note. The errors are those of `load`.
-pub fn explain(alloc: Global, bytes: &[u8]) -> Result<Vec<u8>, LoadFault>
-    ensures told { IfOk result (λ told. IsExplained bytes.now told.items) }
+/// replaces, and the first clash of a line. Nothing is run. The errors are those of `load`.
+pub fn notes_of(alloc: Global, bytes: &[u8]) -> Result<Vec<LineNote>, LoadFault>
+    ensures told { IfOk result (λ notes. IsExplained bytes.now (written notes.items)) }
     ensures fault { IfErr result (HasLoadFault bytes.now) }
 {
     let script = load(alloc, bytes)?;
@@ -79,5 +78,31 @@ pub fn explain(alloc: Global, bytes: &[u8]) -> Result<Vec<u8>, LoadFault>
         explain_line(alloc, i + 1, text, line, &mut told)?;
         rest = after;
     }
+    Ok(told)
+}
+
+/// Notes as text for a student (own). Each is three lines: `line N: SENTENCE`, the line without its carriage returns behind two
+/// spaces, and marks `^` under the places that it speaks of, behind two spaces too, with a tab under a tab. Lines are counted
+/// from 1. The text is empty where there is no note. `AllocError` where memory for it is refused.
+pub fn text_of_notes(alloc: Global, notes: &[LineNote]) -> Result<Vec<u8>, AllocError>
+    ensures { IfOk result (λ told. told.items ≡ written notes.now) }
+{
+    let mut told = Vec::new(alloc);
+    let mut rest = notes;
+    while let Some((note, after)) = rest.split_first() {
+        add_note_text(alloc, note, &mut told)?;
+        rest = after;
+    }
+    Ok(told)
+}
+
+/// The notes of a script, as text for a student (own): those of `notes_of`, as `text_of_notes` writes them. The errors are those of
+/// `load`.
+pub fn explain(alloc: Global, bytes: &[u8]) -> Result<Vec<u8>, LoadFault>
+    ensures told { IfOk result (λ told. IsExplained bytes.now told.items) }
+    ensures fault { IfErr result (HasLoadFault bytes.now) }
+{
+    let notes = notes_of(alloc, bytes)?;
+    let told = text_of_notes(alloc, notes.as_slice())?;
     Ok(told)
 }

@@ -5,9 +5,11 @@ ghost use Rattle.sh_lexer.specs.Tokens.{IsToken, IsTokenList};
 ghost use Rattle.script_notes.specs.Habits.{after_word, begins_option, habit_notes, habits_of, has_glob, has_variable, is_argument, is_bar, is_digit, is_grep, is_numbered, is_option, is_pattern, note_if, option_kind, pair_kind, said_of, token_notes, word_habits};
 ghost use Rattle.script_notes.specs.Letters.{text_of};
 ghost use Rattle.script_notes.specs.Notes.{notes_text};
+ghost use Rattle.script_notes.specs.Written.{written};
 
 use crate::kind::NoteKind;
 use crate::letters::{add_letter_notes, add_where, span_of, text_of};
+use crate::line_note::LineNote;
 use crate::marks::Span;
 use prog_parts::Program;
 use sh_lexer::{Kind, Token};
@@ -191,11 +193,11 @@ fn add_if(
     holds: bool,
     kind: Option<NoteKind>,
     span: Span,
-    told: &mut Vec<u8>,
+    told: &mut Vec<LineNote>,
 ) -> Result<(), AllocError>
     requires order { span.first ≤ span.past }
     requires inside { span.past ≤ length text.now }
-    ensures { OnOk result (told.new.items ≡ told.old.items ++ notes_text number text.now (note_if holds kind span.first span.past)) }
+    ensures { OnOk result (written told.new.items ≡ written told.old.items ++ notes_text number text.now (note_if holds kind span.first span.past)) }
 {
     match kind {
         Some(kind) => add_where(alloc, number, text, holds, kind, span, told),
@@ -210,10 +212,10 @@ fn add_word(
     text: &[u8],
     said: Said,
     token: &Token,
-    told: &mut Vec<u8>,
+    told: &mut Vec<LineNote>,
 ) -> Result<(), AllocError>
     requires { IsToken text.now token.now }
-    ensures { OnOk result (told.new.items ≡ told.old.items ++ notes_text number text.now (word_habits said (text_of text.now token.now) token.now)) }
+    ensures { OnOk result (written told.new.items ≡ written told.old.items ++ notes_text number text.now (word_habits said (text_of text.now token.now) token.now)) }
 {
     let word = text_of(text, token);
     let span = span_of(token);
@@ -249,10 +251,10 @@ fn add_habits(
     text: &[u8],
     said: Said,
     token: &Token,
-    told: &mut Vec<u8>,
+    told: &mut Vec<LineNote>,
 ) -> Result<(), AllocError>
     requires { IsToken text.now token.now }
-    ensures { OnOk result (told.new.items ≡ told.old.items ++ notes_text number text.now (habits_of text.now said token.now)) }
+    ensures { OnOk result (written told.new.items ≡ written told.old.items ++ notes_text number text.now (habits_of text.now said token.now)) }
 {
     let span = span_of(token);
     let (holds, kind) = match token.kind {
@@ -279,10 +281,10 @@ fn add_habit_notes(
     number: usize,
     text: &[u8],
     tokens: &[Token],
-    told: &mut Vec<u8>,
+    told: &mut Vec<LineNote>,
 ) -> Result<(), AllocError>
     requires { IsTokenList text.now tokens.now }
-    ensures { OnOk result (told.new.items ≡ told.old.items ++ notes_text number text.now (habit_notes text.now [] tokens.now)) }
+    ensures { OnOk result (written told.new.items ≡ written told.old.items ++ notes_text number text.now (habit_notes text.now [] tokens.now)) }
 {
     let mut said = NOTHING;
     let mut rest = tokens;
@@ -305,10 +307,10 @@ pub fn add_token_notes(
     number: usize,
     text: &[u8],
     tokens: &[Token],
-    told: &mut Vec<u8>,
+    told: &mut Vec<LineNote>,
 ) -> Result<(), AllocError>
     requires { IsTokenList text.now tokens.now }
-    ensures { OnOk result (told.new.items ≡ told.old.items ++ notes_text number text.now (token_notes text.now tokens.now)) }
+    ensures { OnOk result (written told.new.items ≡ written told.old.items ++ notes_text number text.now (token_notes text.now tokens.now)) }
 {
     add_letter_notes(alloc, number, text, tokens, told)?;
     add_habit_notes(alloc, number, text, tokens, told)

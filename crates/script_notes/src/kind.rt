@@ -67,6 +67,22 @@ pub enum NoteKind {
     PipeClash,
     /// A clash of a redirection with the command inside it.
     RedirectionClash,
+    /// A name of a program that shows which files there are.
+    NoListing,
+    /// A name of a program that copies or renames files.
+    NoCopy,
+    /// A name of a program that removes, makes or empties files.
+    NoRemoval,
+    /// A name of a program for directories.
+    NoFolder,
+    /// A name of a filter of other systems.
+    NoFilter,
+    /// A name of a program for processes, or for time.
+    NoProcess,
+    /// A name of a program that writes what nobody gave it.
+    NoPrinter,
+    /// A word of other shells.
+    NoShellWord,
 }
 
 impl NoteKind {
@@ -139,6 +155,22 @@ impl NoteKind {
                 b"both sides of a pipe use this file and one of them writes it: what comes out may depend on which is faster".as_slice(),
             NoteKind::RedirectionClash =>
                 b"a redirection opens this file and the command uses it too, so it may be emptied or changed before it is read".as_slice(),
+            NoteKind::NoListing =>
+                b"there is no program here that lists files: the command does nothing but tell that it can't run, and cat or wc with a file's name shows whether it is there".as_slice(),
+            NoteKind::NoCopy =>
+                b"there is no such program here, and no name of a file can be changed: the command does nothing but tell that it can't run, and cat FILE > COPY makes a copy".as_slice(),
+            NoteKind::NoRemoval =>
+                b"there is no such program here, and no file can be removed: the command does nothing but tell that it can't run, and > FILE makes a file or empties it".as_slice(),
+            NoteKind::NoFolder =>
+                b"there are no directories here: the command does nothing but tell that it can't run".as_slice(),
+            NoteKind::NoFilter =>
+                b"there is no such filter here: the command does nothing but tell that it can't run, and it reads nothing; there are cat, grep, head, tee and wc".as_slice(),
+            NoteKind::NoProcess =>
+                b"there is no program here for processes or time: the command does nothing but tell that it can't run, and the shell waits for each command without & by itself".as_slice(),
+            NoteKind::NoPrinter =>
+                b"there is no such program here: the command does nothing but tell that it can't run, and echo writes words".as_slice(),
+            NoteKind::NoShellWord =>
+                b"this is no word of the shell here, which has no conditions, loops or settings: it is taken for a command's name, and no program has it".as_slice(),
         }
     }
 }

@@ -4,9 +4,11 @@ ghost use Rattle.std.specs.List.{list_any};
 ghost use Rattle.sh_lexer.specs.Tokens.{IsToken, IsTokenList};
 ghost use Rattle.script_notes.specs.Letters.{begins_with_mark, ends_in_return, mark_notes, return_notes, byte_notes, text_of, begins_comment, is_quote, letters_of, letter_notes};
 ghost use Rattle.script_notes.specs.Notes.{note_where, notes_text};
+ghost use Rattle.script_notes.specs.Written.{written};
 
 use crate::kind::NoteKind;
-use crate::marks::{Span, add_note};
+use crate::line_note::{LineNote, add_note};
+use crate::marks::Span;
 use sh_lexer::Token;
 use std::alloc::{AllocError, Global};
 
@@ -18,11 +20,11 @@ pub fn add_where(
     holds: bool,
     kind: NoteKind,
     span: Span,
-    told: &mut Vec<u8>,
+    told: &mut Vec<LineNote>,
 ) -> Result<(), AllocError>
     requires order { span.first ≤ span.past }
     requires inside { span.past ≤ length text.now }
-    ensures { OnOk result (told.new.items ≡ told.old.items ++ notes_text number text.now (note_where holds kind span.first span.past)) }
+    ensures { OnOk result (written told.new.items ≡ written told.old.items ++ notes_text number text.now (note_where holds kind span.first span.past)) }
 {
     if holds {
         add_note(alloc, number, text, kind, &[span], told)?;
@@ -49,9 +51,9 @@ fn add_mark_note(
     alloc: Global,
     number: usize,
     text: &[u8],
-    told: &mut Vec<u8>,
+    told: &mut Vec<LineNote>,
 ) -> Result<(), AllocError>
-    ensures { OnOk result (told.new.items ≡ told.old.items ++ notes_text number text.now (mark_notes number text.now)) }
+    ensures { OnOk result (written told.new.items ≡ written told.old.items ++ notes_text number text.now (mark_notes number text.now)) }
 {
     if number == 1 && begins_with_mark(text) {
         let span = Span { first: 0, past: 3 };
@@ -65,9 +67,9 @@ fn add_return_note(
     alloc: Global,
     number: usize,
     text: &[u8],
-    told: &mut Vec<u8>,
+    told: &mut Vec<LineNote>,
 ) -> Result<(), AllocError>
-    ensures { OnOk result (told.new.items ≡ told.old.items ++ notes_text number text.now (return_notes text.now)) }
+    ensures { OnOk result (written told.new.items ≡ written told.old.items ++ notes_text number text.now (return_notes text.now)) }
 {
     if ends_in_return(text) {
         let span = Span {
@@ -84,9 +86,9 @@ pub fn add_byte_notes(
     alloc: Global,
     number: usize,
     text: &[u8],
-    told: &mut Vec<u8>,
+    told: &mut Vec<LineNote>,
 ) -> Result<(), AllocError>
-    ensures { OnOk result (told.new.items ≡ told.old.items ++ notes_text number text.now (byte_notes number text.now)) }
+    ensures { OnOk result (written told.new.items ≡ written told.old.items ++ notes_text number text.now (byte_notes number text.now)) }
 {
     add_mark_note(alloc, number, text, told)?;
     add_return_note(alloc, number, text, told)
@@ -137,10 +139,10 @@ fn add_letters(
     number: usize,
     text: &[u8],
     token: &Token,
-    told: &mut Vec<u8>,
+    told: &mut Vec<LineNote>,
 ) -> Result<(), AllocError>
     requires { IsToken text.now token.now }
-    ensures { OnOk result (told.new.items ≡ told.old.items ++ notes_text number text.now (letters_of text.now token.now)) }
+    ensures { OnOk result (written told.new.items ≡ written told.old.items ++ notes_text number text.now (letters_of text.now token.now)) }
 {
     let word = text_of(text, token);
     let span = span_of(token);
@@ -172,10 +174,10 @@ pub fn add_letter_notes(
     number: usize,
     text: &[u8],
     tokens: &[Token],
-    told: &mut Vec<u8>,
+    told: &mut Vec<LineNote>,
 ) -> Result<(), AllocError>
     requires { IsTokenList text.now tokens.now }
-    ensures { OnOk result (told.new.items ≡ told.old.items ++ notes_text number text.now (letter_notes text.now tokens.now)) }
+    ensures { OnOk result (written told.new.items ≡ written told.old.items ++ notes_text number text.now (letter_notes text.now tokens.now)) }
 {
     let mut rest = tokens;
     while let Some((token, after)) = rest.split_first() {

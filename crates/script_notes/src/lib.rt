@@ -8,9 +8,12 @@ mod habits;
 mod kind;
 pub mod laws;
 mod letters;
+mod line_note;
 mod marks;
+mod others;
 mod whole;
 
-pub use explaining::explain;
+pub use explaining::{explain, notes_of, text_of_notes};
 pub use kind::NoteKind;
+pub use line_note::LineNote;
 pub use marks::Span;

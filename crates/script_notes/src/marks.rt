@@ -1,9 +1,11 @@
 //! A note as text: its sentence, the line, and marks under its places.
-ghost use Rattle.std.specs.Prelude.{◌≡◌, ◌++◌, IfOk, OnOk};
-ghost use Rattle.script_notes.specs.Marks.{takes_column, blank_of, blanks, shown, mark, marks, AreSpansFrom};
-ghost use Rattle.script_notes.specs.Notes.{head_text, note_text};
+ghost use Rattle.std.specs.Prelude.{◌≡◌, ◌++◌, OnOk, slice_range};
+ghost use Rattle.script_notes.specs.Marks.{takes_column, blank_of, blanks, shown, mark, marks};
+ghost use Rattle.script_notes.specs.Notes.{head_text};
+ghost use Rattle.script_notes.specs.Written.{line_note_text};
 
 use crate::kind::NoteKind;
+use crate::line_note::LineNote;
 use std::alloc::{AllocError, Global};
 
 /// The bytes of a line from `first` up to and without `past`, counted from 0 (own).
@@ -69,6 +71,15 @@ fn add_mark(alloc: Global, bytes: &[u8], told: &mut Vec<u8>) -> Result<(), Alloc
     told.extend_from_slice(columns.as_slice())
 }
 
+// The bytes of a line from one up to and without another, as far as there are any.
+fn part_of(text: &[u8], first: usize, past: usize) -> &[u8]
+    ensures { result.now ≡ slice_range text.now first past }
+{
+    let (_, rest) = text.split_at(first.min(text.len()));
+    let (part, _) = rest.split_at(past.saturating_sub(first).min(rest.len()));
+    part
+}
+
 // Adds the marks under these places, up to the last of them.
 fn add_marks(
     alloc: Global,
@@ -76,14 +87,13 @@ fn add_marks(
     spans: &[Span],
     told: &mut Vec<u8>,
 ) -> Result<(), AllocError>
-    requires { AreSpansFrom text.now 0 spans.now }
     ensures { OnOk result (told.new.items ≡ told.old.items ++ marks text.now 0 spans.now) }
 {
     let mut from = 0;
     let mut rest = spans;
     while let Some((span, after)) = rest.split_first() {
-        add_blanks(alloc, &text[from..span.first], told)?;
-        add_mark(alloc, &text[span.first..span.past], told)?;
+        add_blanks(alloc, part_of(text, from, span.first), told)?;
+        add_mark(alloc, part_of(text, span.first, span.past), told)?;
         from = span.past;
         rest = after;
     }
@@ -106,23 +116,15 @@ fn add_head(
     Ok(())
 }
 
-/// Adds a note of a line: `line N: SENTENCE`, the line, and marks under these places.
-pub fn add_note(
-    alloc: Global,
-    number: usize,
-    text: &[u8],
-    kind: NoteKind,
-    spans: &[Span],
-    told: &mut Vec<u8>,
-) -> Result<(), AllocError>
-    requires { AreSpansFrom text.now 0 spans.now }
-    ensures { OnOk result (told.new.items ≡ told.old.items ++ note_text number text.now (record { kind = kind; spans = spans.now })) }
+/// Adds the text of a note: `line N: SENTENCE`, the line, and marks under its places.
+pub fn add_note_text(alloc: Global, note: &LineNote, told: &mut Vec<u8>) -> Result<(), AllocError>
+    ensures { OnOk result (told.new.items ≡ told.old.items ++ line_note_text note.now) }
 {
-    add_head(alloc, number, kind, told)?;
+    add_head(alloc, note.line, note.kind, told)?;
     told.extend_from_slice(b"  ".as_slice())?;
-    add_shown(alloc, text, told)?;
+    add_shown(alloc, note.text.as_slice(), told)?;
     told.extend_from_slice(b"\n  ".as_slice())?;
-    add_marks(alloc, text, spans, told)?;
+    add_marks(alloc, note.text.as_slice(), note.spans.as_slice(), told)?;
     told.push(b'\n')?;
     Ok(())
 }

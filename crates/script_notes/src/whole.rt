@@ -4,11 +4,13 @@ ghost use Rattle.sh_lexer.specs.Tokens.{IsTokenList};
 ghost use Rattle.sh_tree.specs.Fault.{place_told};
 ghost use Rattle.sh_tree.specs.Tree.{tree_of};
 ghost use Rattle.script_notes.specs.Notes.{Note, note_of, notes_text};
+ghost use Rattle.script_notes.specs.Written.{written};
 ghost use Rattle.script_notes.specs.Whole.{cd_note, fault_notes, is_paren, left_kind, places_of, clash_kind, IsClashNoted};
 
 use crate::kind::NoteKind;
 use crate::letters::{span_of, text_of};
-use crate::marks::{Span, add_note};
+use crate::line_note::{LineNote, add_note};
+use crate::marks::Span;
 use conflict_check::{ClashKind, clash};
 use sh_lexer::{Kind, Token};
 use sh_tree::{Cmd, ParseFault};
@@ -19,10 +21,10 @@ pub fn add_cd_note(
     alloc: Global,
     number: usize,
     text: &[u8],
-    told: &mut Vec<u8>,
+    told: &mut Vec<LineNote>,
 ) -> Result<(), AllocError>
     requires { 2 ≤ length text.now }
-    ensures { OnOk result (told.new.items ≡ told.old.items ++ notes_text number text.now (cd_note ∷ [])) }
+    ensures { OnOk result (written told.new.items ≡ written told.old.items ++ notes_text number text.now (cd_note ∷ [])) }
 {
     let span = Span { first: 0, past: 2 };
     add_note(alloc, number, text, NoteKind::NoDirectories, &[span], told)
@@ -58,10 +60,10 @@ pub fn add_fault_note(
     number: usize,
     text: &[u8],
     fault: ParseFault,
-    told: &mut Vec<u8>,
+    told: &mut Vec<LineNote>,
 ) -> Result<(), AllocError>
     requires { place_told fault ≤ length text.now }
-    ensures { OnOk result (told.new.items ≡ told.old.items ++ notes_text number text.now (fault_notes text.now fault)) }
+    ensures { OnOk result (written told.new.items ≡ written told.old.items ++ notes_text number text.now (fault_notes text.now fault)) }
 {
     let Some((kind, at)) = fault_note(text, fault) else {
         return Ok(());
@@ -110,11 +112,11 @@ pub fn add_clash_note(
     text: &[u8],
     tree: &Cmd<Global>,
     tokens: &[Token],
-    told: &mut Vec<u8>,
+    told: &mut Vec<LineNote>,
 ) -> Result<(), AllocError>
     requires { IsTokenList text.now tokens.now }
     ensures { OnOk result ((last : List Note) × IsClashNoted (tree_of tree.now) text.now tokens.now last
-        × (told.new.items ≡ told.old.items ++ notes_text number text.now last)) }
+        × (written told.new.items ≡ written told.old.items ++ notes_text number text.now last)) }
 {
     let Some(found) = clash(tree) else {
         return Ok(());

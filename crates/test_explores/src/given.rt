@@ -7,7 +7,7 @@ use script_load::Profile;
 use serde_json::Value;
 use std::alloc::Global;
 use std::test::Fail;
-use xvsh_explores::{ExploreRequest, Explored, run_explore};
+use xvsh_explores::{ExploreRequest, Explored, Watch, run_explore};
 use xvsh_read::{Host, HostFault, Source};
 
 /// A script, the bytes of a file `f`, and what `>>` means.
@@ -37,6 +37,12 @@ impl Host for Given {
     }
 }
 
+impl Watch for Given {
+    fn found(&mut self, _count: usize) {}
+
+    fn ended(&mut self) {}
+}
+
 // A copy of these bytes, if they are within the limit.
 fn bounded(alloc: Global, bytes: &[u8], limit: usize) -> Result<Vec<u8>, HostFault>
     ensures { IfOk result (λ bytes. vec_len bytes ≤ limit) }
@@ -63,6 +69,8 @@ pub(crate) fn explored_of(alloc: Global, given: &Given) -> Result<Explored, Fail
         is_thorough: false,
         witness: Some("w"),
         is_json: true,
+        input: None,
+        text: None,
     };
     match run_explore(alloc, &request, &mut host) {
         Ok(explored) => Ok(explored),

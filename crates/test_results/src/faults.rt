@@ -1,7 +1,7 @@
 //! Faults as objects.
 
 use crate::read_back::{count_of, value_of, word_of};
-use result_json::fault_result;
+use result_json::{FaultPlace, FaultValues, fault_result, told_fault_result};
 use std::test::Fail;
 use xvsh_read::Fault;
 
@@ -46,6 +46,27 @@ fn a_line_is_told(rt: HostRuntime) -> Result<(), Fail> {
     let text = fault_result(rt.alloc(), "plain", Fault::ByteZero(7))?;
     let whole =
         "{\"format\":\"xvsh-result\",\"version\":1,\"command\":\"plain\",\"status\":\"fault\",\"code\":1,\"fault\":{\"number\":4,\"name\":\"ByteZero\",\"text\":\"line 7 holds a zero byte\",\"line\":7}}\n";
+    assert_eq!(&rt; text.as_slice(), whole.as_bytes());
+    Ok(())
+}
+
+#[test]
+fn a_place_is_told(rt: HostRuntime) -> Result<(), Fail> {
+    let told = FaultValues {
+        number: 10,
+        name: "NoEvent",
+        text: b"a\"\\ line 3 is no event".as_slice(),
+        place: FaultPlace {
+            line: Some(3),
+            path: Some("a\"\\"),
+            event: Some(4),
+            pid: Some(63),
+            hart: Some(7),
+        },
+    };
+    let text = told_fault_result(rt.alloc(), "replay", &told, 1)?;
+    let whole =
+        "{\"format\":\"xvsh-result\",\"version\":1,\"command\":\"replay\",\"status\":\"fault\",\"code\":1,\"fault\":{\"number\":10,\"name\":\"NoEvent\",\"text\":\"a\\\"\\\\ line 3 is no event\",\"line\":3,\"path\":\"a\\\"\\\\\",\"event\":4,\"pid\":63,\"hart\":7}}\n";
     assert_eq!(&rt; text.as_slice(), whole.as_bytes());
     Ok(())
 }

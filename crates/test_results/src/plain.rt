@@ -74,7 +74,7 @@ fn adds_up(alloc: Global, script: &[u8], stdin: &[u8], name: &[u8]) -> Result<bo
     let reasoned = run_of(alloc, script, stdin, name)?;
     let text = plain_result(alloc, &reasoned, 0)?;
     let value = value_of(alloc, text.as_slice())?;
-    let out = bytes_of(alloc, value.get("out").ok_or("no output")?)?;
+    let out = bytes_of(alloc, value.get("output").ok_or("no output")?)?;
     let mut is_same = out.as_slice() == reasoned.plain.out.as_slice();
     let files = value
         .get("files")

@@ -40,3 +40,8 @@ pub(crate) fn word_of<'v>(value: &'v Value, key: &str) -> Result<&'v str, Fail> 
 pub(crate) fn count_of(value: &Value, key: &str) -> Result<u64, Fail> {
     Ok(value.get(key).and_then(Value::as_u64).ok_or("no number")?)
 }
+
+// The bytes that a member stands for.
+pub(crate) fn member_of(alloc: Global, value: &Value, key: &str) -> Result<Vec<u8>, Fail> {
+    bytes_of(alloc, value.get(key).ok_or("no member")?)
+}

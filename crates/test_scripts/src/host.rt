@@ -8,6 +8,7 @@ use std::alloc::Global;
 use std::cell::Cell;
 use std::io::{self, Write};
 use test_rows::named;
+use xvsh::Watch;
 use xvsh_read::{Host, HostFault, Unwritten};
 use xvsh_traces::Traces;
 
@@ -170,6 +171,13 @@ impl Traces for Lent<'_> {
     fn write_trace(&mut self, _bytes: &[u8]) -> Result<(), Unwritten> {
         Ok(())
     }
+}
+
+// Nobody is told how far a search is.
+impl Watch for Lent<'_> {
+    fn found(&mut self, _count: usize) {}
+
+    fn ended(&mut self) {}
 }
 
 // A copy of these bytes, if they are within the limit.

@@ -6,6 +6,7 @@ use crate::driving::{Fails, Told, tell};
 use crate::host::Store;
 use crate::scripts::{Given, Held, Wanted, is_named};
 use anyhow::{Context, Result, bail};
+use prog_parts::split_line;
 use std::alloc::{AllocError, Global};
 use std::sync::Wait;
 use std::thread::Threads;
@@ -228,12 +229,47 @@ fn expect_strict(alloc: Global, wanted: &Wanted<'_>, told: &Told) -> Result<()> 
         return expect_status(told, 0);
     }
     expect_status(told, strict_status(wanted))?;
-    expect_errors(alloc, wanted, told)?;
+    let diagnosed = without_reason(alloc, wanted, told)?;
+    expect_errors(alloc, wanted, &diagnosed)?;
     expect_bytes(
         "standard output",
         told.out.as_slice(),
         wanted.out.as_slice(),
     )
+}
+
+// Whether a line says why a script isn't settled.
+fn is_reason(line: &[u8]) -> bool {
+    let marked = b": not settled: ".as_slice();
+    line.starts_with(b"line ".as_slice()) && line.windows(marked.len()).any(|part| part == marked)
+}
+
+// What was told without the one line that says why the script isn't settled, where it isn't.
+fn without_reason(alloc: Global, wanted: &Wanted<'_>, told: &Told) -> Result<Told> {
+    let mut err = Vec::new(alloc);
+    let mut reasons = 0_usize;
+    let mut rest = told.err.as_slice();
+    for _ in 0..told.err.len() {
+        let Some((line, after)) = split_line(rest) else {
+            break;
+        };
+        if is_reason(line) {
+            reasons = reasons.saturating_add(1);
+        } else {
+            err.extend_from_slice(line)?;
+            err.push(b'\n')?;
+        }
+        rest = after;
+    }
+    let due = if wanted.marks.is_settled { 0 } else { 1 };
+    if reasons != due {
+        bail!("standard error has {reasons} reasons and not {due}");
+    }
+    Ok(Told {
+        status: told.status,
+        out: Vec::new(alloc),
+        err,
+    })
 }
 
 fn strict_status(wanted: &Wanted<'_>) -> u8 {

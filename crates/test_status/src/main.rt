@@ -3,7 +3,13 @@
 
 use std::io;
 use std::process::ExitCode;
+use xvsh::Terminal;
 
 fn main(rt: HostRuntime) -> io::Result<ExitCode> {
-    xvsh::run(&rt, &mut rt.stderr())
+    let terminal = Terminal {
+        err: rt.stderr(),
+        reads: false,
+        shows: false,
+    };
+    xvsh::run(&rt, &mut rt.stderr(), terminal)
 }

@@ -10,7 +10,7 @@ use Rattle.script_load.specs.Script.{IsScript}
 use Rattle.xvsh_read.specs.Path.{Path}
 use Rattle.xvsh_read.specs.Reading.{ArePut, none_put, one_put}
 use Rattle.xvsh_plain.specs.Running.{RanPlain}
-use Rattle.xvsh_ends.specs.Ends.{Asked, asks_plain, Due, plain_ran, no_plain, ran, no_run, ran_strict, no_strict, checked, no_check, counted, not_counted, explained, not_explained, explored, not_explored, traced, untraced, witnessed, unwitnessed, valued, unvalued, helped, misused, no_memory, Writes, whole, out_stopped, err_stopped, Ends}
+use Rattle.xvsh_ends.specs.Ends.{Asked, asks_plain, Due, plain_ran, no_plain, ran, no_run, ran_strict, no_strict, checked, no_check, counted, not_counted, explained, not_explained, whys_told, no_whys_told, explored, not_explored, traced, untraced, witnessed, unwitnessed, valued, unvalued, drawn, undrawn, unread, helped, misused, no_memory, Writes, whole, out_stopped, err_stopped, Ends}
 use Rattle.xvsh_ends.proofs.Dues.{some_status}
 use Rattle.xvsh.specs.Drive.{WritesMeaning}
 
@@ -37,7 +37,7 @@ writes_meaning (Some told) file is_settled text old new run wrote =
 module _ (input : Option Bytes) (file : Path → Option Bytes) where
   -- what is due without words with status 0 is a run's
   ran_of : (request : Asked) (text told : Bytes) (status : ℕ) → Due input file request text told status → request ≡ asks_plain Xv6 (codes "-") [] false false → status ≡ 0 → (is_settled : Bool) × RanPlain input file Xv6 (codes "-") [] false is_settled text
-  ran_of request text told status (plain_ran {profile = profile} {script = script} {paths = paths} {lists = lists} is_settled gave) is zero =
+  ran_of request text told status (plain_ran {profile = profile} {script = script} {paths = paths} {lists = lists} is_settled why gave told_why) is zero =
       let xv6 : profile ≡ Xv6 = cc in
       let own : script ≡ codes "-" = cc in
       let none : paths ≡ [] = cc in
@@ -48,7 +48,7 @@ module _ (input : Option Bytes) (file : Path → Option Bytes) where
   ran_of request text told status (no_plain fault why) is zero = absurd (some_status fault zero)
   ran_of request text told status (ran diag full gave) is zero = cc
   ran_of request text told status (no_run fault why) is zero = cc
-  ran_of request text told status (ran_strict diag is_settled full gave) is zero = cc
+  ran_of request text told status (ran_strict diag why is_settled full gave) is zero = cc
   ran_of request text told status (no_strict fault why) is zero = cc
   ran_of request text told status (checked is_harmless gave) is zero = cc
   ran_of request text told status (no_check fault why) is zero = cc
@@ -56,6 +56,8 @@ module _ (input : Option Bytes) (file : Path → Option Bytes) where
   ran_of request text told status (not_counted fault why) is zero = cc
   ran_of request text told status (explained is_fine gave) is zero = cc
   ran_of request text told status (not_explained fault why) is zero = cc
+  ran_of request text told status (whys_told is_fine gave) is zero = cc
+  ran_of request text told status (no_whys_told fault why) is zero = cc
   ran_of request text told status (explored is_whole is_single gave) is zero = cc
   ran_of request text told status (not_explored fault why) is zero = cc
   ran_of request text told status (traced due) is zero = cc
@@ -64,6 +66,9 @@ module _ (input : Option Bytes) (file : Path → Option Bytes) where
   ran_of request text told status (unwitnessed of) is zero = cc
   ran_of request text told status (valued object with due) is zero = cc
   ran_of request text told status (unvalued with due) is zero = cc
+  ran_of request text told status (drawn page) is zero = cc
+  ran_of request text told status (undrawn report number) is zero = cc
+  ran_of request text told status (unread fault why) is zero = cc
   ran_of request text told status (helped shown) is zero = cc
   ran_of request text told status (misused shown) is zero = cc
   ran_of request text told status no_memory is zero = cc

@@ -1,6 +1,7 @@
 -- The request that the words of a command line make, as they were parsed.
-use Rattle.std.specs.Prelude.{◌≡◌, ℕ, ◌<◌, ◌^◌, ◌⊎◌, Bool, true, false, List, [], Option, Some, None, map, option_map, unwrap_or, codes}
+use Rattle.std.specs.Prelude.{◌≡◌, ℕ, ◌<◌, ◌^◌, ◌⊎◌, Bool, true, false, if◌then◌else◌, List, [], ◌∷◌, Option, Some, None, is_some, map, option_map, unwrap_or, codes}
 use Rattle.std.specs.Borrow.{Bor}
+use Rattle.std.specs.Str.{bytes_eq}
 use Rattle.std.specs.Str.Parse.{IsNumeral, digits_value, without_leading_plus}
 use Rattle.clap.specs.Matches.{found_of, first_value, matched_of, one_text, raw_values, subcommand_name_of}
 use Rattle.clap.specs.Simple.{subcommand_rows_of}
@@ -16,8 +17,11 @@ use Rattle.xvsh_plain.specs.declared.request.PlainRequest.{PlainRequest}
 use Rattle.xvsh_checks.specs.declared.request.CheckRequest.{CheckRequest}
 use Rattle.xvsh_checks.specs.declared.request.ExplainRequest.{ExplainRequest}
 use Rattle.xvsh_explores.specs.declared.request.ExploreRequest.{ExploreRequest}
+use Rattle.xvsh_draws.specs.declared.request.DrawRequest.{DrawRequest}
 use Rattle.xvsh_ends.specs.declared.request.Request.{Request}
-use Rattle.xvsh_ends.specs.declared.request.Request.TheVariants.{Run, Replay, Plain, Check, Explain, Explore}
+use Rattle.xvsh_ends.specs.declared.request.Request.TheVariants.{Run, Replay, Plain, Check, Explain, Explore, Draw}
+use Rattle.xvsh_given.specs.Given.{text_path}
+use Rattle.xvsh_given.specs.declared.given.Inputs.{Inputs}
 use Rattle.xvsh.specs.declared.request.TheConstants.{HARTS, TURNS, STATES}
 
 -- whether a flag is among the words: it is where it has the value `true`, and not where it has `false` or no value
@@ -55,9 +59,41 @@ default_harts None None = HARTS
 default_harts None (Some seed) = 1
 default_harts (Some word) seed = 1
 
+-- the path at which a path's bytes are: where the words give the script a standard input, `-` is the program's own
+abbrev pub path_beside : Bool → Path → Path
+path_beside false path = path
+path_beside true path = if bytes_eq path (codes "-") then codes "/dev/stdin" else path
+
+-- the path of a schedule
+pub record IsPathBeside (found : Found) (id : List ℕ) (path : Path) : Type 0 where
+  pub input : Option (Bor Path)
+  pub given : IsWord found (codes "input") input
+  pub word : Path
+  pub own : IsPath found id word
+  pub at : path ≡ path_beside (is_some input) word
+
+-- the path of the script: that of the words' own script with `-c`
+pub record IsScriptOf (found : Found) (path : Path) : Type 0 where
+  pub is_text : Bool
+  pub flag : IsFlag found (codes "text") is_text
+  pub of_text : is_text ≡ true → path ≡ text_path
+  pub of_path : is_text ≡ false → IsPathBeside found (codes "script") path
+
+-- the script that is among the words, if it is
+pub record IsTextOf (found : Found) (text : Option (Bor Path)) : Type 0 where
+  pub is_text : Bool
+  pub flag : IsFlag found (codes "text") is_text
+  pub own : is_text ≡ true → (word : Bor Path) × (text ≡ Some word) × IsPath found (codes "script") word.now
+  pub none : is_text ≡ false → text ≡ None
+
+-- where the words of a command say that standard input and the script come from
+pub record AreInputsIn (found : Found) (inputs : Inputs) : Type 0 where
+  pub input : IsWord found (codes "input") inputs.input
+  pub text : IsTextOf found inputs.text
+
 -- the script, its files and its profile
 pub record IsSourceOf (found : Found) (source : Source) : Type 0 where
-  pub script : IsPath found (codes "script") source.script.now
+  pub script : IsScriptOf found source.script.now
   pub files : ArePaths found (codes "paths") source.files.now
   pub appends : Bool
   pub append : IsFlag found (codes "append") appends
@@ -74,13 +110,15 @@ pub record IsRunOf (found : Found) (request : RunRequest) : Type 0 where
   pub schedule : IsFlag found (codes "schedule") request.lists.events
   pub strict : IsFlag found (codes "strict") request.is_strict
   pub trace : IsWord found (codes "trace") request.trace
+  pub json : IsFlag found (codes "json") request.is_json
 
 pub record IsReplayOf (found : Found) (request : ReplayRequest) : Type 0 where
-  pub schedule : IsPath found (codes "events") request.schedule.now
+  pub schedule : IsPathBeside found (codes "events") request.schedule.now
   pub source : IsSourceOf found request.source
   pub files : IsFlag found (codes "files") request.lists.files
   pub events : request.lists.events ≡ false
   pub trace : IsWord found (codes "trace") request.trace
+  pub json : IsFlag found (codes "json") request.is_json
 
 pub record IsPlainOf (found : Found) (request : PlainRequest) : Type 0 where
   pub source : IsSourceOf found request.source
@@ -89,12 +127,25 @@ pub record IsPlainOf (found : Found) (request : PlainRequest) : Type 0 where
   pub json : IsFlag found (codes "json") request.is_json
 
 pub record IsCheckOf (found : Found) (request : CheckRequest) : Type 0 where
-  pub script : IsPath found (codes "script") request.script.now
+  pub script : IsScriptOf found request.script.now
   pub files : ArePaths found (codes "paths") request.files.now
   pub turns : IsFlag found (codes "turns") request.counts_turns
+  pub json : IsFlag found (codes "json") request.is_json
+
+-- it is told why a script is settled where that is requested, or the words give a standard input or files
+abbrev pub tells_why : Bool → Option (Bor Path) → List (Bor Path) → Bool
+tells_why is_asked None [] = is_asked
+tells_why is_asked None (path ∷ paths) = true
+tells_why is_asked (Some word) paths = true
 
 pub record IsExplainOf (found : Found) (request : ExplainRequest) : Type 0 where
-  pub script : IsPath found (codes "script") request.script.now
+  pub source : IsSourceOf found request.source
+  pub asked : Bool
+  pub why : IsFlag found (codes "why") asked
+  pub input : Option (Bor Path)
+  pub given : IsWord found (codes "input") input
+  pub tells : request.tells_why ≡ tells_why asked input request.source.files.now
+  pub json : IsFlag found (codes "json") request.is_json
 
 pub record IsExploreOf (found : Found) (request : ExploreRequest) : Type 0 where
   pub source : IsSourceOf found request.source
@@ -102,11 +153,24 @@ pub record IsExploreOf (found : Found) (request : ExploreRequest) : Type 0 where
   pub all : IsFlag found (codes "all") request.is_thorough
   pub witness : IsWord found (codes "witness") request.witness
   pub json : IsFlag found (codes "json") request.is_json
+  pub input : IsWord found (codes "input") request.input
+  pub text : IsTextOf found request.text
+
+pub record IsDrawOf (found : Found) (request : DrawRequest) : Type 0 where
+  pub trace : IsPath found (codes "trace") request.trace.now
+  pub other : IsWord found (codes "other") request.other
 
 -- the words name a command, and this was found in those of it
 pub record Names (matches : ArgMatches) (name : List ℕ) (found : Found) : Type 0 where
   pub named : subcommand_name_of matches ≡ Some name
   pub rows : option_map (λ p. p.1) (subcommand_rows_of matches) ≡ Some (rows_of found)
+
+-- where parsed words say that standard input and the script come from: by the words of the command that they name, and nowhere
+-- without one
+abbrev pub AreInputsOf : ArgMatches → Inputs → Type 0
+AreInputsOf matches inputs =
+    ((name : List ℕ) × (found : Found) × Names matches name found × AreInputsIn found inputs)
+    ⊎ ((subcommand_name_of matches ≡ None) × ((inputs.input ≡ None) × (inputs.text ≡ None)))
 
 -- parsed words make a request
 abbrev pub IsRequestOf : ArgMatches → Request → Type 0
@@ -116,7 +180,8 @@ IsRequestOf matches (Plain request) = (found : Found) × Names matches (codes "p
 IsRequestOf matches (Check request) = (found : Found) × Names matches (codes "check") found × IsCheckOf found request
 IsRequestOf matches (Explain request) = (found : Found) × Names matches (codes "explain") found × IsExplainOf found request
 IsRequestOf matches (Explore request) = (found : Found) × Names matches (codes "explore") found × IsExploreOf found request
+IsRequestOf matches (Draw request) = (found : Found) × Names matches (codes "draw") found × IsDrawOf found request
 
 -- the name of a command
 abbrev pub IsNamed : Option (List ℕ) → Type 0
-IsNamed name = (name ≡ Some (codes "run")) ⊎ ((name ≡ Some (codes "replay")) ⊎ ((name ≡ Some (codes "plain")) ⊎ ((name ≡ Some (codes "check")) ⊎ ((name ≡ Some (codes "explain")) ⊎ (name ≡ Some (codes "explore"))))))
+IsNamed name = (name ≡ Some (codes "run")) ⊎ ((name ≡ Some (codes "replay")) ⊎ ((name ≡ Some (codes "plain")) ⊎ ((name ≡ Some (codes "check")) ⊎ ((name ≡ Some (codes "explain")) ⊎ ((name ≡ Some (codes "explore")) ⊎ (name ≡ Some (codes "draw")))))))

@@ -1,41 +1,68 @@
-ghost use Rattle.std.specs.Prelude.{◌≡◌, ◌≢◌, ℕ, List, Option, [], codes, false, map, string_bytes};
+ghost use Rattle.std.specs.Prelude.{◌≡◌, ◌≢◌, ℕ, List, Option, [], codes, false, map, string_bytes, IfOk};
 ghost use Rattle.xvsh_read.specs.Console.{known};
 ghost use Rattle.xvsh_read.specs.Path.{Path};
 ghost use Rattle.xvsh_read.specs.Writing.{out_text};
 ghost use Rattle.xvsh_ends.specs.Ends.{Asked, IsDue, asks_plain, told_text};
 ghost use Rattle.xvsh_ends.specs.Requests.{EndsAt};
-ghost use Rattle.xvsh.specs.Drive.{IsAskedBy, IsAskedByWords, IsNoRequest, WritesMeaning};
+ghost use Rattle.xvsh.specs.Drive.{EndsFrom, IsAskedBy, IsAskedByWords, IsDueGiven, IsNoRequest, WritesMeaning, completed};
+ghost use Rattle.xvsh_given.specs.Given.{Sight};
 
-use crate::request::request_of;
+use crate::request::{inputs_of, request_of};
 use clap::ArgMatches;
 use clap::error::ErrorKind;
 use script_load::Profile;
 use sh_lexer::Bytes;
-use std::alloc::Global;
+use std::alloc::{AllocError, Global};
 use std::io::Write;
 use std::sync::Wait;
 use std::thread::Threads;
 use std::time::Clock;
 use xvsh_ends::{
     Ending, Line, MAX_HARTS, MAX_STATES, MAX_TURNS, PlainRequest, Request, ending_of, no_output,
-    report, report_made, report_no_memory, write_ending,
+    report, report_made, report_no_memory, unread_ending, write_ending,
 };
+use xvsh_explores::Watch;
+use xvsh_given::{Given, Inputs, read_given};
 use xvsh_read::{Console, Host, Output, STDIN, Source};
 use xvsh_traces::Traces;
 use xvsh_words::command_line;
 
+// How the request ends with the standard input and the script that the words give, if they do.
+fn given_ending<R: Threads + Wait + Clock + Sync, H: Host + Traces + Watch>(
+    rt: &R,
+    alloc: Global,
+    request: &Request<'_>,
+    inputs: &Inputs<'_>,
+    host: &mut H,
+) -> Ending
+    ensures due { IsDueGiven (H.input host.old) (H.file host.old) inputs.now request.now result }
+    ensures nothing { result.status ≢ 0 → result.status ≢ 1 → result.status ≢ 3 → result.status ≢ 4 → out_text result.output ≡ [] }
+{
+    match read_given(alloc, host, inputs.input) {
+        Ok(input) => {
+            let mut given = Given {
+                host,
+                input,
+                text: inputs.text,
+            };
+            ending_of(rt, alloc, request, &mut given)
+        }
+        Err(fault) => unread_ending(alloc, request, fault),
+    }
+}
+
 // How the request ends that parsed words make.
-fn command_ending<R: Threads + Wait + Clock + Sync, H: Host + Traces>(
+fn command_ending<R: Threads + Wait + Clock + Sync, H: Host + Traces + Watch>(
     rt: &R,
     alloc: Global,
     matches: &ArgMatches<'_>,
     host: &mut H,
 ) -> Ending
-    ensures due { (asked : Asked) × IsAskedBy matches.now asked × IsDue (H.input host.old) (H.file host.old) asked result }
+    ensures due { (sight : Sight) × (asked : Asked) × IsAskedBy (H.input host.old) (H.file host.old) matches.now sight asked × IsDue sight.input sight.file asked result }
     ensures nothing { result.status ≢ 0 → result.status ≢ 1 → result.status ≢ 3 → result.status ≢ 4 → out_text result.output ≡ [] }
 {
     match request_of(matches) {
-        Some(request) => ending_of(rt, alloc, &request, host),
+        Some(request) => given_ending(rt, alloc, &request, &inputs_of(matches), host),
         None => report(alloc, Line::Fixed(""), 2),
     }
 }
@@ -82,13 +109,13 @@ fn error_ending(alloc: Global, error: &clap::Error) -> Ending
 }
 
 // How the program ends on these words, of which there is one.
-fn words_ending<R: Threads + Wait + Clock + Sync, H: Host + Traces>(
+fn words_ending<R: Threads + Wait + Clock + Sync, H: Host + Traces + Watch>(
     rt: &R,
     alloc: Global,
     words: &[String],
     host: &mut H,
 ) -> Ending
-    ensures due { (asked : Asked) × IsAskedByWords (map string_bytes words.now) asked × IsDue (H.input host.old) (H.file host.old) asked result }
+    ensures due { (sight : Sight) × (asked : Asked) × IsAskedByWords (H.input host.old) (H.file host.old) (map string_bytes words.now) sight asked × IsDue sight.input sight.file asked result }
     ensures nothing { result.status ≢ 0 → result.status ≢ 1 → result.status ≢ 3 → result.status ≢ 4 → out_text result.output ≡ [] }
 {
     let Ok(command) = command_line(alloc, u64::from(MAX_HARTS), MAX_TURNS, MAX_STATES) else {
@@ -101,7 +128,7 @@ fn words_ending<R: Threads + Wait + Clock + Sync, H: Host + Traces>(
 }
 
 // How it ends without words: as `plain -`.
-fn no_words_ending<R: Threads + Wait + Clock + Sync, H: Host + Traces>(
+fn no_words_ending<R: Threads + Wait + Clock + Sync, H: Host + Traces + Watch>(
     rt: &R,
     alloc: Global,
     host: &mut H,
@@ -122,22 +149,39 @@ fn no_words_ending<R: Threads + Wait + Clock + Sync, H: Host + Traces>(
     ending_of(rt, alloc, &request, host)
 }
 
+// The words with the command that they leave out: that of `-c TEXT` is `plain`.
+fn completed(alloc: Global, mut words: Vec<String>) -> Result<Vec<String>, AllocError>
+    ensures { IfOk result (λ all. map string_bytes all.items ≡ completed (map string_bytes words.items)) }
+{
+    match words.first() {
+        Some(first) if first.as_str() == "-c" => {
+            let mut all = Vec::with_capacity(alloc, words.len().saturating_add(1))?;
+            all.push(String::from_str(alloc, "plain")?)?;
+            all.append(&mut words)?;
+            Ok(all)
+        }
+        _ => Ok(words),
+    }
+}
+
 // How it ends on these words.
-fn ending_on<R: Threads + Wait + Clock + Sync, H: Host + Traces>(
+fn ending_on<R: Threads + Wait + Clock + Sync, H: Host + Traces + Watch>(
     rt: &R,
     alloc: Global,
-    words: &[String],
+    words: Vec<String>,
     host: &mut H,
 ) -> Ending
-    ensures no_words { words.now ≡ [] → IsDue (H.input host.old) (H.file host.old) (asks_plain Profile.Xv6 (codes "-") [] false false) result }
-    ensures due { words.now ≢ [] → (asked : Asked) × IsAskedByWords (map string_bytes words.now) asked × IsDue (H.input host.old) (H.file host.old) asked result }
+    ensures no_words { words.items ≡ [] → IsDue (H.input host.old) (H.file host.old) (asks_plain Profile.Xv6 (codes "-") [] false false) result }
+    ensures due { words.items ≢ [] → (sight : Sight) × (asked : Asked) × IsAskedByWords (H.input host.old) (H.file host.old) (completed (map string_bytes words.items)) sight asked × IsDue sight.input sight.file asked result }
     ensures nothing { result.status ≢ 0 → result.status ≢ 1 → result.status ≢ 3 → result.status ≢ 4 → out_text result.output ≡ [] }
-    ensures no_words_nothing { words.now ≡ [] → result.status ≢ 0 → out_text result.output ≡ [] }
+    ensures no_words_nothing { words.items ≡ [] → result.status ≢ 0 → out_text result.output ≡ [] }
 {
     if words.is_empty() {
-        no_words_ending(rt, alloc, host)
-    } else {
-        words_ending(rt, alloc, words, host)
+        return no_words_ending(rt, alloc, host);
+    }
+    match completed(alloc, words) {
+        Ok(all) => words_ending(rt, alloc, all.as_slice(), host),
+        Err(_) => report_no_memory(alloc),
     }
 }
 
@@ -150,23 +194,26 @@ fn ending_on<R: Threads + Wait + Clock + Sync, H: Host + Traces>(
 /// With `--append` `>>` appends, and without it writes over a file from its beginning, as in xv6. Without words the program is
 /// `plain -`. A script and a standard input have at most 1,048,576 bytes, and a file at most 274,432. Then `settled` or
 /// `not settled` goes to standard error: whether the script prints the same in any order of its processes. With `--strict`
-/// the status of a script that isn't settled is 3.
+/// the status of a script that isn't settled is 3, and one line more says a reason why it isn't.
 ///
 /// With `--json` one object of JSON goes to standard output in place of the text, also where there is a fault, and nothing to
 /// standard error; its form is in `docs/FORMATS.md`, and the status is that of the text.
 ///
-/// `run [--harts N] [--turns N] [--schedule] [--trace FILE] [--append] [--files] [--strict] SCRIPT [FILE]..` reads the same and runs the
-/// script by its processes, on 4 harts or N, of which each is a thread, in at most 10,000,000 turns or N. It writes the output,
+/// `run [--harts N | --seed N | --order ORDER] [--turns N] [--schedule] [--trace FILE] [--append] [--files] [--strict] SCRIPT
+/// [FILE]..` reads the same and runs the script by its processes, on 4 harts or N, of which each is a thread, in at most 10,000,000
+/// turns or N; with `--seed` or `--order` on one hart, in an order of turns that N or ORDER stands for. It writes the output,
 /// with `--files` all files, and with `--schedule` a line an event, and to standard error the diagnostics, and then, where
 /// something was full, what. With `--strict` it finds out first whether the script is settled, and the status of one that isn't
-/// is 3, unless something was full. `replay [--trace FILE] [--append] [--files] SCHEDULE SCRIPT [FILE]..` runs a script by the
+/// is 3, unless something was full, and a line behind the diagnostics says a reason why it isn't.
+/// `replay [--trace FILE] [--append] [--files] SCHEDULE SCRIPT [FILE]..` runs a script by the
 /// events of a schedule in that form, which it reads first. With `--trace` both write first what each event did to a file, or for
 /// `-` to standard output, and then nothing else goes there; a trace that can't be written is a fault of status 1.
 ///
 /// `check SCRIPT` reads and loads the script, runs nothing, and writes the faults, the `&` and the first clash of each line.
 /// `check --turns SCRIPT [FILE]..` reads what `plain` reads, and writes last how many turns are enough for a run by processes.
 /// `explain SCRIPT` reads and loads the script, runs nothing, and writes in sentences what its lines are not, or
-/// `nothing to tell`.
+/// `nothing to tell`. `explain [--why] [--append] SCRIPT [FILE]..` with a FILE or `--why` reads what `plain` reads, and writes
+/// behind these sentences each reason why the script isn't settled, or that it is and why its pipes are safe.
 ///
 /// `explore [--states N] [--all] [--witness DIR] [--json] [--append] SCRIPT [FILE]..` reads what `plain` reads, tries every order
 /// in which the script's processes can take their turns, through at most 200,000 states or N, and writes the outcomes, each with
@@ -174,14 +221,21 @@ fn ending_on<R: Threads + Wait + Clock + Sync, H: Host + Traces>(
 /// trying, unless with `--all` or `--witness`. With `--witness` it writes first a schedule for each outcome to `DIR/1.schedule` and
 /// so on, which `replay` reads. With `--json` it writes one object instead, also of a fault.
 ///
+/// `draw [--from N] [--to N] TRACE [OTHER]` reads a trace that `run --trace` wrote, or two of one script, and writes a page of HTML
+/// that draws them, or the events between these numbers alone.
+///
+/// With `-c` before SCRIPT that word is the script itself, and words that begin with `-c` are those of `plain`. With `--input FILE`
+/// the script's standard input is what that file holds, which is read first, and with `--input none` it is empty; then `-` is
+/// `/dev/stdin`. A FILE that can't be read is a fault as above.
+///
 /// A fault goes to standard error as one line, but with `--json`, and then nothing of the script was written. The status is 1 for what can't be
 /// read or is refused, and for a schedule that is not of a finished run; 2 for words that are no command line; 3 where `check`
-/// reported a clash or a `&`, or `explain` a note, or `explore` found more than one output or set of files, or as above; 4 for an
+/// reported a clash or a `&`, or `explain` a note or a reason, or `explore` found more than one output or set of files, or as above; 4 for an
 /// exploration that didn't try every order, and for a run that is too large, is past its turns, is out of
 /// memory, or met something full, which alone is reported after what it wrote. `--help` and `--version` go to standard output.
 /// Where standard output or standard error takes no more, it holds a beginning of what was due, nothing more is written, and the
 /// status is 1.
-pub fn drive<R: Threads + Wait + Clock + Sync, H: Host + Traces, W: Write, E: Write>(
+pub fn drive<R: Threads + Wait + Clock + Sync, H: Host + Traces + Watch, W: Write, E: Write>(
     rt: &R,
     alloc: Global,
     words: Vec<String>,
@@ -189,10 +243,10 @@ pub fn drive<R: Threads + Wait + Clock + Sync, H: Host + Traces, W: Write, E: Wr
 ) -> u8
     ensures meaning { let seen = known H.input H.file W.contents E.contents in words.items ≡ [] → result ≡ 0 → WritesMeaning (seen console.old).input (seen console.old).out (seen console.new).out }
     ensures no_words { let seen = known H.input H.file W.contents E.contents in words.items ≡ [] → EndsAt (seen console.old) (seen console.new) (asks_plain Profile.Xv6 (codes "-") [] false false) result }
-    ensures ends { let seen = known H.input H.file W.contents E.contents in words.items ≢ [] → (asked : Asked) × IsAskedByWords (map string_bytes words.items) asked × EndsAt (seen console.old) (seen console.new) asked result }
+    ensures ends { let seen = known H.input H.file W.contents E.contents in words.items ≢ [] → (sight : Sight) × (asked : Asked) × IsAskedByWords (seen console.old).input (seen console.old).file (completed (map string_bytes words.items)) sight asked × EndsFrom sight (seen console.old) (seen console.new) asked result }
     ensures nothing_written { result ≢ 0 → result ≢ 1 → result ≢ 3 → result ≢ 4 → console.new.out ≡ console.old.out }
     ensures no_words_written { words.items ≡ [] → result ≢ 0 → result ≢ 1 → console.new.out ≡ console.old.out }
 {
-    let ending = ending_on(rt, alloc, words.as_slice(), &mut console.host);
+    let ending = ending_on(rt, alloc, words, &mut console.host);
     write_ending(&ending, &mut console.out, &mut console.err)
 }

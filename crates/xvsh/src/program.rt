@@ -1,5 +1,6 @@
 use crate::driver::drive;
 use crate::system::System;
+use crate::terminal::Terminal;
 use std::env;
 use std::io::{self, ErrorKind, Write};
 use std::process::ExitCode;
@@ -14,12 +15,13 @@ fn words_of(rt: &(impl Env + AllocGlobal)) -> io::Result<Vec<String>> {
     Ok(env::args(rt)?.skip(1).collect(rt.alloc())?)
 }
 
-/// Runs the program on the words, the input and the files of the system, with this as its standard
-/// error, and gives the status with which it ends.
-pub fn run<R, E>(rt: &R, err: &mut E) -> io::Result<ExitCode>
+/// Runs the program on the words, the input and the files of the system, with this as its standard error, and gives the status
+/// with which it ends. `terminal` is told what the program waits for, and how far it is, where there is one.
+pub fn run<R, E, T>(rt: &R, err: &mut E, terminal: Terminal<T>) -> io::Result<ExitCode>
 where
     R: Env + AllocGlobal + Input + Files + Print + Threads + Wait + Clock + Sync,
     E: Write,
+    T: Write + Drop,
 {
     let words = match words_of(rt) {
         Ok(words) => words,
@@ -33,7 +35,7 @@ where
         }
     };
     let mut console = Console {
-        host: System::new(rt),
+        host: System::new(rt, terminal),
         out: io::writer(rt),
         err,
     };

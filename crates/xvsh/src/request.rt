@@ -1,14 +1,15 @@
 //! The request that the words of a command line make.
 ghost use Rattle.std.specs.Prelude.{◌≡◌, ◌≢◌, None, Some, IfSome, codes};
 ghost use Rattle.clap.specs.Matches.{found_of, subcommand_name_of};
-ghost use Rattle.xvsh.specs.Words.{IsCheckOf, IsExplainOf, IsExploreOf, IsFlag, IsNamed, IsNumber, IsPath, ArePaths, IsPlainOf, IsReplayOf, IsRequestOf, IsRunOf, IsSeed, IsSourceOf, IsWord, default_harts};
+ghost use Rattle.xvsh.specs.Words.{AreInputsOf, IsScriptOf, IsTextOf, path_beside, IsCheckOf, IsDrawOf, IsExplainOf, IsExploreOf, IsFlag, IsNamed, IsNumber, IsPath, ArePaths, IsPlainOf, IsReplayOf, IsRequestOf, IsRunOf, IsSeed, IsSourceOf, IsWord, default_harts, tells_why};
 
 use clap::ArgMatches;
 use script_load::Profile;
 use xvsh_ends::{
-    CheckRequest, ExplainRequest, ExploreRequest, Lists, PlainRequest, ReplayRequest, Request,
-    RunRequest,
+    Bounds, CheckRequest, DrawRequest, ExplainRequest, ExploreRequest, Lists, PlainRequest,
+    ReplayRequest, Request, RunRequest,
 };
+use xvsh_given::{Inputs, TEXT_PATH};
 use xvsh_read::{STDIN, Source, profile_of};
 
 /// How many harts a run has, if the words name none (own).
@@ -44,13 +45,45 @@ fn files_of<'m>(words: &'m ArgMatches<'_>) -> &'m [&'m str]
     words.get_strs("paths").unwrap_or(&[])
 }
 
+// The word of the standard input, if there is one.
+fn input_of<'m>(words: &'m ArgMatches<'_>) -> Option<&'m str>
+    ensures { IsWord (found_of words.now) (codes "input") result }
+{
+    words.get_str("input")
+}
+
+/// The path by which standard input is read where the words give the script another one.
+pub const OWN_INPUT: &str = "/dev/stdin";
+
+// The path at which this one's bytes are: where the words give a standard input, `-` is that of the program itself.
+fn path_beside<'m>(is_given: bool, path: &'m str) -> &'m str
+    ensures { result.now ≡ path_beside is_given path.now }
+{
+    if is_given && path == STDIN {
+        OWN_INPUT
+    } else {
+        path
+    }
+}
+
+// The path of the script.
+fn script_of<'m>(words: &'m ArgMatches<'_>) -> &'m str
+    ensures { IsScriptOf (found_of words.now) result.now }
+{
+    if flag_of(words, "text") {
+        TEXT_PATH
+    } else {
+        path_beside(input_of(words).is_some(), path_of(words, "script"))
+    }
+}
+
 // The script, its files and its profile.
 fn source_of<'m>(words: &'m ArgMatches<'_>) -> Source<'m>
     ensures { IsSourceOf (found_of words.now) result }
 {
     Source {
         profile: profile_of(flag_of(words, "append")),
-        script: path_of(words, "script"),
+        script: script_of(words),
         files: files_of(words),
     }
 }
@@ -137,6 +170,7 @@ fn run_of<'m>(words: &'m ArgMatches<'_>) -> RunRequest<'m>
         },
         is_strict: flag_of(words, "strict"),
         trace: trace_of(words),
+        is_json: flag_of(words, "json"),
     }
 }
 
@@ -144,13 +178,14 @@ fn replay_of<'m>(words: &'m ArgMatches<'_>) -> ReplayRequest<'m>
     ensures { IsReplayOf (found_of words.now) result }
 {
     ReplayRequest {
-        schedule: path_of(words, "events"),
+        schedule: path_beside(input_of(words).is_some(), path_of(words, "events")),
         source: source_of(words),
         lists: Lists {
             files: flag_of(words, "files"),
             events: false,
         },
         trace: trace_of(words),
+        is_json: flag_of(words, "json"),
     }
 }
 
@@ -169,17 +204,31 @@ fn check_of<'m>(words: &'m ArgMatches<'_>) -> CheckRequest<'m>
     ensures { IsCheckOf (found_of words.now) result }
 {
     CheckRequest {
-        script: path_of(words, "script"),
+        script: script_of(words),
         files: files_of(words),
         counts_turns: flag_of(words, "turns"),
+        is_json: flag_of(words, "json"),
+    }
+}
+
+// Whether it is told why a script is settled: where that is requested, or the words give a standard input or files.
+fn tells_why(is_asked: bool, input: Option<&str>, files: &[&str]) -> bool
+    ensures { result ≡ tells_why is_asked input.entry files.now }
+{
+    match (input, files.split_first()) {
+        (None, None) => is_asked,
+        _ => true,
     }
 }
 
 fn explain_of<'m>(words: &'m ArgMatches<'_>) -> ExplainRequest<'m>
     ensures { IsExplainOf (found_of words.now) result }
 {
+    let source = source_of(words);
     ExplainRequest {
-        script: path_of(words, "script"),
+        source,
+        tells_why: tells_why(flag_of(words, "why"), input_of(words), source.files),
+        is_json: flag_of(words, "json"),
     }
 }
 
@@ -192,6 +241,27 @@ fn explore_of<'m>(words: &'m ArgMatches<'_>) -> ExploreRequest<'m>
         is_thorough: flag_of(words, "all"),
         witness: witness_of(words),
         is_json: flag_of(words, "json"),
+        input: input_of(words),
+        text: text_of(words),
+    }
+}
+
+// The number of an event, if there is one; at most as large as a place can be.
+fn event_in(words: &ArgMatches<'_>, name: &str) -> Option<usize> {
+    let number = words.get_one::<u64>(name)?;
+    Some(usize::try_from(number).unwrap_or(usize::MAX))
+}
+
+fn draw_of<'m>(words: &'m ArgMatches<'_>) -> DrawRequest<'m>
+    ensures { IsDrawOf (found_of words.now) result }
+{
+    DrawRequest {
+        trace: path_of(words, "trace"),
+        other: words.get_str("other"),
+        bounds: Bounds {
+            from: event_in(words, "from"),
+            to: event_in(words, "to"),
+        },
     }
 }
 
@@ -213,7 +283,37 @@ pub fn request_of<'m>(matches: &'m ArgMatches<'_>) -> Option<Request<'m>>
         Some(Request::Explain(explain_of(words)))
     } else if let Some(words) = matches.subcommand_matches("explore") {
         Some(Request::Explore(explore_of(words)))
+    } else if let Some(words) = matches.subcommand_matches("draw") {
+        Some(Request::Draw(draw_of(words)))
     } else {
         None
+    }
+}
+
+// The script that is among the words of a command, if it is.
+fn text_of<'m>(words: &'m ArgMatches<'_>) -> Option<&'m str>
+    ensures { IsTextOf (found_of words.now) result }
+{
+    if flag_of(words, "text") {
+        Some(path_of(words, "script"))
+    } else {
+        None
+    }
+}
+
+/// Where parsed words say that standard input and the script come from, by the words of the command that they name. Without a
+/// command both come from the host.
+pub fn inputs_of<'m>(matches: &'m ArgMatches<'_>) -> Inputs<'m>
+    ensures { AreInputsOf matches.now result }
+{
+    match matches.subcommand() {
+        Some((_, words)) => Inputs {
+            input: input_of(words),
+            text: text_of(words),
+        },
+        None => Inputs {
+            input: None,
+            text: None,
+        },
     }
 }

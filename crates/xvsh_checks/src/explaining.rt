@@ -59,10 +59,10 @@ pub fn run_explain<'a, H: Host>(
     request: &ExplainRequest<'a>,
     host: &mut H,
 ) -> Result<Explained, Fault<'a>>
-    ensures ran { IfOk result (λ explained. RanExplain (H.input host.old) (H.file host.old) request.now.script.now explained.is_fine explained.text.items) }
-    ensures fault { IfErr result (IsCheckFault (H.input host.old) (H.file host.old) request.now.script.now) }
+    ensures ran { IfOk result (λ explained. RanExplain (H.input host.old) (H.file host.old) request.now.source.script.now explained.is_fine explained.text.items) }
+    ensures fault { IfErr result (IsCheckFault (H.input host.old) (H.file host.old) request.now.source.script.now) }
 {
-    let told = explain_at(alloc, host, request.script)?;
+    let told = explain_at(alloc, host, request.source.script)?;
     let explained = printed(alloc, told)?;
     Ok(explained)
 }

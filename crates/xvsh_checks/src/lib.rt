@@ -2,11 +2,21 @@
 #![tactic(auto)]
 
 mod checking;
+mod counting;
 mod explaining;
+mod finding;
+mod found;
+mod noting;
 mod request;
 mod turns;
+mod whys;
 
 pub use checking::{Checked, run_check};
+pub use counting::{CountedFindings, run_count};
 pub use explaining::{Explained, run_explain};
+pub use finding::{Findings, run_find};
+pub use found::Finding;
+pub use noting::{Noted, run_note};
 pub use request::{CheckRequest, ExplainRequest};
 pub use turns::run_turns;
+pub use whys::run_whys;

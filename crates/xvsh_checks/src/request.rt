@@ -1,5 +1,7 @@
 //! What `check` and `explain` are asked for.
 
+use xvsh_read::Source;
+
 /// A check of a script.
 #[derive(Clone, Copy, Debug)]
 pub struct CheckRequest<'a> {
@@ -9,11 +11,17 @@ pub struct CheckRequest<'a> {
     pub files: &'a [&'a str],
     /// Write last in how many turns the script runs to its end.
     pub counts_turns: bool,
+    /// Print one object of JSON in place of the text.
+    pub is_json: bool,
 }
 
 /// Notes on a script in sentences.
 #[derive(Clone, Copy, Debug)]
 pub struct ExplainRequest<'a> {
-    /// The path of the script; `-` is standard input.
-    pub script: &'a str,
+    /// The script. What `>>` means, and the files, count where it is told why the script is settled.
+    pub source: Source<'a>,
+    /// Tell last why the script is settled on its files and its input, or why it isn't.
+    pub tells_why: bool,
+    /// Print one object of JSON in place of the text.
+    pub is_json: bool,
 }

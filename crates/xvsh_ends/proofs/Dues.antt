@@ -13,7 +13,7 @@ use Rattle.xvsh_read.specs.Writing.{out_text}
 use Rattle.xvsh_runs.specs.declared.fault.ProcessFault.{ProcessFault}
 use Rattle.xvsh_runs.specs.declared.fault.ProcessFault.TheVariants.{Common, BadHarts, BadTurns, BadOrder, Spent, SharedInput, NoEvent, NotRunnable, NotRunning, Unfinished}
 use Rattle.xvsh_runs.specs.Status.{run_status}
-use Rattle.xvsh_ends.specs.Ends.{Asked, asks_plain, asks_run, asks_strict, asks_check, asks_turns, asks_explain, asks_explore, help, misuse, verdict_status, check_status, explore_status, full_status, told_text, Due, plain_ran, no_plain, ran, no_run, ran_strict, no_strict, checked, no_check, counted, not_counted, explained, not_explained, explored, not_explored, helped, misused, no_memory, IsDue, Tells, TellsOr, tells, lacks_memory, asks_traced, traced, untraced, beside_trace, asks_witnessed, asks_json, witnessed, unwitnessed, valued, unvalued, IsObjectStatus, PrintsAlone}
+use Rattle.xvsh_ends.specs.Ends.{Asked, asks_plain, asks_run, asks_strict, asks_check, asks_turns, asks_explain, asks_whys, asks_explore, help, misuse, verdict_status, check_status, explore_status, full_status, told_text, Due, plain_ran, no_plain, ran, no_run, ran_strict, no_strict, checked, no_check, counted, not_counted, explained, not_explained, whys_told, no_whys_told, explored, not_explored, helped, misused, no_memory, IsDue, Tells, TellsOr, tells, lacks_memory, asks_traced, traced, untraced, beside_trace, asks_witnessed, asks_json, asks_draw, drawn, undrawn, asks_input, unread, witnessed, unwitnessed, valued, unvalued, IsObjectStatus, PrintsAlone}
 use Rattle.std.specs.Borrow.{Bor}
 use Rattle.xvsh_ends.specs.Requests.{UnlessPrinted, witnessed_asked, json_asked}
 use Rattle.xvsh_ends.specs.declared.ending.Ending.{Ending}
@@ -98,10 +98,13 @@ unless (asks_strict profile script paths harts turns lists) status same is = λ 
 unless (asks_check script) status same is = λ some three. is
 unless (asks_turns script paths) status same is = λ some three. is
 unless (asks_explain script) status same is = λ some three. is
+unless (asks_whys profile script paths) status same is = λ some three. is
 unless (asks_explore profile script paths states all) status same is = λ some three four. is
 unless (asks_traced what path) status same is = unless what status same is
 unless (asks_witnessed what path) status same is = unless what status same is
 unless (asks_json what) status same is = λ some one three four. is
+unless asks_draw status same is = λ some. is
+unless (asks_input path) status same is = is
 unless help status same is = λ some. is
 unless misuse status same is = is
 
@@ -112,10 +115,13 @@ unless_implied (asks_strict profile script paths harts turns lists) status same 
 unless_implied (asks_check script) status same other implies is = λ some three. implies (is some three)
 unless_implied (asks_turns script paths) status same other implies is = λ some three. implies (is some three)
 unless_implied (asks_explain script) status same other implies is = λ some three. implies (is some three)
+unless_implied (asks_whys profile script paths) status same other implies is = λ some three. implies (is some three)
 unless_implied (asks_explore profile script paths states all) status same other implies is = λ some three four. implies (is some three four)
 unless_implied (asks_traced what path) status same other implies is = unless_implied what status same other implies is
 unless_implied (asks_witnessed what path) status same other implies is = unless_implied what status same other implies is
 unless_implied (asks_json what) status same other implies is = λ some one three four. implies (is some one three four)
+unless_implied asks_draw status same other implies is = λ some. implies (is some)
+unless_implied (asks_input path) status same other implies is = implies is
 unless_implied help status same other implies is = λ some. implies (is some)
 unless_implied misuse status same other implies is = implies is
 
@@ -127,10 +133,13 @@ unless_any (asks_strict profile script paths harts turns lists) status same is s
 unless_any (asks_check script) status same is some one three four = is some three
 unless_any (asks_turns script paths) status same is some one three four = is some three
 unless_any (asks_explain script) status same is some one three four = is some three
+unless_any (asks_whys profile script paths) status same is some one three four = is some three
 unless_any (asks_explore profile script paths states all) status same is some one three four = is some three four
 unless_any (asks_traced what path) status same is some one three four = unless_any what status same is some one three four
 unless_any (asks_witnessed what path) status same is some one three four = unless_any what status same is some one three four
 unless_any (asks_json what) status same is some one three four = is some one three four
+unless_any asks_draw status same is some one three four = is some
+unless_any (asks_input path) status same is some one three four = is
 unless_any help status same is some one three four = is some
 unless_any misuse status same is some one three four = is
 
@@ -147,13 +156,13 @@ beside_nothing false text is = is
 module _ (input : Option Bytes) (file : Path → Option Bytes) where
   -- nothing goes to standard output with another status than these
   pub nothing_due : (asked : Asked) (text told : Bytes) (status : ℕ) → Due input file asked text told status → UnlessPrinted asked status (text ≡ [])
-  nothing_due asked text told status (plain_ran {strict = strict} is_settled gave) = λ some three. verdict_prints strict is_settled some three
+  nothing_due asked text told status (plain_ran {strict = strict} is_settled why gave told_why) = λ some three. verdict_prints strict is_settled some three
   nothing_due asked text told status (no_plain fault why) = λ some three. refl
   nothing_due asked text told status (ran diag None gave) = λ some four. absurd (some refl)
   nothing_due asked text told status (ran diag (Some full) gave) = λ some four. absurd (four refl)
   nothing_due asked text told status (no_run fault why) = λ some four. refl
-  nothing_due asked text told status (ran_strict diag is_settled None gave) = λ some three four. verdict_prints true is_settled some (λ is. three)
-  nothing_due asked text told status (ran_strict diag is_settled (Some full) gave) = λ some three four. absurd (four refl)
+  nothing_due asked text told status (ran_strict diag why is_settled None gave) = λ some three four. verdict_prints true is_settled some (λ is. three)
+  nothing_due asked text told status (ran_strict diag why is_settled (Some full) gave) = λ some three four. absurd (four refl)
   nothing_due asked text told status (no_strict fault why) = λ some three four. refl
   nothing_due asked text told status (checked is_harmless gave) = λ some three. check_prints is_harmless some three
   nothing_due asked text told status (no_check fault why) = λ some three. refl
@@ -161,6 +170,8 @@ module _ (input : Option Bytes) (file : Path → Option Bytes) where
   nothing_due asked text told status (not_counted fault why) = λ some three. refl
   nothing_due asked text told status (explained is_fine gave) = λ some three. check_prints is_fine some three
   nothing_due asked text told status (not_explained fault why) = λ some three. refl
+  nothing_due asked text told status (whys_told is_fine gave) = λ some three. check_prints is_fine some three
+  nothing_due asked text told status (no_whys_told fault why) = λ some three. refl
   nothing_due asked text told status (explored is_whole is_single gave) = λ some three four. explore_prints is_whole is_single some three four
   nothing_due asked text told status (not_explored fault why) = λ some three four. refl
   nothing_due asked text told status (traced {what = what} {path = path} {text = inner} due) = unless_implied what status (inner ≡ []) (beside_trace path inner ≡ []) (beside_nothing (bytes_eq path (codes "-")) inner) (nothing_due what inner told status due)
@@ -169,6 +180,9 @@ module _ (input : Option Bytes) (file : Path → Option Bytes) where
   nothing_due asked text told status (unwitnessed {what = what} of) = unless what 1 ([] ≡ []) refl
   nothing_due asked text told status (valued object is due) = object_prints status is
   nothing_due asked text told status (unvalued {what = what} is due) = unless_any what status (text ≡ []) (nothing_due what text told status due)
+  nothing_due asked text told status (drawn page) = λ some. absurd (some refl)
+  nothing_due asked text told status (undrawn report number) = λ some. refl
+  nothing_due asked text told status (unread fault why) = refl
   nothing_due asked text told status (helped whole) = λ some. absurd (some refl)
   nothing_due asked text told status (misused whole) = refl
   nothing_due asked text told status no_memory = unless asked 4 ([] ≡ []) refl
@@ -178,6 +192,16 @@ module _ (input : Option Bytes) (file : Path → Option Bytes) (what : Asked) wh
   pub due_valued : {T E : Type 0} (made : Result T E) (bytes : T → Bytes) (text told : Bytes) (status : ℕ) (ending : Ending) → MatchResult made (λ json. PrintsAlone (bytes json) status ending) (λ _. Tells (fault_told Memory) 4 ending) → IsObjectStatus status → Due input file what text told status → IsDue input file (asks_json what) ending
   due_valued (Ok json) bytes text told status ending is with due = due_by input file (asks_json what) (bytes json) [] status ending is.out is.reported is.with (valued (bytes json) with due)
   due_valued (Err refused) bytes text told status ending is with due = due_memory input file (asks_json what) ending is
+
+-- with another status nothing is printed in place of an object
+pub object_or_nothing : {T E : Type 0} (made : Result T E) (bytes : T → Bytes) (status : ℕ) (ending : Ending) (what : Asked) → MatchResult made (λ json. PrintsAlone (bytes json) status ending) (λ _. Tells (fault_told Memory) 4 ending) → IsObjectStatus status → UnlessPrinted (asks_json what) ending.status (out_text ending.output ≡ [])
+object_or_nothing (Ok json) bytes status ending what is with = λ some one three four. object_prints ending.status (subst IsObjectStatus (sym is.with) with) some one three four
+object_or_nothing (Err refused) bytes status ending what is with = λ some one three four. is.nothing
+
+-- a report prints nothing
+pub reports_nothing : (told : Bytes) (status : ℕ) (ending : Ending) → TellsOr told status ending → out_text ending.output ≡ []
+reports_nothing told status ending (tells is) = is.nothing
+reports_nothing told status ending (lacks_memory is) = is.nothing
 
 pub verdict_is_printed : (strict is_settled : Bool) → IsObjectStatus (verdict_status strict is_settled)
 verdict_is_printed false is_settled = inl refl
@@ -193,3 +217,7 @@ fault_is_printed (BadName path) = inr (inl refl)
 fault_is_printed TooManyFiles = inr (inl refl)
 fault_is_printed TooLarge = inr (inr (inr refl))
 fault_is_printed Memory = inr (inr (inr refl))
+
+pub check_is_printed : (is_fine : Bool) → IsObjectStatus (check_status is_fine)
+check_is_printed true = inl refl
+check_is_printed false = inr (inr (inl refl))

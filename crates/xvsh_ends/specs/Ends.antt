@@ -5,11 +5,14 @@ use Rattle.std.specs.Fmt.{decimal}
 use Rattle.std.specs.Borrow.{Bor}
 use Rattle.std.specs.Io.KnownBytes.{Appends, Keeps}
 use Rattle.mem_files.specs.Name.{Bytes}
+use Rattle.mem_files.specs.Files.{files}
 use Rattle.script_load.specs.declared.profile.Profile.{Profile}
+use Rattle.reason_sentences.specs.Whys.{IsWhy}
 use Rattle.kernel_model.specs.declared.events.Full.{Full}
 use Rattle.xvsh_read.specs.declared.fault.Fault.{Fault}
 use Rattle.xvsh_read.specs.declared.fault.Fault.TheVariants.{Memory}
 use Rattle.xvsh_read.specs.Path.{Path}
+use Rattle.xvsh_read.specs.Reading.{IsReadFault, max_input, told_at}
 use Rattle.xvsh_read.specs.Status.{status_of, fault_told}
 use Rattle.xvsh_read.specs.Writing.{AppendsPart, out_text}
 use Rattle.xvsh_runs.specs.declared.fault.ProcessFault.{ProcessFault}
@@ -21,6 +24,7 @@ use Rattle.xvsh_plain.specs.Running.{RanPlain, IsPlainFault}
 use Rattle.xvsh_checks.specs.Check.{RanCheck, IsCheckFault}
 use Rattle.xvsh_checks.specs.Explain.{RanExplain}
 use Rattle.xvsh_checks.specs.Turns.{RanTurns, IsTurnsFault}
+use Rattle.xvsh_checks.specs.Whys.{RanWhys, IsWhysFault}
 use Rattle.xvsh_explores.specs.Explores.{RanExplore, IsExploreFault}
 use Rattle.xvsh_runs.specs.Strict.{RanStrict, IsStrictFault}
 use Rattle.xvsh_ends.specs.declared.ending.Ending.{Ending}
@@ -35,7 +39,7 @@ pub data How : Type 0 where
 -- what the words of the command line ask for: a run of the script at a path under a profile, on the files at these paths,
 -- by its meaning, with a list of the files or without, and strictly or not, or by its processes, with lists or without, or
 -- strictly on so many harts in at most so many turns; a check of the script at a path, or one that reports its turns on these
--- files too; notes on the script at a path in sentences; its outcomes in every order, found among at most so many states, with every
+-- files too; notes on the script at a path in sentences, or these and why it is settled on these files or isn't; its outcomes in every order, found among at most so many states, with every
 -- order tried of a settled script too or not; the help; or no command
 pub data Asked : Type 0 where
   asks_plain : Profile → Path → List (Bor Path) → Bool → Bool → Asked
@@ -44,6 +48,7 @@ pub data Asked : Type 0 where
   asks_check : Path → Asked
   asks_turns : Path → List (Bor Path) → Asked
   asks_explain : Path → Asked
+  asks_whys : Profile → Path → List (Bor Path) → Asked
   asks_explore : Profile → Path → List (Bor Path) → ℕ → Bool → Asked
   -- the same, with a trace of the run at a path
   asks_traced : Asked → Path → Asked
@@ -51,6 +56,10 @@ pub data Asked : Type 0 where
   asks_witnessed : Asked → Path → Asked
   -- the same, with one object of JSON in place of what is printed
   asks_json : Asked → Asked
+  -- a page that draws traces
+  asks_draw : Asked
+  -- a standard input at a path, which can't be read
+  asks_input : Path → Asked
   help : Asked
   misuse : Asked
 
@@ -117,14 +126,14 @@ module _ (input : Option Bytes) (file : Path → Option Bytes) where
 
   -- what is due for what was asked: a text on standard output, one on standard error, and a status
   pub data Due : Asked → Bytes → Bytes → ℕ → Type 0 where
-    -- the script's run by its meaning, and whether it is settled; or why there is none
-    plain_ran : {profile : Profile} {script : Path} {paths : List (Bor Path)} {lists strict : Bool} {text : Bytes} (is_settled : Bool) → RanPlain input file profile script paths lists is_settled text → Due (asks_plain profile script paths lists strict) text (verdict_text is_settled) (verdict_status strict is_settled)
+    -- the script's run by its meaning, and whether it is settled, and where that was asked strictly a reason why it isn't; or why there is none
+    plain_ran : {profile : Profile} {script : Path} {paths : List (Bor Path)} {lists strict : Bool} {text : Bytes} (is_settled : Bool) (why : Bytes) (gave : RanPlain input file profile script paths lists is_settled text) → IsWhy profile gave.lines gave.stdin (files gave.given) strict is_settled why → Due (asks_plain profile script paths lists strict) text (verdict_text is_settled ++ why) (verdict_status strict is_settled)
     no_plain : {profile : Profile} {script : Path} {paths : List (Bor Path)} {lists strict : Bool} (fault : Fault) → IsPlainFault input file profile script paths fault → Due (asks_plain profile script paths lists strict) [] (fault_told fault) (status_of fault)
     -- its run by its processes, with its diagnostics and then what was full, if something was; or why there is none
     ran : {profile : Profile} {script : Path} {paths : List (Bor Path)} {how : How} {lists : Lists} {text : Bytes} (diag : Bytes) (full : Option Full) → RanBy how profile script paths lists full text diag → Due (asks_run profile script paths how lists) text (diag ++ full_text full) (full_status full 0)
     no_run : {profile : Profile} {script : Path} {paths : List (Bor Path)} {how : How} {lists : Lists} (fault : ProcessFault) → IsFaultBy how profile script paths fault → Due (asks_run profile script paths how lists) [] (run_fault_told fault) (run_status fault)
-    -- the same of a strict run, whose status says too whether the script is settled, where nothing was full
-    ran_strict : {profile : Profile} {script : Path} {paths : List (Bor Path)} {harts turns : ℕ} {lists : Lists} {text : Bytes} (diag : Bytes) (is_settled : Bool) (full : Option Full) → RanStrict input file profile script paths harts turns lists full is_settled text diag → Due (asks_strict profile script paths harts turns lists) text (diag ++ full_text full) (full_status full (verdict_status true is_settled))
+    -- the same of a strict run, with a reason behind its diagnostics why the script isn't settled, whose status says that too, where nothing was full
+    ran_strict : {profile : Profile} {script : Path} {paths : List (Bor Path)} {harts turns : ℕ} {lists : Lists} {text : Bytes} (diag why : Bytes) (is_settled : Bool) (full : Option Full) → RanStrict input file profile script paths harts turns lists full is_settled why text diag → Due (asks_strict profile script paths harts turns lists) text ((diag ++ why) ++ full_text full) (full_status full (verdict_status true is_settled))
     no_strict : {profile : Profile} {script : Path} {paths : List (Bor Path)} {harts turns : ℕ} {lists : Lists} (fault : ProcessFault) → IsStrictFault input file profile script paths harts turns fault → Due (asks_strict profile script paths harts turns lists) [] (run_fault_told fault) (run_status fault)
     -- the report of a check, by whether the script holds no `&` and no clash; or why there is none
     checked : {script : Path} {text : Bytes} (is_harmless : Bool) → RanCheck input file script is_harmless text → Due (asks_check script) text [] (check_status is_harmless)
@@ -135,6 +144,9 @@ module _ (input : Option Bytes) (file : Path → Option Bytes) where
     -- the notes on a script in sentences; or why there are none
     explained : {script : Path} {text : Bytes} (is_fine : Bool) → RanExplain input file script is_fine text → Due (asks_explain script) text [] (check_status is_fine)
     not_explained : {script : Path} (fault : Fault) → IsCheckFault input file script fault → Due (asks_explain script) [] (fault_told fault) (status_of fault)
+    -- the same with why the script is settled, or isn't, after its notes
+    whys_told : {profile : Profile} {script : Path} {paths : List (Bor Path)} {text : Bytes} (is_fine : Bool) → RanWhys input file profile script paths is_fine text → Due (asks_whys profile script paths) text [] (check_status is_fine)
+    no_whys_told : {profile : Profile} {script : Path} {paths : List (Bor Path)} (fault : Fault) → IsWhysFault input file profile script paths fault → Due (asks_whys profile script paths) [] (fault_told fault) (status_of fault)
     -- the outcomes in every order; or why none is told
     explored : {profile : Profile} {script : Path} {paths : List (Bor Path)} {states : ℕ} {all : Bool} {text : Bytes} (is_whole is_single : Bool) → RanExplore input file profile script paths all is_whole is_single → Due (asks_explore profile script paths states all) text [] (explore_status is_whole is_single)
     not_explored : {profile : Profile} {script : Path} {paths : List (Bor Path)} {states : ℕ} {all : Bool} (fault : Fault) → IsExploreFault input file script paths fault → Due (asks_explore profile script paths states all) [] (fault_told fault) (status_of fault)
@@ -147,6 +159,11 @@ module _ (input : Option Bytes) (file : Path → Option Bytes) where
     -- an object of what is due without it, or that itself where it has another status
     valued : {what : Asked} {text told : Bytes} {status : ℕ} (object : Bytes) → IsObjectStatus status → Due what text told status → Due (asks_json what) object [] status
     unvalued : {what : Asked} {text told : Bytes} {status : ℕ} → (IsObjectStatus status → ⊥) → Due what text told status → Due (asks_json what) text told status
+    -- some page, or some report of why there is none
+    drawn : (text : Bytes) → Due asks_draw text [] 0
+    undrawn : (told : Bytes) (status : ℕ) → Due asks_draw [] told status
+    -- why the standard input at a path can't be read
+    unread : {path : Path} (fault : Fault) → IsReadFault max_input (told_at input file path) path fault → Due (asks_input path) [] (fault_told fault) (status_of fault)
     -- some text, of words that are no command line on standard error
     helped : (text : Bytes) → Due help text [] 0
     misused : (text : Bytes) → Due misuse [] text 2

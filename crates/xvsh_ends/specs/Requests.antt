@@ -1,5 +1,5 @@
 -- What the program is asked for, and how it ends, by what is known of its console.
-use Rattle.std.specs.Prelude.{◌≢◌, ℕ, Bool, true, false, IsTrue, Option, Some, None}
+use Rattle.std.specs.Prelude.{◌≢◌, ◌&&◌, not, ℕ, Bool, true, false, IsTrue, Option, Some, None}
 use Rattle.std.specs.Borrow.{Bor}
 use Rattle.xvsh_read.specs.Path.{Path}
 use Rattle.xvsh_read.specs.Console.{Known}
@@ -10,8 +10,8 @@ use Rattle.xvsh_checks.specs.declared.request.CheckRequest.{CheckRequest}
 use Rattle.xvsh_checks.specs.declared.request.ExplainRequest.{ExplainRequest}
 use Rattle.xvsh_explores.specs.declared.request.ExploreRequest.{ExploreRequest}
 use Rattle.xvsh_ends.specs.declared.request.Request.{Request}
-use Rattle.xvsh_ends.specs.declared.request.Request.TheVariants.{Run, Replay, Plain, Check, Explain, Explore}
-use Rattle.xvsh_ends.specs.Ends.{Asked, asks_plain, asks_run, asks_strict, asks_check, asks_turns, asks_explain, asks_explore, help, misuse, on_harts, by_schedule, Ends, asks_traced, asks_witnessed, asks_json}
+use Rattle.xvsh_ends.specs.declared.request.Request.TheVariants.{Run, Replay, Plain, Check, Explain, Explore, Draw}
+use Rattle.xvsh_ends.specs.Ends.{Asked, asks_plain, asks_run, asks_strict, asks_check, asks_turns, asks_explain, asks_whys, asks_explore, help, misuse, on_harts, by_schedule, Ends, asks_traced, asks_witnessed, asks_json, asks_draw, asks_input}
 
 -- a run by processes, strictly or not
 abbrev pub run_asked : Bool → RunRequest → Asked
@@ -21,16 +21,22 @@ run_asked true request = asks_strict request.source.profile request.source.scrip
 abbrev pub replay_asked : ReplayRequest → Asked
 replay_asked request = asks_run request.source.profile request.source.script.now request.source.files.now (by_schedule request.schedule.now) request.lists
 
+-- a run by meaning, strictly or not
+abbrev pub strictly_asked : Bool → PlainRequest → Asked
+strictly_asked strict request = asks_plain request.source.profile request.source.script.now request.source.files.now request.lists_files strict
+
 abbrev pub plain_asked : PlainRequest → Asked
-plain_asked request = asks_plain request.source.profile request.source.script.now request.source.files.now request.lists_files request.is_strict
+plain_asked request = strictly_asked request.is_strict request
 
 -- a check, with its turns or without
 abbrev pub check_asked : Bool → CheckRequest → Asked
 check_asked false request = asks_check request.script.now
 check_asked true request = asks_turns request.script.now request.files.now
 
-abbrev pub explain_asked : ExplainRequest → Asked
-explain_asked request = asks_explain request.script.now
+-- notes, with why the script is settled or without
+abbrev pub explain_asked : Bool → ExplainRequest → Asked
+explain_asked false request = asks_explain request.source.script.now
+explain_asked true request = asks_whys request.source.profile request.source.script.now request.source.files.now
 
 -- the same, with schedules in a folder, if there is to be one
 abbrev pub witnessed_asked : Option (Bor Path) → Asked → Asked
@@ -59,12 +65,27 @@ traced_asked (Some path) what = asks_traced what path.now
 
 -- what a request asks for
 abbrev pub asked : Request → Asked
-asked (Run request) = traced_asked request.trace (run_asked request.is_strict request)
-asked (Replay request) = traced_asked request.trace (replay_asked request)
+asked (Run request) = traced_asked request.trace (json_asked request.is_json (run_asked request.is_strict request))
+asked (Replay request) = traced_asked request.trace (json_asked request.is_json (replay_asked request))
 asked (Plain request) = json_asked request.is_json (plain_asked request)
-asked (Check request) = check_asked request.counts_turns request
-asked (Explain request) = explain_asked request
+asked (Check request) = json_asked request.is_json (check_asked request.counts_turns request)
+asked (Explain request) = json_asked request.is_json (explain_asked (not request.is_json && request.tells_why) request)
 asked (Explore request) = explore_asked request
+asked (Draw request) = asks_draw
+
+-- whether a request asks for an object of JSON
+abbrev pub wants_json : Request → Bool
+wants_json (Run request) = request.is_json
+wants_json (Replay request) = request.is_json
+wants_json (Plain request) = request.is_json
+wants_json (Check request) = request.is_json
+wants_json (Explain request) = request.is_json
+wants_json (Explore request) = request.is_json
+wants_json (Draw request) = false
+
+-- a request whose standard input, at a path, can't be read
+abbrev pub unread_asked : Request → Path → Asked
+unread_asked request path = json_asked (wants_json request) (asks_input path)
 
 -- this holds, unless what is due has a status with which something goes to standard output: 0; 3 of a strict run, of a check, of
 -- notes and of an exploration; and 4 of a run by processes, where something was full, and of an exploration of a part; and each
@@ -76,10 +97,13 @@ UnlessPrinted (asks_strict profile script paths harts turns lists) status same =
 UnlessPrinted (asks_check script) status same = status ≢ 0 → status ≢ 3 → same
 UnlessPrinted (asks_turns script paths) status same = status ≢ 0 → status ≢ 3 → same
 UnlessPrinted (asks_explain script) status same = status ≢ 0 → status ≢ 3 → same
+UnlessPrinted (asks_whys profile script paths) status same = status ≢ 0 → status ≢ 3 → same
 UnlessPrinted (asks_explore profile script paths states all) status same = status ≢ 0 → status ≢ 3 → status ≢ 4 → same
 UnlessPrinted (asks_traced what path) status same = UnlessPrinted what status same
 UnlessPrinted (asks_witnessed what path) status same = UnlessPrinted what status same
 UnlessPrinted (asks_json what) status same = status ≢ 0 → status ≢ 1 → status ≢ 3 → status ≢ 4 → same
+UnlessPrinted asks_draw status same = status ≢ 0 → same
+UnlessPrinted (asks_input path) status same = same
 UnlessPrinted help status same = status ≢ 0 → same
 UnlessPrinted misuse status same = same
 

@@ -7,7 +7,7 @@ ghost use Rattle.xvsh_ends.specs.Requests.{check_asked, explain_asked};
 use crate::ending::{Ending, Line, no_output, report_fault};
 use sh_lexer::Bytes;
 use std::alloc::Global;
-use xvsh_checks::{CheckRequest, ExplainRequest, run_check, run_explain, run_turns};
+use xvsh_checks::{CheckRequest, ExplainRequest, run_check, run_explain, run_turns, run_whys};
 use xvsh_read::{Host, Output};
 
 // Prints this text, with status 0 where all is fine, and else 3.
@@ -58,12 +58,33 @@ pub fn check_ending<H: Host>(alloc: Global, request: &CheckRequest<'_>, host: &m
     }
 }
 
-/// Returns the notes on a script in sentences, or why there are none.
-pub fn explain_ending<H: Host>(alloc: Global, request: &ExplainRequest<'_>, host: &mut H) -> Ending
-    ensures { IsDue (H.input host.old) (H.file host.old) (explain_asked request.now) result }
+// Returns the notes on a script in sentences, or why there are none.
+fn notes_ending<H: Host>(alloc: Global, request: &ExplainRequest<'_>, host: &mut H) -> Ending
+    ensures { IsDue (H.input host.old) (H.file host.old) (explain_asked false request.now) result }
 {
     match run_explain(alloc, request, host) {
         Ok(explained) => prints(alloc, explained.text, explained.is_fine),
         Err(fault) => report_fault(alloc, fault),
+    }
+}
+
+// Returns the notes on a script and why it is settled or isn't, or why there are none.
+fn whys_ending<H: Host>(alloc: Global, request: &ExplainRequest<'_>, host: &mut H) -> Ending
+    ensures { IsDue (H.input host.old) (H.file host.old) (explain_asked true request.now) result }
+{
+    match run_whys(alloc, request, host) {
+        Ok(explained) => prints(alloc, explained.text, explained.is_fine),
+        Err(fault) => report_fault(alloc, fault),
+    }
+}
+
+/// Returns the notes on a script in sentences, with why it is settled or isn't if that is requested, or why there are none.
+pub fn explain_ending<H: Host>(alloc: Global, request: &ExplainRequest<'_>, host: &mut H) -> Ending
+    ensures { IsDue (H.input host.old) (H.file host.old) (explain_asked request.now.tells_why request.now) result }
+{
+    if request.tells_why {
+        whys_ending(alloc, request, host)
+    } else {
+        notes_ending(alloc, request, host)
     }
 }

@@ -2,15 +2,16 @@
 ghost use Rattle.std.specs.Prelude.{◌≡◌, ℕ, List, [], Option};
 ghost use Rattle.xvsh_read.specs.Path.{Path};
 ghost use Rattle.xvsh_read.specs.Writing.{out_text};
-ghost use Rattle.xvsh_ends.specs.Ends.{Asked, Due, IsDue, asks_witnessed, explore_status, told_text};
+ghost use Rattle.xvsh_ends.specs.Ends.{Asked, Due, IsDue, asks_json, asks_witnessed, explore_status, told_text};
 ghost use Rattle.xvsh_ends.specs.Requests.{explore_asked, explore_told_asked, witnessed_asked};
 
 use crate::ending::{Ending, Line, no_output, report_fault, report_no_memory, report_untraced};
-use crate::objects::valued;
+use crate::objects::{made_valued, valued};
 use crate::witnesses::{WitnessFault, write_schedules};
+use result_json::fault_result;
 use sh_lexer::Bytes;
 use std::alloc::Global;
-use xvsh_explores::{ExploreRequest, Explored, run_explore};
+use xvsh_explores::{ExploreRequest, Explored, Watch, run_explore};
 use xvsh_read::{Host, Output};
 use xvsh_traces::Traces;
 
@@ -70,7 +71,7 @@ fn written_at<T: Traces>(alloc: Global, explored: Explored, folder: &str, traces
 }
 
 // Explores a script, writes schedules, if there are to be any, and returns what is told of its outcomes, or why nothing is.
-fn told_ending<H: Host + Traces>(
+fn told_ending<H: Host + Traces + Watch>(
     alloc: Global,
     request: &ExploreRequest<'_>,
     host: &mut H,
@@ -83,19 +84,38 @@ fn told_ending<H: Host + Traces>(
     }
 }
 
+// The same as one object of JSON.
+fn explore_json<H: Host + Traces + Watch>(
+    alloc: Global,
+    request: &ExploreRequest<'_>,
+    host: &mut H,
+) -> Ending
+    ensures { IsDue (H.input host.old) (H.file host.old) (asks_json (explore_told_asked request.now)) result }
+{
+    match run_explore(alloc, request, host) {
+        Ok(explored) => {
+            let ending = written(alloc, explored, request.witness, host);
+            valued(alloc, ending, "explore")
+        }
+        Err(fault) => {
+            let made = fault_result(alloc, "explore", fault);
+            made_valued(alloc, report_fault(alloc, fault), made)
+        }
+    }
+}
+
 /// Explores a script, writes schedules, if there are to be any, and returns what is told of its outcomes, as text or as an object,
 /// or why nothing is.
-pub fn explore_ending<H: Host + Traces>(
+pub fn explore_ending<H: Host + Traces + Watch>(
     alloc: Global,
     request: &ExploreRequest<'_>,
     host: &mut H,
 ) -> Ending
     ensures { IsDue (H.input host.old) (H.file host.old) (explore_asked request.now) result }
 {
-    let ending = told_ending(alloc, request, host);
     if request.is_json {
-        valued(alloc, ending, "explore")
+        explore_json(alloc, request, host)
     } else {
-        ending
+        told_ending(alloc, request, host)
     }
 }

@@ -1,20 +1,30 @@
 //! With what each request ends: what is printed, and the status; and how that is written.
 #![tactic(auto)]
 
+mod check_objects;
 mod checks;
+mod drawing;
 mod ending;
 mod explorations;
 mod objects;
 mod plain;
+mod process_faults;
 mod processes;
 mod request;
+mod run_objects;
+mod strictly;
 mod tracing;
+mod unread;
 mod values;
 mod witnesses;
 
-pub use ending::{Ending, Line, no_output, report, report_made, report_no_memory, write_ending};
+pub use ending::{
+    Ending, Line, no_output, report, report_fault, report_made, report_no_memory, write_ending,
+};
 pub use request::{Request, ending_of};
+pub use unread::unread_ending;
 pub use xvsh_checks::{CheckRequest, ExplainRequest};
+pub use xvsh_draws::{Bounds, DrawRequest};
 pub use xvsh_explores::{ExploreRequest, MAX_STATES};
 pub use xvsh_plain::PlainRequest;
 pub use xvsh_runs::{Lists, MAX_HARTS, MAX_TURNS, ReplayRequest, RunRequest};

@@ -5,10 +5,16 @@ ghost use Rattle.xvsh_read.specs.Writing.{out_text};
 ghost use Rattle.xvsh_ends.specs.Ends.{Asked, IsDue, IsObjectStatus, asks_json, told_text};
 
 use crate::ending::{Ending, Line, no_output, report_no_memory};
+use result_json::{FaultPlace, FaultValues, told_fault_result};
 use sh_lexer::Bytes;
 use std::alloc::{AllocError, Global};
-use trace_lines::Line as Object;
 use xvsh_read::Output;
+use xvsh_runs::Recording;
+
+// The numbers and the names of two faults.
+const MEMORY: (u64, &str) = (8, "Memory");
+
+const UNWRITTEN: (u64, &str) = (14, "Unwritten");
 
 // Whether an object is printed with this status.
 fn is_object_status(status: u8) -> bool
@@ -17,23 +23,23 @@ fn is_object_status(status: u8) -> bool
     status == 0 || status == 1 || status == 3 || status == 4
 }
 
-// The object of a fault of a command: the status, and what would have been reported, without its LF.
+// The object of a fault that has a report alone: the status, and what would have been reported. Where the status is 1 something
+// can't be written, else memory was refused.
 fn fault_object(
     alloc: Global,
     command: &str,
     status: u8,
     told: &[u8],
 ) -> Result<Vec<u8>, AllocError> {
-    let mut object = Object::begin(alloc, Vec::new(alloc))?;
-    object.word("format", "xvsh-result")?;
-    object.count("version", 1)?;
-    object.word("command", command)?;
-    object.word("status", "fault")?;
-    object.begin_object("fault")?;
-    object.count("number", u64::from(status))?;
-    object.bytes("text", told.strip_suffix(b"\n").unwrap_or(told))?;
-    object.end_object()?;
-    object.end()
+    let line = told.strip_suffix(b"\n").unwrap_or(told);
+    let (number, name) = if status == 1 { UNWRITTEN } else { MEMORY };
+    let values = FaultValues {
+        number,
+        name,
+        text: line.strip_prefix(b"xvsh: ").unwrap_or(line),
+        place: FaultPlace::NOWHERE,
+    };
+    told_fault_result(alloc, command, &values, status)
 }
 
 // Prints this object, with this status.
@@ -81,6 +87,47 @@ pub(crate) fn valued(alloc: Global, ending: Ending, command: &str) -> Ending
 {
     if is_object_status(ending.status) {
         objected(alloc, ending, command)
+    } else {
+        ending
+    }
+}
+
+// The same ending, with what makes the run once more.
+fn recorded(ending: Ending, recording: Option<Recording>) -> Ending
+    ensures out { out_text result.output ≡ out_text ending.output }
+    ensures told { told_text result ≡ told_text ending }
+    ensures status { result.status ≡ ending.status }
+{
+    Ending {
+        recording,
+        ..ending
+    }
+}
+
+// Prints an object that was made, with the status of the ending, whose run can still be made once more.
+fn made_objected(alloc: Global, ending: Ending, made: Result<Vec<u8>, AllocError>) -> Ending
+    ensures { (input : Option (List ℕ)) (file : Path → Option (List ℕ)) (what : Asked) → IsObjectStatus ending.status → IsDue input file what ending → IsDue input file (asks_json what) result }
+{
+    match made {
+        Ok(object) => {
+            let printed = prints(alloc, Bytes::from_vec(object), ending.status);
+            recorded(printed, ending.recording)
+        }
+        Err(_) => report_no_memory(alloc),
+    }
+}
+
+/// What is printed of a request for one object: the one that was made of what the ending tells, or that memory was refused for it.
+/// Words that are no command, whose status is 2, stay as they were reported.
+pub(crate) fn made_valued(
+    alloc: Global,
+    ending: Ending,
+    made: Result<Vec<u8>, AllocError>,
+) -> Ending
+    ensures { (input : Option (List ℕ)) (file : Path → Option (List ℕ)) (what : Asked) → IsDue input file what ending → IsDue input file (asks_json what) result }
+{
+    if is_object_status(ending.status) {
+        made_objected(alloc, ending, made)
     } else {
         ending
     }

@@ -1,17 +1,18 @@
 //! How a run by its meaning ends.
-ghost use Rattle.std.specs.Prelude.{◌≡◌, ◌++◌};
+ghost use Rattle.std.specs.Prelude.{◌≡◌, ◌++◌, false};
 ghost use Rattle.xvsh_read.specs.Writing.{out_text};
 ghost use Rattle.xvsh_ends.specs.Ends.{IsDue, told_text, verdict_status, verdict_text};
-ghost use Rattle.xvsh_ends.specs.Requests.{json_asked, plain_asked};
+ghost use Rattle.xvsh_ends.specs.Requests.{json_asked, plain_asked, strictly_asked};
 
 use crate::ending::{Ending, Line, report_fault};
+use crate::strictly::told_ending;
 use crate::values::plain_json;
 use std::alloc::Global;
 use xvsh_plain::{PlainRequest, PlainRun, run_plain};
 use xvsh_read::Host;
 
-// The text of the verdict.
-fn verdict(is_settled: bool) -> &'static str
+/// The text of the verdict.
+pub fn verdict(is_settled: bool) -> &'static str
     ensures { result.now ≡ verdict_text is_settled }
 {
     if is_settled {
@@ -29,26 +30,37 @@ pub fn verdict_status(is_strict: bool, is_settled: bool) -> u8
 }
 
 // What a run prints, and then whether its script is settled.
-fn settled(run: PlainRun, is_strict: bool) -> Ending
+fn settled(run: PlainRun) -> Ending
     ensures out { out_text result.output ≡ out_text run.output }
     ensures told { told_text result ≡ run.output.err.items ++ verdict_text run.is_settled }
-    ensures status { result.status ≡ verdict_status is_strict run.is_settled }
+    ensures status { result.status ≡ 0 }
 {
     Ending {
         output: run.output,
         line: Line::Fixed(verdict(run.is_settled)),
-        status: verdict_status(is_strict, run.is_settled),
+        status: 0,
         recording: None,
     }
 }
 
 // Runs a script by its meaning, and returns what it prints and whether it is settled, or why it can't be run.
+fn settled_ending<H: Host>(alloc: Global, request: &PlainRequest<'_>, host: &mut H) -> Ending
+    ensures { IsDue (H.input host.old) (H.file host.old) (strictly_asked false request.now) result }
+{
+    match run_plain(alloc, request, host) {
+        Ok(run) => settled(run),
+        Err(fault) => report_fault(alloc, fault),
+    }
+}
+
+// The same, strictly if that is requested.
 fn text_ending<H: Host>(alloc: Global, request: &PlainRequest<'_>, host: &mut H) -> Ending
     ensures { IsDue (H.input host.old) (H.file host.old) (plain_asked request.now) result }
 {
-    match run_plain(alloc, request, host) {
-        Ok(run) => settled(run, request.is_strict),
-        Err(fault) => report_fault(alloc, fault),
+    if request.is_strict {
+        told_ending(alloc, request, host)
+    } else {
+        settled_ending(alloc, request, host)
     }
 }
 

@@ -5,8 +5,9 @@ ghost use Rattle.xvsh_runs.specs.Status.{full_told};
 ghost use Rattle.xvsh_ends.specs.Ends.{IsDue, full_status, full_text, told_text};
 ghost use Rattle.xvsh_ends.specs.Requests.{replay_asked, run_asked};
 
-use crate::ending::{Ending, Line, report_run_fault};
+use crate::ending::{Ending, Line, report_no_memory, report_run_fault};
 use crate::plain::verdict_status;
+use crate::strictly::with_why;
 use kernel_model::Full;
 use std::alloc::Global;
 use std::sync::Wait;
@@ -30,7 +31,7 @@ fn full_line(full: Full) -> &'static str
 }
 
 // What a run prints, and then what was full in it, with status 4; where nothing was, with this status.
-fn ran(run: Run, status: u8) -> Ending
+pub(crate) fn ran(run: Run, status: u8) -> Ending
     ensures out { out_text result.output ≡ out_text run.output }
     ensures told { told_text result ≡ run.output.err.items ++ full_text run.full }
     ensures status { result.status ≡ full_status run.full status }
@@ -66,7 +67,7 @@ fn processes_ending<R: Threads + Wait + Clock + Sync, H: Host>(
     }
 }
 
-// The same, strictly: whether the script is settled is in the status too.
+// The same, strictly: whether the script is settled is in the status too, and a reason why it isn't behind the diagnostics.
 fn strict_ending<R: Threads + Wait + Clock + Sync, H: Host>(
     rt: &R,
     alloc: Global,
@@ -76,7 +77,13 @@ fn strict_ending<R: Threads + Wait + Clock + Sync, H: Host>(
     ensures { IsDue (H.input host.old) (H.file host.old) (run_asked true request.now) result }
 {
     match run_strict(rt, alloc, request, host) {
-        Ok(strict) => ran(strict.run, verdict_status(true, strict.is_settled)),
+        Ok(strict) => {
+            let status = verdict_status(true, strict.is_settled);
+            match with_why(strict) {
+                Ok(run) => ran(run, status),
+                Err(_) => report_no_memory(alloc),
+            }
+        }
         Err(fault) => report_run_fault(alloc, fault),
     }
 }

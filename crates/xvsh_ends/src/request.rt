@@ -4,18 +4,20 @@ ghost use Rattle.xvsh_read.specs.Writing.{out_text};
 ghost use Rattle.xvsh_ends.specs.Ends.{IsDue};
 ghost use Rattle.xvsh_ends.specs.Requests.{UnlessPrinted, asked};
 
-use crate::checks::{check_ending, explain_ending};
+use crate::check_objects::{check_told, explain_told};
+use crate::drawing::draw_ending;
 use crate::ending::Ending;
 use crate::explorations::explore_ending;
 use crate::plain::plain_ending;
-use crate::processes::{replay_ending, run_ending};
+use crate::run_objects::{replay_told, run_told};
 use crate::tracing::traced;
 use std::alloc::Global;
 use std::sync::Wait;
 use std::thread::Threads;
 use std::time::Clock;
 use xvsh_checks::{CheckRequest, ExplainRequest};
-use xvsh_explores::ExploreRequest;
+use xvsh_draws::DrawRequest;
+use xvsh_explores::{ExploreRequest, Watch};
 use xvsh_plain::PlainRequest;
 use xvsh_read::Host;
 use xvsh_runs::{ReplayRequest, RunRequest};
@@ -36,11 +38,13 @@ pub enum Request<'a> {
     Explain(ExplainRequest<'a>),
     /// `explore`.
     Explore(ExploreRequest<'a>),
+    /// `draw`.
+    Draw(DrawRequest<'a>),
 }
 
 /// Carries out a request, and returns how the program ends: what it prints, or why it can't. Nothing is written but the trace of
 /// a run and the schedules of an exploration, where they are requested.
-pub fn ending_of<R: Threads + Wait + Clock + Sync, H: Host + Traces>(
+pub fn ending_of<R: Threads + Wait + Clock + Sync, H: Host + Traces + Watch>(
     rt: &R,
     alloc: Global,
     request: &Request<'_>,
@@ -51,16 +55,17 @@ pub fn ending_of<R: Threads + Wait + Clock + Sync, H: Host + Traces>(
 {
     match request {
         Request::Run(run) => {
-            let ending = run_ending(rt, alloc, run, host);
+            let ending = run_told(rt, alloc, run, host);
             traced(alloc, ending, run.trace, host)
         }
         Request::Replay(replay) => {
-            let ending = replay_ending(alloc, replay, host);
+            let ending = replay_told(alloc, replay, host);
             traced(alloc, ending, replay.trace, host)
         }
         Request::Plain(plain) => plain_ending(alloc, plain, host),
-        Request::Check(check) => check_ending(alloc, check, host),
-        Request::Explain(explain) => explain_ending(alloc, explain, host),
+        Request::Check(check) => check_told(alloc, check, host),
+        Request::Explain(explain) => explain_told(alloc, explain, host),
         Request::Explore(explore) => explore_ending(alloc, explore, host),
+        Request::Draw(draw) => draw_ending(alloc, draw, host),
     }
 }

@@ -28,7 +28,7 @@ fn print_alone(alloc: Global, text: Vec<u8>, status: u8) -> Ending
 }
 
 // Prints an object that was made, with this status, or reports that memory was refused for it.
-fn print_made(alloc: Global, made: Result<Vec<u8>, AllocError>, status: u8) -> Ending
+pub(crate) fn print_made(alloc: Global, made: Result<Vec<u8>, AllocError>, status: u8) -> Ending
     ensures { MatchResult made (λ text. PrintsAlone text.items status result) (λ _. Tells (fault_told Fault.Memory) 4 result) }
 {
     match made {

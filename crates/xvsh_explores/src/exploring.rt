@@ -8,7 +8,7 @@ use crate::findings::{Findings, findings_of, schedules_of};
 use crate::objects::{object_of, object_of_settled};
 use crate::request::ExploreRequest;
 use crate::telling::{told, told_settled};
-use every_order::{Exploration, ExploreFault, Outcome, explore};
+use every_order::{Exploration, ExploreFault, Outcome, Setting, Watch, explore_watched};
 use order_partings::Scene;
 use plain_run::{Plain, PlainFault, plain};
 use std::alloc::{AllocError, Global};
@@ -94,17 +94,22 @@ fn tell(
 }
 
 // What is found by trying every order.
-fn explore_all<'a>(
+fn explore_all<'a, W: Watch>(
     alloc: Global,
     start: &Start,
     request: &ExploreRequest<'a>,
+    watch: &mut W,
 ) -> Result<Explored, Fault<'a>>
     ensures told { IfOk result (λ explored. (all : Bool) → Told start.now.script.profile (lines_of start.now.script.lines) start.now.stdin.items start.now.files all explored.is_whole explored.is_single) }
     ensures fault { IfErr result (λ fault. (fault ≡ Memory) ⊎ (fault ≡ TooLarge)) }
 {
     let most = usize::try_from(request.states).unwrap_or(usize::MAX);
-    let stdin = start.stdin.as_slice();
-    let found = match explore(alloc, &start.script, stdin, &start.files, most) {
+    let setting = Setting {
+        script: &start.script,
+        stdin: start.stdin.as_slice(),
+        files: &start.files,
+    };
+    let found = match explore_watched(alloc, &setting, most, watch) {
         Ok(found) => found,
         Err(fault) => return Err(of_explore(fault)),
     };
@@ -160,10 +165,11 @@ fn explore_settled<'a>(
 }
 
 // What is told of a script from what it begins with.
-fn explore_start<'a>(
+fn explore_start<'a, W: Watch>(
     alloc: Global,
     start: &Start,
     request: &ExploreRequest<'a>,
+    watch: &mut W,
 ) -> Result<Explored, Fault<'a>>
     ensures told { IfOk result (λ explored. Told start.now.script.profile (lines_of start.now.script.lines) start.now.stdin.items start.now.files request.now.is_thorough explored.is_whole explored.is_single) }
     ensures fault { IfErr result (λ fault. (fault ≡ Memory) ⊎ (fault ≡ TooLarge)) }
@@ -171,16 +177,17 @@ fn explore_start<'a>(
     if let Some(known) = explore_settled(alloc, start, request)? {
         return Ok(known);
     }
-    let explored = explore_all(alloc, start, request)?;
+    let explored = explore_all(alloc, start, request, watch)?;
     Ok(explored)
 }
 
 /// `explore`: reads the script, the files in order, and standard input unless that is the script, tries every order of its
 /// processes' turns, and returns what is told of the outcomes (own). A settled script has one, which is told without, unless
-/// the request is thorough or asks for schedules, or some file is soft. Nothing is written.
+/// the request is thorough or asks for schedules, or some file is soft. The host is told how many states were found. Nothing is
+/// written.
 ///
 /// A run with more turns than can be counted is the fault `TooLarge`.
-pub fn run_explore<'a, H: Host>(
+pub fn run_explore<'a, H: Host + Watch>(
     alloc: Global,
     request: &ExploreRequest<'a>,
     host: &mut H,
@@ -189,6 +196,6 @@ pub fn run_explore<'a, H: Host>(
     ensures fault { IfErr result (IsExploreFault (H.input host.old) (H.file host.old) request.now.source.script.now request.now.source.files.now) }
 {
     let start = prepare(alloc, host, &request.source, false)?;
-    let explored = explore_start(alloc, &start, request)?;
+    let explored = explore_start(alloc, &start, request, host)?;
     Ok(explored)
 }

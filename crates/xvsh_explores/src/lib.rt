@@ -10,5 +10,6 @@ mod request;
 mod sorting;
 mod telling;
 
+pub use every_order::Watch;
 pub use exploring::{Explored, run_explore};
 pub use request::{ExploreRequest, MAX_STATES};

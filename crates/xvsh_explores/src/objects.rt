@@ -1,45 +1,21 @@
 //! What was found as one object of JSON.
 
 use crate::findings::Findings;
-use crate::telling::full_word;
 use every_order::{Exploration, Outcome};
 use mem_files::Files;
 use order_partings::Parting;
+use result_json::{begin_result, full_word, write_files};
 use std::alloc::{AllocError, Global};
 use trace_lines::Line;
 
-// Begins the object of an exploration with this status.
-fn begin(alloc: Global, status: &str) -> Result<Line, AllocError> {
-    let mut line = Line::begin(alloc, Vec::new(alloc))?;
-    line.word("format", "xvsh-result")?;
-    line.count("version", 1)?;
-    line.word("command", "explore")?;
-    line.word("status", status)?;
-    Ok(line)
-}
-
-// The status in words, by whether every order was tried, and whether all outcomes have one output and one set of files.
-fn status_word(is_whole: bool, is_single: bool) -> &'static str {
+// The status in words, and the one with which the program ends, by whether every order was tried, and whether all outcomes have
+// one output and one set of files.
+fn status_of(is_whole: bool, is_single: bool) -> (&'static str, u8) {
     match (is_whole, is_single) {
-        (false, _) => "not every order tried",
-        (true, false) => "several outputs",
-        (true, true) => "one output",
+        (false, _) => ("not every order tried", 4),
+        (true, false) => ("several outputs", 3),
+        (true, true) => ("one output", 0),
     }
-}
-
-fn write_files(line: &mut Line, files: &Files<Global>) -> Result<(), AllocError> {
-    line.begin_list("files")?;
-    for place in 0..files.count() {
-        if let Some(name) = files.name_at(place) {
-            let bytes = files.get(name).unwrap_or(&[]);
-            line.begin_raw_object()?;
-            line.bytes("name", name)?;
-            line.count("length", bytes.len() as u64)?;
-            line.bytes("bytes", bytes)?;
-            line.end_object()?;
-        }
-    }
-    line.end_list()
 }
 
 fn write_pids(line: &mut Line, key: &str, pids: &[u8]) -> Result<(), AllocError> {
@@ -71,7 +47,7 @@ fn write_outcome(
     line.count("number", number as u64)?;
     line.bytes("output", outcome.out.as_slice())?;
     line.bytes("diagnostics", outcome.diag.as_slice())?;
-    write_files(line, &outcome.files)?;
+    write_files(line, &outcome.files, None)?;
     if let Some(full) = outcome.full {
         line.word("full", full_word(full))?;
     }
@@ -112,7 +88,8 @@ pub fn object_of(
     findings: &Findings,
     is_single: bool,
 ) -> Result<Vec<u8>, AllocError> {
-    let mut line = begin(alloc, status_word(found.whole, is_single))?;
+    let (status, code) = status_of(found.whole, is_single);
+    let mut line = begin_result(alloc, "explore", status, code)?;
     line.count("states", found.states as u64)?;
     line.truth("every_order_tried", found.whole)?;
     match &found.stuck {
@@ -129,7 +106,7 @@ pub fn object_of_settled(
     out: &[u8],
     files: &Files<Global>,
 ) -> Result<Vec<u8>, AllocError> {
-    let mut line = begin(alloc, "settled")?;
+    let mut line = begin_result(alloc, "explore", "settled", 0)?;
     line.count("states", 0)?;
     line.truth("every_order_tried", false)?;
     line.nothing("stuck")?;
@@ -137,7 +114,7 @@ pub fn object_of_settled(
     line.begin_raw_object()?;
     line.count("number", 1)?;
     line.bytes("output", out)?;
-    write_files(&mut line, files)?;
+    write_files(&mut line, files, None)?;
     line.end_object()?;
     line.end_list()?;
     line.end()

@@ -28,6 +28,15 @@ fn add_word(text: &mut Vec<u8>, word: &str) -> Result<(), AllocError> {
     Ok(())
 }
 
+// Adds the words of the standard input, if there are any.
+fn add_input(text: &mut Vec<u8>, input: Option<&str>) -> Result<(), AllocError> {
+    if let Some(word) = input {
+        add_word(text, "--input")?;
+        add_word(text, word)?;
+    }
+    Ok(())
+}
+
 // Adds a space and the path of the first schedule in the folder.
 fn add_schedule(text: &mut Vec<u8>, folder: &str) -> Result<(), AllocError> {
     add_word(text, folder)?;
@@ -43,8 +52,12 @@ pub fn add_replay(text: &mut Vec<u8>, request: &ExploreRequest<'_>) -> Result<()
     if request.source.profile == Profile::Append {
         add_word(text, "--append")?;
     }
+    add_input(text, request.input)?;
+    if request.text.is_some() {
+        add_word(text, "-c")?;
+    }
     add_schedule(text, folder)?;
-    add_word(text, request.source.script)?;
+    add_word(text, request.text.unwrap_or(request.source.script))?;
     for path in request.source.files {
         add_word(text, path)?;
     }

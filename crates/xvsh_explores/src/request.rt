@@ -17,4 +17,8 @@ pub struct ExploreRequest<'a> {
     pub witness: Option<&'a str>,
     /// Print an object of JSON.
     pub is_json: bool,
+    /// The word of the standard input, if there is one, and the script, where it is among the words: for the line that says how
+    /// to replay.
+    pub input: Option<&'a str>,
+    pub text: Option<&'a str>,
 }

@@ -5,7 +5,7 @@ use crate::findings::Findings;
 use crate::replays::add_replay;
 use crate::request::ExploreRequest;
 use every_order::{Exploration, Outcome};
-use kernel_model::Full;
+use result_json::full_word;
 use std::alloc::{AllocError, Global};
 
 // `1 output`, `4 outputs`.
@@ -55,18 +55,6 @@ fn add_head(
     text.extend_from_slice(tried.as_bytes())?;
     add_count(alloc, text, found.states, "state")?;
     text.extend_from_slice(b")\n".as_slice())
-}
-
-/// The word for what was full.
-pub(crate) fn full_word(full: Full) -> &'static str {
-    match full {
-        Full::Procs => "procs",
-        Full::Open => "open",
-        Full::Fds => "descriptors",
-        Full::Files => "files",
-        Full::Size => "size",
-        Full::Memory => "memory",
-    }
 }
 
 // A line for each file, one for the diagnostics, and one for what was full.

@@ -1,9 +1,15 @@
 //! The program `xvsh`.
 #![tactic(auto)]
 
-use std::io;
+use std::io::{self, IsTerminal};
 use std::process::ExitCode;
+use xvsh::Terminal;
 
 fn main(rt: HostRuntime) -> io::Result<ExitCode> {
-    xvsh::run(&rt, &mut rt.stderr())
+    let terminal = Terminal {
+        err: rt.stderr(),
+        reads: rt.stdin().is_terminal(),
+        shows: rt.stderr().is_terminal(),
+    };
+    xvsh::run(&rt, &mut rt.stderr(), terminal)
 }

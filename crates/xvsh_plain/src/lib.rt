@@ -4,7 +4,11 @@
 mod reasoned;
 mod request;
 mod running;
+mod strict;
+mod verdict;
 
 pub use reasoned::run_reasoned;
 pub use request::PlainRequest;
 pub use running::{PlainRun, of_plain, run_plain};
+pub use strict::{ToldRun, run_told};
+pub use verdict::{Verdict, verdict_of};

@@ -43,7 +43,7 @@ pub fn read_script<'a, H: Host>(
 }
 
 // The standard input of the script at a path, unless it was taken before.
-fn read_stdin<'a, H: Host>(
+pub(crate) fn read_stdin<'a, H: Host>(
     alloc: Global,
     host: &mut H,
     script: &str,

@@ -13,6 +13,7 @@ use Rattle.xvsh_runs.specs.declared.fault.ProcessFault.{ProcessFault}
 use Rattle.xvsh_runs.specs.declared.report.Lists.{Lists}
 use Rattle.xvsh_runs.specs.declared.report.Run.{Run}
 use Rattle.xvsh_runs.specs.Runs.{RanOn, RanRun}
+use Rattle.xvsh_runs.specs.Values.{HasValues, RanValues}
 use Rattle.xvsh_runs.specs.Why.{IsHartsFault, IsRunFault, no_run}
 
 module _ (input : Option Bytes) (file : Path → Option Bytes) (profile own : Profile) (script : Path) (paths : List (Bor Path)) (lines : List ScriptLine) (given : List (Name × Bytes)) (stdin : Bytes) (starts : Starts input file false script paths lines given stdin) (same : own ≡ profile) (harts turns : ℕ) where
@@ -25,6 +26,16 @@ module _ (input : Option Bytes) (file : Path → Option Bytes) (profile own : Pr
     stdin = stdin;
     starts = starts;
     on = subst (λ p. RanOn (script_kernel p lines stdin given) harts turns lists run.full (out_text run.output) run.output.err.items) same ran;
+  }
+
+  pub prepared_values : (result : Result Run ProcessFault) → IfOk result (HasValues (script_kernel own lines stdin given)) → IfOk result (RanValues input file false profile script paths)
+  prepared_values (Err fault) values = tt
+  prepared_values (Ok run) values = record {
+    lines = lines;
+    given = given;
+    stdin = stdin;
+    starts = starts;
+    values = subst (λ p. HasValues (script_kernel p lines stdin given) run) same values;
   }
 
   pub prepared_fault : (result : Result Run ProcessFault) → IfErr result (IsHartsFault (script_kernel own lines stdin given) harts turns) → IfErr result (IsRunFault input file profile script paths harts turns)

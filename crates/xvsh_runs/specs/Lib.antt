@@ -5,3 +5,4 @@ pub mod Runs
 pub mod Status
 pub mod Why
 pub mod Strict
+pub mod Values

@@ -10,6 +10,7 @@ ghost use Rattle.xvsh_read.specs.declared.fault.Fault.TheVariants.{Memory};
 ghost use Rattle.xvsh_read.specs.Writing.{out_text};
 ghost use Rattle.xvsh_runs.specs.Kernels.{kernel_of};
 ghost use Rattle.xvsh_runs.specs.Runs.{DidReplay};
+ghost use Rattle.xvsh_runs.specs.Values.{RanValues};
 ghost use Rattle.xvsh_runs.specs.Why.{IsBytesFault, IsEventsFault, IsLinesFault, IsReplayRefusal};
 
 use crate::fault::ProcessFault;
@@ -120,6 +121,7 @@ pub fn run_replay<'a, H: Host>(
     host: &mut H,
 ) -> Result<Run, ProcessFault<'a>>
     ensures ran { IfOk result (λ run. DidReplay (H.input host.old) (H.file host.old) request.now run.full (out_text run.output) run.output.err.items) }
+    ensures values { IfOk result (RanValues (H.input host.old) (H.file host.old) (bytes_eq request.now.schedule.now (codes "-")) request.now.source.profile request.now.source.script.now request.now.source.files.now) }
     ensures fault { IfErr result (IsReplayRefusal (H.input host.old) (H.file host.old) request.now) }
 {
     let schedule = request.schedule;

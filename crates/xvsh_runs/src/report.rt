@@ -56,6 +56,8 @@ pub struct Recording {
 pub struct Run {
     /// What it prints.
     pub output: Output,
+    /// The files that it leaves.
+    pub files: Files<Global>,
     /// What was full in it, if something was.
     pub full: Option<Full>,
     /// What makes it once more.
@@ -73,6 +75,8 @@ pub fn run_of(
 ) -> Result<Run, AllocError>
     ensures out { IfOk result (λ run. out_text run.output ≡ run_text lists report.out.items report.files report.schedule) }
     ensures err { IfOk result (λ run. run.output.err.items ≡ report.diag.items) }
+    ensures written { IfOk result (λ run. run.output.out ≡ report.out.items) }
+    ensures files { IfOk result (λ run. run.files ≡ report.files) }
     ensures full { IfOk result (λ run. run.full ≡ report.full) }
     ensures start { IfOk result (λ run. run.recording.start ≡ start) }
     ensures schedule { IfOk result (λ run. run.recording.schedule ≡ report.schedule) }
@@ -86,6 +90,7 @@ pub fn run_of(
             events,
             err: report.diag,
         },
+        files: report.files,
         full: report.full,
         recording: Recording {
             start,

@@ -20,6 +20,8 @@ pub struct RunRequest<'a> {
     pub is_strict: bool,
     /// Where the run's trace is written; `-` is standard output, and then nothing else is.
     pub trace: Option<&'a str>,
+    /// Print one object of JSON in place of the text.
+    pub is_json: bool,
 }
 
 /// A run of a script by the events of a schedule.
@@ -31,4 +33,6 @@ pub struct ReplayRequest<'a> {
     pub lists: Lists,
     /// Where the run's trace is written; `-` is standard output, and then nothing else is.
     pub trace: Option<&'a str>,
+    /// Print one object of JSON in place of the text.
+    pub is_json: bool,
 }

@@ -1,10 +1,11 @@
 //! `run`: a script by its processes on some harts.
-ghost use Rattle.std.specs.Prelude.{◌≡◌, ◌≤◌, IfOk, IfErr, length};
+ghost use Rattle.std.specs.Prelude.{◌≡◌, ◌≤◌, IfOk, IfErr, length, false};
 ghost use Rattle.kernel_events.specs.Reports.{IsRunFrom};
 ghost use Rattle.kernel_threads.specs.Events.{AreOfHarts};
 ghost use Rattle.xvsh_read.specs.Writing.{out_text};
 ghost use Rattle.xvsh_runs.specs.Kernels.{kernel_of};
 ghost use Rattle.xvsh_runs.specs.Runs.{DidRun, DidRunFrom};
+ghost use Rattle.xvsh_runs.specs.Values.{HasValues, RanValues};
 ghost use Rattle.xvsh_runs.specs.Why.{IsHartsFault, IsRunRefusal};
 
 use crate::fault::ProcessFault;
@@ -97,6 +98,7 @@ pub(crate) fn run_prepared<'a, R: Threads + Wait + Clock + Sync>(
     order: Order,
 ) -> Result<Run, ProcessFault<'a>>
     ensures ran { IfOk result (λ run. DidRunFrom (kernel_of start) request.now run.full (out_text run.output) run.output.err.items) }
+    ensures values { IfOk result (HasValues (kernel_of start)) }
     ensures fault { IfErr result (IsHartsFault (kernel_of start) request.now.harts request.now.turns) }
 {
     let report = run_started(rt, alloc, &start, request, order)?;
@@ -114,6 +116,7 @@ pub fn run_processes<'a, R: Threads + Wait + Clock + Sync, H: Host>(
     host: &mut H,
 ) -> Result<Run, ProcessFault<'a>>
     ensures ran { IfOk result (λ run. DidRun (H.input host.old) (H.file host.old) request.now run.full (out_text run.output) run.output.err.items) }
+    ensures values { IfOk result (RanValues (H.input host.old) (H.file host.old) false request.now.source.profile request.now.source.script.now request.now.source.files.now) }
     ensures fault { IfErr result (IsRunRefusal (H.input host.old) (H.file host.old) request.now) }
 {
     let order = order_of(request)?;

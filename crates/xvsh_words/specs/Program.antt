@@ -19,11 +19,23 @@ number_rule name most = record (new_rule name) { long = Some name; value_names =
 abbrev pub path_rule : List ℕ → Rule
 path_rule name = record (new_rule name) { long = Some name; value_names = 1; action = Some Set }
 
+-- `-c`
+abbrev pub text_rule : Rule
+text_rule = record (new_rule (codes "text")) { short = Some 99; action = Some SetTrue }
+
+-- a script's standard input
+abbrev pub input_rule : Rule
+input_rule = path_rule (codes "input")
+
 abbrev pub word_rule : List ℕ → Rule
 word_rule name = record (new_rule name) { value_names = 1; required = true; action = Some Set }
 
 abbrev pub files_rule : Rule
 files_rule = record (new_rule (codes "paths")) { value_names = 1; range = Some (record { start_inclusive = 0; end_inclusive = usize_max }); action = Some Append }
+
+-- one more word, or none
+abbrev pub other_rule : List ℕ → Rule
+other_rule name = record (new_rule name) { value_names = 1; range = Some (record { start_inclusive = 0; end_inclusive = 1 }); action = Some Set }
 
 -- the most that a seed may be
 abbrev pub most_seed : ℕ
@@ -36,33 +48,41 @@ apart rule = record rule { is_free = false }
 -- the commands; `run` by the most harts and the most turns that it may have
 abbrev pub run_shape : ℕ → ℕ → Shape
 run_shape harts turns = record (new_shape (codes "run")) {
-  rules = number_rule (codes "harts") harts ∷ number_rule (codes "turns") turns ∷ apart (number_rule (codes "seed") most_seed) ∷ apart (path_rule (codes "order")) ∷ flag_rule (codes "schedule") ∷ path_rule (codes "trace") ∷ flag_rule (codes "strict") ∷ flag_rule (codes "append") ∷ flag_rule (codes "files") ∷ word_rule (codes "script") ∷ files_rule ∷ [];
+  rules = number_rule (codes "harts") harts ∷ number_rule (codes "turns") turns ∷ apart (number_rule (codes "seed") most_seed) ∷ apart (path_rule (codes "order")) ∷ flag_rule (codes "schedule") ∷ path_rule (codes "trace") ∷ flag_rule (codes "strict") ∷ flag_rule (codes "append") ∷ flag_rule (codes "files") ∷ flag_rule (codes "json") ∷ input_rule ∷ text_rule ∷ word_rule (codes "script") ∷ files_rule ∷ [];
 }
 
 abbrev pub replay_shape : Shape
 replay_shape = record (new_shape (codes "replay")) {
-  rules = path_rule (codes "trace") ∷ flag_rule (codes "append") ∷ flag_rule (codes "files") ∷ word_rule (codes "events") ∷ word_rule (codes "script") ∷ files_rule ∷ [];
+  rules = path_rule (codes "trace") ∷ flag_rule (codes "append") ∷ flag_rule (codes "files") ∷ flag_rule (codes "json") ∷ input_rule ∷ text_rule ∷ word_rule (codes "events") ∷ word_rule (codes "script") ∷ files_rule ∷ [];
 }
 
 abbrev pub plain_shape : Shape
 plain_shape = record (new_shape (codes "plain")) {
-  rules = flag_rule (codes "strict") ∷ flag_rule (codes "append") ∷ flag_rule (codes "files") ∷ flag_rule (codes "json") ∷ word_rule (codes "script") ∷ files_rule ∷ [];
+  rules = flag_rule (codes "strict") ∷ flag_rule (codes "append") ∷ flag_rule (codes "files") ∷ flag_rule (codes "json") ∷ input_rule ∷ text_rule ∷ word_rule (codes "script") ∷ files_rule ∷ [];
 }
 
--- files only beside `--turns`
+-- files and an input only beside `--turns`
 abbrev pub check_shape : Shape
 check_shape = record (new_shape (codes "check")) {
-  rules = flag_rule (codes "turns") ∷ word_rule (codes "script") ∷ record files_rule { is_free = false } ∷ [];
+  rules = flag_rule (codes "turns") ∷ flag_rule (codes "json") ∷ apart input_rule ∷ text_rule ∷ word_rule (codes "script") ∷ record files_rule { is_free = false } ∷ [];
 }
 
 -- `explore` by the most states that it may keep
 abbrev pub explore_shape : ℕ → Shape
 explore_shape states = record (new_shape (codes "explore")) {
-  rules = number_rule (codes "states") states ∷ flag_rule (codes "all") ∷ path_rule (codes "witness") ∷ flag_rule (codes "json") ∷ flag_rule (codes "append") ∷ word_rule (codes "script") ∷ files_rule ∷ [];
+  rules = number_rule (codes "states") states ∷ flag_rule (codes "all") ∷ path_rule (codes "witness") ∷ flag_rule (codes "json") ∷ flag_rule (codes "append") ∷ input_rule ∷ text_rule ∷ word_rule (codes "script") ∷ files_rule ∷ [];
 }
 
 abbrev pub explain_shape : Shape
-explain_shape = record (new_shape (codes "explain")) { rules = word_rule (codes "script") ∷ [] }
+explain_shape = record (new_shape (codes "explain")) {
+  rules = flag_rule (codes "why") ∷ flag_rule (codes "append") ∷ apart (flag_rule (codes "json")) ∷ input_rule ∷ text_rule ∷ word_rule (codes "script") ∷ files_rule ∷ [];
+}
+
+-- `draw` by the most events that a run may have
+abbrev pub draw_shape : ℕ → Shape
+draw_shape turns = record (new_shape (codes "draw")) {
+  rules = number_rule (codes "from") turns ∷ number_rule (codes "to") turns ∷ word_rule (codes "trace") ∷ other_rule (codes "other") ∷ [];
+}
 
 -- the program, without a command and with all of them
 abbrev pub bare_program : App
@@ -79,7 +99,7 @@ bare_program = record {
 abbrev pub program : ℕ → ℕ → ℕ → App
 program harts turns states = record {
   top = record bare_program.top { is_leaf = false };
-  subs = run_shape harts turns ∷ replay_shape ∷ plain_shape ∷ check_shape ∷ explain_shape ∷ explore_shape states ∷ [];
+  subs = run_shape harts turns ∷ replay_shape ∷ plain_shape ∷ check_shape ∷ explain_shape ∷ explore_shape states ∷ draw_shape turns ∷ [];
 }
 
 -- a command of this shape, none of whose arguments are of its subcommands too

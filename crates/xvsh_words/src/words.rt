@@ -3,7 +3,7 @@
 ghost use Rattle.std.specs.Prelude.{◌≡◌, IfOk, codes, false};
 ghost use Rattle.clap.specs.Simple.{app_of};
 ghost use Rattle.clap.specs.Walk.{rule_of};
-ghost use Rattle.xvsh_words.specs.Program.{IsCommand, bare_program, check_shape, explain_shape, explore_shape, files_rule, flag_rule, number_rule, plain_shape, program, replay_shape, run_shape, word_rule, path_rule};
+ghost use Rattle.xvsh_words.specs.Program.{IsCommand, bare_program, check_shape, draw_shape, explain_shape, explore_shape, files_rule, flag_rule, number_rule, other_rule, plain_shape, program, replay_shape, run_shape, text_rule, word_rule, path_rule};
 
 use clap::builder::ValueParser;
 use clap::{Arg, ArgAction, Command};
@@ -12,63 +12,82 @@ use std::alloc::{AllocError, Global};
 const ABOUT: &str = "Runs scripts of xv6's shell";
 
 const AFTER_HELP: &str = "\
-Without any words xvsh reads a script from standard input, as `xvsh plain -` does.
+Without any words xvsh reads a script from standard input, as `xvsh plain -`
+does. `xvsh -c TEXT` runs the script TEXT, as `xvsh plain -c TEXT` does.
 
-A script is lines of at most 511 bytes. A line is commands joined by `|` (the left side's output is
-the right side's input) and `;` (one after the other); `( )` groups, `&` after a command doesn't wait
-for it, `< FILE`, `> FILE` and `>> FILE` take and put input and output. `>` empties the file, and
-`>>` writes over it from its beginning, as xv6 does, or with `--append` at its end. A command has at
-most nine words. There are no quotes, variables, patterns or comments. A line that is no command does
-nothing.
+A script is lines of at most 511 bytes. A line is commands joined by `|` (the
+left side's output is the right side's input) and `;` (one after the other); `(
+)` groups, `&` after a command doesn't wait for it, `< FILE`, `> FILE` and `>>
+FILE` take and put input and output. `>` empties the file, and `>>` writes over
+it from its beginning, as xv6 does, or with `--append` at its end. A command
+has at most nine words. There are no quotes, variables, patterns or comments. A
+line that is no command does nothing.
 
 Programs, which work on their input where no FILE is given:
-  cat [FILE]..            copies it
-  echo [WORD]..           writes its words
-  grep PATTERN [FILE]..   the lines that match; `^` is a line's beginning, `$` its end, `.` any byte,
-                          and `*` after a byte any number of it
-  head [-N] [FILE]..      the first 10 lines, or N
-  tee [FILE]..            copies its input to its output and to each FILE
-  wc [FILE]..             counts lines, words and bytes
+  cat [FILE]..           copies it
+  echo [WORD]..          writes its words
+  grep PATTERN [FILE]..  the lines that match; `^` is a line's beginning, `$`
+                         its end, `.` any byte, `*` any number of the byte
+                         before it
+  head [-N] [FILE]..     the first 10 lines, or N
+  tee [FILE]..           copies its input to its output and to each FILE
+  wc [FILE]..            counts lines, words and bytes
 Any other name does nothing.
 
-Files live in memory, and none of them on the disk: at most 200, with names of 1 to 14 bytes and at
-most 274,432 bytes each. A script and a standard input have at most 1,048,576 bytes.
+Files live in memory, and none of them on the disk: at most 200, with names of
+1 to 14 bytes and at most 274,432 bytes each. A script and a standard input
+have at most 1,048,576 bytes.
 
 Examples:
   echo 'echo hello | cat > f; cat f' | xvsh
-  xvsh run script.sh notes/todo              # `todo` is a file of the script
+  xvsh -c 'echo a | cat'
+  xvsh run --input none script.sh notes/todo   # `todo` is a file of it
   xvsh plain --files script.sh notes/todo
 
-`run` has xv6's processes take turns, each until its next system call, on harts that work side by side,
-and tells what they tell, such as `open f failed`. Where something was full, as at a pipeline of more processes than there are, a
-last line `xvsh: full procs`, `open`, `descriptors`, `files`, `size` or `memory` says so. `run
---schedule` ends its output with a line an event, and `replay` runs the script by those lines again.
+`run` has xv6's processes take turns, each until its next system call, on harts
+that work side by side, and tells what they tell, such as `open f failed`.
+Where something was full, as at a pipeline of more processes than there are, a
+last line `xvsh: full procs`, `open`, `descriptors`, `files`, `size` or
+`memory` says so. `run --schedule` ends its output with a line an event, and
+`replay` runs the script by those lines again.
 
-After `plain` one line goes to standard error: `settled` where the script prints the same in whatever
-order its processes run, and else `not settled`. `--files` marks as `soft` a file whose bytes may
+After `plain` one line goes to standard error: `settled` where the script was
+shown to print the same in whatever order its processes run, and else `not
+settled`: that it has one answer wasn't shown. With `--strict` one more line
+says why not, of `run` too. `--files` marks as `soft` a file whose bytes may
 depend on that order.
 
-`plain --json` writes one object of JSON instead, with the output, all files, whether the script is settled,
-and why it isn't: the lines with a `&` or a clash, the files that cut pipes write and that are named
-again, and the lines that use an input of which an unknown part is left.
+`plain --json` writes one object of JSON instead, with the output, all files,
+whether the script is settled, and why it isn't: the lines with a `&` or a
+clash, the files that cut pipes write and that are named again, and the lines
+that use an input of which an unknown part is left. `run`, `replay`, `check`,
+`explain` and `explore` write one with `--json` too, with all that they tell.
 
-`xvsh check SCRIPT` writes, for the script's line N: `N fault K NAME at P` where it is no command,
-`N background` where it has a `&`, and `N clash KIND NAME` where two of its commands may come upon
-each other at a file: at the two sides of a pipe (PipeSides), or inside a redirection (Enclosing).
-`check --turns` ends with a line `turns N`: with `run --turns N` the script runs to its end, whatever
-the order of its processes, if it has no clash and no `&` and nothing is full.
+`xvsh check SCRIPT` writes, for the script's line N: `N fault K NAME at P`
+where it is no command, `N background` where it has a `&`, and `N clash KIND
+NAME` where two of its commands may come upon each other at a file: at the two
+sides of a pipe (PipeSides), or inside a redirection (Enclosing). `check
+--turns` ends with a line `turns N`: with `run --turns N` the script runs to
+its end, whatever the order of its processes, if it has no clash and no `&` and
+nothing is full.
 
-`xvsh explain SCRIPT` tells the same in sentences, and more: a `#` or a quote that is a letter here, a
-command that is no program, a name that no file can have, a `>>` that writes over. Each sentence comes
-with its line and marks under the place.
+`xvsh explain SCRIPT` tells the same in sentences, and more: a `#` or a quote
+that is a letter here, a command that is no program, a name that no file can
+have, a `>>` that writes over. Each sentence comes with its line and marks
+under the place. With FILEs, or `--why`, it reads standard input too, and tells
+each reason why the script isn't settled on them.
 
-`xvsh explore SCRIPT [FILE]..` tries every order in which the script's processes can take their turns,
-and writes a line for each output that the script can have, with the events of a shortest run to it,
-and then where two of these runs part. With `--witness DIR` it writes the schedule of each run to DIR.
+`xvsh explore SCRIPT [FILE]..` tries every order in which the script's
+processes can take their turns, and writes a line for each output that the
+script can have, with the events of a shortest run to it, and then where two of
+these runs part. With `--witness DIR` it writes the schedule of each run to
+DIR.
 
-Status: 0 done; 1 something can't be read, is refused, or can't be written, or is no schedule of a
-whole run; 2 usage; 3 `check` told of a clash or a `&`, `explain` told anything, `explore` found more
-than one outcome, or `--strict` ran a script that isn't settled; 4 not every order was tried, full, spent, too large, or no memory.";
+Status: 0 done; 1 something can't be read, is refused, or can't be written, or
+is no schedule of a whole run; 2 usage; 3 `check` told of a clash or a `&`,
+`explain` told of anything, `explore` found more than one outcome, or
+`--strict` ran a script that isn't settled; 4 not every order was tried, full,
+spent, too large, or no memory.";
 
 const VERSION: &str = "0.1.0 (rattle logic dac8208d650f15bf)";
 
@@ -113,6 +132,25 @@ fn path_option<'a>(
         .action(ArgAction::Set)
 }
 
+// `-c`, with which SCRIPT is the script itself.
+fn text_flag<'a>(alloc: Global) -> Arg<'a>
+    ensures rule { rule_of result ≡ text_rule }
+    ensures local { result.global ≡ false }
+{
+    Arg::new(alloc, "text")
+        .short('c')
+        .help("SCRIPT is the script itself, and no path")
+        .action(ArgAction::SetTrue)
+}
+
+// `--input`, of a script's standard input.
+fn input_option<'a>(alloc: Global) -> Arg<'a>
+    ensures rule { rule_of result ≡ path_rule (codes "input") }
+    ensures local { result.global ≡ false }
+{
+    path_option(alloc, "input", "FILE", INPUT_HELP)
+}
+
 // A word that has to be there.
 fn needed_word<'a>(
     alloc: Global,
@@ -153,7 +191,10 @@ fn file_words<'a>(alloc: Global) -> Arg<'a>
 const SCRIPT_HELP: &str =
     "The script's path; `-` is standard input, and the script's own input is then empty";
 
-const RUN_ABOUT: &str = "Runs a script by its processes, as xv6 does, and tells their diagnostics";
+const INPUT_HELP: &str =
+    "The script's standard input is FILE's bytes, or nothing with `none`; without it, that of xvsh";
+
+const RUN_ABOUT: &str = "Runs a script by its processes, as xv6 does, with their messages";
 
 const STRICT_HELP: &str = "End with status 3 if the script isn't settled";
 
@@ -198,6 +239,9 @@ fn run_command<'a>(
         flag(alloc, "strict", STRICT_HELP),
         flag(alloc, "append", APPEND_HELP),
         flag(alloc, "files", RUN_FILES_HELP),
+        flag(alloc, "json", JSON_HELP),
+        input_option(alloc),
+        text_flag(alloc),
         script_word(alloc, SCRIPT_HELP),
         file_words(alloc),
     ]?;
@@ -219,6 +263,9 @@ fn replay_command<'a>(alloc: Global) -> Result<Command<'a>, AllocError>
         path_option(alloc, "trace", "FILE", TRACE_HELP),
         flag(alloc, "append", APPEND_HELP),
         flag(alloc, "files", RUN_FILES_HELP),
+        flag(alloc, "json", JSON_HELP),
+        input_option(alloc),
+        text_flag(alloc),
         needed_word(alloc, "events", "SCHEDULE", SCHEDULE_HELP),
         script_word(alloc, SCRIPT_HELP),
         file_words(alloc),
@@ -226,7 +273,7 @@ fn replay_command<'a>(alloc: Global) -> Result<Command<'a>, AllocError>
     Command::new(alloc, "replay").about(REPLAY_ABOUT).args(args)
 }
 
-const PLAIN_ABOUT: &str = "Runs a script, each pipe's left side to its end before its right side";
+const PLAIN_ABOUT: &str = "Runs a script, each pipe's left side to its end before the right one";
 
 const PLAIN_FILES_HELP: &str =
     "Write all files after the output: `-- NAME LENGTH`, `soft` if it is soft, the bytes, a line's end";
@@ -239,6 +286,8 @@ fn plain_command<'a>(alloc: Global) -> Result<Command<'a>, AllocError>
         flag(alloc, "append", APPEND_HELP),
         flag(alloc, "files", PLAIN_FILES_HELP),
         flag(alloc, "json", JSON_HELP),
+        input_option(alloc),
+        text_flag(alloc),
         script_word(alloc, SCRIPT_HELP),
         file_words(alloc),
     ]?;
@@ -254,28 +303,44 @@ fn check_command<'a>(alloc: Global) -> Result<Command<'a>, AllocError>
     ensures { IfOk result (IsCommand check_shape) }
 {
     let files = file_words(alloc).requires_arg("turns")?;
+    let input = input_option(alloc).requires_arg("turns")?;
     let args = vec![in alloc;
         flag(alloc, "turns", COUNTED_HELP),
+        flag(alloc, "json", JSON_HELP),
+        input,
+        text_flag(alloc),
         script_word(alloc, "The script's path; `-` is standard input"),
         files,
     ]?;
     Command::new(alloc, "check").about(CHECK_ABOUT).args(args)
 }
 
-const EXPLAIN_ABOUT: &str =
-    "Tells in sentences what is wrong or unexpected in a script, and runs nothing";
+const EXPLAIN_ABOUT: &str = "Tells in sentences what is wrong or unexpected in a script";
+
+const WHY_HELP: &str =
+    "Tell why the script is settled or isn't on its input, as with FILEs; without both, nothing is run";
 
 fn explain_command<'a>(alloc: Global) -> Result<Command<'a>, AllocError>
     ensures { IfOk result (IsCommand explain_shape) }
 {
-    Command::new(alloc, "explain").about(EXPLAIN_ABOUT).arg(script_word(
-        alloc,
-        "The script's path; `-` is standard input",
-    ))
+    let bare = flag(alloc, "json", JSON_HELP).conflicts_with("paths")?;
+    let alone = bare.conflicts_with("why")?;
+    let json = alone.conflicts_with("input")?;
+    let args = vec![in alloc;
+        flag(alloc, "why", WHY_HELP),
+        flag(alloc, "append", APPEND_HELP),
+        json,
+        input_option(alloc),
+        text_flag(alloc),
+        script_word(alloc, "The script's path; `-` is standard input"),
+        file_words(alloc),
+    ]?;
+    Command::new(alloc, "explain")
+        .about(EXPLAIN_ABOUT)
+        .args(args)
 }
 
-const EXPLORE_ABOUT: &str =
-    "Tries every order of a script's processes, and tells all that it can print";
+const EXPLORE_ABOUT: &str = "Tries every order of a script's processes, and tells what it prints";
 
 const STATES_HELP: &str = "Keep at most so many states, 1 to 10000000; 200000 without it";
 
@@ -295,12 +360,54 @@ fn explore_command<'a>(alloc: Global, most_states: u64) -> Result<Command<'a>, A
         path_option(alloc, "witness", "DIR", WITNESS_HELP),
         flag(alloc, "json", EXPLORED_JSON_HELP),
         flag(alloc, "append", APPEND_HELP),
+        input_option(alloc),
+        text_flag(alloc),
         script_word(alloc, SCRIPT_HELP),
         file_words(alloc),
     ]?;
     Command::new(alloc, "explore")
         .about(EXPLORE_ABOUT)
         .args(args)
+}
+
+const DRAW_ABOUT: &str = "Draws a trace, or two, as a page of HTML";
+
+const FROM_HELP: &str = "The first event that is drawn; 1 without it";
+
+const TO_HELP: &str = "The last event that is drawn; the last of all without it";
+
+// One more word, or none.
+fn other_word<'a>(
+    alloc: Global,
+    name: &'static str,
+    shown: &'static str,
+    help: &'static str,
+) -> Arg<'a>
+    ensures rule { rule_of result ≡ other_rule name.now }
+    ensures local { result.global ≡ false }
+{
+    Arg::new(alloc, name)
+        .value_name(shown)
+        .help(help)
+        .num_args(0..=1)
+        .action(ArgAction::Set)
+}
+
+fn draw_command<'a>(alloc: Global, most_turns: u64) -> Result<Command<'a>, AllocError>
+    ensures { IfOk result (IsCommand (draw_shape most_turns)) }
+{
+    let args = vec![in alloc;
+        number_option(alloc, "from", FROM_HELP, most_turns),
+        number_option(alloc, "to", TO_HELP, most_turns),
+        needed_word(
+            alloc,
+            "trace",
+            "TRACE",
+            "The trace's path; `-` is standard input"
+        ),
+        other_word(alloc, "other", "OTHER", "A second trace of the same script"),
+    ]?;
+    Command::new(alloc, "draw").about(DRAW_ABOUT).args(args)
 }
 
 // The program's name, version and help, without a command.
@@ -333,5 +440,6 @@ pub fn command_line<'a>(
     let command = command.subcommand(plain_command(alloc)?)?;
     let command = command.subcommand(check_command(alloc)?)?;
     let command = command.subcommand(explain_command(alloc)?)?;
-    command.subcommand(explore_command(alloc, most_states)?)
+    let command = command.subcommand(explore_command(alloc, most_states)?)?;
+    command.subcommand(draw_command(alloc, most_turns)?)
 }

@@ -17,9 +17,9 @@ enough = omega arith
 
 pub returns-clause-sound : goal.returns-clause-sound
 returns-clause-sound g c =
-    let profile = c.args.script.now.profile in
-    let lines = lines_of c.args.script.now.lines in
-    let same = script_starts profile lines (user_of c.init.result) (user_of c.shell.result) c.args.stdin.now c.args.files.now c.init.ensures c.shell.ensures in
+    let profile = c.args.setting.now.script.now.profile in
+    let lines = lines_of c.args.setting.now.script.now.lines in
+    let same = script_starts profile lines (user_of c.init.result) (user_of c.shell.result) c.args.setting.now.stdin.now c.args.setting.now.files.now c.init.ensures c.shell.ensures in
     passes c.explore_from.result _ _ (λ found e. subst (λ (start : KernelState User). All (IsReplayed call_of next_of start) found.outcomes.items) same e.tells.replayed) c.explore_from.ensures
 
 pub returns-clause-apart : goal.returns-clause-apart
@@ -27,10 +27,10 @@ returns-clause-apart g c = passes c.explore_from.result _ _ (λ found e. e.tells
 
 pub returns-clause-complete : goal.returns-clause-complete
 returns-clause-complete g c =
-    let profile = c.args.script.now.profile in
-    let lines = lines_of c.args.script.now.lines in
-    let input = c.args.stdin.now in
-    let list = c.args.files.now in
+    let profile = c.args.setting.now.script.now.profile in
+    let lines = lines_of c.args.setting.now.script.now.lines in
+    let input = c.args.setting.now.stdin.now in
+    let list = c.args.setting.now.files.now in
     let start : KernelState User = script_kernel profile lines input list in
     let same = script_starts profile lines (user_of c.init.result) (user_of c.shell.result) input list c.init.ensures c.shell.ensures in
     let search_law = c.what_a_search_found_is_explored.ensures in
@@ -44,10 +44,10 @@ returns-clause-complete g c =
 
 pub returns-clause-awake : goal.returns-clause-awake
 returns-clause-awake g c =
-    let profile = c.args.script.now.profile in
-    let lines = lines_of c.args.script.now.lines in
-    let input = c.args.stdin.now in
-    let list = c.args.files.now in
+    let profile = c.args.setting.now.script.now.profile in
+    let lines = lines_of c.args.setting.now.script.now.lines in
+    let input = c.args.setting.now.stdin.now in
+    let list = c.args.setting.now.files.now in
     let start : KernelState User = script_kernel profile lines input list in
     let same = script_starts profile lines (user_of c.init.result) (user_of c.shell.result) input list c.init.ensures c.shell.ensures in
     let search_law = c.what_a_search_found_is_explored.ensures in

@@ -3,6 +3,7 @@ use Rattle.sh_tree.specs.Tree.{tree_of}
 use Rattle.script_notes.specs.Commands.{command_notes, senses_of}
 use Rattle.script_notes.specs.Notes.{notes_text}
 use Rattle.script_notes.specs.Segments.{seen_of}
+use Rattle.script_notes.specs.Written.{written}
 use Rattle.script_notes.proofs.Adding.{added_first}
 use Rattle.script_notes.proofs.Inside.{first_token}
 use Rattle.script_notes.proofs.commands.add_command_notes.Goals as goal
@@ -15,10 +16,10 @@ loop-token-preserved c =
     let after = c.in-Some.after.now in
     let here = c.loop-token.invariant.here in
     let told = c.loop-token.invariant.told in
-    let whole = c.args.told.now.items ++ notes_text c.args.number text (command_notes text tree [] c.args.tokens.now) in
-    let now = subst (λ ts. c.loop-token.told.items ++ notes_text c.args.number text (command_notes text tree told.0 ts) ≡ whole) c.in-Some.ensures.cases.0 told.2 in
-    let added = subst (λ seen. c.add_senses.new.told.items ≡ c.loop-token.told.items ++ notes_text c.args.number text (senses_of text tree seen token)) told.1 c.in_ok-add_senses.ensures in
+    let whole = (written c.args.told.now.items) ++ notes_text c.args.number text (command_notes text tree [] c.args.tokens.now) in
+    let now = subst (λ ts. (written c.loop-token.told.items) ++ notes_text c.args.number text (command_notes text tree told.0 ts) ≡ whole) c.in-Some.ensures.cases.0 told.2 in
+    let added = subst (λ seen. (written c.add_senses.new.told.items) ≡ (written c.loop-token.told.items) ++ notes_text c.args.number text (senses_of text tree seen token)) told.1 c.in_ok-add_senses.ensures in
     record {
       here = (token.past, (first_token text here.0 c.loop-token.rest.now token after c.in-Some.ensures.cases.0 here.1).3);
-      told = (token.kind ∷ told.0, c.after-seen.ensures told.0 told.1, added_first c.args.number text whole c.loop-token.told.items c.add_senses.new.told.items (senses_of text tree (seen_of told.0) token) (command_notes text tree (token.kind ∷ told.0) after) now added);
+      told = (token.kind ∷ told.0, c.after-seen.ensures told.0 told.1, added_first c.args.number text whole (written c.loop-token.told.items) (written c.add_senses.new.told.items) (senses_of text tree (seen_of told.0) token) (command_notes text tree (token.kind ∷ told.0) after) now added);
     }

@@ -8,6 +8,7 @@ use Rattle.script_notes.specs.Habits.{token_notes}
 use Rattle.script_notes.specs.Letters.{byte_notes}
 use Rattle.script_notes.specs.Commands.{command_notes}
 use Rattle.script_notes.specs.Whole.{cd_note, fault_notes}
+use Rattle.script_notes.specs.Written.{written}
 use Rattle.script_notes.proofs.Adding.{added_two, on_ok}
 use Rattle.script_notes.proofs.Inside.{fault_inside}
 use Rattle.script_notes.proofs.explaining.explain_line.Goals as goal
@@ -21,7 +22,7 @@ returns-in-Cd c =
     (λ added. (
       notes,
       subst (λ line. HasNotes number text (line_of line) notes) (sym c.in-Cd.is) refl,
-      added_two number text c.args.told.now.items c.add_byte_notes.new.told.items c.add_cd_note.new.told.items (byte_notes number text) (cd_note ∷ []) c.in_ok-add_byte_notes.ensures added,
+      added_two number text (written c.args.told.now.items) (written c.add_byte_notes.new.told.items) (written c.add_cd_note.new.told.items) (byte_notes number text) (cd_note ∷ []) c.in_ok-add_byte_notes.ensures added,
     ))
     c.add_cd_note.ensures
 
@@ -43,8 +44,8 @@ returns-in-Bad c =
     (λ added. (
       notes,
       subst (λ line. HasNotes number text (line_of line) notes) (sym c.in-Bad.is) (tokens, list, refl),
-      added_two number text c.args.told.now.items c.add_byte_notes.new.told.items c.add_fault_note.new.told.items (byte_notes number text) later c.in_ok-add_byte_notes.ensures
-          (added_two number text c.add_byte_notes.new.told.items c.add_token_notes.new.told.items c.add_fault_note.new.told.items (token_notes text tokens) last c.in_ok-add_token_notes.ensures added),
+      added_two number text (written c.args.told.now.items) (written c.add_byte_notes.new.told.items) (written c.add_fault_note.new.told.items) (byte_notes number text) later c.in_ok-add_byte_notes.ensures
+          (added_two number text (written c.add_byte_notes.new.told.items) (written c.add_token_notes.new.told.items) (written c.add_fault_note.new.told.items) (token_notes text tokens) last c.in_ok-add_token_notes.ensures added),
     ))
     c.add_fault_note.ensures
 
@@ -62,8 +63,8 @@ returns c =
     let notes = byte_notes number text ++ later in (
       notes,
       subst (λ line. HasNotes number text (line_of line) notes) (sym c.in-Tree.is) (tokens, last, list, is, refl),
-      added_two number text c.args.told.now.items c.add_byte_notes.new.told.items c.add_clash_note.new.told.items (byte_notes number text) later c.in_ok-add_byte_notes.ensures
-          (added_two number text c.add_byte_notes.new.told.items c.add_token_notes.new.told.items c.add_clash_note.new.told.items (token_notes text tokens) commands c.in_ok-add_token_notes.ensures
-          (added_two number text c.add_token_notes.new.told.items c.add_command_notes.new.told.items c.add_clash_note.new.told.items (command_notes text tree [] tokens) last c.in_ok-add_command_notes-in-Tree.ensures added)),
+      added_two number text (written c.args.told.now.items) (written c.add_byte_notes.new.told.items) (written c.add_clash_note.new.told.items) (byte_notes number text) later c.in_ok-add_byte_notes.ensures
+          (added_two number text (written c.add_byte_notes.new.told.items) (written c.add_token_notes.new.told.items) (written c.add_clash_note.new.told.items) (token_notes text tokens) commands c.in_ok-add_token_notes.ensures
+          (added_two number text (written c.add_token_notes.new.told.items) (written c.add_command_notes.new.told.items) (written c.add_clash_note.new.told.items) (command_notes text tree [] tokens) last c.in_ok-add_command_notes-in-Tree.ensures added)),
     ))
     c.add_clash_note.ensures

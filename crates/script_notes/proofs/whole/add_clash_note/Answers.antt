@@ -4,6 +4,7 @@ use Rattle.script_notes.specs.declared.marks.Span.{Span}
 use Rattle.script_notes.specs.Marks.{AreSpansFrom}
 use Rattle.script_notes.specs.Notes.{Note, note_text}
 use Rattle.script_notes.specs.Whole.{places_of, clash_kind}
+use Rattle.script_notes.specs.Written.{written}
 use Rattle.script_notes.proofs.Adding.{one_note, on_ok}
 use Rattle.script_notes.proofs.Inside.{words_inside}
 use Rattle.script_notes.proofs.whole.add_clash_note.Goals as goal
@@ -25,6 +26,6 @@ returns c =
     (λ added. (
       note ∷ [],
       inr (c.in-Some.found.kind, name, c.in-Some.ensures.some, refl),
-      added ∙ ap (λ t. c.args.told.now.items ++ t) (same ∙ one_note c.args.number text note),
+      added ∙ ap (λ t. (written c.args.told.now.items) ++ t) (same ∙ one_note c.args.number text note),
     ))
     c.add_note.ensures

@@ -1,15 +1,16 @@
-use Rattle.std.proofs.Common.{◌≡◌, [], inr, refl}
+use Rattle.std.proofs.Common.{[], inr, refl}
 use Rattle.xvsh_ends.specs.Ends.{misuse, misused}
-use Rattle.xvsh_read.specs.Writing.{out_text}
-use Rattle.xvsh_ends.specs.Requests.{asked}
-use Rattle.xvsh_ends.proofs.Dues.{due_by, unless_any}
+use Rattle.xvsh_ends.proofs.Dues.{due_by}
+use Rattle.xvsh.specs.Drive.{asks_nothing}
+use Rattle.xvsh.proofs.Sights.{asked_by}
 use Rattle.xvsh.proofs.driver.command_ending.Goals as goal
 
 pub returns-in-None-clause-due : goal.returns-in-None-clause-due
 returns-in-None-clause-due g c =
-    (misuse, inr (inr refl), due_by (g.H.Host.input c.args.host.now) (g.H.Host.file c.args.host.now) misuse [] [] 2 c.report.result c.report.ensures.nothing c.report.ensures.reported c.report.ensures.with (misused []))
+    let input = g.H.Host.input c.args.host.now in
+    let file = g.H.Host.file c.args.host.now in
+    (record { input = input; file = file }, misuse, asks_nothing (inr refl), due_by input file misuse [] [] 2 c.report.result c.report.ensures.nothing c.report.ensures.reported c.report.ensures.with (misused []))
 
-pub returns-in-Some-clause-nothing : goal.returns-in-Some-clause-nothing
-returns-in-Some-clause-nothing g c some one three four =
-    let ending = c.ending_of.result in
-    unless_any (asked c.in-Some.request) ending.status (out_text ending.output ≡ []) c.ending_of.ensures.nothing some one three four
+pub returns-in-Some-clause-due : goal.returns-in-Some-clause-due
+returns-in-Some-clause-due g c =
+    asked_by (g.H.Host.input c.args.host.now) (g.H.Host.file c.args.host.now) c.args.matches.now c.in-Some.request c.inputs_of.result c.given_ending.result c.in-Some.ensures.request c.inputs_of.ensures c.given_ending.ensures.due

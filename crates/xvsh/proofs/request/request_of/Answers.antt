@@ -25,3 +25,7 @@ returns-in-Some-subcommand_matches-4-clause-request c =
 pub returns-in-Some-subcommand_matches-5-clause-request : goal.returns-in-Some-subcommand_matches-5-clause-request
 returns-in-Some-subcommand_matches-5-clause-request c =
     (found_of c.in-Some-subcommand_matches-5.words.now, record { named = c.in-Some-subcommand_matches-5.ensures.found.0 refl; rows = c.in-Some-subcommand_matches-5.ensures.rows }, c.explore_of.ensures)
+
+pub returns-in-Some-subcommand_matches-6-clause-request : goal.returns-in-Some-subcommand_matches-6-clause-request
+returns-in-Some-subcommand_matches-6-clause-request c =
+    (found_of c.in-Some-subcommand_matches-6.words.now, record { named = c.in-Some-subcommand_matches-6.ensures.found.0 refl; rows = c.in-Some-subcommand_matches-6.ensures.rows }, c.draw_of.ensures)

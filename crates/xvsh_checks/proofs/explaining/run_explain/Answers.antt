@@ -14,4 +14,4 @@ returns-in_err-explained-clause-fault g c =
 pub returns-clause-ran : goal.returns-clause-ran
 returns-clause-ran g c =
     let explained = c.in_ok-explained.explained in
-    ran_explain (g.H.Host.input c.args.host.now) (g.H.Host.file c.args.host.now) c.args.request.now.script.now c.in_ok-told.told.items explained.text.items explained.is_fine c.in_ok-told.ensures.told c.in_ok-explained.ensures.text c.in_ok-explained.ensures.fine
+    ran_explain (g.H.Host.input c.args.host.now) (g.H.Host.file c.args.host.now) c.args.request.now.source.script.now c.in_ok-told.told.items explained.text.items explained.is_fine c.in_ok-told.ensures.told c.in_ok-explained.ensures.text c.in_ok-explained.ensures.fine

@@ -1,14 +1,23 @@
-use Rattle.std.proofs.Common.{true, ◌++◌, ◌∙◌, ap}
+use Rattle.std.proofs.Common.{true, ◌++◌, ◌∙◌, ap, ap₂}
 use Rattle.xvsh_read.specs.Writing.{out_text}
 use Rattle.xvsh_ends.specs.Ends.{full_text, full_status, verdict_status, ran_strict, no_strict}
 use Rattle.xvsh_ends.specs.Requests.{run_asked}
-use Rattle.xvsh_ends.proofs.Dues.{due_by, due_told}
+use Rattle.xvsh_ends.proofs.Dues.{due_by, due_memory, due_told}
 use Rattle.xvsh_ends.proofs.processes.strict_ending.Goals as goal
 
-pub returns-in-Ok : goal.returns-in-Ok
-returns-in-Ok g c =
+pub returns-in-Ok-with_why : goal.returns-in-Ok-with_why
+returns-in-Ok-with_why g c =
     let strict = c.in-Ok.strict in
-    due_by (g.H.Host.input c.args.host.now) (g.H.Host.file c.args.host.now) (run_asked true c.args.request.now) (out_text strict.run.output) (strict.run.output.err.items ++ full_text strict.run.full) (full_status strict.run.full (verdict_status true strict.is_settled)) c.ran.result c.ran.ensures.out c.ran.ensures.told (c.ran.ensures.status ∙ ap (full_status strict.run.full) c.verdict_status.ensures) (ran_strict strict.run.output.err.items strict.is_settled strict.run.full c.in-Ok.ensures.ran)
+    let run = c.in-Ok-with_why.run' in
+    let told = c.in-Ok-with_why.ensures in
+    due_by (g.H.Host.input c.args.host.now) (g.H.Host.file c.args.host.now) (run_asked true c.args.request.now) (out_text strict.run.output) ((strict.run.output.err.items ++ strict.why.items) ++ full_text strict.run.full) (full_status strict.run.full (verdict_status true strict.is_settled)) c.ran.result
+    (c.ran.ensures.out ∙ told.out)
+    (c.ran.ensures.told ∙ ap₂ (λ e f. e ++ full_text f) told.told told.full)
+    (c.ran.ensures.status ∙ ap₂ full_status told.full c.verdict_status-status.ensures)
+    (ran_strict strict.run.output.err.items strict.why.items strict.is_settled strict.run.full c.in-Ok.ensures.ran)
+
+pub returns-in-Err-with_why : goal.returns-in-Err-with_why
+returns-in-Err-with_why g c = due_memory (g.H.Host.input c.args.host.now) (g.H.Host.file c.args.host.now) (run_asked true c.args.request.now) c.report_no_memory.result c.report_no_memory.ensures
 
 pub returns-in-Err : goal.returns-in-Err
 returns-in-Err g c = due_told (g.H.Host.input c.args.host.now) (g.H.Host.file c.args.host.now) (run_asked true c.args.request.now) _ _ c.report_run_fault.result c.report_run_fault.ensures (no_strict c.in-Err.fault c.in-Err.ensures.fault)

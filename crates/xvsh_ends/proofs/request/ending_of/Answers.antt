@@ -1,6 +1,7 @@
-use Rattle.std.proofs.Common.{◌≡◌, [], sym, subst}
+use Rattle.std.proofs.Common.{◌≡◌, ◌&&◌, not, [], sym, subst}
 use Rattle.xvsh_read.specs.Writing.{out_text}
-use Rattle.xvsh_ends.specs.Requests.{UnlessPrinted, asked, explore_asked, json_asked, plain_asked, run_asked, replay_asked, traced_asked}
+use Rattle.xvsh_ends.specs.Ends.{asks_draw}
+use Rattle.xvsh_ends.specs.Requests.{UnlessPrinted, asked, check_asked, explain_asked, explore_asked, json_asked, plain_asked, run_asked, replay_asked, traced_asked}
 use Rattle.xvsh_ends.proofs.Dues.{nothing_due}
 use Rattle.xvsh_ends.proofs.request.ending_of.Goals as goal
 
@@ -9,20 +10,20 @@ returns-in-Run-clause-nothing g c =
     let request = c.in-Run.run' in
     let input = g.H.Host.input c.args.host.now in
     let file = g.H.Host.file c.args.host.now in
-    let what = run_asked request.is_strict request in
+    let what = json_asked request.is_json (run_asked request.is_strict request) in
     let ending = c.traced.result in
     subst (λ r. UnlessPrinted (asked r) ending.status (out_text ending.output ≡ [])) (sym c.in-Run.is)
-    (nothing_due input file (traced_asked request.trace what) _ _ _ (c.traced.ensures input file what c.run_ending-ending.ensures))
+    (nothing_due input file (traced_asked request.trace what) _ _ _ (c.traced.ensures input file what c.run_told-ending.ensures))
 
 pub returns-in-Replay-clause-nothing : goal.returns-in-Replay-clause-nothing
 returns-in-Replay-clause-nothing g c =
     let request = c.in-Replay.replay in
     let input = g.H.Host.input c.args.host.now in
     let file = g.H.Host.file c.args.host.now in
-    let what = replay_asked request in
+    let what = json_asked request.is_json (replay_asked request) in
     let ending = c.traced-in-Replay.result in
     subst (λ r. UnlessPrinted (asked r) ending.status (out_text ending.output ≡ [])) (sym c.in-Replay.is)
-    (nothing_due input file (traced_asked request.trace what) _ _ _ (c.traced-in-Replay.ensures input file what c.replay_ending-ending.ensures))
+    (nothing_due input file (traced_asked request.trace what) _ _ _ (c.traced-in-Replay.ensures input file what c.replay_told-ending.ensures))
 
 pub returns-in-Plain-clause-nothing : goal.returns-in-Plain-clause-nothing
 returns-in-Plain-clause-nothing g c =
@@ -37,3 +38,23 @@ returns-in-Explore-clause-nothing g c =
     let ending = c.explore_ending.result in
     subst (λ r. UnlessPrinted (asked r) ending.status (out_text ending.output ≡ [])) (sym c.in-Explore.is)
     (nothing_due (g.H.Host.input c.args.host.now) (g.H.Host.file c.args.host.now) (explore_asked request) _ _ _ c.explore_ending.ensures)
+
+pub returns-in-Check-clause-nothing : goal.returns-in-Check-clause-nothing
+returns-in-Check-clause-nothing g c =
+    let request = c.in-Check.check in
+    let ending = c.check_told.result in
+    subst (λ r. UnlessPrinted (asked r) ending.status (out_text ending.output ≡ [])) (sym c.in-Check.is)
+    (nothing_due (g.H.Host.input c.args.host.now) (g.H.Host.file c.args.host.now) (json_asked request.is_json (check_asked request.counts_turns request)) _ _ _ c.check_told.ensures)
+
+pub returns-in-Explain-clause-nothing : goal.returns-in-Explain-clause-nothing
+returns-in-Explain-clause-nothing g c =
+    let request = c.in-Explain.explain in
+    let ending = c.explain_told.result in
+    subst (λ r. UnlessPrinted (asked r) ending.status (out_text ending.output ≡ [])) (sym c.in-Explain.is)
+    (nothing_due (g.H.Host.input c.args.host.now) (g.H.Host.file c.args.host.now) (json_asked request.is_json (explain_asked (not request.is_json && request.tells_why) request)) _ _ _ c.explain_told.ensures)
+
+pub returns-in-Draw-clause-nothing : goal.returns-in-Draw-clause-nothing
+returns-in-Draw-clause-nothing g c =
+    let ending = c.draw_ending.result in
+    subst (λ r. UnlessPrinted (asked r) ending.status (out_text ending.output ≡ [])) (sym c.in-Draw.is)
+    (nothing_due (g.H.Host.input c.args.host.now) (g.H.Host.file c.args.host.now) asks_draw _ _ _ c.draw_ending.ensures)

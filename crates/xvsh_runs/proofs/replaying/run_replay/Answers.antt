@@ -9,7 +9,7 @@ use Rattle.xvsh_read.specs.Writing.{out_text}
 use Rattle.xvsh_read.proofs.Faults.{at_fault}
 use Rattle.xvsh_runs.specs.Why.{shared, no_schedule, no_start_after, no_replay, unkept, IsBytesFault}
 use Rattle.xvsh_runs.proofs.Moved.{both, begins, begin_fault}
-use Rattle.xvsh_runs.proofs.Written.{prints_report}
+use Rattle.xvsh_runs.proofs.Written.{prints_report, values_report}
 use Rattle.xvsh_runs.proofs.replaying.run_replay.Goals as goal
 
 pub returns-then-shares_input-clause-fault : goal.returns-then-shares_input-clause-fault
@@ -64,4 +64,19 @@ returns-clause-ran g c =
       events = report.schedule;
       listed = subst (λ bytes. AreLinesOf bytes report.schedule) c.as_slice.ensures.value c.in_ok-report.ensures.schedule;
       prints = prints_report (script_kernel c.args.request.now.source.profile lines start.stdin.items start.files) report c.args.request.now.lists run.full (out_text run.output) run.output.err.items (subst (λ profile. IsRunFrom (script_kernel profile lines start.stdin.items start.files) report) c.in_ok-start.ensures.profile c.in_ok-report.ensures.run) c.in_ok-run.ensures.full c.in_ok-run.ensures.out c.in_ok-run.ensures.err;
+    }
+
+pub returns-clause-values : goal.returns-clause-values
+returns-clause-values g c =
+    let one = sym c.shares_input.ensures ∙ c.if-shares_input.false in
+    let start = c.in_ok-start.start in
+    let lines = lines_of start.script.lines in
+    let report = c.in_ok-report.report in
+    let run = c.in_ok-run.ensures in
+    record {
+      lines = lines;
+      given = start.files;
+      stdin = start.stdin.items;
+      starts = begins (g.H.Host.input c.args.host.now) (g.H.Host.input c.read.new.host) (g.H.Host.file c.args.host.now) (g.H.Host.file c.read.new.host) c.args.request.now.schedule.now c.args.request.now.source.script.now c.eq-is_taken.result c.eq-is_taken.ensures c.read.ensures.files_stay c.read.ensures.input_stays one c.args.request.now.source.files.now lines start.files start.stdin.items c.in_ok-start.ensures.prepared;
+      values = values_report (script_kernel c.args.request.now.source.profile lines start.stdin.items start.files) report c.in_ok-run.run' (subst (λ profile. IsRunFrom (script_kernel profile lines start.stdin.items start.files) report) c.in_ok-start.ensures.profile c.in_ok-report.ensures.run) run.schedule run.written run.err run.files run.full;
     }

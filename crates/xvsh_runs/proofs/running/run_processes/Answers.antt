@@ -1,7 +1,7 @@
 use Rattle.script_load.specs.Line.{lines_of}
 use Rattle.xvsh_read.proofs.Faults.{at_fault}
 use Rattle.xvsh_runs.specs.Why.{bad_order, no_start}
-use Rattle.xvsh_runs.proofs.Prepared.{prepared_ran, prepared_fault}
+use Rattle.xvsh_runs.proofs.Prepared.{prepared_ran, prepared_values, prepared_fault}
 use Rattle.xvsh_runs.proofs.running.run_processes.Goals as goal
 
 pub returns-in_err-order-clause-fault : goal.returns-in_err-order-clause-fault
@@ -21,3 +21,8 @@ pub returns-clause-fault : goal.returns-clause-fault
 returns-clause-fault g c =
     let start = c.in_ok-start.start in
     prepared_fault (g.H.Host.input c.args.host.now) (g.H.Host.file c.args.host.now) c.args.request.now.source.profile start.script.profile c.args.request.now.source.script.now c.args.request.now.source.files.now (lines_of start.script.lines) start.files start.stdin.items c.in_ok-start.ensures.prepared c.in_ok-start.ensures.profile c.args.request.now.harts c.args.request.now.turns c.run_prepared.result c.run_prepared.ensures.fault
+
+pub returns-clause-values : goal.returns-clause-values
+returns-clause-values g c =
+    let start = c.in_ok-start.start in
+    prepared_values (g.H.Host.input c.args.host.now) (g.H.Host.file c.args.host.now) c.args.request.now.source.profile start.script.profile c.args.request.now.source.script.now c.args.request.now.source.files.now (lines_of start.script.lines) start.files start.stdin.items c.in_ok-start.ensures.prepared c.in_ok-start.ensures.profile c.args.request.now.harts c.args.request.now.turns c.run_prepared.result c.run_prepared.ensures.values

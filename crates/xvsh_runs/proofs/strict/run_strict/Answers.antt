@@ -1,14 +1,18 @@
-use Rattle.std.proofs.Common.{IsTrue, subst}
-use Rattle.std.specs.Prelude.{◌↔◌}
+use Rattle.std.proofs.Common.{◌≡◌, true, IsTrue, subst}
+use Rattle.std.specs.Prelude.{◌↔◌, Contains}
+use Rattle.mem_files.specs.Name.{Name}
 use Rattle.mem_files.specs.Files.{files}
 use Rattle.script_load.specs.Line.{lines_of}
+use Rattle.meaning_model.specs.Meaning.{script_meaning}
 use Rattle.meaning_model.specs.Settled.{IsSettledScript}
+use Rattle.reason_sentences.specs.Whys.{IsWhy}
 use Rattle.run_model.specs.ScriptRun.{script_kernel}
 use Rattle.xvsh_read.specs.Writing.{out_text}
 use Rattle.xvsh_read.proofs.Faults.{at_fault}
 use Rattle.xvsh_runs.specs.Runs.{RanOn}
 use Rattle.xvsh_runs.specs.Why.{IsHartsFault, bad_order, no_start, no_run}
 use Rattle.xvsh_plain.specs.Running.{IsMeaningFault}
+use Rattle.xvsh_runs.specs.Values.{HasValues}
 use Rattle.xvsh_runs.specs.Strict.{no_verdict, no_strict_run}
 use Rattle.xvsh_runs.proofs.strict.run_strict.Goals as goal
 
@@ -20,11 +24,11 @@ pub returns-in_err-start-clause-fault : goal.returns-in_err-start-clause-fault
 returns-in_err-start-clause-fault g c =
     at_fault c.from_residual-in_err-start.result _ _ c.from_residual-in_err-start.ensures.1 (no_strict_run (no_start c.in_err-start.ensures.fault))
 
-pub returns-in_err-is_settled-clause-fault : goal.returns-in_err-is_settled-clause-fault
-returns-in_err-is_settled-clause-fault g c =
+pub returns-in_err-verdict-clause-fault : goal.returns-in_err-verdict-clause-fault
+returns-in_err-verdict-clause-fault g c =
     let start = c.in_ok-start.start in
     let lines = lines_of start.script.lines in
-    at_fault c.from_residual-in_err-is_settled.result _ _ c.from_residual-in_err-is_settled.ensures.1 (no_verdict lines start.files start.stdin.items c.in_ok-start.ensures.prepared (subst (λ profile. IsMeaningFault profile lines start.stdin.items (files start.files) c.in_err-is_settled.field-0.0) c.in_ok-start.ensures.profile c.in_err-is_settled.ensures.fault))
+    at_fault c.from_residual-in_err-verdict.result _ _ c.from_residual-in_err-verdict.ensures.1 (no_verdict lines start.files start.stdin.items c.in_ok-start.ensures.prepared (subst (λ profile. IsMeaningFault profile lines start.stdin.items (files start.files) c.in_err-verdict.field-0.0) c.in_ok-start.ensures.profile c.in_err-verdict.ensures.fault))
 
 pub returns-in_err-run-clause-fault : goal.returns-in_err-run-clause-fault
 returns-in_err-run-clause-fault g c =
@@ -47,5 +51,24 @@ returns-clause-ran g c =
         starts = c.in_ok-start.ensures.prepared;
         on = subst (λ profile. RanOn (script_kernel profile lines stdin given) c.args.request.now.harts c.args.request.now.turns c.args.request.now.lists c.in_ok-run.run'.full (out_text c.in_ok-run.run'.output) c.in_ok-run.run'.output.err.items) same c.in_ok-run.ensures.ran;
       };
-      settled = subst (λ profile. IsTrue c.in_ok-is_settled.is_settled ↔ IsSettledScript profile lines stdin (files given)) same c.in_ok-is_settled.ensures.settled;
+      settled = subst (λ profile. IsTrue c.in_ok-verdict.verdict.is_settled ↔ IsSettledScript profile lines stdin (files given)) same c.in_ok-verdict.ensures.settled;
+      told = subst (λ profile. IsWhy profile lines stdin (files given) true c.in_ok-verdict.verdict.is_settled c.in_ok-verdict.verdict.why.items) same c.in_ok-verdict.ensures.why;
+    }
+
+pub returns-clause-values : goal.returns-clause-values
+returns-clause-values g c =
+    let start = c.in_ok-start.start in
+    let lines = lines_of start.script.lines in
+    let given = start.files in
+    let stdin = start.stdin.items in
+    let same = c.in_ok-start.ensures.profile in
+    record {
+      values = record {
+        lines = lines;
+        given = given;
+        stdin = stdin;
+        starts = c.in_ok-start.ensures.prepared;
+        values = subst (λ profile. HasValues (script_kernel profile lines stdin given) c.in_ok-run.run') same c.in_ok-run.ensures.values;
+      };
+      each = subst (λ profile. (name : Name) → Contains c.in_ok-verdict.verdict.soft name ↔ ((script_meaning profile lines stdin (files given)).soft name ≡ true)) same c.in_ok-verdict.ensures.soft;
     }

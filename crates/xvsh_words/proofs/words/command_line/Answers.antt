@@ -1,5 +1,5 @@
 use Rattle.clap.specs.Simple.{with_subcommand}
-use Rattle.xvsh_words.specs.Program.{bare_program, check_shape, explain_shape, explore_shape, plain_shape, replay_shape, run_shape}
+use Rattle.xvsh_words.specs.Program.{bare_program, check_shape, draw_shape, explain_shape, explore_shape, plain_shape, replay_shape, run_shape}
 use Rattle.xvsh_words.proofs.Adds.{added, added_last}
 use Rattle.xvsh_words.proofs.words.command_line.Goals as goal
 
@@ -16,4 +16,6 @@ returns c =
     let third = added plain_shape two c.in_ok-command-3.command c.in_ok-plain_command.field-0 c.in_ok-command-4.command c.in_ok-command-4.ensures c.in_ok-plain_command.ensures second in
     let fourth = added check_shape three c.in_ok-command-4.command c.in_ok-check_command.field-0 c.in_ok-command-5.command c.in_ok-command-5.ensures c.in_ok-check_command.ensures third in
     let fifth = added explain_shape four c.in_ok-command-5.command c.in_ok-explain_command.field-0 c.in_ok-command-6.command c.in_ok-command-6.ensures c.in_ok-explain_command.ensures fourth in
-    added_last (explore_shape c.args.most_states) five c.in_ok-command-6.command c.in_ok-explore_command.field-0 c.subcommand-6.result c.subcommand-6.ensures c.in_ok-explore_command.ensures fifth
+    let six = with_subcommand five (explore_shape c.args.most_states) in
+    let sixth = added (explore_shape c.args.most_states) five c.in_ok-command-6.command c.in_ok-explore_command.field-0 c.in_ok-command-7.command c.in_ok-command-7.ensures c.in_ok-explore_command.ensures fifth in
+    added_last (draw_shape c.args.most_turns) six c.in_ok-command-7.command c.in_ok-draw_command.field-0 c.subcommand-7.result c.subcommand-7.ensures c.in_ok-draw_command.ensures sixth

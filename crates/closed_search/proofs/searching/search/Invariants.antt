@@ -1,9 +1,0 @@
-use Rattle.std.proofs.Common.{◌-◌, map}
-use Rattle.closed_search.proofs.Growing.{Searching}
-use Rattle.closed_search.proofs.searching.search.Given as goal
-
-abbrev pub invariant-loop-place : goal.invariant-loop-place
-invariant-loop-place g l = Searching g.T.Node.step g.T.Node.stands l.moves (g.T.Node.state l.fn.start) (map g.T.Node.state l.nodes.items) l.place
-
-abbrev pub decreases-loop-place : goal.decreases-loop-place
-decreases-loop-place g l = l.limit - l.place

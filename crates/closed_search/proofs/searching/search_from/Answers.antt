@@ -1,0 +1,23 @@
+use Rattle.std.proofs.Common.{map, ◌≡◌, ◌<◌, ◌≤◌, List, [], ◌∷◌, length, sym, subst, rules, arith}
+use Rattle.std.proofs.lemmas.List.{length-map}
+use Rattle.closed_search.proofs.Growing.{Searching, searching_first, searching_next, closed}
+use Rattle.closed_search.proofs.searching.search_from.Goals as goal
+
+pub loop-place-init : goal.loop-place-init
+loop-place-init g c =
+    let v = g.T.Node.state in
+    let same : c.keep.new.nodes.items ≡ c.args.start ∷ [] = search rules in
+    subst (λ (xs : List _). Searching g.T.Node.step g.T.Node.stands c.args.bounds.moves (v c.args.start) (map v xs) 0) (sym same) (searching_first g.T.Node.step g.T.Node.stands c.args.bounds.moves (v c.args.start) (g.met.T.Node.itself (v c.args.start)))
+
+pub loop-place-preserved : goal.loop-place-preserved
+loop-place-preserved g c =
+    let v = g.T.Node.state in
+    let within : c.loop-place.place < length c.loop-place.nodes.items = search rules in
+    let inside : c.loop-place.place < length (map v c.loop-place.nodes.items) = omega (arith, within, length-map c.loop-place.nodes.items v) in
+    searching_next g.T.Node.step g.T.Node.stands c.args.bounds.moves (v c.args.start) (map v c.loop-place.nodes.items) (map v c.expand.new.nodes.items) c.loop-place.place inside c.loop-place.invariant c.in_ok-expand.ensures.has c.in_ok-expand.ensures.grown
+
+pub returns-clause-whole : goal.returns-clause-whole
+returns-clause-whole g c = λ whole.
+    let v = g.T.Node.state in
+    let over : length c.loop-place.nodes.items ≤ c.loop-place.place = search rules in
+    closed g.T.Node.step g.T.Node.stands c.args.bounds.moves (v c.args.start) (map v c.loop-place.nodes.items) c.loop-place.place c.loop-place.invariant (omega (arith, over, length-map c.loop-place.nodes.items v))

@@ -1,6 +1,0 @@
--- The script that is named is the one that is given.
-use Rattle.script_load.specs.Line.{lines_of}
-use Rattle.every_order.proofs.exploring.explore.Given as goal
-
-abbrev pub ghosts-explore_named : goal.ghosts-explore_named
-ghosts-explore_named g a = record { script = lines_of a.script.now.lines }

@@ -1,0 +1,98 @@
+//! The result of an explanation.
+
+use crate::head::begin_result;
+use script_notes::{LineNote, NoteKind, Span};
+use std::alloc::{AllocError, Global};
+use trace_lines::Line;
+use xvsh_checks::Noted;
+
+// The name of a kind of note.
+fn kind_word(kind: NoteKind) -> &'static str {
+    match kind {
+        NoteKind::ByteOrderMark => "ByteOrderMark",
+        NoteKind::CarriageReturn => "CarriageReturn",
+        NoteKind::NoComment => "NoComment",
+        NoteKind::NoQuote => "NoQuote",
+        NoteKind::NoOr => "NoOr",
+        NoteKind::NoAnd => "NoAnd",
+        NoteKind::NoCommand => "NoCommand",
+        NoteKind::LastBar => "LastBar",
+        NoteKind::NoNumber => "NoNumber",
+        NoteKind::NoVariable => "NoVariable",
+        NoteKind::NoPattern => "NoPattern",
+        NoteKind::NoOption => "NoOption",
+        NoteKind::HeadOption => "HeadOption",
+        NoteKind::TeeOption => "TeeOption",
+        NoteKind::GrepOption => "GrepOption",
+        NoteKind::EchoOption => "EchoOption",
+        NoteKind::NoProgram => "NoProgram",
+        NoteKind::NoFileName => "NoFileName",
+        NoteKind::Background => "Background",
+        NoteKind::WritesOver => "WritesOver",
+        NoteKind::InputUnread => "InputUnread",
+        NoteKind::OutputEmptied => "OutputEmptied",
+        NoteKind::OutputUnwritten => "OutputUnwritten",
+        NoteKind::NoDirectories => "NoDirectories",
+        NoteKind::MissingName => "MissingName",
+        NoteKind::OpenParen => "OpenParen",
+        NoteKind::TenthWord => "TenthWord",
+        NoteKind::LateParen => "LateParen",
+        NoteKind::StrayParen => "StrayParen",
+        NoteKind::LeftOver => "LeftOver",
+        NoteKind::PipeClash => "PipeClash",
+        NoteKind::RedirectionClash => "RedirectionClash",
+        NoteKind::NoListing => "NoListing",
+        NoteKind::NoCopy => "NoCopy",
+        NoteKind::NoRemoval => "NoRemoval",
+        NoteKind::NoFolder => "NoFolder",
+        NoteKind::NoFilter => "NoFilter",
+        NoteKind::NoProcess => "NoProcess",
+        NoteKind::NoPrinter => "NoPrinter",
+        NoteKind::NoShellWord => "NoShellWord",
+    }
+}
+
+// The places that a note marks.
+fn write_places(object: &mut Line, spans: &[Span]) -> Result<(), AllocError> {
+    object.begin_list("places")?;
+    for span in spans {
+        object.begin_raw_object()?;
+        object.count("first", span.first as u64)?;
+        object.count("past", span.past as u64)?;
+        object.end_object()?;
+    }
+    object.end_list()
+}
+
+// A note of the list.
+fn write_note(object: &mut Line, note: &LineNote) -> Result<(), AllocError> {
+    object.begin_raw_object()?;
+    object.word("kind", kind_word(note.kind))?;
+    object.count("line", note.line as u64)?;
+    write_places(object, note.spans.as_slice())?;
+    object.bytes("sentence", note.kind.sentence())?;
+    object.bytes("text", note.text.as_slice())?;
+    object.end_object()
+}
+
+/// The result of an explanation as one object of JSON, and LF (own): `format`, `version`, `command` `explain`, `status`
+/// `nothing to tell` or `notes`, `code`, the status with which the program ends, and `notes`, in the order of the lines: of each
+/// its `kind`, its `line`, counted from 1, its `places`, each from the byte `first` up to and without the byte `past` of the
+/// line, counted from 0, its `sentence`, and the line's `text`.
+///
+/// Bytes are a string where they are UTF-8, else an object whose member `base64` is their base64. `AllocError` where memory for
+/// the text is refused.
+pub fn explain_result(alloc: Global, noted: &Noted, code: u8) -> Result<Vec<u8>, AllocError> {
+    let status = if noted.is_fine {
+        "nothing to tell"
+    } else {
+        "notes"
+    };
+    let mut object = begin_result(alloc, "explain", status, code)?;
+    object.begin_list("notes")?;
+    for note in &noted.notes {
+        write_note(&mut object, note)?;
+    }
+    object.end_list()?;
+    object.end()
+}

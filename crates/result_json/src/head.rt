@@ -1,0 +1,26 @@
+//! How each object begins.
+
+use std::alloc::{AllocError, Global};
+use trace_lines::Line;
+
+/// The version of the format.
+const VERSION: u64 = 1;
+
+/// An object that opens with what each result says (own): `format`, `version`, `command`, `status`, a word for how the command
+/// ended, and `code`, the status with which the program ends.
+///
+/// `AllocError` where memory for the text is refused.
+pub fn begin_result(
+    alloc: Global,
+    command: &str,
+    status: &str,
+    code: u8,
+) -> Result<Line, AllocError> {
+    let mut line = Line::begin(alloc, Vec::new(alloc))?;
+    line.word("format", "xvsh-result")?;
+    line.count("version", VERSION)?;
+    line.word("command", command)?;
+    line.word("status", status)?;
+    line.count("code", u64::from(code))?;
+    Ok(line)
+}

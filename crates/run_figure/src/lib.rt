@@ -1,0 +1,7 @@
+//! The figure of a run as plain data: a lane for each process, a bar for each sleep, and a band for each pipe, from the
+//! events of a trace.
+#![tactic(auto)]
+
+mod figure;
+
+pub use figure::{Band, Bar, Lane, bands, bars, first_stranger, lanes};

@@ -1,0 +1,74 @@
+//! What whoever sits at a terminal is told while the program works.
+
+use std::io::Write;
+use std::time::Duration;
+
+/// A terminal, if there is one.
+#[derive(Drop)]
+pub struct Terminal<E> {
+    /// Standard error.
+    pub err: E,
+    /// Whether standard input is a terminal.
+    pub reads: bool,
+    /// Whether standard error is one.
+    pub shows: bool,
+}
+
+// After so many states more the clock is read.
+const STEP: usize = 256;
+
+// For so many seconds a search goes on before it is shown, and what is shown stays.
+const PAUSE: u64 = 1;
+
+// When something is shown next, after now.
+fn next_after(now: Duration) -> Option<Duration> {
+    now.checked_add(Duration::from_secs(PAUSE))
+}
+
+/// Shows on a terminal how far a search is.
+#[derive(Drop)]
+pub struct Progress {
+    // When it is shown next, if that is known.
+    due: Option<Duration>,
+    // At how many states the clock is read next.
+    next: usize,
+    // Whether something stands on the terminal's line.
+    is_shown: bool,
+}
+
+impl Progress {
+    pub fn new() -> Progress {
+        Progress {
+            due: None,
+            next: 0,
+            is_shown: false,
+        }
+    }
+
+    // Whether the clock is read at so many states.
+    pub fn is_due(&self, count: usize) -> bool {
+        count >= self.next
+    }
+
+    // Shows so many states, if it is time to.
+    pub fn show<E: Write>(&mut self, err: &mut E, count: usize, now: Duration) {
+        self.next = count.saturating_add(STEP);
+        let Some(due) = self.due else {
+            self.due = next_after(now);
+            return;
+        };
+        if now >= due {
+            self.is_shown = true;
+            self.due = next_after(now);
+            let _ = write!(err, "\r{count} states\x1b[K");
+        }
+    }
+
+    // Takes what is shown from the terminal's line.
+    pub fn clear<E: Write>(&mut self, err: &mut E) {
+        if self.is_shown {
+            let _ = err.write_all(b"\r\x1b[K");
+        }
+        *self = Progress::new();
+    }
+}

@@ -1,0 +1,51 @@
+//! What `check --turns --json` does: the same findings and turns, as values in place of the text.
+ghost use Rattle.std.specs.Prelude.{◌++◌, IfOk, IfErr};
+ghost use Rattle.mem_files.specs.Files.{files};
+ghost use Rattle.script_load.specs.Line.{lines_of};
+ghost use Rattle.xvsh_checks.specs.Values.{findings_text, turns_told};
+ghost use Rattle.xvsh_checks.specs.Turns.{AreTurnsTold, IsTurnsFault, RanTurns};
+
+use crate::finding::{Findings, find};
+use crate::request::CheckRequest;
+use mem_files::Files;
+use script_load::{Profile, Script};
+use std::alloc::Global;
+use step_bounds::turns_enough;
+use xvsh_read::{Fault, Host, Source, prepare};
+
+/// What `check --turns` finds in a script.
+#[derive(Drop)]
+pub struct CountedFindings {
+    /// What is told of its lines.
+    pub findings: Findings,
+    /// In how many turns the script runs to its end; nothing where these are more than 1,000,000,000.
+    pub turns: Option<u64>,
+}
+
+// In how many turns a script runs to its end, if these are not too many.
+fn turns_of(script: &Script<Global>, stdin: &[u8], given: &Files<Global>) -> Option<u64>
+    ensures { AreTurnsTold (lines_of script.now.lines) stdin.now (files given.now) (turns_told result) }
+{
+    turns_enough(script, stdin, given)
+}
+
+/// `check --turns --json`: reads the script, the files in order, and standard input unless that is the script, and returns what
+/// `run_turns` reports, as values. Nothing is written.
+pub fn run_count<'a, H: Host>(
+    alloc: Global,
+    request: &CheckRequest<'a>,
+    host: &mut H,
+) -> Result<CountedFindings, Fault<'a>>
+    ensures ran { IfOk result (λ counted. RanTurns (H.input host.old) (H.file host.old) request.now.script.now request.now.files.now counted.findings.is_harmless (findings_text counted.findings.list.items ++ turns_told counted.turns)) }
+    ensures fault { IfErr result (IsTurnsFault (H.input host.old) (H.file host.old) request.now.script.now request.now.files.now) }
+{
+    let source = Source {
+        profile: Profile::Xv6,
+        script: request.script,
+        files: request.files,
+    };
+    let start = prepare(alloc, host, &source, false)?;
+    let findings = find(alloc, &start.script)?;
+    let turns = turns_of(&start.script, start.stdin.as_slice(), &start.files);
+    Ok(CountedFindings { findings, turns })
+}

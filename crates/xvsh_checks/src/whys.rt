@@ -1,0 +1,63 @@
+//! What `explain` reports of a script on its files and its input: its notes, and why it is settled or isn't.
+ghost use Rattle.std.specs.Prelude.{◌≡◌, ◌++◌, ◌↔◌, [], IfOk, IfErr, IsTrue, map};
+ghost use Rattle.mem_files.specs.Files.{files};
+ghost use Rattle.script_load.specs.Line.{lines_of};
+ghost use Rattle.xvsh_plain.specs.Running.{IsMeaningFault};
+ghost use Rattle.reason_sentences.specs.Sentences.{reason_text, why_text};
+ghost use Rattle.reason_sentences.specs.Whys.{AreReasonTexts};
+ghost use Rattle.xvsh_checks.specs.Whys.{RanWhys, IsWhysFault};
+
+use crate::explaining::Explained;
+use crate::request::ExplainRequest;
+use plain_run::{Reason, plain_with_reasons};
+use reason_sentences::why;
+use script_notes::explain;
+use std::alloc::{AllocError, Global};
+use xvsh_plain::of_plain;
+use xvsh_read::{Fault, Host, MAX_INPUT, Start, prepare_read, read};
+
+// Why what was read isn't settled.
+fn reasons_of<'a>(alloc: Global, start: &Start) -> Result<Vec<Reason<Global>>, Fault<'a>>
+    ensures reasons { IfOk result (λ reasons. AreReasonTexts start.now.script.profile (lines_of start.now.script.lines) start.now.stdin.items (files start.now.files) (map reason_text reasons.items)) }
+    ensures fault { IfErr result (IsMeaningFault start.now.script.profile (lines_of start.now.script.lines) start.now.stdin.items (files start.now.files)) }
+{
+    match plain_with_reasons(alloc, &start.script, start.stdin.as_slice(), &start.files) {
+        Ok(reasoned) => Ok(reasoned.reasons),
+        Err(fault) => Err(of_plain(fault)),
+    }
+}
+
+// The notes, and behind them these reasons or that there is none.
+fn with_why(
+    alloc: Global,
+    notes: Vec<u8>,
+    reasons: &[Reason<Global>],
+) -> Result<Explained, AllocError>
+    ensures text { IfOk result (λ explained. explained.text.items ≡ notes.items ++ why_text (map reason_text reasons.now)) }
+    ensures fine { IfOk result (λ explained. IsTrue explained.is_fine ↔ ((notes.items ≡ []) × (reasons.now ≡ []))) }
+{
+    let mut text = notes;
+    let is_fine = text.as_slice().is_empty() && reasons.is_empty();
+    let told = why(alloc, reasons)?;
+    text.extend_from_slice(told.as_slice())?;
+    Ok(Explained { text, is_fine })
+}
+
+/// `explain` with files: reads the script, the files in order, and standard input unless that is the script, and returns its notes
+/// on the lines in sentences, and behind them each reason why the script isn't settled on these files and this input, or why it is
+/// (own); and whether there is neither a note nor a reason. The script is run by its meaning to find that out. Nothing is written.
+pub fn run_whys<'a, H: Host>(
+    alloc: Global,
+    request: &ExplainRequest<'a>,
+    host: &mut H,
+) -> Result<Explained, Fault<'a>>
+    ensures ran { IfOk result (λ explained. RanWhys (H.input host.old) (H.file host.old) request.now.source.profile request.now.source.script.now request.now.source.files.now explained.is_fine explained.text.items) }
+    ensures fault { IfErr result (IsWhysFault (H.input host.old) (H.file host.old) request.now.source.profile request.now.source.script.now request.now.source.files.now) }
+{
+    let bytes = read(alloc, host, request.source.script, MAX_INPUT)?;
+    let notes = explain(alloc, bytes.as_slice())?;
+    let start = prepare_read(alloc, host, &request.source, bytes.as_slice())?;
+    let reasons = reasons_of(alloc, &start)?;
+    let explained = with_why(alloc, notes, reasons.as_slice())?;
+    Ok(explained)
+}

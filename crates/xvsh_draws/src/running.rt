@@ -1,0 +1,54 @@
+//! What `draw` does: it reads traces, and returns a page.
+
+use crate::fault::DrawFault;
+use crate::request::DrawRequest;
+use figure_page::{pair_page, run_page};
+use run_figure::first_stranger;
+use std::alloc::Global;
+use trace_data::Trace;
+use trace_read::{TraceFault, read_trace};
+use xvsh_read::{Host, read};
+
+/// The most bytes that a trace may have (own).
+pub const MAX_TRACE: usize = 67_108_864;
+
+// The trace at a path, in which each event is of a process that was made.
+fn trace_at<'a, H: Host>(
+    alloc: Global,
+    host: &mut H,
+    path: &'a str,
+) -> Result<Trace<Global>, DrawFault<'a>> {
+    let bytes = read(alloc, host, path, MAX_TRACE)?;
+    let trace = match read_trace(alloc, bytes.as_slice()) {
+        Ok(trace) => trace,
+        Err(fault) => return Err(DrawFault::NoTrace(path, fault)),
+    };
+    match first_stranger(trace.events.as_slice()) {
+        None => Ok(trace),
+        Some(before) => Err(DrawFault::NoTrace(
+            path,
+            TraceFault::Stranger(before.saturating_add(2)),
+        )),
+    }
+}
+
+/// `draw`: reads the traces, and returns the page of one, or of both: `run_page` and `pair_page` of `figure_page`. Nothing is
+/// written. Own.
+///
+/// `Read` where a trace can't be read, is too long, or memory is refused; `NoTrace` where a text is no trace, or has an event of
+/// a process that no event before it made; `OtherScript` where the two scripts differ.
+pub fn run_draw<'a, H: Host>(
+    alloc: Global,
+    request: &DrawRequest<'a>,
+    host: &mut H,
+) -> Result<Vec<u8>, DrawFault<'a>> {
+    let trace = trace_at(alloc, host, request.trace)?;
+    let Some(path) = request.other else {
+        return Ok(run_page(alloc, &trace, request.bounds)?);
+    };
+    let other = trace_at(alloc, host, path)?;
+    if trace.text(trace.head.script) != other.text(other.head.script) {
+        return Err(DrawFault::OtherScript);
+    }
+    Ok(pair_page(alloc, &trace, &other, request.bounds)?)
+}

@@ -1,0 +1,12 @@
+use Rattle.std.proofs.Common.{false}
+use Rattle.xvsh_ends.specs.Ends.{explained, not_explained}
+use Rattle.xvsh_ends.specs.Requests.{explain_asked}
+use Rattle.xvsh_ends.proofs.Dues.{due_by, due_told}
+use Rattle.xvsh_ends.proofs.checks.notes_ending.Goals as goal
+
+pub returns-in-Ok : goal.returns-in-Ok
+returns-in-Ok g c =
+    due_by (g.H.Host.input c.args.host.now) (g.H.Host.file c.args.host.now) (explain_asked false c.args.request.now) _ _ _ c.prints.result c.prints.ensures.out c.prints.ensures.told c.prints.ensures.status (explained c.in-Ok.explained.is_fine c.in-Ok.ensures.ran)
+
+pub returns-in-Err : goal.returns-in-Err
+returns-in-Err g c = due_told (g.H.Host.input c.args.host.now) (g.H.Host.file c.args.host.now) (explain_asked false c.args.request.now) _ _ c.report_fault.result c.report_fault.ensures (not_explained c.in-Err.fault c.in-Err.ensures.fault)

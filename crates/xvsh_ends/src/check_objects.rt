@@ -1,0 +1,105 @@
+//! Checks and explanations as objects of JSON.
+ghost use Rattle.std.specs.Prelude.{◌≡◌, ◌&&◌, not, true, false};
+ghost use Rattle.xvsh_ends.specs.Ends.{IsDue, asks_json, check_status};
+ghost use Rattle.xvsh_ends.specs.Requests.{check_asked, explain_asked, json_asked};
+
+use crate::checks::{check_ending, explain_ending};
+use crate::ending::Ending;
+use crate::values::print_made;
+use result_json::{check_result, counted_result, explain_result, fault_result};
+use std::alloc::Global;
+use xvsh_checks::{CheckRequest, ExplainRequest, run_count, run_find, run_note};
+use xvsh_read::Host;
+
+// The status where all is fine, and else.
+fn code_of(is_fine: bool) -> u8
+    ensures { result ≡ check_status is_fine }
+{
+    if is_fine { 0 } else { 3 }
+}
+
+// Checks a script, and returns what is found as one object of JSON, or why nothing is as another.
+fn lines_json<H: Host>(alloc: Global, request: &CheckRequest<'_>, host: &mut H) -> Ending
+    ensures { IsDue (H.input host.old) (H.file host.old) (asks_json (check_asked false request.now)) result }
+{
+    match run_find(alloc, request, host) {
+        Ok(found) => {
+            let code = code_of(found.is_harmless);
+            let made = check_result(alloc, &found, code);
+            print_made(alloc, made, code)
+        }
+        Err(fault) => {
+            let made = fault_result(alloc, "check", fault);
+            print_made(alloc, made, fault.status())
+        }
+    }
+}
+
+// The same, with the turns.
+fn turns_json<H: Host>(alloc: Global, request: &CheckRequest<'_>, host: &mut H) -> Ending
+    ensures { IsDue (H.input host.old) (H.file host.old) (asks_json (check_asked true request.now)) result }
+{
+    match run_count(alloc, request, host) {
+        Ok(counted) => {
+            let code = code_of(counted.findings.is_harmless);
+            let made = counted_result(alloc, &counted.findings, counted.turns, code);
+            print_made(alloc, made, code)
+        }
+        Err(fault) => {
+            let made = fault_result(alloc, "check", fault);
+            print_made(alloc, made, fault.status())
+        }
+    }
+}
+
+// A check as one object, with its turns if they are requested.
+fn check_json<H: Host>(alloc: Global, request: &CheckRequest<'_>, host: &mut H) -> Ending
+    ensures { IsDue (H.input host.old) (H.file host.old) (asks_json (check_asked request.now.counts_turns request.now)) result }
+{
+    if request.counts_turns {
+        turns_json(alloc, request, host)
+    } else {
+        lines_json(alloc, request, host)
+    }
+}
+
+// Explains a script, and returns the notes as one object of JSON, or why there are none as another.
+fn explain_json<H: Host>(alloc: Global, request: &ExplainRequest<'_>, host: &mut H) -> Ending
+    ensures { IsDue (H.input host.old) (H.file host.old) (asks_json (explain_asked false request.now)) result }
+{
+    match run_note(alloc, request, host) {
+        Ok(noted) => {
+            let code = code_of(noted.is_fine);
+            let made = explain_result(alloc, &noted, code);
+            print_made(alloc, made, code)
+        }
+        Err(fault) => {
+            let made = fault_result(alloc, "explain", fault);
+            print_made(alloc, made, fault.status())
+        }
+    }
+}
+
+/// Checks a script, with its turns if they are requested, and returns the report, or why there is none; as one object of JSON, if
+/// that is requested.
+pub fn check_told<H: Host>(alloc: Global, request: &CheckRequest<'_>, host: &mut H) -> Ending
+    ensures { IsDue (H.input host.old) (H.file host.old) (json_asked request.now.is_json (check_asked request.now.counts_turns request.now)) result }
+{
+    if request.is_json {
+        check_json(alloc, request, host)
+    } else {
+        check_ending(alloc, request, host)
+    }
+}
+
+/// Returns the notes on a script in sentences, and why it is settled or isn't if that is requested, or why there are none; as one
+/// object of JSON, if that is requested, with the notes alone.
+pub fn explain_told<H: Host>(alloc: Global, request: &ExplainRequest<'_>, host: &mut H) -> Ending
+    ensures { IsDue (H.input host.old) (H.file host.old) (json_asked request.now.is_json (explain_asked (not request.now.is_json && request.now.tells_why) request.now)) result }
+{
+    if request.is_json {
+        explain_json(alloc, request, host)
+    } else {
+        explain_ending(alloc, request, host)
+    }
+}
