@@ -60,8 +60,8 @@ keep() {
 
 # Proves and builds the program NAME of the sources of this digest, and says why: build NAME DIGEST REASON
 build() {
+    command -v rt >/dev/null || { echo "xvsh: $3, and Rattle's command rt, which would prove and build $1, isn't installed here; an unchanged checkout has it in dist/, for x86-64 Linux" >&2; exit 125; }
     echo "xvsh: $3: proving and building $1" >&2
-    command -v rt >/dev/null || { echo "xvsh: that takes Rattle's command rt, which isn't installed here" >&2; exit 125; }
     echo "xvsh: meanwhile rt try, in crates/$1, runs it unproved" >&2
     "$here/dist/build" "$1" || exit 125
     cp "$here/out/build/$1" "$bin/$1.new"
