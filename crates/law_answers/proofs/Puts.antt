@@ -37,9 +37,9 @@ module _ (file : Path → Option Bytes) where
 
   pub put_alike : (paths others : List (Bor Path)) (given other : List (Name × Bytes)) → paths ≡ others → All Tells paths → ArePut file paths given → ArePut file others other → given ≡ other
   put_alike paths others given other same told none_put none_put = refl
-  put_alike paths others given other same told none_put (one_put {paths = earlier} path name bytes put is own) = absurd (some_at_end earlier path (sym same))
-  put_alike paths others given other same told (one_put {paths = before} path name bytes put is own) none_put = absurd (some_at_end before path same)
-  put_alike paths others given other same told (one_put {paths = before} {given = sooner} path name bytes put is own) (one_put {paths = earlier} {given = held} last called read puts named has) =
+  put_alike paths others given other same told none_put (one_put {paths = earlier} path name bytes put is fresh own) = absurd (some_at_end earlier path (sym same))
+  put_alike paths others given other same told (one_put {paths = before} path name bytes put is fresh own) none_put = absurd (some_at_end before path same)
+  put_alike paths others given other same told (one_put {paths = before} {given = sooner} path name bytes put is fresh own) (one_put {paths = earlier} {given = held} last called read puts named new has) =
       let ends = same_last before earlier path last same in
       let parts = All-pop Tells (before ++ path ∷ []) before (Some path) refl told in
       let one : name ≡ called = one_name path.now name called is (subst (λ p. IsNameOf p.now called) (sym ends.1) named) in

@@ -1,10 +1,11 @@
 //! The result of an explanation.
 
 use crate::head::begin_result;
+use crate::reasons::write_reasons;
+use plain_run::Reason;
 use script_notes::{LineNote, NoteKind, Span};
 use std::alloc::{AllocError, Global};
 use trace_lines::Line;
-use xvsh_checks::Noted;
 
 // The name of a kind of note.
 fn kind_word(kind: NoteKind) -> &'static str {
@@ -75,24 +76,48 @@ fn write_note(object: &mut Line, note: &LineNote) -> Result<(), AllocError> {
     object.end_object()
 }
 
+/// What is told of a script in an explanation.
+#[derive(Clone, Copy)]
+pub struct ExplainValues<'a> {
+    /// The notes on its lines.
+    pub notes: &'a [LineNote],
+    /// Why it isn't settled on its files and its input, where that was asked for.
+    pub reasons: Option<&'a [Reason<Global>]>,
+}
+
+// The word of the status: what is told first.
+fn status_word(values: &ExplainValues<'_>) -> &'static str {
+    if !values.notes.is_empty() {
+        return "notes";
+    }
+    match values.reasons {
+        Some(reasons) if !reasons.is_empty() => "not settled",
+        _ => "nothing to tell",
+    }
+}
+
 /// The result of an explanation as one object of JSON, and LF (own): `format`, `version`, `command` `explain`, `status`
-/// `nothing to tell` or `notes`, `code`, the status with which the program ends, and `notes`, in the order of the lines: of each
-/// its `kind`, its `line`, counted from 1, its `places`, each from the byte `first` up to and without the byte `past` of the
-/// line, counted from 0, its `sentence`, and the line's `text`.
+/// (`notes` where there is one; else `not settled` where there is a reason, else `nothing to tell`), `code`, the status with which
+/// the program ends, and `notes`, in the order of the lines: of each its `kind`, its `line`, counted from 1, its `places`, each
+/// from the byte `first` up to and without the byte `past` of the line, counted from 0, its `sentence`, and the line's `text`;
+/// and `settled` and `reasons`, where these were asked for.
 ///
 /// Bytes are a string where they are UTF-8, else an object whose member `base64` is their base64. `AllocError` where memory for
 /// the text is refused.
-pub fn explain_result(alloc: Global, noted: &Noted, code: u8) -> Result<Vec<u8>, AllocError> {
-    let status = if noted.is_fine {
-        "nothing to tell"
-    } else {
-        "notes"
-    };
-    let mut object = begin_result(alloc, "explain", status, code)?;
+pub fn explain_result(
+    alloc: Global,
+    values: &ExplainValues<'_>,
+    code: u8,
+) -> Result<Vec<u8>, AllocError> {
+    let mut object = begin_result(alloc, "explain", status_word(values), code)?;
     object.begin_list("notes")?;
-    for note in &noted.notes {
+    for note in values.notes {
         write_note(&mut object, note)?;
     }
     object.end_list()?;
+    if let Some(reasons) = values.reasons {
+        object.truth("settled", reasons.is_empty())?;
+        write_reasons(&mut object, reasons)?;
+    }
     object.end()
 }

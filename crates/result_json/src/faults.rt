@@ -44,7 +44,7 @@ pub struct FaultValues<'a> {
     pub place: FaultPlace<'a>,
 }
 
-// The number and the name of a fault: its place in the type, counted from 1, and its variant.
+// The number and the name of a fault: its variant.
 fn number_of(fault: Fault<'_>) -> (u64, &'static str) {
     match fault {
         Fault::Unreadable(_) => (1, "Unreadable"),
@@ -55,6 +55,7 @@ fn number_of(fault: Fault<'_>) -> (u64, &'static str) {
         Fault::TooManyFiles => (6, "TooManyFiles"),
         Fault::TooLarge => (7, "TooLarge"),
         Fault::Memory => (8, "Memory"),
+        Fault::TakenName(_) => (15, "TakenName"),
     }
 }
 
@@ -65,7 +66,10 @@ fn place_of(fault: Fault<'_>) -> FaultPlace<'_> {
             line: Some(line),
             ..FaultPlace::NOWHERE
         },
-        Fault::Unreadable(path) | Fault::TooLong(path) | Fault::BadName(path) => FaultPlace {
+        Fault::Unreadable(path)
+        | Fault::TooLong(path)
+        | Fault::BadName(path)
+        | Fault::TakenName(path) => FaultPlace {
             path: Some(path),
             ..FaultPlace::NOWHERE
         },

@@ -2,9 +2,11 @@
 
 use crate::files::write_files;
 use crate::head::begin_result;
+use crate::reasons::write_reasons;
 use crate::words::full_word;
 use kernel_model::{Event, Full};
 use mem_files::Files;
+use plain_run::Reason;
 use sh_lexer::Bytes;
 use std::alloc::{AllocError, Global};
 use trace_lines::Line;
@@ -16,6 +18,8 @@ pub struct Verdict<'a> {
     pub is_settled: bool,
     /// The names of its soft files.
     pub soft: &'a [Bytes<Global>],
+    /// Why it isn't settled.
+    pub reasons: &'a [Reason<Global>],
 }
 
 /// What is told of a finished run.
@@ -84,7 +88,7 @@ fn write_full(line: &mut Line, full: Option<Full>) -> Result<(), AllocError> {
 /// (`full` where something was; else `settled` or `not settled` where that is known, else `finished`), `code`, the status with
 /// which the program ends, `output`, `diagnostics`, `files`, each `soft` or not where that is known, `finished`, `full`, the
 /// number of `events` and of `harts`; `schedule`, a list of the events as the lines of a schedule, where they are listed; and
-/// `settled`, where that is known.
+/// `settled` and `reasons`, where these are known.
 ///
 /// Bytes are a string where they are UTF-8, else an object whose member `base64` is their base64. `AllocError` where memory for
 /// the text is refused.
@@ -111,6 +115,7 @@ pub fn run_result(
     }
     if let Some(verdict) = values.verdict {
         line.truth("settled", verdict.is_settled)?;
+        write_reasons(&mut line, verdict.reasons)?;
     }
     line.end()
 }

@@ -1,19 +1,23 @@
 //! Explanations as objects.
 
 use crate::read_back::{count_of, member_of, value_of, word_of};
-use result_json::explain_result;
+use plain_run::Reason;
+use result_json::{ExplainValues, explain_result};
 use script_notes::{LineNote, notes_of};
 use serde_json::Value;
 use std::alloc::Global;
 use std::test::Fail;
-use xvsh_checks::Noted;
 
-// The notes on a script.
-fn noted_of(alloc: Global, script: &[u8]) -> Result<Noted, Fail> {
-    let notes = notes_of(alloc, script)?;
-    let is_fine = notes.is_empty();
-    Ok(Noted { notes, is_fine })
+// The values of these notes alone.
+fn values_of<'v>(notes: &'v [LineNote]) -> ExplainValues<'v> {
+    ExplainValues {
+        notes,
+        reasons: None,
+    }
 }
+
+// How each object begins.
+const HEAD: &str = "{\"format\":\"xvsh-result\",\"version\":1,\"command\":\"explain\",\"status\":";
 
 #[test]
 fn notes_are_told(rt: HostRuntime) -> Result<(), Fail> {
@@ -36,13 +40,48 @@ fn notes_are_told(rt: HostRuntime) -> Result<(), Fail> {
         ),
     ];
     for (script, told) in rows {
-        let noted = noted_of(rt.alloc(), script)?;
-        let code = if noted.is_fine { 0 } else { 3 };
-        let text = explain_result(rt.alloc(), &noted, code)?;
+        let notes = notes_of(rt.alloc(), script)?;
+        let code = if notes.is_empty() { 0 } else { 3 };
+        let text = explain_result(rt.alloc(), &values_of(notes.as_slice()), code)?;
         let _ = value_of(rt.alloc(), text.as_slice())?;
-        let whole = format!(in rt.alloc();
-            "{{\"format\":\"xvsh-result\",\"version\":1,\"command\":\"explain\",\"status\":{told}"
-        )?;
+        let whole = format!(in rt.alloc(); "{HEAD}{told}")?;
+        assert!(&rt; text.as_slice() == whole.as_bytes());
+    }
+    Ok(())
+}
+
+#[test]
+fn reasons_stand_behind_the_notes(rt: HostRuntime) -> Result<(), Fail> {
+    let reasons = [Reason::LooseInput { line: 1, user: 2 }];
+    let rows = [
+        (
+            b"echo a\n".as_slice(),
+            reasons.as_slice(),
+            3,
+            "\"not settled\",\"code\":3,\"notes\":[],\"settled\":false,\"reasons\":[{\"kind\":\"loose input\",\"line\":1,\"user\":2}]}\n",
+        ),
+        (
+            b"echo a\n".as_slice(),
+            [].as_slice(),
+            0,
+            "\"nothing to tell\",\"code\":0,\"notes\":[],\"settled\":true,\"reasons\":[]}\n",
+        ),
+        (
+            b"cat <".as_slice(),
+            reasons.as_slice(),
+            3,
+            "\"notes\",\"code\":3,\"notes\":[{\"kind\":\"MissingName\",\"line\":1,\"places\":[{\"first\":5,\"past\":5}],\"sentence\":\"a file's name has to stand here: the line is no command, and nothing of it runs\",\"text\":\"cat <\"}],\"settled\":false,\"reasons\":[{\"kind\":\"loose input\",\"line\":1,\"user\":2}]}\n",
+        ),
+    ];
+    for (script, reasons, code, told) in rows {
+        let notes = notes_of(rt.alloc(), script)?;
+        let values = ExplainValues {
+            notes: notes.as_slice(),
+            reasons: Some(reasons),
+        };
+        let text = explain_result(rt.alloc(), &values, code)?;
+        let _ = value_of(rt.alloc(), text.as_slice())?;
+        let whole = format!(in rt.alloc(); "{HEAD}{told}")?;
         assert!(&rt; text.as_slice() == whole.as_bytes());
     }
     Ok(())
@@ -72,15 +111,15 @@ fn is_note(alloc: Global, value: &Value, note: &LineNote) -> Result<bool, Fail> 
 
 // How many notes a script has, if each reads back.
 fn notes_read_back(alloc: Global, script: &[u8]) -> Result<Option<usize>, Fail> {
-    let noted = noted_of(alloc, script)?;
-    let text = explain_result(alloc, &noted, 3)?;
+    let notes = notes_of(alloc, script)?;
+    let text = explain_result(alloc, &values_of(notes.as_slice()), 3)?;
     let value = value_of(alloc, text.as_slice())?;
     let told = value
         .get("notes")
         .and_then(Value::as_array)
         .ok_or("no notes")?;
-    let mut is_same = told.len() == noted.notes.len();
-    for (value, note) in told.iter().zip(noted.notes.iter()) {
+    let mut is_same = told.len() == notes.len();
+    for (value, note) in told.iter().zip(notes.iter()) {
         is_same = is_same && is_note(alloc, value, note)?;
     }
     Ok(if is_same { Some(told.len()) } else { None })

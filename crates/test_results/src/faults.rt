@@ -12,6 +12,7 @@ fn a_fault_has_its_text(rt: HostRuntime) -> Result<(), Fail> {
         (Fault::Unreadable(path), "Unreadable", 1, 1),
         (Fault::TooLong(path), "TooLong", 2, 1),
         (Fault::BadName(path), "BadName", 5, 1),
+        (Fault::TakenName(path), "TakenName", 15, 1),
         (Fault::TooManyFiles, "TooManyFiles", 6, 1),
         (Fault::TooLarge, "TooLarge", 7, 4),
         (Fault::Memory, "Memory", 8, 4),

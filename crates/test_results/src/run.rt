@@ -3,6 +3,7 @@
 use crate::read_back::{count_of, member_of, value_of, word_of};
 use kernel_model::{Event, Full};
 use mem_files::Files;
+use plain_run::Reason;
 use result_json::{RunValues, Verdict, run_result};
 use serde_json::Value;
 use sh_lexer::Bytes;
@@ -68,16 +69,35 @@ fn a_strict_run_says_what_is_soft(rt: HostRuntime) -> Result<(), Fail> {
     files.put(b"f", b"a".as_slice())?;
     files.put(b"g", b"".as_slice())?;
     let soft = [Bytes::copy_of(rt.alloc(), b"g".as_slice())?];
-    for (is_settled, status, code) in [(true, "settled", 0), (false, "not settled", 3)] {
+    let reasons = [
+        Reason::Background { line: 2 },
+        Reason::CutPipe {
+            line: 3,
+            name: Bytes::copy_of(rt.alloc(), b"g".as_slice())?,
+            again: 4,
+        },
+    ];
+    let rows = [
+        (true, [].as_slice(), "settled", 0, "[]"),
+        (
+            false,
+            reasons.as_slice(),
+            "not settled",
+            3,
+            "[{\"kind\":\"background\",\"line\":2},{\"kind\":\"cut pipe\",\"line\":3,\"name\":\"g\",\"again\":4}]",
+        ),
+    ];
+    for (is_settled, reasons, status, code, told) in rows {
         let strict = RunValues {
             verdict: Some(Verdict {
                 is_settled,
                 soft: &soft,
+                reasons,
             }),
             ..values_of(b"".as_slice(), b"".as_slice(), &files)
         };
         let whole = format!(in rt.alloc();
-            "{{\"format\":\"xvsh-result\",\"version\":1,\"command\":\"run\",\"status\":\"{status}\",\"code\":{code},\"output\":\"\",\"diagnostics\":\"\",\"files\":[{{\"name\":\"f\",\"length\":1,\"bytes\":\"a\",\"soft\":false}},{{\"name\":\"g\",\"length\":0,\"bytes\":\"\",\"soft\":true}}],\"finished\":true,\"full\":null,\"events\":4,\"harts\":8,\"settled\":{is_settled}}}\n"
+            "{{\"format\":\"xvsh-result\",\"version\":1,\"command\":\"run\",\"status\":\"{status}\",\"code\":{code},\"output\":\"\",\"diagnostics\":\"\",\"files\":[{{\"name\":\"f\",\"length\":1,\"bytes\":\"a\",\"soft\":false}},{{\"name\":\"g\",\"length\":0,\"bytes\":\"\",\"soft\":true}}],\"finished\":true,\"full\":null,\"events\":4,\"harts\":8,\"settled\":{is_settled},\"reasons\":{told}}}\n"
         )?;
         assert!(&rt; is_text(rt.alloc(), &strict, code, whole.as_str())?);
     }

@@ -9,7 +9,7 @@ use std::cell::Cell;
 use std::io::{self, Write};
 use test_rows::named;
 use xvsh::Watch;
-use xvsh_read::{Host, HostFault, Unwritten};
+use xvsh_read::{Hints, Host, HostFault, Unwritten};
 use xvsh_traces::Traces;
 
 // A file of the host, and whether it was read.
@@ -178,6 +178,11 @@ impl Watch for Lent<'_> {
     fn found(&mut self, _count: usize) {}
 
     fn ended(&mut self) {}
+}
+
+// Nobody sits at a terminal.
+impl Hints for Lent<'_> {
+    fn hint(&mut self, _sentence: &str) {}
 }
 
 // A copy of these bytes, if they are within the limit.

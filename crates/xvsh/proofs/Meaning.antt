@@ -10,7 +10,7 @@ use Rattle.script_load.specs.Script.{IsScript}
 use Rattle.xvsh_read.specs.Path.{Path}
 use Rattle.xvsh_read.specs.Reading.{ArePut, none_put, one_put}
 use Rattle.xvsh_plain.specs.Running.{RanPlain}
-use Rattle.xvsh_ends.specs.Ends.{Asked, asks_plain, Due, plain_ran, no_plain, ran, no_run, ran_strict, no_strict, checked, no_check, counted, not_counted, explained, not_explained, whys_told, no_whys_told, explored, not_explored, traced, untraced, witnessed, unwitnessed, valued, unvalued, drawn, undrawn, unread, helped, misused, no_memory, Writes, whole, out_stopped, err_stopped, Ends}
+use Rattle.xvsh_ends.specs.Ends.{Asked, asks_plain, Due, plain_ran, no_plain, ran, no_run, ran_strict, no_strict, checked, no_check, counted, not_counted, explained, not_explained, whys_told, no_whys_told, explored, not_explored, traced, untraced, witnessed, unwitnessed, filed, unfiled, valued, unvalued, drawn, undrawn, unread, helped, misused, no_memory, Writes, whole, out_stopped, err_stopped, Ends}
 use Rattle.xvsh_ends.proofs.Dues.{some_status}
 use Rattle.xvsh.specs.Drive.{WritesMeaning}
 
@@ -21,7 +21,7 @@ cons_at_end≢nil (first ∷ before) path is = cc
 -- where no path is given, no file is
 no_file_given : (file : Path → Option Bytes) (paths : List (Bor Path)) (given : List (Name × Bytes)) → paths ≡ [] → ArePut file paths given → given ≡ []
 no_file_given file paths given none none_put = refl
-no_file_given file paths given none (one_put {paths = before} path name bytes put is own) = absurd (cons_at_end≢nil before path none)
+no_file_given file paths given none (one_put {paths = before} path name bytes put is fresh own) = absurd (cons_at_end≢nil before path none)
 
 -- a run of the script of standard input on no files prints the meaning of what the host states of it
 pub writes_meaning : (input : Option Bytes) (file : Path → Option Bytes) (is_settled : Bool) (text : Bytes) (old new : Option (List ℕ)) → RanPlain input file Xv6 (codes "-") [] false is_settled text → Appends old new text → WritesMeaning input old new
@@ -64,6 +64,8 @@ module _ (input : Option Bytes) (file : Path → Option Bytes) where
   ran_of request text told status untraced is zero = cc
   ran_of request text told status (witnessed due) is zero = cc
   ran_of request text told status (unwitnessed of) is zero = cc
+  ran_of request text told status (filed due) is zero = cc
+  ran_of request text told status (unfiled of) is zero = cc
   ran_of request text told status (valued object with due) is zero = cc
   ran_of request text told status (unvalued with due) is zero = cc
   ran_of request text told status (drawn page) is zero = cc

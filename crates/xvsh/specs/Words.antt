@@ -109,6 +109,8 @@ pub record IsRunOf (found : Found) (request : RunRequest) : Type 0 where
   pub files : IsFlag found (codes "files") request.lists.files
   pub schedule : IsFlag found (codes "schedule") request.lists.events
   pub strict : IsFlag found (codes "strict") request.is_strict
+  pub schedule_to : IsWord found (codes "schedule-to") request.schedule_to
+  pub files_to : IsWord found (codes "files-to") request.files_to
   pub trace : IsWord found (codes "trace") request.trace
   pub json : IsFlag found (codes "json") request.is_json
 
@@ -117,12 +119,14 @@ pub record IsReplayOf (found : Found) (request : ReplayRequest) : Type 0 where
   pub source : IsSourceOf found request.source
   pub files : IsFlag found (codes "files") request.lists.files
   pub events : request.lists.events ≡ false
+  pub files_to : IsWord found (codes "files-to") request.files_to
   pub trace : IsWord found (codes "trace") request.trace
   pub json : IsFlag found (codes "json") request.is_json
 
 pub record IsPlainOf (found : Found) (request : PlainRequest) : Type 0 where
   pub source : IsSourceOf found request.source
   pub files : IsFlag found (codes "files") request.lists_files
+  pub files_to : IsWord found (codes "files-to") request.files_to
   pub strict : IsFlag found (codes "strict") request.is_strict
   pub json : IsFlag found (codes "json") request.is_json
 

@@ -18,12 +18,12 @@ use std::sync::Wait;
 use std::thread::Threads;
 use std::time::Clock;
 use xvsh_ends::{
-    Ending, Line, MAX_HARTS, MAX_STATES, MAX_TURNS, PlainRequest, Request, ending_of, no_output,
-    report, report_made, report_no_memory, unread_ending, write_ending,
+    Ending, Line, MAX_HARTS, MAX_STATES, MAX_TURNS, PlainRequest, Request, ending_of, hint_of,
+    no_output, report, report_made, report_no_memory, unread_ending, write_ending,
 };
 use xvsh_explores::Watch;
 use xvsh_given::{Given, Inputs, read_given};
-use xvsh_read::{Console, Host, Output, STDIN, Source};
+use xvsh_read::{Console, Hints, Host, Output, STDIN, Source};
 use xvsh_traces::Traces;
 use xvsh_words::command_line;
 
@@ -85,6 +85,8 @@ fn help_ending(alloc: Global, text: String) -> Ending
         line: Line::Fixed(""),
         status: 0,
         recording: None,
+        left: None,
+        hint: "",
     }
 }
 
@@ -143,6 +145,7 @@ fn no_words_ending<R: Threads + Wait + Clock + Sync, H: Host + Traces + Watch>(
             files: &[],
         },
         lists_files: false,
+        files_to: None,
         is_strict: false,
         is_json: false,
     });
@@ -228,19 +231,20 @@ fn ending_on<R: Threads + Wait + Clock + Sync, H: Host + Traces + Watch>(
 /// the script's standard input is what that file holds, which is read first, and with `--input none` it is empty; then `-` is
 /// `/dev/stdin`. A FILE that can't be read is a fault as above.
 ///
-/// A fault goes to standard error as one line, but with `--json`, and then nothing of the script was written. The status is 1 for what can't be
+/// A fault goes to standard error as one line, but with `--json`, and then nothing of the script was written. The host is told
+/// what helps then, which it may show on a terminal. The status is 1 for what can't be
 /// read or is refused, and for a schedule that is not of a finished run; 2 for words that are no command line; 3 where `check`
 /// reported a clash or a `&`, or `explain` a note or a reason, or `explore` found more than one output or set of files, or as above; 4 for an
 /// exploration that didn't try every order, and for a run that is too large, is past its turns, is out of
 /// memory, or met something full, which alone is reported after what it wrote. `--help` and `--version` go to standard output.
 /// Where standard output or standard error takes no more, it holds a beginning of what was due, nothing more is written, and the
 /// status is 1.
-pub fn drive<R: Threads + Wait + Clock + Sync, H: Host + Traces + Watch, W: Write, E: Write>(
-    rt: &R,
-    alloc: Global,
-    words: Vec<String>,
-    console: &mut Console<H, W, E>,
-) -> u8
+pub fn drive<
+    R: Threads + Wait + Clock + Sync,
+    H: Host + Traces + Watch + Hints,
+    W: Write,
+    E: Write,
+>(rt: &R, alloc: Global, words: Vec<String>, console: &mut Console<H, W, E>) -> u8
     ensures meaning { let seen = known H.input H.file W.contents E.contents in words.items ≡ [] → result ≡ 0 → WritesMeaning (seen console.old).input (seen console.old).out (seen console.new).out }
     ensures no_words { let seen = known H.input H.file W.contents E.contents in words.items ≡ [] → EndsAt (seen console.old) (seen console.new) (asks_plain Profile.Xv6 (codes "-") [] false false) result }
     ensures ends { let seen = known H.input H.file W.contents E.contents in words.items ≢ [] → (sight : Sight) × (asked : Asked) × IsAskedByWords (seen console.old).input (seen console.old).file (completed (map string_bytes words.items)) sight asked × EndsFrom sight (seen console.old) (seen console.new) asked result }
@@ -248,5 +252,7 @@ pub fn drive<R: Threads + Wait + Clock + Sync, H: Host + Traces + Watch, W: Writ
     ensures no_words_written { words.items ≡ [] → result ≢ 0 → result ≢ 1 → console.new.out ≡ console.old.out }
 {
     let ending = ending_on(rt, alloc, words, &mut console.host);
-    write_ending(&ending, &mut console.out, &mut console.err)
+    let status = write_ending(&ending, &mut console.out, &mut console.err);
+    console.host.hint(hint_of(&ending, status));
+    status
 }

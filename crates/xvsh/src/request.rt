@@ -132,6 +132,20 @@ fn trace_of<'m>(words: &'m ArgMatches<'_>) -> Option<&'m str>
     words.get_str("trace")
 }
 
+// The path of the schedule, if it is to be written.
+fn schedule_to_of<'m>(words: &'m ArgMatches<'_>) -> Option<&'m str>
+    ensures { IsWord (found_of words.now) (codes "schedule-to") result }
+{
+    words.get_str("schedule-to")
+}
+
+// The path of the folder for the files, if there is to be one.
+fn files_to_of<'m>(words: &'m ArgMatches<'_>) -> Option<&'m str>
+    ensures { IsWord (found_of words.now) (codes "files-to") result }
+{
+    words.get_str("files-to")
+}
+
 // The word of the order of the turns, if there is one.
 fn order_of<'m>(words: &'m ArgMatches<'_>) -> Option<&'m str>
     ensures { IsWord (found_of words.now) (codes "order") result }
@@ -169,6 +183,8 @@ fn run_of<'m>(words: &'m ArgMatches<'_>) -> RunRequest<'m>
             events: flag_of(words, "schedule"),
         },
         is_strict: flag_of(words, "strict"),
+        schedule_to: schedule_to_of(words),
+        files_to: files_to_of(words),
         trace: trace_of(words),
         is_json: flag_of(words, "json"),
     }
@@ -184,6 +200,7 @@ fn replay_of<'m>(words: &'m ArgMatches<'_>) -> ReplayRequest<'m>
             files: flag_of(words, "files"),
             events: false,
         },
+        files_to: files_to_of(words),
         trace: trace_of(words),
         is_json: flag_of(words, "json"),
     }
@@ -195,6 +212,7 @@ fn plain_of<'m>(words: &'m ArgMatches<'_>) -> PlainRequest<'m>
     PlainRequest {
         source: source_of(words),
         lists_files: flag_of(words, "files"),
+        files_to: files_to_of(words),
         is_strict: flag_of(words, "strict"),
         is_json: flag_of(words, "json"),
     }

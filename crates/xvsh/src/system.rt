@@ -8,7 +8,7 @@ use std::io::{self, Write};
 use std::rt::Files;
 use std::time::Clock;
 use xvsh_explores::Watch;
-use xvsh_read::{Host, HostFault, STDIN, Unwritten, read_all, write};
+use xvsh_read::{Hints, Host, HostFault, STDIN, Unwritten, read_all, write};
 use xvsh_traces::Traces;
 
 // Where the trace goes that was begun last.
@@ -117,5 +117,13 @@ impl<R: Files + Clock, E: Write> Watch for System<R, E> {
 
     fn ended(&mut self) {
         self.progress.clear(&mut self.terminal.err);
+    }
+}
+
+impl<R: Files, E: Write> Hints for System<R, E> {
+    fn hint(&mut self, sentence: &str) {
+        if self.terminal.shows && !sentence.is_empty() {
+            let _ = writeln!(self.terminal.err, "xvsh: {sentence}");
+        }
     }
 }

@@ -19,4 +19,4 @@ pub use found::Finding;
 pub use noting::{Noted, run_note};
 pub use request::{CheckRequest, ExplainRequest};
 pub use turns::run_turns;
-pub use whys::run_whys;
+pub use whys::{NotedWhys, run_note_whys, run_whys};

@@ -25,7 +25,7 @@ fn notes_at<'a, H: Host>(
 }
 
 // Whether there are none.
-fn are_none(notes: &[LineNote]) -> bool
+pub(crate) fn are_none(notes: &[LineNote]) -> bool
     ensures { IsTrue result ↔ (written notes.now ≡ []) }
 {
     notes.is_empty()

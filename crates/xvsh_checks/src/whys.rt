@@ -2,16 +2,18 @@
 ghost use Rattle.std.specs.Prelude.{◌≡◌, ◌++◌, ◌↔◌, [], IfOk, IfErr, IsTrue, map};
 ghost use Rattle.mem_files.specs.Files.{files};
 ghost use Rattle.script_load.specs.Line.{lines_of};
+ghost use Rattle.script_notes.specs.Written.{written};
 ghost use Rattle.xvsh_plain.specs.Running.{IsMeaningFault};
 ghost use Rattle.reason_sentences.specs.Sentences.{reason_text, why_text};
 ghost use Rattle.reason_sentences.specs.Whys.{AreReasonTexts};
 ghost use Rattle.xvsh_checks.specs.Whys.{RanWhys, IsWhysFault};
 
 use crate::explaining::Explained;
+use crate::noting::are_none;
 use crate::request::ExplainRequest;
 use plain_run::{Reason, plain_with_reasons};
 use reason_sentences::why;
-use script_notes::explain;
+use script_notes::{LineNote, explain, notes_of};
 use std::alloc::{AllocError, Global};
 use xvsh_plain::of_plain;
 use xvsh_read::{Fault, Host, MAX_INPUT, Start, prepare_read, read};
@@ -60,4 +62,44 @@ pub fn run_whys<'a, H: Host>(
     let reasons = reasons_of(alloc, &start)?;
     let explained = with_why(alloc, notes, reasons.as_slice())?;
     Ok(explained)
+}
+
+// Whether there is neither a note nor a reason.
+fn is_nothing(notes: &[LineNote], reasons: &[Reason<Global>]) -> bool
+    ensures { IsTrue result ↔ ((written notes.now ≡ []) × (reasons.now ≡ [])) }
+{
+    are_none(notes) && reasons.is_empty()
+}
+
+/// What `explain` tells of a script on its files and its input.
+#[derive(Drop)]
+pub struct NotedWhys {
+    /// The notes, in the order of the lines.
+    pub notes: Vec<LineNote>,
+    /// Why the script isn't settled; nothing where it is.
+    pub reasons: Vec<Reason<Global>>,
+    /// There is neither a note nor a reason.
+    pub is_fine: bool,
+}
+
+/// `explain --json` with files: reads what `run_whys` reads, and returns the notes and the reasons as values, and whether there is
+/// neither (own). The script is run by its meaning to find that out. Nothing is written.
+pub fn run_note_whys<'a, H: Host>(
+    alloc: Global,
+    request: &ExplainRequest<'a>,
+    host: &mut H,
+) -> Result<NotedWhys, Fault<'a>>
+    ensures ran { IfOk result (λ noted. RanWhys (H.input host.old) (H.file host.old) request.now.source.profile request.now.source.script.now request.now.source.files.now noted.is_fine (written noted.notes.items ++ why_text (map reason_text noted.reasons.items))) }
+    ensures fault { IfErr result (IsWhysFault (H.input host.old) (H.file host.old) request.now.source.profile request.now.source.script.now request.now.source.files.now) }
+{
+    let bytes = read(alloc, host, request.source.script, MAX_INPUT)?;
+    let notes = notes_of(alloc, bytes.as_slice())?;
+    let start = prepare_read(alloc, host, &request.source, bytes.as_slice())?;
+    let reasons = reasons_of(alloc, &start)?;
+    let is_fine = is_nothing(notes.as_slice(), reasons.as_slice());
+    Ok(NotedWhys {
+        notes,
+        reasons,
+        is_fine,
+    })
 }

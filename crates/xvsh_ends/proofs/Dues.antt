@@ -6,14 +6,14 @@ use Rattle.std.specs.Io.KnownBytes.{Keeps}
 use Rattle.mem_files.specs.Name.{Bytes}
 use Rattle.kernel_model.specs.declared.events.Full.{Full}
 use Rattle.xvsh_read.specs.declared.fault.Fault.{Fault}
-use Rattle.xvsh_read.specs.declared.fault.Fault.TheVariants.{Unreadable, TooLong, LineTooLong, ByteZero, BadName, TooManyFiles, TooLarge, Memory}
+use Rattle.xvsh_read.specs.declared.fault.Fault.TheVariants.{Unreadable, TooLong, LineTooLong, ByteZero, BadName, TakenName, TooManyFiles, TooLarge, Memory}
 use Rattle.xvsh_read.specs.Path.{Path}
 use Rattle.xvsh_read.specs.Status.{status_of, fault_told}
 use Rattle.xvsh_read.specs.Writing.{out_text}
 use Rattle.xvsh_runs.specs.declared.fault.ProcessFault.{ProcessFault}
 use Rattle.xvsh_runs.specs.declared.fault.ProcessFault.TheVariants.{Common, BadHarts, BadTurns, BadOrder, Spent, SharedInput, NoEvent, NotRunnable, NotRunning, Unfinished}
 use Rattle.xvsh_runs.specs.Status.{run_status}
-use Rattle.xvsh_ends.specs.Ends.{Asked, asks_plain, asks_run, asks_strict, asks_check, asks_turns, asks_explain, asks_whys, asks_explore, help, misuse, verdict_status, check_status, explore_status, full_status, told_text, Due, plain_ran, no_plain, ran, no_run, ran_strict, no_strict, checked, no_check, counted, not_counted, explained, not_explained, whys_told, no_whys_told, explored, not_explored, helped, misused, no_memory, IsDue, Tells, TellsOr, tells, lacks_memory, asks_traced, traced, untraced, beside_trace, asks_witnessed, asks_json, asks_draw, drawn, undrawn, asks_input, unread, witnessed, unwitnessed, valued, unvalued, IsObjectStatus, PrintsAlone}
+use Rattle.xvsh_ends.specs.Ends.{Asked, asks_plain, asks_run, asks_strict, asks_check, asks_turns, asks_explain, asks_whys, asks_explore, help, misuse, verdict_status, check_status, explore_status, full_status, told_text, Due, plain_ran, no_plain, ran, no_run, ran_strict, no_strict, checked, no_check, counted, not_counted, explained, not_explained, whys_told, no_whys_told, explored, not_explored, helped, misused, no_memory, IsDue, Tells, TellsOr, tells, lacks_memory, asks_traced, traced, untraced, beside_trace, asks_witnessed, asks_filed, asks_json, asks_draw, drawn, undrawn, asks_input, unread, witnessed, unwitnessed, filed, unfiled, valued, unvalued, IsObjectStatus, PrintsAlone}
 use Rattle.std.specs.Borrow.{Bor}
 use Rattle.xvsh_ends.specs.Requests.{UnlessPrinted, witnessed_asked, json_asked}
 use Rattle.xvsh_ends.specs.declared.ending.Ending.{Ending}
@@ -30,6 +30,7 @@ some_status (TooLong path) is = cc
 some_status (LineTooLong n) is = cc
 some_status (ByteZero n) is = cc
 some_status (BadName path) is = cc
+some_status (TakenName path) is = cc
 some_status TooManyFiles is = cc
 some_status TooLarge is = cc
 some_status Memory is = cc
@@ -102,6 +103,7 @@ unless (asks_whys profile script paths) status same is = λ some three. is
 unless (asks_explore profile script paths states all) status same is = λ some three four. is
 unless (asks_traced what path) status same is = unless what status same is
 unless (asks_witnessed what path) status same is = unless what status same is
+unless (asks_filed what path) status same is = unless what status same is
 unless (asks_json what) status same is = λ some one three four. is
 unless asks_draw status same is = λ some. is
 unless (asks_input path) status same is = is
@@ -119,6 +121,7 @@ unless_implied (asks_whys profile script paths) status same other implies is = �
 unless_implied (asks_explore profile script paths states all) status same other implies is = λ some three four. implies (is some three four)
 unless_implied (asks_traced what path) status same other implies is = unless_implied what status same other implies is
 unless_implied (asks_witnessed what path) status same other implies is = unless_implied what status same other implies is
+unless_implied (asks_filed what path) status same other implies is = unless_implied what status same other implies is
 unless_implied (asks_json what) status same other implies is = λ some one three four. implies (is some one three four)
 unless_implied asks_draw status same other implies is = λ some. implies (is some)
 unless_implied (asks_input path) status same other implies is = implies is
@@ -137,6 +140,7 @@ unless_any (asks_whys profile script paths) status same is some one three four =
 unless_any (asks_explore profile script paths states all) status same is some one three four = is some three four
 unless_any (asks_traced what path) status same is some one three four = unless_any what status same is some one three four
 unless_any (asks_witnessed what path) status same is some one three four = unless_any what status same is some one three four
+unless_any (asks_filed what path) status same is some one three four = unless_any what status same is some one three four
 unless_any (asks_json what) status same is some one three four = is some one three four
 unless_any asks_draw status same is some one three four = is some
 unless_any (asks_input path) status same is some one three four = is
@@ -178,6 +182,8 @@ module _ (input : Option Bytes) (file : Path → Option Bytes) where
   nothing_due asked text told status (untraced {what = what}) = unless what 1 ([] ≡ []) refl
   nothing_due asked text told status (witnessed {what = what} due) = nothing_due what text told status due
   nothing_due asked text told status (unwitnessed {what = what} of) = unless what 1 ([] ≡ []) refl
+  nothing_due asked text told status (filed {what = what} due) = nothing_due what text told status due
+  nothing_due asked text told status (unfiled {what = what} of) = unless what 1 ([] ≡ []) refl
   nothing_due asked text told status (valued object is due) = object_prints status is
   nothing_due asked text told status (unvalued {what = what} is due) = unless_any what status (text ≡ []) (nothing_due what text told status due)
   nothing_due asked text told status (drawn page) = λ some. absurd (some refl)
@@ -214,6 +220,7 @@ fault_is_printed (TooLong path) = inr (inl refl)
 fault_is_printed (LineTooLong n) = inr (inl refl)
 fault_is_printed (ByteZero n) = inr (inl refl)
 fault_is_printed (BadName path) = inr (inl refl)
+fault_is_printed (TakenName path) = inr (inl refl)
 fault_is_printed TooManyFiles = inr (inl refl)
 fault_is_printed TooLarge = inr (inr (inr refl))
 fault_is_printed Memory = inr (inr (inr refl))

@@ -54,6 +54,8 @@ pub data Asked : Type 0 where
   asks_traced : Asked → Path → Asked
   -- the same, with a schedule of each outcome in the folder at a path
   asks_witnessed : Asked → Path → Asked
+  -- the same, with a file for each that the run leaves, in a folder
+  asks_filed : Asked → Path → Asked
   -- the same, with one object of JSON in place of what is printed
   asks_json : Asked → Asked
   -- a page that draws traces
@@ -108,6 +110,11 @@ pub data IsOfWitness (path : Path) : Path → Type 0 where
   itself : IsOfWitness path path
   numbered : (number : ℕ) → IsOfWitness path (path ++ (codes "/" ++ (decimal number ++ codes ".schedule")))
 
+-- the folder at this path, or what is under a name in it
+pub data IsInFolder (path : Path) : Path → Type 0 where
+  folder : IsInFolder path path
+  inside : (name : Bytes) → IsInFolder path (path ++ (codes "/" ++ name))
+
 -- an object is printed with this status
 abbrev pub IsObjectStatus : ℕ → Type 0
 IsObjectStatus status = (status ≡ 0) ⊎ ((status ≡ 1) ⊎ ((status ≡ 3) ⊎ (status ≡ 4)))
@@ -156,6 +163,9 @@ module _ (input : Option Bytes) (file : Path → Option Bytes) where
     -- the same of a request with schedules in a folder, beside these; or that the folder or one of them can't be written
     witnessed : {what : Asked} {path : Path} {text told : Bytes} {status : ℕ} → Due what text told status → Due (asks_witnessed what path) text told status
     unwitnessed : {what : Asked} {path place : Path} → IsOfWitness path place → Due (asks_witnessed what path) [] (untraced_told place) 1
+    -- the same of a request with files in a folder, beside these; or that the folder or one of them can't be written
+    filed : {what : Asked} {path : Path} {text told : Bytes} {status : ℕ} → Due what text told status → Due (asks_filed what path) text told status
+    unfiled : {what : Asked} {path place : Path} → IsInFolder path place → Due (asks_filed what path) [] (untraced_told place) 1
     -- an object of what is due without it, or that itself where it has another status
     valued : {what : Asked} {text told : Bytes} {status : ℕ} (object : Bytes) → IsObjectStatus status → Due what text told status → Due (asks_json what) object [] status
     unvalued : {what : Asked} {text told : Bytes} {status : ℕ} → (IsObjectStatus status → ⊥) → Due what text told status → Due (asks_json what) text told status

@@ -1,3 +1,4 @@
 pub mod Ends
+pub mod Filing
 pub mod Requests
 pub mod Witnesses

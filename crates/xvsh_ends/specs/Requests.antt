@@ -1,5 +1,5 @@
 -- What the program is asked for, and how it ends, by what is known of its console.
-use Rattle.std.specs.Prelude.{◌≢◌, ◌&&◌, not, ℕ, Bool, true, false, IsTrue, Option, Some, None}
+use Rattle.std.specs.Prelude.{◌≢◌, ℕ, Bool, true, false, IsTrue, Option, Some, None}
 use Rattle.std.specs.Borrow.{Bor}
 use Rattle.xvsh_read.specs.Path.{Path}
 use Rattle.xvsh_read.specs.Console.{Known}
@@ -11,7 +11,7 @@ use Rattle.xvsh_checks.specs.declared.request.ExplainRequest.{ExplainRequest}
 use Rattle.xvsh_explores.specs.declared.request.ExploreRequest.{ExploreRequest}
 use Rattle.xvsh_ends.specs.declared.request.Request.{Request}
 use Rattle.xvsh_ends.specs.declared.request.Request.TheVariants.{Run, Replay, Plain, Check, Explain, Explore, Draw}
-use Rattle.xvsh_ends.specs.Ends.{Asked, asks_plain, asks_run, asks_strict, asks_check, asks_turns, asks_explain, asks_whys, asks_explore, help, misuse, on_harts, by_schedule, Ends, asks_traced, asks_witnessed, asks_json, asks_draw, asks_input}
+use Rattle.xvsh_ends.specs.Ends.{Asked, asks_plain, asks_run, asks_strict, asks_check, asks_turns, asks_explain, asks_whys, asks_explore, help, misuse, on_harts, by_schedule, Ends, asks_traced, asks_witnessed, asks_filed, asks_json, asks_draw, asks_input}
 
 -- a run by processes, strictly or not
 abbrev pub run_asked : Bool → RunRequest → Asked
@@ -43,6 +43,11 @@ abbrev pub witnessed_asked : Option (Bor Path) → Asked → Asked
 witnessed_asked None what = what
 witnessed_asked (Some path) what = asks_witnessed what path.now
 
+-- the same, with files in a folder, if there is to be one
+abbrev pub filed_asked : Option (Bor Path) → Asked → Asked
+filed_asked None what = what
+filed_asked (Some path) what = asks_filed what path.now
+
 -- the same, with an object or without
 abbrev pub json_asked : Bool → Asked → Asked
 json_asked false what = what
@@ -58,18 +63,18 @@ explore_told_asked request = witnessed_asked request.witness (explore_plainly_as
 abbrev pub explore_asked : ExploreRequest → Asked
 explore_asked request = json_asked request.is_json (explore_told_asked request)
 
--- the same, with a trace of the run, if there is to be one
+-- the same, with a trace of the run or its schedule, if there is to be one
 abbrev pub traced_asked : Option (Bor Path) → Asked → Asked
 traced_asked None what = what
 traced_asked (Some path) what = asks_traced what path.now
 
 -- what a request asks for
 abbrev pub asked : Request → Asked
-asked (Run request) = traced_asked request.trace (json_asked request.is_json (run_asked request.is_strict request))
-asked (Replay request) = traced_asked request.trace (json_asked request.is_json (replay_asked request))
-asked (Plain request) = json_asked request.is_json (plain_asked request)
+asked (Run request) = traced_asked request.trace (traced_asked request.schedule_to (filed_asked request.files_to (json_asked request.is_json (run_asked request.is_strict request))))
+asked (Replay request) = traced_asked request.trace (filed_asked request.files_to (json_asked request.is_json (replay_asked request)))
+asked (Plain request) = filed_asked request.files_to (json_asked request.is_json (plain_asked request))
 asked (Check request) = json_asked request.is_json (check_asked request.counts_turns request)
-asked (Explain request) = json_asked request.is_json (explain_asked (not request.is_json && request.tells_why) request)
+asked (Explain request) = json_asked request.is_json (explain_asked request.tells_why request)
 asked (Explore request) = explore_asked request
 asked (Draw request) = asks_draw
 
@@ -101,6 +106,7 @@ UnlessPrinted (asks_whys profile script paths) status same = status ≢ 0 → st
 UnlessPrinted (asks_explore profile script paths states all) status same = status ≢ 0 → status ≢ 3 → status ≢ 4 → same
 UnlessPrinted (asks_traced what path) status same = UnlessPrinted what status same
 UnlessPrinted (asks_witnessed what path) status same = UnlessPrinted what status same
+UnlessPrinted (asks_filed what path) status same = UnlessPrinted what status same
 UnlessPrinted (asks_json what) status same = status ≢ 0 → status ≢ 1 → status ≢ 3 → status ≢ 4 → same
 UnlessPrinted asks_draw status same = status ≢ 0 → same
 UnlessPrinted (asks_input path) status same = same

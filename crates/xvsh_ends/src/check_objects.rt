@@ -1,14 +1,14 @@
 //! Checks and explanations as objects of JSON.
-ghost use Rattle.std.specs.Prelude.{◌≡◌, ◌&&◌, not, true, false};
+ghost use Rattle.std.specs.Prelude.{◌≡◌, true, false};
 ghost use Rattle.xvsh_ends.specs.Ends.{IsDue, asks_json, check_status};
 ghost use Rattle.xvsh_ends.specs.Requests.{check_asked, explain_asked, json_asked};
 
 use crate::checks::{check_ending, explain_ending};
 use crate::ending::Ending;
 use crate::values::print_made;
-use result_json::{check_result, counted_result, explain_result, fault_result};
+use result_json::{ExplainValues, check_result, counted_result, explain_result, fault_result};
 use std::alloc::Global;
-use xvsh_checks::{CheckRequest, ExplainRequest, run_count, run_find, run_note};
+use xvsh_checks::{CheckRequest, ExplainRequest, run_count, run_find, run_note, run_note_whys};
 use xvsh_read::Host;
 
 // The status where all is fine, and else.
@@ -64,19 +64,55 @@ fn check_json<H: Host>(alloc: Global, request: &CheckRequest<'_>, host: &mut H) 
 }
 
 // Explains a script, and returns the notes as one object of JSON, or why there are none as another.
-fn explain_json<H: Host>(alloc: Global, request: &ExplainRequest<'_>, host: &mut H) -> Ending
+fn notes_json<H: Host>(alloc: Global, request: &ExplainRequest<'_>, host: &mut H) -> Ending
     ensures { IsDue (H.input host.old) (H.file host.old) (asks_json (explain_asked false request.now)) result }
 {
     match run_note(alloc, request, host) {
         Ok(noted) => {
             let code = code_of(noted.is_fine);
-            let made = explain_result(alloc, &noted, code);
+            let values = ExplainValues {
+                notes: noted.notes.as_slice(),
+                reasons: None,
+            };
+            let made = explain_result(alloc, &values, code);
             print_made(alloc, made, code)
         }
         Err(fault) => {
             let made = fault_result(alloc, "explain", fault);
             print_made(alloc, made, fault.status())
         }
+    }
+}
+
+// The same, with why it is settled or isn't.
+fn whys_json<H: Host>(alloc: Global, request: &ExplainRequest<'_>, host: &mut H) -> Ending
+    ensures { IsDue (H.input host.old) (H.file host.old) (asks_json (explain_asked true request.now)) result }
+{
+    match run_note_whys(alloc, request, host) {
+        Ok(noted) => {
+            let code = code_of(noted.is_fine);
+            let values = ExplainValues {
+                notes: noted.notes.as_slice(),
+                reasons: Some(noted.reasons.as_slice()),
+            };
+            let made = explain_result(alloc, &values, code);
+            print_made(alloc, made, code)
+        }
+        Err(fault) => {
+            let made = fault_result(alloc, "explain", fault);
+            print_made(alloc, made, fault.status())
+        }
+    }
+}
+
+// An explanation as one object, with why the script is settled or isn't if that is requested.
+fn explain_json<H: Host>(alloc: Global, request: &ExplainRequest<'_>, host: &mut H) -> Ending
+    ensures { IsDue (H.input host.old) (H.file host.old) (asks_json (explain_asked request.now.tells_why request.now)) result }
+{
+    if request.tells_why {
+        whys_json(alloc, request, host)
+    } else {
+        notes_json(alloc, request, host)
     }
 }
 
@@ -93,9 +129,9 @@ pub fn check_told<H: Host>(alloc: Global, request: &CheckRequest<'_>, host: &mut
 }
 
 /// Returns the notes on a script in sentences, and why it is settled or isn't if that is requested, or why there are none; as one
-/// object of JSON, if that is requested, with the notes alone.
+/// object of JSON, if that is requested.
 pub fn explain_told<H: Host>(alloc: Global, request: &ExplainRequest<'_>, host: &mut H) -> Ending
-    ensures { IsDue (H.input host.old) (H.file host.old) (json_asked request.now.is_json (explain_asked (not request.now.is_json && request.now.tells_why) request.now)) result }
+    ensures { IsDue (H.input host.old) (H.file host.old) (json_asked request.now.is_json (explain_asked request.now.tells_why request.now)) result }
 {
     if request.is_json {
         explain_json(alloc, request, host)

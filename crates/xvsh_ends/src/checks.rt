@@ -24,6 +24,8 @@ fn prints(alloc: Global, text: Vec<u8>, is_fine: bool) -> Ending
         line: Line::Fixed(""),
         status: if is_fine { 0 } else { 3 },
         recording: None,
+        left: None,
+        hint: "",
     }
 }
 

@@ -23,6 +23,8 @@ fn prints(alloc: Global, page: Vec<u8>) -> Ending
         line: Line::Fixed(""),
         status: 0,
         recording: None,
+        left: None,
+        hint: "",
     }
 }
 

@@ -1,11 +1,12 @@
 //! How the program ends: what it prints, with which status, and how that is written.
-ghost use Rattle.std.specs.Prelude.{◌≡◌, [], OnErr, OnOk, MatchResult, string_bytes};
+ghost use Rattle.std.specs.Prelude.{◌≡◌, ℕ, List, [], OnErr, OnOk, MatchResult, string_bytes};
 ghost use Rattle.std.specs.Io.KnownBytes.{Appends};
 ghost use Rattle.xvsh_read.specs.Status.{fault_told, status_of};
 ghost use Rattle.xvsh_read.specs.Writing.{AppendsPart, out_text};
 ghost use Rattle.xvsh_runs.specs.Status.{run_fault_told, run_status};
 ghost use Rattle.xvsh_ends.specs.Ends.{Tells, TellsOr, Writes, line_text, told_text, untraced_told};
 
+use mem_files::Files;
 use sh_lexer::Bytes;
 use std::alloc::{AllocError, Global};
 use std::io::Write;
@@ -34,13 +35,16 @@ impl Line {
 }
 
 /// How the program ends: what it prints, and after its diagnostics a report of its own on standard error, and the status; and
-/// what makes the run once more, where it was one by processes.
+/// what makes the run once more, where it was one by processes; the files that it leaves, where a script ran; and what helps
+/// whoever sits at a terminal, if anything does.
 #[derive(Drop)]
 pub struct Ending {
     pub output: Output,
     pub line: Line,
     pub status: u8,
     pub recording: Option<Recording>,
+    pub left: Option<Files<Global>>,
+    pub hint: &'static str,
 }
 
 /// Nothing.
@@ -67,6 +71,8 @@ pub fn report(alloc: Global, line: Line, status: u8) -> Ending
         line,
         status,
         recording: None,
+        left: None,
+        hint: "",
     }
 }
 
@@ -87,18 +93,27 @@ pub fn report_made(alloc: Global, made: Result<String, AllocError>, status: u8) 
     }
 }
 
+// The same ending, with this hint.
+fn hinted(ending: Ending, hint: &'static str) -> Ending
+    ensures { (told : List ℕ) (status : ℕ) → TellsOr told status ending → TellsOr told status result }
+{
+    Ending { hint, ..ending }
+}
+
 /// The report of a fault.
 pub fn report_fault(alloc: Global, fault: Fault<'_>) -> Ending
     ensures { TellsOr (fault_told fault.entry) (status_of fault.entry) result }
 {
-    report_made(alloc, format!(in alloc; "xvsh: {fault}\n"), fault.status())
+    let made = format!(in alloc; "xvsh: {fault}\n");
+    hinted(report_made(alloc, made, fault.status()), fault.hint())
 }
 
 /// The report of a fault of a run by processes.
 pub fn report_run_fault(alloc: Global, fault: ProcessFault<'_>) -> Ending
     ensures { TellsOr (run_fault_told fault.entry) (run_status fault.entry) result }
 {
-    report_made(alloc, format!(in alloc; "xvsh: {fault}\n"), fault.status())
+    let made = format!(in alloc; "xvsh: {fault}\n");
+    hinted(report_made(alloc, made, fault.status()), fault.hint())
 }
 
 /// The report of a trace or a schedule that can't be written at the path.
@@ -129,5 +144,18 @@ pub fn write_ending<W: Write, E: Write>(ending: &Ending, out: &mut W, err: &mut 
             Err(Unwritten) => 1,
         },
         Err(Unwritten) => 1,
+    }
+}
+
+// Why the program ends with another status than its ending has.
+const UNWRITTEN: &str = "standard output or standard error takes no more, or is closed";
+
+/// What helps whoever sits at a terminal once an ending was written, and the program ends with this status; empty where nothing
+/// does.
+pub fn hint_of(ending: &Ending, status: u8) -> &'static str {
+    if status == ending.status {
+        ending.hint
+    } else {
+        UNWRITTEN
     }
 }

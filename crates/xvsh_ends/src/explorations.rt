@@ -41,6 +41,8 @@ fn prints(alloc: Global, explored: Explored) -> Ending
         line: Line::Fixed(""),
         status,
         recording: None,
+        left: None,
+        hint: "",
     }
 }
 

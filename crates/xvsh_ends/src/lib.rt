@@ -6,6 +6,7 @@ mod checks;
 mod drawing;
 mod ending;
 mod explorations;
+mod filing;
 mod objects;
 mod plain;
 mod process_faults;
@@ -19,7 +20,8 @@ mod values;
 mod witnesses;
 
 pub use ending::{
-    Ending, Line, no_output, report, report_fault, report_made, report_no_memory, write_ending,
+    Ending, Line, hint_of, no_output, report, report_fault, report_made, report_no_memory,
+    write_ending,
 };
 pub use request::{Request, ending_of};
 pub use unread::unread_ending;

@@ -5,6 +5,7 @@ ghost use Rattle.xvsh_read.specs.Writing.{out_text};
 ghost use Rattle.xvsh_ends.specs.Ends.{Asked, IsDue, IsObjectStatus, asks_json, told_text};
 
 use crate::ending::{Ending, Line, no_output, report_no_memory};
+use mem_files::Files;
 use result_json::{FaultPlace, FaultValues, told_fault_result};
 use sh_lexer::Bytes;
 use std::alloc::{AllocError, Global};
@@ -56,6 +57,8 @@ fn prints(alloc: Global, object: Bytes<Global>, status: u8) -> Ending
         line: Line::Fixed(""),
         status,
         recording: None,
+        left: None,
+        hint: "",
     }
 }
 
@@ -92,14 +95,15 @@ pub(crate) fn valued(alloc: Global, ending: Ending, command: &str) -> Ending
     }
 }
 
-// The same ending, with what makes the run once more.
-fn recorded(ending: Ending, recording: Option<Recording>) -> Ending
+// The same ending, with what makes the run once more and the files that it leaves.
+fn recorded(ending: Ending, recording: Option<Recording>, left: Option<Files<Global>>) -> Ending
     ensures out { out_text result.output ≡ out_text ending.output }
     ensures told { told_text result ≡ told_text ending }
     ensures status { result.status ≡ ending.status }
 {
     Ending {
         recording,
+        left,
         ..ending
     }
 }
@@ -111,7 +115,7 @@ fn made_objected(alloc: Global, ending: Ending, made: Result<Vec<u8>, AllocError
     match made {
         Ok(object) => {
             let printed = prints(alloc, Bytes::from_vec(object), ending.status);
-            recorded(printed, ending.recording)
+            recorded(printed, ending.recording, ending.left)
         }
         Err(_) => report_no_memory(alloc),
     }

@@ -40,6 +40,8 @@ fn settled(run: PlainRun) -> Ending
         line: Line::Fixed(verdict(run.is_settled)),
         status: 0,
         recording: None,
+        left: Some(run.files),
+        hint: "",
     }
 }
 

@@ -42,12 +42,16 @@ pub(crate) fn ran(run: Run, status: u8) -> Ending
             line: Line::Fixed(full_line(full)),
             status: 4,
             recording: Some(run.recording),
+            left: Some(run.files),
+            hint: "",
         },
         None => Ending {
             output: run.output,
             line: Line::Fixed(""),
             status,
             recording: Some(run.recording),
+            left: Some(run.files),
+            hint: "",
         },
     }
 }

@@ -8,9 +8,10 @@ use crate::check_objects::{check_told, explain_told};
 use crate::drawing::draw_ending;
 use crate::ending::Ending;
 use crate::explorations::explore_ending;
+use crate::filing::filed;
 use crate::plain::plain_ending;
 use crate::run_objects::{replay_told, run_told};
-use crate::tracing::traced;
+use crate::tracing::{scheduled, traced};
 use std::alloc::Global;
 use std::sync::Wait;
 use std::thread::Threads;
@@ -42,8 +43,8 @@ pub enum Request<'a> {
     Draw(DrawRequest<'a>),
 }
 
-/// Carries out a request, and returns how the program ends: what it prints, or why it can't. Nothing is written but the trace of
-/// a run and the schedules of an exploration, where they are requested.
+/// Carries out a request, and returns how the program ends: what it prints, or why it can't. Nothing is written but the files, the
+/// schedule and the trace of a run and the schedules of an exploration, where they are requested.
 pub fn ending_of<R: Threads + Wait + Clock + Sync, H: Host + Traces + Watch>(
     rt: &R,
     alloc: Global,
@@ -56,13 +57,19 @@ pub fn ending_of<R: Threads + Wait + Clock + Sync, H: Host + Traces + Watch>(
     match request {
         Request::Run(run) => {
             let ending = run_told(rt, alloc, run, host);
+            let ending = filed(alloc, ending, run.files_to, host);
+            let ending = scheduled(alloc, ending, run.schedule_to, host);
             traced(alloc, ending, run.trace, host)
         }
         Request::Replay(replay) => {
             let ending = replay_told(alloc, replay, host);
+            let ending = filed(alloc, ending, replay.files_to, host);
             traced(alloc, ending, replay.trace, host)
         }
-        Request::Plain(plain) => plain_ending(alloc, plain, host),
+        Request::Plain(plain) => {
+            let ending = plain_ending(alloc, plain, host);
+            filed(alloc, ending, plain.files_to, host)
+        }
         Request::Check(check) => check_told(alloc, check, host),
         Request::Explain(explain) => explain_told(alloc, explain, host),
         Request::Explore(explore) => explore_ending(alloc, explore, host),

@@ -52,6 +52,7 @@ fn strict_object(
         verdict: Some(Verdict {
             is_settled: strict.is_settled,
             soft: strict.soft.as_slice(),
+            reasons: strict.reasons.as_slice(),
         }),
         ..values_of(&strict.run, lists_events)
     };

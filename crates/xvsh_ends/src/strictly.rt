@@ -28,6 +28,8 @@ fn told(told: ToldRun) -> Result<Ending, AllocError>
         line: Line::Fixed(""),
         status: verdict_status(true, is_settled),
         recording: None,
+        left: Some(told.run.files),
+        hint: "",
     })
 }
 

@@ -1,4 +1,4 @@
-//! How a run ends whose trace is written.
+//! How a run ends whose trace or schedule is written.
 ghost use Rattle.std.specs.Prelude.{◌≡◌, ℕ, List, Option};
 ghost use Rattle.xvsh_read.specs.Path.{Path};
 ghost use Rattle.xvsh_read.specs.Writing.{out_text};
@@ -6,8 +6,10 @@ ghost use Rattle.xvsh_ends.specs.Ends.{Asked, IsDue, asks_traced, beside_trace, 
 ghost use Rattle.xvsh_ends.specs.Requests.{traced_asked};
 
 use crate::ending::{Ending, no_output, report_no_memory, report_untraced};
+use crate::witnesses::write_file;
+use schedule_lines::schedule_text;
 use std::alloc::Global;
-use xvsh_read::{Output, STDIN};
+use xvsh_read::{Output, STDIN, Unwritten};
 use xvsh_traces::{TraceFault, Traces, trace_run};
 
 // What is printed beside a trace at this path: where that is standard output, the diagnostics alone.
@@ -24,6 +26,8 @@ fn beside(alloc: Global, ending: Ending, path: &str) -> Ending
         line,
         status,
         recording,
+        left,
+        hint,
     } = ending;
     Ending {
         output: Output {
@@ -33,6 +37,8 @@ fn beside(alloc: Global, ending: Ending, path: &str) -> Ending
         line,
         status,
         recording,
+        left,
+        hint,
     }
 }
 
@@ -53,6 +59,49 @@ fn write_recorded<T: Traces>(
             made.harts,
         ),
         None => Ok(()),
+    }
+}
+
+// Writes the schedule of a run that has ended, if it has one.
+fn write_schedule<T: Traces>(
+    alloc: Global,
+    ending: &Ending,
+    path: &str,
+    traces: &mut T,
+) -> Result<(), TraceFault> {
+    let Some(made) = &ending.recording else {
+        return Ok(());
+    };
+    let text = schedule_text(alloc, made.schedule.as_slice())?;
+    match write_file(traces, path, text.as_slice()) {
+        Ok(()) => Ok(()),
+        Err(Unwritten) => Err(TraceFault::Unwritten),
+    }
+}
+
+// Writes the schedule at this path of a run that has ended, and returns how the program ends then.
+fn scheduled_at<T: Traces>(alloc: Global, ending: Ending, path: &str, traces: &mut T) -> Ending
+    ensures { (input : Option (List ℕ)) (file : Path → Option (List ℕ)) (what : Asked) → IsDue input file what ending → IsDue input file (asks_traced what path.now) result }
+{
+    match write_schedule(alloc, &ending, path, traces) {
+        Ok(()) => beside(alloc, ending, path),
+        Err(TraceFault::Unwritten) => report_untraced(alloc, path),
+        Err(TraceFault::Memory) => report_no_memory(alloc),
+    }
+}
+
+/// Writes the schedule of a run that has ended, if it is to be written, and returns how the program ends then: as `traced`.
+pub(crate) fn scheduled<T: Traces>(
+    alloc: Global,
+    ending: Ending,
+    schedule_to: Option<&str>,
+    traces: &mut T,
+) -> Ending
+    ensures { (input : Option (List ℕ)) (file : Path → Option (List ℕ)) (what : Asked) → IsDue input file what ending → IsDue input file (traced_asked schedule_to.entry what) result }
+{
+    match schedule_to {
+        Some(path) => scheduled_at(alloc, ending, path, traces),
+        None => ending,
     }
 }
 

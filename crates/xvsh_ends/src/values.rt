@@ -1,11 +1,13 @@
 //! How commands end that print one object of JSON.
 ghost use Rattle.std.specs.Prelude.{◌≡◌, [], MatchResult};
 ghost use Rattle.xvsh_read.specs.Status.{fault_told};
-ghost use Rattle.xvsh_ends.specs.Ends.{IsDue, PrintsAlone, Tells, asks_json};
+ghost use Rattle.xvsh_read.specs.Writing.{out_text};
+ghost use Rattle.xvsh_ends.specs.Ends.{IsDue, PrintsAlone, Tells, asks_json, told_text};
 ghost use Rattle.xvsh_ends.specs.Requests.{plain_asked};
 
 use crate::ending::{Ending, Line, no_output, report_no_memory};
 use crate::plain::verdict_status;
+use mem_files::Files;
 use result_json::{fault_result, plain_result};
 use sh_lexer::Bytes;
 use std::alloc::{AllocError, Global};
@@ -24,6 +26,8 @@ fn print_alone(alloc: Global, text: Vec<u8>, status: u8) -> Ending
         line: Line::Fixed(""),
         status,
         recording: None,
+        left: None,
+        hint: "",
     }
 }
 
@@ -37,6 +41,18 @@ pub(crate) fn print_made(alloc: Global, made: Result<Vec<u8>, AllocError>, statu
     }
 }
 
+// The same ending, with the files that a run leaves.
+fn leaving(ending: Ending, files: Files<Global>) -> Ending
+    ensures out { out_text result.output ≡ out_text ending.output }
+    ensures told { told_text result ≡ told_text ending }
+    ensures status { result.status ≡ ending.status }
+{
+    Ending {
+        left: Some(files),
+        ..ending
+    }
+}
+
 /// Runs a script by its meaning, and returns its outcome as one object of JSON, or why it can't be run as another.
 pub fn plain_json<H: Host>(alloc: Global, request: &PlainRequest<'_>, host: &mut H) -> Ending
     ensures { IsDue (H.input host.old) (H.file host.old) (asks_json (plain_asked request.now)) result }
@@ -45,7 +61,7 @@ pub fn plain_json<H: Host>(alloc: Global, request: &PlainRequest<'_>, host: &mut
         Ok(run) => {
             let status = verdict_status(request.is_strict, run.plain.settled);
             let made = plain_result(alloc, &run, status);
-            print_made(alloc, made, status)
+            leaving(print_made(alloc, made, status), run.plain.files)
         }
         Err(fault) => {
             let made = fault_result(alloc, "plain", fault);

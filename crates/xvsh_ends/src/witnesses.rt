@@ -2,6 +2,7 @@
 ghost use Rattle.std.specs.Prelude.{◌≡◌, ◌++◌, IfErr, IfOk, codes, string_bytes};
 ghost use Rattle.std.specs.Fmt.{decimal};
 ghost use Rattle.xvsh_ends.specs.Witnesses.{IsWitnessFault};
+ghost use Rattle.xvsh_ends.specs.Filing.{IsFilingFault};
 
 use std::alloc::{AllocError, Global};
 use xvsh_read::Unwritten;
@@ -34,14 +35,23 @@ fn path_of(alloc: Global, folder: &str, number: usize) -> Result<String, AllocEr
 }
 
 // Writes a file at a path that holds these bytes.
-fn write_file<T: Traces>(traces: &mut T, path: &str, bytes: &[u8]) -> Result<(), Unwritten> {
+pub(crate) fn write_file<T: Traces>(
+    traces: &mut T,
+    path: &str,
+    bytes: &[u8],
+) -> Result<(), Unwritten> {
     traces.begin_trace(path)?;
     traces.write_trace(bytes)
 }
 
 // Makes the folder.
-fn make_folder<T: Traces>(alloc: Global, traces: &mut T, folder: &str) -> Result<(), WitnessFault>
-    ensures { IfErr result (IsWitnessFault folder.now) }
+pub(crate) fn make_folder<T: Traces>(
+    alloc: Global,
+    traces: &mut T,
+    folder: &str,
+) -> Result<(), WitnessFault>
+    ensures witness { IfErr result (IsWitnessFault folder.now) }
+    ensures filing { IfErr result (IsFilingFault folder.now) }
 {
     match traces.make_folder(folder) {
         Ok(()) => Ok(()),

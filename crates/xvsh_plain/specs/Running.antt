@@ -17,7 +17,7 @@ use Rattle.xvsh_read.specs.Path.{Path}
 use Rattle.xvsh_read.specs.Starting.{Starts, IsStartFault}
 use Rattle.xvsh_plain.specs.declared.request.PlainRequest.{PlainRequest}
 use Rattle.xvsh_read.specs.declared.fault.Fault.{Fault}
-use Rattle.xvsh_read.specs.declared.fault.Fault.TheVariants.{Unreadable, TooLong, LineTooLong, ByteZero, BadName, TooManyFiles, TooLarge, Memory}
+use Rattle.xvsh_read.specs.declared.fault.Fault.TheVariants.{Unreadable, TooLong, LineTooLong, ByteZero, BadName, TakenName, TooManyFiles, TooLarge, Memory}
 
 -- the text is the meaning's output, and then the list of its files where it is requested
 abbrev pub IsRunText : Bool → Value → Bytes → Type 0
@@ -34,6 +34,7 @@ IsMeaningFault profile lines input F (TooLong path) = ⊥
 IsMeaningFault profile lines input F (LineTooLong n) = ⊥
 IsMeaningFault profile lines input F (ByteZero n) = ⊥
 IsMeaningFault profile lines input F (BadName path) = ⊥
+IsMeaningFault profile lines input F (TakenName path) = ⊥
 IsMeaningFault profile lines input F TooManyFiles = ⊥
 
 abbrev pub of_plain : PlainFault → Fault

@@ -8,6 +8,8 @@ pub struct PlainRequest<'a> {
     pub source: Source<'a>,
     /// Write all files after the output.
     pub lists_files: bool,
+    /// The folder in which a file is made for each that the run leaves.
+    pub files_to: Option<&'a str>,
     /// End with status 3 if the script isn't settled.
     pub is_strict: bool,
     /// Print one object of JSON in place of the text.

@@ -30,6 +30,8 @@ pub fn of_plain<'a>(fault: PlainFault) -> Fault<'a>
 pub struct PlainRun {
     /// What it prints.
     pub output: Output,
+    /// The files that it leaves.
+    pub files: Files<Global>,
     /// Whether its script is settled.
     pub is_settled: bool,
 }
@@ -64,6 +66,7 @@ fn run_script<'a>(
             events: Vec::new(alloc),
             err: Vec::new(alloc),
         },
+        files: outcome.files,
         is_settled: outcome.settled,
     })
 }

@@ -43,6 +43,7 @@ fn printed(alloc: Global, outcome: Plain<Global>, lists_files: bool) -> Result<P
             events: Vec::new(alloc),
             err: Vec::new(alloc),
         },
+        files: outcome.files,
         is_settled: outcome.settled,
     })
 }

@@ -9,7 +9,7 @@ use Rattle.script_load.specs.Script.{IsScript, HasLoadFault}
 use Rattle.xvsh_read.specs.Path.{Path}
 use Rattle.xvsh_read.specs.Reading.{max_input, Agree, told_at, ArePut, IsReadFault, IsFilesFault}
 use Rattle.xvsh_read.specs.declared.fault.Fault.{Fault}
-use Rattle.xvsh_read.specs.declared.fault.Fault.TheVariants.{Unreadable, TooLong, LineTooLong, ByteZero, BadName, TooManyFiles, TooLarge, Memory}
+use Rattle.xvsh_read.specs.declared.fault.Fault.TheVariants.{Unreadable, TooLong, LineTooLong, ByteZero, BadName, TakenName, TooManyFiles, TooLarge, Memory}
 
 -- bytes are refused as a script
 abbrev pub IsScriptFault : Bytes → Fault → Type 0
@@ -19,6 +19,7 @@ IsScriptFault bytes Memory = HasLoadFault bytes load_memory
 IsScriptFault bytes (Unreadable path) = ⊥
 IsScriptFault bytes (TooLong path) = ⊥
 IsScriptFault bytes (BadName path) = ⊥
+IsScriptFault bytes (TakenName path) = ⊥
 IsScriptFault bytes TooManyFiles = ⊥
 IsScriptFault bytes TooLarge = ⊥
 

@@ -10,7 +10,7 @@ use Rattle.script_load.specs.declared.fault.LoadFault.TheVariants.{LineTooLong a
 use Rattle.xvsh_read.specs.declared.host.HostFault.{HostFault}
 use Rattle.xvsh_read.specs.declared.host.HostFault.TheVariants.{Unreadable as host_unreadable, TooLong as host_long, Memory as host_memory}
 use Rattle.xvsh_read.specs.declared.fault.Fault.{Fault}
-use Rattle.xvsh_read.specs.declared.fault.Fault.TheVariants.{Unreadable, TooLong, LineTooLong, ByteZero, BadName, TooManyFiles, TooLarge, Memory}
+use Rattle.xvsh_read.specs.declared.fault.Fault.TheVariants.{Unreadable, TooLong, LineTooLong, ByteZero, BadName, TakenName, TooManyFiles, TooLarge, Memory}
 
 -- 1: an input that can't be read or is refused; 4: no room
 abbrev pub status_of : Fault → ℕ
@@ -19,6 +19,7 @@ status_of (TooLong path) = 1
 status_of (LineTooLong n) = 1
 status_of (ByteZero n) = 1
 status_of (BadName path) = 1
+status_of (TakenName path) = 1
 status_of TooManyFiles = 1
 status_of TooLarge = 4
 status_of Memory = 4
@@ -30,6 +31,7 @@ fault_words (TooLong path) = path.now ++ codes " is too long"
 fault_words (LineTooLong n) = codes "line " ++ (decimal n ++ codes " is too long")
 fault_words (ByteZero n) = codes "line " ++ (decimal n ++ codes " holds a zero byte")
 fault_words (BadName path) = codes "bad file name " ++ path.now
+fault_words (TakenName path) = path.now ++ codes " has the name of a file before it"
 fault_words TooManyFiles = codes "too many files"
 fault_words TooLarge = codes "too large"
 fault_words Memory = codes "no memory"

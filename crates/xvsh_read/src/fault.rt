@@ -19,6 +19,8 @@ pub enum Fault<'a> {
     /// This line of the script, counted from 1.
     ByteZero(usize),
     BadName(&'a str),
+    /// A FILE before the one at this path has its name.
+    TakenName(&'a str),
     TooManyFiles,
     /// The script would make a file too large, or one too many.
     TooLarge,
@@ -37,7 +39,27 @@ impl<'a> Fault<'a> {
             | Fault::LineTooLong(_)
             | Fault::ByteZero(_)
             | Fault::BadName(_)
+            | Fault::TakenName(_)
             | Fault::TooManyFiles => 1,
+        }
+    }
+
+    /// What helps whoever meets it, in a sentence; empty where nothing does.
+    pub fn hint(self) -> &'static str {
+        match self {
+            Fault::TooLong(_) => {
+                "a script and a standard input have at most 1048576 bytes, and a file at most 274432"
+            }
+            Fault::LineTooLong(_) => "a line has at most 511 bytes",
+            Fault::BadName(_) => {
+                "a file's name, the part of its path after the last `/`, has 1 to 14 bytes"
+            }
+            Fault::TakenName(_) => "a file's name is the part of its path after the last `/`",
+            Fault::TooManyFiles => "a script has at most 200 files",
+            Fault::TooLarge => {
+                "the script makes a file of more than 274432 bytes, or more than 200 files, or too much output"
+            }
+            Fault::Unreadable(_) | Fault::ByteZero(_) | Fault::Memory => "",
         }
     }
 
@@ -78,6 +100,7 @@ impl fmt::Display for Fault<'_> {
             Fault::LineTooLong(n) => write!(f, "line {n} is too long"),
             Fault::ByteZero(n) => write!(f, "line {n} holds a zero byte"),
             Fault::BadName(path) => write!(f, "bad file name {path}"),
+            Fault::TakenName(path) => write!(f, "{path} has the name of a file before it"),
             Fault::TooManyFiles => f.write_str("too many files"),
             Fault::TooLarge => f.write_str("too large"),
             Fault::Memory => f.write_str("no memory"),

@@ -41,3 +41,9 @@ pub trait Host {
         ensures readable { result ≡ Err HostFault.Unreadable → file self.old path.now ≡ None }
         ensures stays { (input self.new ≡ input self.old) × (file self.new ≡ file self.old) };
 }
+
+/// Whoever sits at a terminal, if somebody does.
+pub trait Hints {
+    /// Is told what helps once the program wrote how it ends: a sentence, or nothing.
+    fn hint(&mut self, sentence: &str);
+}

@@ -16,7 +16,7 @@ pub use collecting::read_all;
 pub use console::Console;
 pub use fault::Fault;
 pub use file_list::listing;
-pub use host::{Host, HostFault};
+pub use host::{Hints, Host, HostFault};
 pub use prepared::prepare_read;
 pub use reading::{MAX_INPUT, STDIN, read};
 pub use starting::{Source, Start, prepare, profile_of, read_script};

@@ -1,5 +1,6 @@
 //! What is read at the paths of the command line.
-ghost use Rattle.std.specs.Prelude.{◌≡◌, ◌≢◌, ℕ, List, codes, OnOk, IfOk, IfErr};
+ghost use Rattle.std.specs.Prelude.{◌≡◌, ◌≢◌, ℕ, List, None, codes, OnOk, IfOk, IfErr};
+ghost use Rattle.mem_files.specs.Files.{files};
 ghost use Rattle.mem_files.specs.Listing.{with_entry};
 ghost use Rattle.xvsh_read.specs.Path.{IsNameOf};
 ghost use Rattle.xvsh_read.specs.Reading.{Agree, told_at, ArePut, IsReadFault, IsFileFault, IsFilesFault};
@@ -50,7 +51,7 @@ fn name_of(path: &str) -> &[u8]
     }
 }
 
-// Reads a file and puts it into the script's files.
+// Reads a file and puts it into the script's files, none of which has its name.
 fn add_file<'a, H: Host>(
     alloc: Global,
     host: &mut H,
@@ -58,7 +59,7 @@ fn add_file<'a, H: Host>(
     given: &mut Files<Global>,
 ) -> Result<(), Fault<'a>>
     ensures put { OnOk result ((name : List ℕ) × (bytes : List ℕ) × IsNameOf path.now name
-        × Agree (H.file host.old path.now) bytes × (given.new ≡ with_entry given.old name bytes)) }
+        × (files given.old name ≡ None) × Agree (H.file host.old path.now) bytes × (given.new ≡ with_entry given.old name bytes)) }
     ensures fault { IfErr result (IsFileFault (H.file host.old) given.old path.now) }
     ensures stays { (H.input host.new ≡ H.input host.old) × (H.file host.new ≡ H.file host.old) }
 {
@@ -66,13 +67,17 @@ fn add_file<'a, H: Host>(
         Ok(bytes) => bytes,
         Err(fault) => return Err(Fault::at_path(path, fault)),
     };
-    match given.put(name_of(path), bytes.as_slice()) {
+    let name = name_of(path);
+    if given.get(name).is_some() {
+        return Err(Fault::TakenName(path));
+    }
+    match given.put(name, bytes.as_slice()) {
         Ok(()) => Ok(()),
         Err(fault) => Err(Fault::of_file(path, fault)),
     }
 }
 
-// Reads the files in order, each before the next.
+// Reads the files in order, each before the next. No two have one name.
 pub fn read_files<'a, H: Host>(
     alloc: Global,
     host: &mut H,

@@ -35,6 +35,17 @@ pub enum ProcessFault<'a> {
 }
 
 impl ProcessFault<'_> {
+    /// What helps whoever meets it, in a sentence; empty where nothing does.
+    pub fn hint(self) -> &'static str {
+        match self {
+            ProcessFault::Common(fault) => fault.hint(),
+            ProcessFault::Spent => {
+                "the run needs more events, which `--turns N` allows; `xvsh check --turns` tells how many are enough"
+            }
+            _ => "",
+        }
+    }
+
     /// The status with which the program ends.
     pub fn status(self) -> u8
         ensures { result ≡ run_status self.entry }

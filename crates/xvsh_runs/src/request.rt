@@ -18,6 +18,10 @@ pub struct RunRequest<'a> {
     pub lists: Lists,
     /// End with status 3 if the script isn't settled.
     pub is_strict: bool,
+    /// Where the run's schedule is written; `-` is standard output, and then nothing else is.
+    pub schedule_to: Option<&'a str>,
+    /// The folder in which a file is made for each that the run leaves.
+    pub files_to: Option<&'a str>,
     /// Where the run's trace is written; `-` is standard output, and then nothing else is.
     pub trace: Option<&'a str>,
     /// Print one object of JSON in place of the text.
@@ -31,6 +35,8 @@ pub struct ReplayRequest<'a> {
     pub schedule: &'a str,
     pub source: Source<'a>,
     pub lists: Lists,
+    /// The folder in which a file is made for each that the run leaves.
+    pub files_to: Option<&'a str>,
     /// Where the run's trace is written; `-` is standard output, and then nothing else is.
     pub trace: Option<&'a str>,
     /// Print one object of JSON in place of the text.

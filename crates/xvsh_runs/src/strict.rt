@@ -2,13 +2,14 @@
 ghost use Rattle.std.specs.Prelude.{IfOk, IfErr, false};
 ghost use Rattle.xvsh_read.specs.Writing.{out_text};
 ghost use Rattle.xvsh_runs.specs.Strict.{DidStrict, IsStrictRefusal};
-ghost use Rattle.xvsh_runs.specs.Values.{RanSoft};
+ghost use Rattle.xvsh_runs.specs.Values.{RanJudged};
 
 use crate::fault::ProcessFault;
 use crate::ordering::order_of;
 use crate::report::Run;
 use crate::request::RunRequest;
 use crate::running::run_prepared;
+use plain_run::Reason;
 use sh_tree::Words;
 use std::alloc::Global;
 use std::sync::Wait;
@@ -28,11 +29,13 @@ pub struct StrictRun {
     pub soft: Words<Global>,
     /// The sentence of the first reason why it isn't, with its LF; nothing where it is.
     pub why: Vec<u8>,
+    /// All reasons; none where it is settled.
+    pub reasons: Vec<Reason<Global>>,
 }
 
 /// `run --strict`: reads the script, the files in order, and standard input unless that is the script, finds out whether the
 /// script is settled on them, and runs it by its processes on so many harts in at most so many turns, settled or not. Returns
-/// what `run` returns, whether the script is settled, and the first reason why it isn't (own). Nothing is written.
+/// what `run` returns, whether the script is settled, and why it isn't (own). Nothing is written.
 pub fn run_strict<'a, R: Threads + Wait + Clock + Sync, H: Host>(
     rt: &R,
     alloc: Global,
@@ -40,7 +43,7 @@ pub fn run_strict<'a, R: Threads + Wait + Clock + Sync, H: Host>(
     host: &mut H,
 ) -> Result<StrictRun, ProcessFault<'a>>
     ensures ran { IfOk result (λ strict. DidStrict (H.input host.old) (H.file host.old) request.now strict.run.full strict.is_settled strict.why.items (out_text strict.run.output) strict.run.output.err.items) }
-    ensures values { IfOk result (λ strict. RanSoft (H.input host.old) (H.file host.old) false request.now.source.profile request.now.source.script.now request.now.source.files.now strict.run strict.soft) }
+    ensures values { IfOk result (λ strict. RanJudged (H.input host.old) (H.file host.old) false request.now.source.profile request.now.source.script.now request.now.source.files.now strict.run strict.soft strict.reasons.items) }
     ensures fault { IfErr result (IsStrictRefusal (H.input host.old) (H.file host.old) request.now) }
 {
     let order = order_of(request)?;
@@ -52,5 +55,6 @@ pub fn run_strict<'a, R: Threads + Wait + Clock + Sync, H: Host>(
         is_settled: verdict.is_settled,
         soft: verdict.soft,
         why: verdict.why,
+        reasons: verdict.reasons,
     })
 }

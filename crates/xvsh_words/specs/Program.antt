@@ -48,17 +48,17 @@ apart rule = record rule { is_free = false }
 -- the commands; `run` by the most harts and the most turns that it may have
 abbrev pub run_shape : ℕ → ℕ → Shape
 run_shape harts turns = record (new_shape (codes "run")) {
-  rules = number_rule (codes "harts") harts ∷ number_rule (codes "turns") turns ∷ apart (number_rule (codes "seed") most_seed) ∷ apart (path_rule (codes "order")) ∷ flag_rule (codes "schedule") ∷ path_rule (codes "trace") ∷ flag_rule (codes "strict") ∷ flag_rule (codes "append") ∷ flag_rule (codes "files") ∷ flag_rule (codes "json") ∷ input_rule ∷ text_rule ∷ word_rule (codes "script") ∷ files_rule ∷ [];
+  rules = number_rule (codes "harts") harts ∷ number_rule (codes "turns") turns ∷ apart (number_rule (codes "seed") most_seed) ∷ apart (path_rule (codes "order")) ∷ flag_rule (codes "schedule") ∷ path_rule (codes "schedule-to") ∷ path_rule (codes "files-to") ∷ path_rule (codes "trace") ∷ flag_rule (codes "strict") ∷ flag_rule (codes "append") ∷ flag_rule (codes "files") ∷ flag_rule (codes "json") ∷ input_rule ∷ text_rule ∷ word_rule (codes "script") ∷ files_rule ∷ [];
 }
 
 abbrev pub replay_shape : Shape
 replay_shape = record (new_shape (codes "replay")) {
-  rules = path_rule (codes "trace") ∷ flag_rule (codes "append") ∷ flag_rule (codes "files") ∷ flag_rule (codes "json") ∷ input_rule ∷ text_rule ∷ word_rule (codes "events") ∷ word_rule (codes "script") ∷ files_rule ∷ [];
+  rules = path_rule (codes "files-to") ∷ path_rule (codes "trace") ∷ flag_rule (codes "append") ∷ flag_rule (codes "files") ∷ flag_rule (codes "json") ∷ input_rule ∷ text_rule ∷ word_rule (codes "events") ∷ word_rule (codes "script") ∷ files_rule ∷ [];
 }
 
 abbrev pub plain_shape : Shape
 plain_shape = record (new_shape (codes "plain")) {
-  rules = flag_rule (codes "strict") ∷ flag_rule (codes "append") ∷ flag_rule (codes "files") ∷ flag_rule (codes "json") ∷ input_rule ∷ text_rule ∷ word_rule (codes "script") ∷ files_rule ∷ [];
+  rules = path_rule (codes "files-to") ∷ flag_rule (codes "strict") ∷ flag_rule (codes "append") ∷ flag_rule (codes "files") ∷ flag_rule (codes "json") ∷ input_rule ∷ text_rule ∷ word_rule (codes "script") ∷ files_rule ∷ [];
 }
 
 -- files and an input only beside `--turns`
@@ -75,7 +75,7 @@ explore_shape states = record (new_shape (codes "explore")) {
 
 abbrev pub explain_shape : Shape
 explain_shape = record (new_shape (codes "explain")) {
-  rules = flag_rule (codes "why") ∷ flag_rule (codes "append") ∷ apart (flag_rule (codes "json")) ∷ input_rule ∷ text_rule ∷ word_rule (codes "script") ∷ files_rule ∷ [];
+  rules = flag_rule (codes "why") ∷ flag_rule (codes "append") ∷ flag_rule (codes "json") ∷ input_rule ∷ text_rule ∷ word_rule (codes "script") ∷ files_rule ∷ [];
 }
 
 -- `draw` by the most events that a run may have

@@ -216,6 +216,11 @@ const ORDER_HELP: &str =
 
 const LISTED_HELP: &str = "Write a line an event last: `D HART PROCESS` or `T HART PROCESS`";
 
+const SCHEDULE_TO_HELP: &str =
+    "Write these lines to FILE; for `-` to standard output, and nothing else there";
+
+const FILES_TO_HELP: &str = "Make a file in DIR, and DIR, for each that the script leaves";
+
 const TRACE_HELP: &str =
     "Write what each event did to FILE, an object of JSON a line; for `-` to standard output, and nothing else there";
 
@@ -235,6 +240,8 @@ fn run_command<'a>(
         seed,
         order,
         flag(alloc, "schedule", LISTED_HELP),
+        path_option(alloc, "schedule-to", "FILE", SCHEDULE_TO_HELP),
+        path_option(alloc, "files-to", "DIR", FILES_TO_HELP),
         path_option(alloc, "trace", "FILE", TRACE_HELP),
         flag(alloc, "strict", STRICT_HELP),
         flag(alloc, "append", APPEND_HELP),
@@ -260,6 +267,7 @@ fn replay_command<'a>(alloc: Global) -> Result<Command<'a>, AllocError>
     ensures { IfOk result (IsCommand replay_shape) }
 {
     let args = vec![in alloc;
+        path_option(alloc, "files-to", "DIR", FILES_TO_HELP),
         path_option(alloc, "trace", "FILE", TRACE_HELP),
         flag(alloc, "append", APPEND_HELP),
         flag(alloc, "files", RUN_FILES_HELP),
@@ -282,6 +290,7 @@ fn plain_command<'a>(alloc: Global) -> Result<Command<'a>, AllocError>
     ensures { IfOk result (IsCommand plain_shape) }
 {
     let args = vec![in alloc;
+        path_option(alloc, "files-to", "DIR", FILES_TO_HELP),
         flag(alloc, "strict", STRICT_HELP),
         flag(alloc, "append", APPEND_HELP),
         flag(alloc, "files", PLAIN_FILES_HELP),
@@ -323,13 +332,10 @@ const WHY_HELP: &str =
 fn explain_command<'a>(alloc: Global) -> Result<Command<'a>, AllocError>
     ensures { IfOk result (IsCommand explain_shape) }
 {
-    let bare = flag(alloc, "json", JSON_HELP).conflicts_with("paths")?;
-    let alone = bare.conflicts_with("why")?;
-    let json = alone.conflicts_with("input")?;
     let args = vec![in alloc;
         flag(alloc, "why", WHY_HELP),
         flag(alloc, "append", APPEND_HELP),
-        json,
+        flag(alloc, "json", JSON_HELP),
         input_option(alloc),
         text_flag(alloc),
         script_word(alloc, "The script's path; `-` is standard input"),

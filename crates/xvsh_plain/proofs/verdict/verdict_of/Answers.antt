@@ -24,3 +24,13 @@ returns-clause-why c =
     (subst (λ s. (reasons ≡ []) ↔ IsSettledScript profile lines s given) c.as_slice-stdin.ensures.value c.in-Ok.ensures.none) in
     subst (IsWhy profile lines input given true reasoned.plain.settled) (sym (c.in_ok-why.ensures ∙ ap (λ rs. first_text (map reason_text rs)) c.as_slice.ensures.value))
     (first_told profile lines input given reasoned.plain.settled (map reason_text reasons) settled texts)
+
+pub returns-clause-none : goal.returns-clause-none
+returns-clause-none c =
+    let start = c.args.start.now in
+    subst (λ s. (c.in-Ok.reasoned.reasons.items ≡ []) ↔ IsSettledScript start.script.profile (lines_of start.script.lines) s (files start.files)) c.as_slice-stdin.ensures.value c.in-Ok.ensures.none
+
+pub returns-clause-each : goal.returns-clause-each
+returns-clause-each c =
+    let start = c.args.start.now in
+    subst (λ s. All (IsReason start.script.profile (lines_of start.script.lines) s (files start.files)) c.in-Ok.reasoned.reasons.items) c.as_slice-stdin.ensures.value c.in-Ok.ensures.each

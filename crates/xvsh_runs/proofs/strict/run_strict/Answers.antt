@@ -1,10 +1,11 @@
 use Rattle.std.proofs.Common.{◌≡◌, true, IsTrue, subst}
-use Rattle.std.specs.Prelude.{◌↔◌, Contains}
+use Rattle.std.specs.Prelude.{◌↔◌, [], All, Contains}
 use Rattle.mem_files.specs.Name.{Name}
 use Rattle.mem_files.specs.Files.{files}
 use Rattle.script_load.specs.Line.{lines_of}
 use Rattle.meaning_model.specs.Meaning.{script_meaning}
 use Rattle.meaning_model.specs.Settled.{IsSettledScript}
+use Rattle.plain_run.specs.Reasons.{IsReason}
 use Rattle.reason_sentences.specs.Whys.{IsWhy}
 use Rattle.run_model.specs.ScriptRun.{script_kernel}
 use Rattle.xvsh_read.specs.Writing.{out_text}
@@ -71,4 +72,6 @@ returns-clause-values g c =
         values = subst (λ profile. HasValues (script_kernel profile lines stdin given) c.in_ok-run.run') same c.in_ok-run.ensures.values;
       };
       each = subst (λ profile. (name : Name) → Contains c.in_ok-verdict.verdict.soft name ↔ ((script_meaning profile lines stdin (files given)).soft name ≡ true)) same c.in_ok-verdict.ensures.soft;
+      none = subst (λ profile. (c.in_ok-verdict.verdict.reasons.items ≡ []) ↔ IsSettledScript profile lines stdin (files given)) same c.in_ok-verdict.ensures.none;
+      whys = subst (λ profile. All (IsReason profile lines stdin (files given)) c.in_ok-verdict.verdict.reasons.items) same c.in_ok-verdict.ensures.each;
     }
