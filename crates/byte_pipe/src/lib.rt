@@ -78,6 +78,18 @@ impl<A: Allocator> Pipe<A> {
         })
     }
 
+    /// Becomes equal to the other pipe (own).
+    pub fn copy_from(&mut self, other: &Self)
+        ensures { self.new ≡ other.now }
+    {
+        let (front, back) = other.ring.as_slices();
+        self.ring.clear();
+        self.ring.fill_from_slice(front);
+        self.ring.fill_from_slice(back);
+        self.reader = other.reader;
+        self.writer = other.writer;
+    }
+
     /// Appends the first of `bytes`, as many as there is room for (`pipewrite`).
     ///
     /// Returns how many; `Closed` where the reader is closed, and else `Full` where there is room for none. A put of no

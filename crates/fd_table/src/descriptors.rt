@@ -136,4 +136,11 @@ impl Fds {
         copy.places.copy_from_slice(&self.places);
         copy
     }
+
+    /// Becomes equal to the other table; no entry's count changes (own).
+    pub fn copy_from(&mut self, other: &Fds)
+        ensures { self.new ≡ other.now }
+    {
+        self.places.copy_from_slice(&other.places);
+    }
 }

@@ -55,6 +55,21 @@ impl Model for Opened {
     ghost view = { λ f. record { object = f.object; count = f.count; offset = f.offset } };
 }
 
+impl Opened {
+    ghost use Rattle.std.specs.Prelude.{◌≡◌};
+
+    // An equal entry.
+    fn twin(&self) -> Opened
+        ensures { result ≡ self.now }
+    {
+        Opened {
+            object: self.object.twin(),
+            count: self.count,
+            offset: self.offset,
+        }
+    }
+}
+
 /// The open-file entries that all processes share (xv6's `ftable`).
 ///
 /// Contracts see the list of the 100 entries, in which a free one is `None`.
@@ -87,6 +102,15 @@ impl OpenFiles {
     {
         OpenFiles {
             slots: Default::default(),
+        }
+    }
+
+    /// Becomes equal to the other table (own).
+    pub fn copy_from(&mut self, other: &OpenFiles)
+        ensures { self.new ≡ other.now }
+    {
+        for place in 0..ENTRIES {
+            copy_slot(&mut self.slots[place], &other.slots[place]);
         }
     }
 
@@ -196,6 +220,16 @@ impl OpenFiles {
         ensures within { result ≤ ENTRIES }
     {
         self.slots.iter().filter(|slot| slot.is_none()).count()
+    }
+}
+
+// The slot becomes equal to the other.
+fn copy_slot(slot: &mut Option<Opened>, other: &Option<Opened>)
+    ensures { slot.new ≡ other.now }
+{
+    match other {
+        Some(opened) => *slot = Some(opened.twin()),
+        None => *slot = None,
     }
 }
 

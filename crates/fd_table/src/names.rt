@@ -38,6 +38,15 @@ impl Name {
         Some(Name { bytes })
     }
 
+    // An equal name.
+    fn twin(&self) -> Name
+        ensures { result ≡ self.now }
+    {
+        let mut bytes = ArrayVec::new();
+        bytes.try_extend_from_slice(self.bytes.as_slice()).unwrap();
+        Name { bytes }
+    }
+
     /// The bytes of the name, borrowed (own).
     pub fn as_slice(&self) -> &[u8]
         ensures bytes { result.now ≡ self.now }
@@ -79,4 +88,22 @@ pub enum Object {
     PipeRead(u64),
     /// The write end of a pipe.
     PipeWrite(u64),
+}
+
+impl Object {
+    ghost use Rattle.std.specs.Prelude.{◌≡◌};
+
+    // An equal object.
+    pub(crate) fn twin(&self) -> Object
+        ensures { result ≡ self.now }
+    {
+        match self {
+            Object::Input => Object::Input,
+            Object::Out => Object::Out,
+            Object::Diag => Object::Diag,
+            Object::File(name, mode) => Object::File(name.twin(), *mode),
+            Object::PipeRead(pipe) => Object::PipeRead(*pipe),
+            Object::PipeWrite(pipe) => Object::PipeWrite(*pipe),
+        }
+    }
 }

@@ -1,3 +1,4 @@
+mod Copied
 mod Indexing
 mod Listing
 mod Names

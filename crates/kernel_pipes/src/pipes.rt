@@ -1,6 +1,6 @@
 //! All pipes of which an end is open.
 
-ghost use Rattle.std.specs.Prelude.{◌≡◌, ℕ, ◌<◌, ◌≤◌, ◌+◌, ◌++◌, ◌||◌, if◌then◌else◌, [], IfSome, List, OnErr, OnOk, None, Some, length, option_map, remove, take};
+ghost use Rattle.std.specs.Prelude.{◌≡◌, ℕ, ◌<◌, ◌≤◌, ◌+◌, ◌++◌, ◌||◌, if◌then◌else◌, [], ◌∷◌, IfSome, List, OnErr, OnOk, None, Some, length, option_map, remove, take};
 ghost use Rattle.std.specs.Borrow.{Lends, sem};
 ghost use Rattle.byte_pipe.specs.declared.Take.{Take};
 ghost use Rattle.byte_pipe.specs.PipeState.{put_answer, take_answer};
@@ -121,6 +121,21 @@ impl<A: Allocator> Pipes<A> {
         place_of(&self.index, name)
     }
 
+    // How many pipes there are.
+    fn count(&self) -> usize
+        ensures { result ≡ length self.now }
+    {
+        self.index.len()
+    }
+
+    // The name of the pipe at a place.
+    fn name(&self, at: usize) -> u64
+        requires { at < length self.now }
+        ensures { result ≡ (placed self.now at).0 }
+    {
+        self.index[at].name
+    }
+
     // The pipe at a place.
     fn pipe(&self, at: usize) -> &Pipe<A>
         requires { at < length self.now }
@@ -159,6 +174,16 @@ impl<A: Allocator> Pipes<A> {
         let entry = self.index.remove(at);
         self.live.remove(entry.key);
     }
+
+    // All pipes are given up.
+    fn give_up_all(&mut self)
+        ensures { self.new ≡ [] }
+    {
+        let count = self.count();
+        for _pipe in 0..count {
+            self.give_up(0);
+        }
+    }
 }
 
 impl<A: Allocator + Copy> Pipes<A> {
@@ -170,6 +195,29 @@ impl<A: Allocator + Copy> Pipes<A> {
             live: Slab::new(alloc),
             index: Vec::new(alloc),
         }
+    }
+
+    /// Becomes equal to the other table (own).
+    ///
+    /// `AllocError` where memory for a pipe is refused; what the table then holds isn't said.
+    pub fn copy_from(&mut self, other: &Self) -> Result<(), AllocError>
+        ensures { OnOk result (self.new ≡ other.now) }
+    {
+        self.give_up_all();
+        for at in 0..other.count() {
+            self.add_equal(other.name(at), other.pipe(at))?;
+        }
+        Ok(())
+    }
+
+    // Makes a pipe of that name, equal to this one.
+    fn add_equal(&mut self, name: u64, pipe: &Pipe<A>) -> Result<(), AllocError>
+        ensures { OnOk result (self.new ≡ self.old ++ (name, pipe.now) ∷ []) }
+    {
+        let at = self.count();
+        self.add(name)?;
+        self.pipe_mut(at).copy_from(pipe);
+        Ok(())
     }
 
     /// Makes a pipe of that name, empty and with both ends open (`pipealloc`).

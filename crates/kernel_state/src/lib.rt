@@ -6,6 +6,7 @@
 #![tactic(auto)]
 
 mod booting;
+mod copying;
 mod descriptors;
 mod dispatching;
 mod processes;

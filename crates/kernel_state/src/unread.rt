@@ -1,9 +1,9 @@
 //! The standard input that hasn't been read yet.
 
-ghost use Rattle.std.specs.Prelude.{◌≡◌, ◌≤◌, drop, length, take};
+ghost use Rattle.std.specs.Prelude.{◌≡◌, ◌≤◌, OnOk, drop, length, take};
 
 use kernel_pipes::first_bytes;
-use std::alloc::Allocator;
+use std::alloc::{AllocError, Allocator};
 use std::marker::Model;
 
 /// The standard input, of which the first bytes may have been read (own). Contracts see the others.
@@ -31,6 +31,14 @@ impl<A: Allocator> Unread<A> {
         Unread { bytes, read: 0 }
     }
 
+    // Becomes equal to the other. `AllocError` where memory is refused.
+    pub(crate) fn copy_from(&mut self, other: &Self) -> Result<(), AllocError>
+        ensures { OnOk result (self.new ≡ other.now) }
+    {
+        self.read = 0;
+        copy_bytes(&mut self.bytes, &other.bytes[other.read..])
+    }
+
     /// The next `n` bytes, or all where there are fewer, where they lie (own).
     pub fn first(&self, n: usize) -> &[u8]
         ensures value { result.now ≡ take n self.now }
@@ -45,4 +53,15 @@ impl<A: Allocator> Unread<A> {
     {
         self.read += n.min(self.bytes.len() - self.read);
     }
+}
+
+// The bytes become equal to the others. `AllocError` where memory is refused.
+pub(crate) fn copy_bytes<A: Allocator>(
+    bytes: &mut Vec<u8, A>,
+    others: &[u8],
+) -> Result<(), AllocError>
+    ensures { OnOk result (bytes.new.items ≡ others.now) }
+{
+    bytes.clear();
+    bytes.extend_from_slice(others)
 }

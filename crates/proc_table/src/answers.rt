@@ -3,7 +3,7 @@
 ghost use Rattle.std.specs.Prelude.{◌≡◌};
 ghost use Rattle.proc_table.specs.Answers.{reply_of};
 
-use user_calls::ReplySlot;
+use user_calls::{Reply, ReplyKind, ReplySlot};
 
 /// The reply to a call that reads no bytes (own).
 #[derive(Clone, Copy, Debug, PartialEq, Eq)]
@@ -27,5 +27,20 @@ pub(crate) fn write_reply(reply: &mut ReplySlot, answer: Answer)
         Answer::Fd(fd) => reply.fd(fd),
         Answer::Ends(reader, writer) => reply.ends(reader, writer),
         Answer::Refused => reply.refused(),
+    }
+}
+
+// The reply becomes equal to the other.
+pub(crate) fn copy_reply(reply: &mut ReplySlot, other: &ReplySlot)
+    ensures { reply.new ≡ other.now }
+{
+    match other.kind() {
+        ReplyKind::Start => reply.set(&Reply::Start),
+        ReplyKind::Child => reply.set(&Reply::Child),
+        ReplyKind::Done => reply.done(),
+        ReplyKind::Bytes => reply.read(other.bytes()),
+        ReplyKind::Fd(fd) => reply.fd(fd),
+        ReplyKind::Ends(reader, writer) => reply.ends(reader, writer),
+        ReplyKind::Refused => reply.refused(),
     }
 }

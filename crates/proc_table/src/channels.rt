@@ -51,6 +51,14 @@ impl Channels {
         }
     }
 
+    // Becomes equal to the others.
+    pub(crate) fn copy_from(&mut self, other: &Channels)
+        ensures { self.new ≡ other.now }
+    {
+        self.channels.copy_from_slice(&other.channels);
+        self.groups.copy_from(&other.groups);
+    }
+
     // The list of the channel, if somebody sleeps on it.
     pub(crate) fn find(&self, channel: &Channel) -> Option<usize>
         ensures within { IfSome result (λ list. list < PROCS) }

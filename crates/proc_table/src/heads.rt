@@ -91,6 +91,17 @@ impl Heads {
         }
     }
 
+    // Becomes equal to the others.
+    pub(crate) fn copy_from(&mut self, other: &Heads)
+        ensures { self.new ≡ other.now }
+    {
+        self.heads.copy_from_slice(&other.heads);
+        self.states.copy_from(&other.states);
+        self.harts.copy_from(&other.harts);
+        self.children.copy_from(&other.children);
+        self.queues.copy_from(&other.queues);
+    }
+
     // Gives the slot this head, or makes it free.
     pub(crate) fn put(&mut self, index: usize, head: Option<Head>)
         requires within { index < PROCS }

@@ -1,7 +1,7 @@
 //! One process, and the slot that it is in.
 
 ghost use Rattle.std.specs.Borrow.{Lends, sem};
-ghost use Rattle.std.specs.Prelude.{◌≡◌, IfSome, IsSome};
+ghost use Rattle.std.specs.Prelude.{◌≡◌, IfSome, IsSome, None, Some};
 ghost use Rattle.std.specs.contracts.option.Option.{the_row as option_row};
 ghost use Rattle.fd_table.specs.contracts.descriptors.Fds.{the_row as fds_row};
 ghost use Rattle.proc_table.specs.contracts.process.Process.{the_row as process_row};
@@ -9,7 +9,7 @@ ghost use Rattle.proc_table.specs.Slots.{is_runnable, is_running, is_running_on}
 ghost use Rattle.proc_table.specs.Calls.{with_fds};
 ghost use Rattle.proc_table.specs.Heads.{head_of};
 
-use crate::answers::write_reply;
+use crate::answers::{copy_reply, write_reply};
 use crate::heads::Head;
 use crate::{Answer, Pid, Status};
 use fd_table::Fds;
@@ -72,6 +72,34 @@ impl<M: Machine> Process<M> {
             fds,
             put: 0,
         }
+    }
+
+    // An equal process.
+    fn twin(&self) -> Self
+        ensures { result ≡ self.now }
+    {
+        let mut twin = Process::boot(self.parent, self.machine.twin());
+        twin.copy_rest(self);
+        twin
+    }
+
+    // Becomes equal to the other.
+    fn copy_from(&mut self, other: &Process<M>)
+        ensures { self.new ≡ other.now }
+    {
+        self.machine = other.machine.twin();
+        self.copy_rest(other);
+    }
+
+    // Becomes equal to the other, but for the machine.
+    fn copy_rest(&mut self, other: &Process<M>)
+        ensures { self.new ≡ record other.now { machine = self.old.machine } }
+    {
+        self.status = other.status;
+        self.parent = other.parent;
+        copy_reply(&mut self.reply, &other.reply);
+        self.fds.copy_from(&other.fds);
+        self.put = other.put;
     }
 
     // The machine goes on past its call, and takes this reply next.
@@ -137,6 +165,43 @@ impl<M: Machine> Process<M> {
             status: self.status,
             parent: self.parent,
         }
+    }
+}
+
+// The slot becomes equal to the other.
+pub(crate) fn copy_slot<M: Machine>(slot: &mut Option<Process<M>>, other: &Option<Process<M>>)
+    ensures { slot.new ≡ other.now }
+{
+    match other {
+        Some(process) => copy_into(slot, process),
+        None => empty(slot),
+    }
+}
+
+// The slot has a process that is equal to this one.
+fn copy_into<M: Machine>(slot: &mut Option<Process<M>>, process: &Process<M>)
+    ensures { slot.new ≡ Some process.now }
+{
+    match slot {
+        Some(old) => old.copy_from(process),
+        None => fill(slot, process),
+    }
+}
+
+// The slot, which is free, gets a process that is equal to this one. It is apart from `copy_into`, so that its large
+// values cost nothing there.
+fn fill<M: Machine>(slot: &mut Option<Process<M>>, process: &Process<M>)
+    ensures { slot.new ≡ Some process.now }
+{
+    *slot = Some(process.twin());
+}
+
+// The slot becomes free; one that is free isn't written.
+fn empty<M: Machine>(slot: &mut Option<Process<M>>)
+    ensures { slot.new ≡ None }
+{
+    if slot.is_some() {
+        *slot = None;
     }
 }
 

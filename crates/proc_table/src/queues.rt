@@ -55,6 +55,15 @@ impl Queues {
         }
     }
 
+    // Becomes equal to the others.
+    pub(crate) fn copy_from(&mut self, other: &Queues)
+        ensures { self.new ≡ other.now }
+    {
+        self.lists.copy_from(&other.lists);
+        self.channels.copy_from(&other.channels);
+        self.last.copy_from_slice(&other.last);
+    }
+
     // The slot's process changes from `was` to `head`: the slot moves to the end of another list, or stays where it
     // stands.
     pub(crate) fn put(&mut self, slot: usize, was: &Option<Head>, head: &Option<Head>)

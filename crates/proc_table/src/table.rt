@@ -1,7 +1,7 @@
 //! The table.
 
 use crate::heads::Heads;
-use crate::process::{fds_of, head_of, is_runnable, is_running, is_running_on};
+use crate::process::{copy_slot, fds_of, head_of, is_runnable, is_running, is_running_on};
 use crate::{Answer, Channel, PROCS, Pid, Process, State, Status};
 use fd_table::Fds;
 use std::alloc::{AllocError, Allocator};
@@ -81,6 +81,17 @@ impl<M: Machine, A: Allocator> Procs<M, A> {
             slots,
             heads: Heads::new(),
         })
+    }
+
+    /// Becomes equal to the other table. The machines of processes are twins; a slot that is free in both tables costs no
+    /// more than a look (own).
+    pub fn copy_from(&mut self, other: &Self)
+        ensures { self.new ≡ other.now }
+    {
+        self.heads.copy_from(&other.heads);
+        for index in 0..PROCS {
+            copy_slot(&mut self.slots[index], &other.slots[index]);
+        }
     }
 
     /// The lowest free slot, if there is one (`allocproc`).

@@ -41,6 +41,13 @@ impl<const GROUPS: usize> SlotGroups<GROUPS> {
         SlotGroups { sets }
     }
 
+    /// Becomes equal to the other groups (own).
+    pub fn copy_from(&mut self, other: &Self)
+        ensures { self.new ≡ other.now }
+    {
+        self.sets.copy_from_slice(&other.sets);
+    }
+
     /// Gives the slot, which has the key `from`, the key `to` (own).
     pub fn put(&mut self, slot: usize, from: Option<usize>, to: Option<usize>)
         requires { slot < SLOTS }

@@ -46,6 +46,15 @@ impl SlotLists {
         }
     }
 
+    /// Becomes equal to the other lists (own).
+    pub fn copy_from(&mut self, other: &Self)
+        ensures { self.new ≡ other.now }
+    {
+        self.next.copy_from_slice(&other.next);
+        self.prev.copy_from_slice(&other.prev);
+        self.owner.copy_from_slice(&other.owner);
+    }
+
     /// Adds the slot, which stands in no list, at the end of this list (own).
     pub fn push(&mut self, list: usize, slot: usize)
         requires list { list < LISTS }
