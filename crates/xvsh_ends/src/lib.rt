@@ -7,6 +7,7 @@ mod drawing;
 mod ending;
 mod explorations;
 mod objects;
+mod pages;
 mod plain;
 mod process_faults;
 mod processes;
