@@ -68,6 +68,7 @@ pub(crate) fn explored_of(alloc: Global, given: &Given) -> Result<Explored, Fail
         states: 200_000,
         is_thorough: false,
         witness: Some("w"),
+        draw: None,
         is_json: true,
         input: None,
         text: None,

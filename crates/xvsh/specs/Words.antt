@@ -156,6 +156,7 @@ pub record IsExploreOf (found : Found) (request : ExploreRequest) : Type 0 where
   pub states : IsNumber 64 STATES found (codes "states") request.states
   pub all : IsFlag found (codes "all") request.is_thorough
   pub witness : IsWord found (codes "witness") request.witness
+  pub draw : IsWord found (codes "draw") request.draw
   pub json : IsFlag found (codes "json") request.is_json
   pub input : IsWord found (codes "input") request.input
   pub text : IsTextOf found request.text

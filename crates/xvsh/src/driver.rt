@@ -218,11 +218,13 @@ fn ending_on<R: Threads + Wait + Clock + Sync, H: Host + Traces + Watch>(
 /// `nothing to tell`. `explain [--why] [--append] SCRIPT [FILE]..` with a FILE or `--why` reads what `plain` reads, and writes
 /// behind these sentences each reason why the script isn't settled, or that it is and why its pipes are safe.
 ///
-/// `explore [--states N] [--all] [--witness DIR] [--json] [--append] SCRIPT [FILE]..` reads what `plain` reads, tries every order
-/// in which the script's processes can take their turns, through at most 200,000 states or N, and writes the outcomes, each with
-/// the events of a shortest run to it, and where two of these runs part. A settled script has one output, which is written without
-/// trying, unless with `--all` or `--witness`. With `--witness` it writes first a schedule for each outcome to `DIR/1.schedule` and
-/// so on, which `replay` reads. With `--json` it writes one object instead, also of a fault.
+/// `explore [--states N] [--all] [--witness DIR] [--draw FILE] [--json] [--append] SCRIPT [FILE]..` reads what `plain` reads, tries
+/// every order in which the script's processes can take their turns, through at most 200,000 states or N, and writes the outcomes,
+/// each with the events of a shortest run to it, and where two of these runs part. A settled script has one output, which is written
+/// without trying, unless with `--all`, `--witness` or `--draw`. With `--witness` it writes first a schedule for each outcome to
+/// `DIR/1.schedule` and so on, which `replay` reads. With `--draw` it writes first the page of the runs to the first outcome and to
+/// the next one with another output to FILE, as `run --trace` writes a trace; no page where no outcome was found. With `--json` it
+/// writes one object instead, also of a fault.
 ///
 /// `draw [--from N] [--to N] TRACE [OTHER]` reads a trace that `run --trace` wrote, or two of one script, and writes a page of HTML
 /// that draws them, or the events between these numbers alone.

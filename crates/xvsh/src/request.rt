@@ -167,6 +167,13 @@ fn witness_of<'m>(words: &'m ArgMatches<'_>) -> Option<&'m str>
     words.get_str("witness")
 }
 
+// The path of the page of two outcomes, if there is to be one.
+fn page_of<'m>(words: &'m ArgMatches<'_>) -> Option<&'m str>
+    ensures { IsWord (found_of words.now) (codes "draw") result }
+{
+    words.get_str("draw")
+}
+
 fn run_of<'m>(words: &'m ArgMatches<'_>) -> RunRequest<'m>
     ensures { IsRunOf (found_of words.now) result }
 {
@@ -258,6 +265,7 @@ fn explore_of<'m>(words: &'m ArgMatches<'_>) -> ExploreRequest<'m>
         states: states_of(words),
         is_thorough: flag_of(words, "all"),
         witness: witness_of(words),
+        draw: page_of(words),
         is_json: flag_of(words, "json"),
         input: input_of(words),
         text: text_of(words),

@@ -12,23 +12,25 @@ use xvsh_read::{Host, read};
 /// The most bytes that a trace may have (own).
 pub const MAX_TRACE: usize = 67_108_864;
 
-// The trace at a path, in which each event is of a process that was made.
+// The trace of a text, in which each event is of a process that was made.
+pub(crate) fn trace_of(alloc: Global, bytes: &[u8]) -> Result<Trace<Global>, TraceFault> {
+    let trace = read_trace(alloc, bytes)?;
+    match first_stranger(trace.events.as_slice()) {
+        None => Ok(trace),
+        Some(before) => Err(TraceFault::Stranger(before.saturating_add(2))),
+    }
+}
+
+// The trace at a path.
 fn trace_at<'a, H: Host>(
     alloc: Global,
     host: &mut H,
     path: &'a str,
 ) -> Result<Trace<Global>, DrawFault<'a>> {
     let bytes = read(alloc, host, path, MAX_TRACE)?;
-    let trace = match read_trace(alloc, bytes.as_slice()) {
-        Ok(trace) => trace,
-        Err(fault) => return Err(DrawFault::NoTrace(path, fault)),
-    };
-    match first_stranger(trace.events.as_slice()) {
-        None => Ok(trace),
-        Some(before) => Err(DrawFault::NoTrace(
-            path,
-            TraceFault::Stranger(before.saturating_add(2)),
-        )),
+    match trace_of(alloc, bytes.as_slice()) {
+        Ok(trace) => Ok(trace),
+        Err(fault) => Err(DrawFault::NoTrace(path, fault)),
     }
 }
 

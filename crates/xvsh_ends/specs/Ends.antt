@@ -157,7 +157,7 @@ module _ (input : Option Bytes) (file : Path → Option Bytes) where
     -- the outcomes in every order; or why none is told
     explored : {profile : Profile} {script : Path} {paths : List (Bor Path)} {states : ℕ} {all : Bool} {text : Bytes} (is_whole is_single : Bool) → RanExplore input file profile script paths all is_whole is_single → Due (asks_explore profile script paths states all) text [] (explore_status is_whole is_single)
     not_explored : {profile : Profile} {script : Path} {paths : List (Bor Path)} {states : ℕ} {all : Bool} (fault : Fault) → IsExploreFault input file script paths fault → Due (asks_explore profile script paths states all) [] (fault_told fault) (status_of fault)
-    -- the same of a request with a trace, beside the trace; or that this can't be written
+    -- the same of a request with a trace or a page, beside this; or that it can't be written
     traced : {what : Asked} {path : Path} {text told : Bytes} {status : ℕ} → Due what text told status → Due (asks_traced what path) (beside_trace path text) told status
     untraced : {what : Asked} {path : Path} → Due (asks_traced what path) [] (untraced_told path) 1
     -- the same of a request with schedules in a folder, beside these; or that the folder or one of them can't be written

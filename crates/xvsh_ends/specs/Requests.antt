@@ -60,13 +60,13 @@ explore_plainly_asked request = asks_explore request.source.profile request.sour
 abbrev pub explore_told_asked : ExploreRequest → Asked
 explore_told_asked request = witnessed_asked request.witness (explore_plainly_asked request)
 
-abbrev pub explore_asked : ExploreRequest → Asked
-explore_asked request = json_asked request.is_json (explore_told_asked request)
-
--- the same, with a trace of the run or its schedule, if there is to be one
+-- the same, with a trace of the run, its schedule or a page of the exploration, if there is to be one
 abbrev pub traced_asked : Option (Bor Path) → Asked → Asked
 traced_asked None what = what
 traced_asked (Some path) what = asks_traced what path.now
+
+abbrev pub explore_asked : ExploreRequest → Asked
+explore_asked request = traced_asked request.draw (json_asked request.is_json (explore_told_asked request))
 
 -- what a request asks for
 abbrev pub asked : Request → Asked

@@ -3,10 +3,11 @@ ghost use Rattle.std.specs.Prelude.{◌≡◌, ℕ, List, [], Option};
 ghost use Rattle.xvsh_read.specs.Path.{Path};
 ghost use Rattle.xvsh_read.specs.Writing.{out_text};
 ghost use Rattle.xvsh_ends.specs.Ends.{Asked, Due, IsDue, asks_json, asks_witnessed, explore_status, told_text};
-ghost use Rattle.xvsh_ends.specs.Requests.{explore_asked, explore_told_asked, witnessed_asked};
+ghost use Rattle.xvsh_ends.specs.Requests.{explore_asked, explore_told_asked, json_asked, witnessed_asked};
 
 use crate::ending::{Ending, Line, no_output, report_fault, report_no_memory, report_untraced};
 use crate::objects::{made_valued, valued};
+use crate::pages::drawn;
 use crate::witnesses::{WitnessFault, write_schedules};
 use result_json::fault_result;
 use sh_lexer::Bytes;
@@ -72,17 +73,31 @@ fn written_at<T: Traces>(alloc: Global, explored: Explored, folder: &str, traces
     }
 }
 
+// What is told of an exploration, and the page to be written beside it, if there is one.
+#[derive(Drop)]
+struct Told {
+    ending: Ending,
+    page: Option<Vec<u8>>,
+}
+
 // Explores a script, writes schedules, if there are to be any, and returns what is told of its outcomes, or why nothing is.
 fn told_ending<H: Host + Traces + Watch>(
     alloc: Global,
     request: &ExploreRequest<'_>,
     host: &mut H,
-) -> Ending
-    ensures { IsDue (H.input host.old) (H.file host.old) (explore_told_asked request.now) result }
+) -> Told
+    ensures { IsDue (H.input host.old) (H.file host.old) (explore_told_asked request.now) result.ending }
 {
     match run_explore(alloc, request, host) {
-        Ok(explored) => written(alloc, explored, request.witness, host),
-        Err(fault) => report_fault(alloc, fault),
+        Ok(mut explored) => {
+            let page = explored.page.take();
+            let ending = written(alloc, explored, request.witness, host);
+            Told { ending, page }
+        }
+        Err(fault) => Told {
+            ending: report_fault(alloc, fault),
+            page: None,
+        },
     }
 }
 
@@ -91,23 +106,41 @@ fn explore_json<H: Host + Traces + Watch>(
     alloc: Global,
     request: &ExploreRequest<'_>,
     host: &mut H,
-) -> Ending
-    ensures { IsDue (H.input host.old) (H.file host.old) (asks_json (explore_told_asked request.now)) result }
+) -> Told
+    ensures { IsDue (H.input host.old) (H.file host.old) (asks_json (explore_told_asked request.now)) result.ending }
 {
     match run_explore(alloc, request, host) {
-        Ok(explored) => {
+        Ok(mut explored) => {
+            let page = explored.page.take();
             let ending = written(alloc, explored, request.witness, host);
-            valued(alloc, ending, "explore")
+            Told {
+                ending: valued(alloc, ending, "explore"),
+                page,
+            }
         }
         Err(fault) => {
             let made = fault_result(alloc, "explore", fault);
-            made_valued(alloc, report_fault(alloc, fault), made)
+            Told {
+                ending: made_valued(alloc, report_fault(alloc, fault), made),
+                page: None,
+            }
         }
     }
 }
 
-/// Explores a script, writes schedules, if there are to be any, and returns what is told of its outcomes, as text or as an object,
-/// or why nothing is.
+// The one or the other.
+fn told<H: Host + Traces + Watch>(alloc: Global, request: &ExploreRequest<'_>, host: &mut H) -> Told
+    ensures { IsDue (H.input host.old) (H.file host.old) (json_asked request.now.is_json (explore_told_asked request.now)) result.ending }
+{
+    if request.is_json {
+        explore_json(alloc, request, host)
+    } else {
+        told_ending(alloc, request, host)
+    }
+}
+
+/// Explores a script, writes schedules and a page, if there are to be any, and returns what is told of its outcomes, as text or as
+/// an object, or why nothing is.
 pub fn explore_ending<H: Host + Traces + Watch>(
     alloc: Global,
     request: &ExploreRequest<'_>,
@@ -115,9 +148,6 @@ pub fn explore_ending<H: Host + Traces + Watch>(
 ) -> Ending
     ensures { IsDue (H.input host.old) (H.file host.old) (explore_asked request.now) result }
 {
-    if request.is_json {
-        explore_json(alloc, request, host)
-    } else {
-        told_ending(alloc, request, host)
-    }
+    let Told { ending, page } = told(alloc, request, host);
+    drawn(alloc, ending, page, request.draw, host)
 }

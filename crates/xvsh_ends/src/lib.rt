@@ -8,6 +8,7 @@ mod ending;
 mod explorations;
 mod filing;
 mod objects;
+mod pages;
 mod plain;
 mod process_faults;
 mod processes;

@@ -12,8 +12,8 @@ use std::alloc::Global;
 use xvsh_read::{Output, STDIN, Unwritten};
 use xvsh_traces::{TraceFault, Traces, trace_run};
 
-// What is printed beside a trace at this path: where that is standard output, the diagnostics alone.
-fn beside(alloc: Global, ending: Ending, path: &str) -> Ending
+/// What is printed beside a trace, or a page, at this path: where that is standard output, the diagnostics alone.
+pub(crate) fn beside(alloc: Global, ending: Ending, path: &str) -> Ending
     ensures out { out_text result.output ≡ beside_trace path.now (out_text ending.output) }
     ensures told { told_text result ≡ told_text ending }
     ensures status { result.status ≡ ending.status }

@@ -4,6 +4,7 @@ ghost use Rattle.script_load.specs.Line.{lines_of};
 ghost use Rattle.xvsh_explores.specs.Explores.{AreSingle, IsExploreFault, LeftTheSame, RanExplore, Told};
 ghost use Rattle.xvsh_read.specs.declared.fault.Fault.TheVariants.{Memory, TooLarge};
 
+use crate::drawing::page_of;
 use crate::findings::{Findings, findings_of, schedules_of};
 use crate::objects::{object_of, object_of_settled};
 use crate::request::ExploreRequest;
@@ -25,6 +26,8 @@ pub struct Explored {
     pub is_single: bool,
     /// Where a folder for schedules was given, one of each outcome, as text, in the order of their numbers; else none.
     pub schedules: Vec<Vec<u8>>,
+    /// Where a page is asked for and an outcome was found, the page of the first output and the next one.
+    pub page: Option<Vec<u8>>,
 }
 
 // Why nothing is told.
@@ -90,6 +93,7 @@ fn tell(
         is_whole: found.whole,
         is_single: are_single(found.outcomes.as_slice()),
         schedules: schedules_of(alloc, request, &findings)?,
+        page: page_of(alloc, start, request, found.outcomes.as_slice(), &findings)?,
     })
 }
 
@@ -130,8 +134,13 @@ fn text_of_settled(
     }
 }
 
+// Whether the request asks for schedules, or for a page of them.
+fn wants_ways(request: &ExploreRequest<'_>) -> bool {
+    request.witness.is_some() || request.draw.is_some()
+}
+
 // What is known without an order: of a settled script in which no file is soft, unless the request is thorough or asks for
-// schedules.
+// schedules or a page.
 fn explore_settled<'a>(
     alloc: Global,
     start: &Start,
@@ -140,7 +149,7 @@ fn explore_settled<'a>(
     ensures told { IfOk result (λ known. IfSome known (λ explored. Told start.now.script.profile (lines_of start.now.script.lines) start.now.stdin.items start.now.files request.now.is_thorough explored.is_whole explored.is_single)) }
     ensures fault { IfErr result (λ fault. fault ≡ Memory) }
 {
-    if request.witness.is_some() {
+    if wants_ways(request) {
         return Ok(None);
     }
     if request.is_thorough {
@@ -161,6 +170,7 @@ fn explore_settled<'a>(
         is_whole: true,
         is_single: true,
         schedules: Vec::new(alloc),
+        page: None,
     }))
 }
 
@@ -183,7 +193,7 @@ fn explore_start<'a, W: Watch>(
 
 /// `explore`: reads the script, the files in order, and standard input unless that is the script, tries every order of its
 /// processes' turns, and returns what is told of the outcomes (own). A settled script has one, which is told without, unless
-/// the request is thorough or asks for schedules, or some file is soft. The host is told how many states were found. Nothing is
+/// the request is thorough or asks for schedules or a page, or some file is soft. The host is told how many states were found. Nothing is
 /// written.
 ///
 /// A run with more turns than can be counted is the fault `TooLarge`.

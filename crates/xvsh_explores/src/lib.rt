@@ -1,6 +1,7 @@
 //! Explorations of scripts: what `explore` reads, tries and prints.
 #![tactic(auto)]
 
+mod drawing;
 mod escaping;
 mod exploring;
 mod findings;

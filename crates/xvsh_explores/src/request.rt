@@ -15,6 +15,8 @@ pub struct ExploreRequest<'a> {
     pub is_thorough: bool,
     /// The folder for a schedule of each outcome. For these a settled script is explored too.
     pub witness: Option<&'a str>,
+    /// The path of the page that draws two outcomes, if there is to be one. For it a settled script is explored too.
+    pub draw: Option<&'a str>,
     /// Print an object of JSON.
     pub is_json: bool,
     /// The word of the standard input, if there is one, and the script, where it is among the words: for the line that says how

@@ -81,7 +81,7 @@ each reason why the script isn't settled on them.
 processes can take their turns, and writes a line for each output that the
 script can have, with the events of a shortest run to it, and then where two of
 these runs part. With `--witness DIR` it writes the schedule of each run to
-DIR.
+DIR, and with `--draw FILE` a page that draws two of them to FILE.
 
 Status: 0 done; 1 something can't be read, is refused, or can't be written, or
 is no schedule of a whole run; 2 usage; 3 `check` told of a clash or a `&`,
@@ -355,6 +355,9 @@ const ALL_HELP: &str = "Try every order of a settled script too";
 const WITNESS_HELP: &str =
     "Write a schedule for each outcome to DIR/1.schedule and so on, for `xvsh replay`";
 
+const DRAW_HELP: &str =
+    "Write a page of HTML that draws runs to the first two outputs to FILE; for `-` to standard output, and nothing else there";
+
 const EXPLORED_JSON_HELP: &str = "Write one object of JSON";
 
 fn explore_command<'a>(alloc: Global, most_states: u64) -> Result<Command<'a>, AllocError>
@@ -364,6 +367,7 @@ fn explore_command<'a>(alloc: Global, most_states: u64) -> Result<Command<'a>, A
         number_option(alloc, "states", STATES_HELP, most_states),
         flag(alloc, "all", ALL_HELP),
         path_option(alloc, "witness", "DIR", WITNESS_HELP),
+        path_option(alloc, "draw", "FILE", DRAW_HELP),
         flag(alloc, "json", EXPLORED_JSON_HELP),
         flag(alloc, "append", APPEND_HELP),
         input_option(alloc),

@@ -1,0 +1,66 @@
+//! Pages of runs that are made again by their schedules.
+
+use crate::running::trace_of;
+use figure_page::{Bounds, pair_page, run_page};
+use kernel_model::Event;
+use std::alloc::{AllocError, Global};
+use trace_data::Trace;
+use xvsh_read::{Start, Unwritten};
+use xvsh_traces::{Traces, trace_run};
+
+// A trace that is written into memory.
+#[derive(Drop)]
+struct Written {
+    text: Vec<u8>,
+}
+
+impl Traces for Written {
+    fn make_folder(&mut self, _path: &str) -> Result<(), Unwritten> {
+        Err(Unwritten)
+    }
+
+    fn begin_trace(&mut self, _path: &str) -> Result<(), Unwritten> {
+        self.text.clear();
+        Ok(())
+    }
+
+    fn write_trace(&mut self, bytes: &[u8]) -> Result<(), Unwritten> {
+        match self.text.extend_from_slice(bytes) {
+            Ok(()) => Ok(()),
+            Err(_) => Err(Unwritten),
+        }
+    }
+}
+
+// The trace of the run on one hart by a schedule. It is one, so only memory can be refused.
+fn traced(alloc: Global, start: &Start, schedule: &[Event]) -> Result<Trace<Global>, AllocError> {
+    let mut written = Written {
+        text: Vec::new(alloc),
+    };
+    match trace_run(alloc, &mut written, "", start, schedule, 1) {
+        Ok(()) => trace_of(alloc, written.text.as_slice()).map_err(|_| AllocError),
+        Err(_) => Err(AllocError),
+    }
+}
+
+/// The page of the run on one hart of what was read by a schedule, or with another of both runs: `run_page` or `pair_page` of
+/// `figure_page`, of all events that one page draws. Own.
+///
+/// `AllocError` where memory is refused, also for a schedule that can't be followed.
+pub fn draw_runs(
+    alloc: Global,
+    start: &Start,
+    schedule: &[Event],
+    other: Option<&[Event]>,
+) -> Result<Vec<u8>, AllocError> {
+    let all = Bounds {
+        from: None,
+        to: None,
+    };
+    let trace = traced(alloc, start, schedule)?;
+    let Some(other) = other else {
+        return run_page(alloc, &trace, all);
+    };
+    let other = traced(alloc, start, other)?;
+    pair_page(alloc, &trace, &other, all)
+}
