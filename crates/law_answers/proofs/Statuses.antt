@@ -40,8 +40,8 @@ module _ (input : Option Bytes) (file : Path → Option Bytes) where
   DidRun (asks_plain profile script paths lists strict) text told = (is_settled : Bool) × RanPlain input file profile script paths lists is_settled text × (told ≡ verdict_text is_settled) × (verdict_status strict is_settled ≡ 0)
   DidRun (asks_run profile script paths how lists) text told = (diag : Bytes) × RanBy input file how profile script paths lists None text diag
   DidRun (asks_strict profile script paths harts turns lists) text told = (why : Bytes) × (diag : Bytes) × RanStrict input file profile script paths harts turns lists None true why text diag
-  DidRun (asks_check script) text told = Unit {0}
-  DidRun (asks_turns script paths) text told = Unit {0}
+  DidRun (asks_check script strict) text told = Unit {0}
+  DidRun (asks_turns script paths strict) text told = Unit {0}
   DidRun (asks_explain script) text told = Unit {0}
   DidRun (asks_whys profile script paths) text told = Unit {0}
   DidRun (asks_explore profile script paths states all) text told = Unit {0}

@@ -134,6 +134,7 @@ pub record IsCheckOf (found : Found) (request : CheckRequest) : Type 0 where
   pub script : IsScriptOf found request.script.now
   pub files : ArePaths found (codes "paths") request.files.now
   pub turns : IsFlag found (codes "turns") request.counts_turns
+  pub strict : IsFlag found (codes "strict") request.is_strict
   pub json : IsFlag found (codes "json") request.is_json
 
 -- it is told why a script is settled where that is requested, or the words give a standard input or files

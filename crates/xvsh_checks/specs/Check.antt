@@ -60,22 +60,22 @@ AreTold number [] text = text ≡ []
 AreTold number (line ∷ lines) text =
     (first : Bytes) × (later : Bytes) × IsTold number line first × AreTold (number + 1) lines later × (text ≡ first ++ later)
 
--- the line holds no `&` and no clash
-abbrev pub IsHarmless : ScriptLine → Type 0
-IsHarmless (bad fault whole) = Unit {0}
-IsHarmless (cd folder) = Unit {0}
-IsHarmless (command tree) = (has_back tree ≡ false) × IsClear tree
+-- the line holds no `&` and no clash, and strictly it is a command
+abbrev pub IsHarmless : Bool → ScriptLine → Type 0
+IsHarmless strict (bad fault whole) = strict ≡ false
+IsHarmless strict (cd folder) = Unit {0}
+IsHarmless strict (command tree) = (has_back tree ≡ false) × IsClear tree
 
-abbrev pub AreHarmless : List ScriptLine → Type 0
-AreHarmless [] = Unit {0}
-AreHarmless (line ∷ lines) = IsHarmless line × AreHarmless lines
+abbrev pub AreHarmless : Bool → List ScriptLine → Type 0
+AreHarmless strict [] = Unit {0}
+AreHarmless strict (line ∷ lines) = IsHarmless strict line × AreHarmless strict lines
 
--- this is the report of the lines of the script at a path
-pub record RanCheck (input : Option Bytes) (file : Path → Option Bytes) (script : Path) (is_harmless : Bool) (text : Bytes) : Type 0 where
+-- this is the report of the lines of the script at a path, and whether they are harmless, strictly or not
+pub record RanCheck (input : Option Bytes) (file : Path → Option Bytes) (script : Path) (strict is_harmless : Bool) (text : Bytes) : Type 0 where
   pub lines : List ScriptLine
   pub loaded : AreLinesAt input file script lines
   pub told : AreTold 1 lines text
-  pub harmless : IsTrue is_harmless ↔ AreHarmless lines
+  pub harmless : IsTrue is_harmless ↔ AreHarmless strict lines
 
 -- why nothing is reported of the script at a path: there is no script, or no memory for the report
 pub data IsCheckFault (input : Option Bytes) (file : Path → Option Bytes) (script : Path) : Fault → Type 0 where

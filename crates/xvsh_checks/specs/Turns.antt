@@ -30,7 +30,7 @@ AreTurnsTold lines input F text = IsTurnsLine (most_events lines input F) text
 -- what follows is by what the host states of standard input and of the files at paths
 module _ (input : Option Bytes) (file : Path → Option Bytes) where
   -- this is the report of the lines of the script at a path, and then of its turns on the files at these paths
-  pub record RanTurns (script : Path) (paths : List (Bor Path)) (is_harmless : Bool) (text : Bytes) : Type 0 where
+  pub record RanTurns (script : Path) (paths : List (Bor Path)) (strict is_harmless : Bool) (text : Bytes) : Type 0 where
     pub lines : List ScriptLine
     pub given : List (Name × Bytes)
     pub stdin : Bytes
@@ -40,7 +40,7 @@ module _ (input : Option Bytes) (file : Path → Option Bytes) where
     pub turns : Bytes
     pub turns_told : AreTurnsTold lines stdin (files given) turns
     pub whole : text ≡ of_lines ++ turns
-    pub harmless : IsTrue is_harmless ↔ AreHarmless lines
+    pub harmless : IsTrue is_harmless ↔ AreHarmless strict lines
 
   -- why there is none: there is nothing to check, or no memory for the report
   pub data IsTurnsFault (script : Path) (paths : List (Bor Path)) : Fault → Type 0 where

@@ -122,21 +122,22 @@ fn check_tree(
     }
 }
 
-// Adds what is reported of a line, and returns whether it is harmless.
+// Adds what is reported of a line, and returns whether it is harmless, strictly or not.
 fn check_line(
     alloc: Global,
     number: usize,
     line: &Line<Global>,
+    is_strict: bool,
     text: &mut Vec<u8>,
 ) -> Result<bool, AllocError>
     ensures told { OnOk result ((first : List ℕ) × IsTold number (line_of line.now) first × (text.new.items ≡ text.old.items ++ first)) }
-    ensures harmless { IfOk result (λ is. IsTrue is ↔ IsHarmless (line_of line.now)) }
+    ensures harmless { IfOk result (λ is. IsTrue is ↔ IsHarmless is_strict (line_of line.now)) }
 {
     match line {
         Line::Tree(tree) => check_tree(alloc, number, tree, text),
         Line::Bad(fault, _) => {
             add_fault(alloc, number, *fault, text)?;
-            Ok(true)
+            Ok(!is_strict)
         }
         Line::Cd(_) => Ok(true),
     }
@@ -147,21 +148,21 @@ fn check_line(
 pub struct Checked {
     /// The lines that are printed.
     pub text: Vec<u8>,
-    /// No line holds a `&` or a clash.
+    /// No line holds a `&` or a clash, and strictly each is a command.
     pub is_harmless: bool,
 }
 
 /// Tells of each line of a script, in order, the fault of a line that is no command, as
 /// `N fault K NAME at P`; that it holds a `&`, as `N background`; and its first clash, as
-/// `N clash KIND NAME` (own). Lines are counted from 1, and places in a line from 0. Nothing is run.
-pub fn check(alloc: Global, script: &Script<Global>) -> Result<Checked, AllocError>
+/// `N clash KIND NAME` (own); and whether they are harmless, strictly or not. Lines are counted from 1, and places in a line from 0. Nothing is run.
+pub fn check(alloc: Global, script: &Script<Global>, is_strict: bool) -> Result<Checked, AllocError>
     ensures told { IfOk result (λ checked. AreTold 1 (lines_of script.now.lines) checked.text.items) }
-    ensures harmless { IfOk result (λ checked. IsTrue checked.is_harmless ↔ AreHarmless (lines_of script.now.lines)) }
+    ensures harmless { IfOk result (λ checked. IsTrue checked.is_harmless ↔ AreHarmless is_strict (lines_of script.now.lines)) }
 {
     let mut text = Vec::new(alloc);
     let mut is_harmless = true;
     for (i, line) in script.lines.as_slice().iter().enumerate() {
-        let is_fine = check_line(alloc, i + 1, line, &mut text)?;
+        let is_fine = check_line(alloc, i + 1, line, is_strict, &mut text)?;
         is_harmless = is_harmless && is_fine;
     }
     Ok(Checked { text, is_harmless })
@@ -173,10 +174,10 @@ pub fn run_check<'a, H: Host>(
     request: &CheckRequest<'a>,
     host: &mut H,
 ) -> Result<Checked, Fault<'a>>
-    ensures ran { IfOk result (λ checked. RanCheck (H.input host.old) (H.file host.old) request.now.script.now checked.is_harmless checked.text.items) }
+    ensures ran { IfOk result (λ checked. RanCheck (H.input host.old) (H.file host.old) request.now.script.now request.now.is_strict checked.is_harmless checked.text.items) }
     ensures fault { IfErr result (IsCheckFault (H.input host.old) (H.file host.old) request.now.script.now) }
 {
     let loaded = read_script(alloc, host, Profile::Xv6, request.script)?;
-    let checked = check(alloc, &loaded)?;
+    let checked = check(alloc, &loaded, request.is_strict)?;
     Ok(checked)
 }

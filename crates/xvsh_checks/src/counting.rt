@@ -36,7 +36,7 @@ pub fn run_count<'a, H: Host>(
     request: &CheckRequest<'a>,
     host: &mut H,
 ) -> Result<CountedFindings, Fault<'a>>
-    ensures ran { IfOk result (λ counted. RanTurns (H.input host.old) (H.file host.old) request.now.script.now request.now.files.now counted.findings.is_harmless (findings_text counted.findings.list.items ++ turns_told counted.turns)) }
+    ensures ran { IfOk result (λ counted. RanTurns (H.input host.old) (H.file host.old) request.now.script.now request.now.files.now request.now.is_strict counted.findings.is_harmless (findings_text counted.findings.list.items ++ turns_told counted.turns)) }
     ensures fault { IfErr result (IsTurnsFault (H.input host.old) (H.file host.old) request.now.script.now request.now.files.now) }
 {
     let source = Source {
@@ -45,7 +45,7 @@ pub fn run_count<'a, H: Host>(
         files: request.files,
     };
     let start = prepare(alloc, host, &source, false)?;
-    let findings = find(alloc, &start.script)?;
+    let findings = find(alloc, &start.script, request.is_strict)?;
     let turns = turns_of(&start.script, start.stdin.as_slice(), &start.files);
     Ok(CountedFindings { findings, turns })
 }

@@ -62,10 +62,11 @@ fn find_in_line(
     alloc: Global,
     number: usize,
     line: &Line<Global>,
+    is_strict: bool,
     found: &mut Vec<Finding>,
 ) -> Result<bool, AllocError>
     ensures told { OnOk result ((first : List ℕ) × IsTold number (line_of line.now) first × (findings_text found.new.items ≡ findings_text found.old.items ++ first)) }
-    ensures harmless { IfOk result (λ is. IsTrue is ↔ IsHarmless (line_of line.now)) }
+    ensures harmless { IfOk result (λ is. IsTrue is ↔ IsHarmless is_strict (line_of line.now)) }
 {
     match line {
         Line::Tree(tree) => find_in_tree(alloc, number, tree, found),
@@ -75,7 +76,7 @@ fn find_in_line(
                 fault: *fault,
             };
             add(finding, found)?;
-            Ok(true)
+            Ok(!is_strict)
         }
         Line::Cd(_) => Ok(true),
     }
@@ -86,20 +87,20 @@ fn find_in_line(
 pub struct Findings {
     /// What is told of its lines, in order.
     pub list: Vec<Finding>,
-    /// No line holds a `&` or a clash.
+    /// No line holds a `&` or a clash, and strictly each is a command.
     pub is_harmless: bool,
 }
 
 /// What `check` tells of each line of a script, in order: the fault of a line that is no command; that it holds a `&`; and its
 /// first clash (own). Lines are counted from 1. Nothing is run. `AllocError` where memory is refused.
-pub fn find(alloc: Global, script: &Script<Global>) -> Result<Findings, AllocError>
+pub fn find(alloc: Global, script: &Script<Global>, is_strict: bool) -> Result<Findings, AllocError>
     ensures told { IfOk result (λ found. AreTold 1 (lines_of script.now.lines) (findings_text found.list.items)) }
-    ensures harmless { IfOk result (λ found. IsTrue found.is_harmless ↔ AreHarmless (lines_of script.now.lines)) }
+    ensures harmless { IfOk result (λ found. IsTrue found.is_harmless ↔ AreHarmless is_strict (lines_of script.now.lines)) }
 {
     let mut list = Vec::new(alloc);
     let mut is_harmless = true;
     for (i, line) in script.lines.as_slice().iter().enumerate() {
-        let is_fine = find_in_line(alloc, i + 1, line, &mut list)?;
+        let is_fine = find_in_line(alloc, i + 1, line, is_strict, &mut list)?;
         is_harmless = is_harmless && is_fine;
     }
     Ok(Findings { list, is_harmless })
@@ -112,10 +113,10 @@ pub fn run_find<'a, H: Host>(
     request: &CheckRequest<'a>,
     host: &mut H,
 ) -> Result<Findings, Fault<'a>>
-    ensures ran { IfOk result (λ found. RanCheck (H.input host.old) (H.file host.old) request.now.script.now found.is_harmless (findings_text found.list.items)) }
+    ensures ran { IfOk result (λ found. RanCheck (H.input host.old) (H.file host.old) request.now.script.now request.now.is_strict found.is_harmless (findings_text found.list.items)) }
     ensures fault { IfErr result (IsCheckFault (H.input host.old) (H.file host.old) request.now.script.now) }
 {
     let loaded = read_script(alloc, host, Profile::Xv6, request.script)?;
-    let found = find(alloc, &loaded)?;
+    let found = find(alloc, &loaded, request.is_strict)?;
     Ok(found)
 }

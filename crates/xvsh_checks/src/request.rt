@@ -11,6 +11,8 @@ pub struct CheckRequest<'a> {
     pub files: &'a [&'a str],
     /// Write last in how many turns the script runs to its end.
     pub counts_turns: bool,
+    /// End with status 3 for a line that is no command, too.
+    pub is_strict: bool,
     /// Print one object of JSON in place of the text.
     pub is_json: bool,
 }

@@ -34,12 +34,13 @@ fn check_with_turns(
     script: &Script<Global>,
     stdin: &[u8],
     given: &Files<Global>,
+    is_strict: bool,
 ) -> Result<Checked, AllocError>
     ensures told { IfOk result (λ checked. (text : List ℕ) × (turns : List ℕ) × AreTold 1 (lines_of script.now.lines) text
         × AreTurnsTold (lines_of script.now.lines) stdin.now (files given.now) turns × (checked.text.items ≡ text ++ turns)) }
-    ensures harmless { IfOk result (λ checked. IsTrue checked.is_harmless ↔ AreHarmless (lines_of script.now.lines)) }
+    ensures harmless { IfOk result (λ checked. IsTrue checked.is_harmless ↔ AreHarmless is_strict (lines_of script.now.lines)) }
 {
-    let mut checked = check(alloc, script)?;
+    let mut checked = check(alloc, script, is_strict)?;
     let turns = turns_line(alloc, script, stdin, given)?;
     checked.text.extend_from_slice(turns.as_bytes())?;
     Ok(checked)
@@ -53,7 +54,7 @@ pub fn run_turns<'a, H: Host>(
     request: &CheckRequest<'a>,
     host: &mut H,
 ) -> Result<Checked, Fault<'a>>
-    ensures ran { IfOk result (λ checked. RanTurns (H.input host.old) (H.file host.old) request.now.script.now request.now.files.now checked.is_harmless checked.text.items) }
+    ensures ran { IfOk result (λ checked. RanTurns (H.input host.old) (H.file host.old) request.now.script.now request.now.files.now request.now.is_strict checked.is_harmless checked.text.items) }
     ensures fault { IfErr result (IsTurnsFault (H.input host.old) (H.file host.old) request.now.script.now request.now.files.now) }
 {
     let source = Source {
@@ -63,6 +64,6 @@ pub fn run_turns<'a, H: Host>(
     };
     let start = prepare(alloc, host, &source, false)?;
     let stdin = start.stdin.as_slice();
-    let checked = check_with_turns(alloc, &start.script, stdin, &start.files)?;
+    let checked = check_with_turns(alloc, &start.script, stdin, &start.files, request.is_strict)?;
     Ok(checked)
 }

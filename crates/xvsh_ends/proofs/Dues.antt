@@ -96,8 +96,8 @@ unless : (asked : Asked) (status : ℕ) (same : Type 0) → same → UnlessPrint
 unless (asks_plain profile script paths lists strict) status same is = λ some three. is
 unless (asks_run profile script paths how lists) status same is = λ some four. is
 unless (asks_strict profile script paths harts turns lists) status same is = λ some three four. is
-unless (asks_check script) status same is = λ some three. is
-unless (asks_turns script paths) status same is = λ some three. is
+unless (asks_check script strict) status same is = λ some three. is
+unless (asks_turns script paths strict) status same is = λ some three. is
 unless (asks_explain script) status same is = λ some three. is
 unless (asks_whys profile script paths) status same is = λ some three. is
 unless (asks_explore profile script paths states all) status same is = λ some three four. is
@@ -114,8 +114,8 @@ unless_implied : (asked : Asked) (status : ℕ) (same other : Type 0) → (same 
 unless_implied (asks_plain profile script paths lists strict) status same other implies is = λ some three. implies (is some three)
 unless_implied (asks_run profile script paths how lists) status same other implies is = λ some four. implies (is some four)
 unless_implied (asks_strict profile script paths harts turns lists) status same other implies is = λ some three four. implies (is some three four)
-unless_implied (asks_check script) status same other implies is = λ some three. implies (is some three)
-unless_implied (asks_turns script paths) status same other implies is = λ some three. implies (is some three)
+unless_implied (asks_check script strict) status same other implies is = λ some three. implies (is some three)
+unless_implied (asks_turns script paths strict) status same other implies is = λ some three. implies (is some three)
 unless_implied (asks_explain script) status same other implies is = λ some three. implies (is some three)
 unless_implied (asks_whys profile script paths) status same other implies is = λ some three. implies (is some three)
 unless_implied (asks_explore profile script paths states all) status same other implies is = λ some three four. implies (is some three four)
@@ -133,8 +133,8 @@ pub unless_any : (asked : Asked) (status : ℕ) (same : Type 0) → UnlessPrinte
 unless_any (asks_plain profile script paths lists strict) status same is some one three four = is some (λ _. three)
 unless_any (asks_run profile script paths how lists) status same is some one three four = is some four
 unless_any (asks_strict profile script paths harts turns lists) status same is some one three four = is some three four
-unless_any (asks_check script) status same is some one three four = is some three
-unless_any (asks_turns script paths) status same is some one three four = is some three
+unless_any (asks_check script strict) status same is some one three four = is some three
+unless_any (asks_turns script paths strict) status same is some one three four = is some three
 unless_any (asks_explain script) status same is some one three four = is some three
 unless_any (asks_whys profile script paths) status same is some one three four = is some three
 unless_any (asks_explore profile script paths states all) status same is some one three four = is some three four

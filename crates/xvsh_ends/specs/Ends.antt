@@ -45,8 +45,8 @@ pub data Asked : Type 0 where
   asks_plain : Profile → Path → List (Bor Path) → Bool → Bool → Asked
   asks_run : Profile → Path → List (Bor Path) → How → Lists → Asked
   asks_strict : Profile → Path → List (Bor Path) → ℕ → ℕ → Lists → Asked
-  asks_check : Path → Asked
-  asks_turns : Path → List (Bor Path) → Asked
+  asks_check : Path → Bool → Asked
+  asks_turns : Path → List (Bor Path) → Bool → Asked
   asks_explain : Path → Asked
   asks_whys : Profile → Path → List (Bor Path) → Asked
   asks_explore : Profile → Path → List (Bor Path) → ℕ → Bool → Asked
@@ -142,12 +142,12 @@ module _ (input : Option Bytes) (file : Path → Option Bytes) where
     -- the same of a strict run, with a reason behind its diagnostics why the script isn't settled, whose status says that too, where nothing was full
     ran_strict : {profile : Profile} {script : Path} {paths : List (Bor Path)} {harts turns : ℕ} {lists : Lists} {text : Bytes} (diag why : Bytes) (is_settled : Bool) (full : Option Full) → RanStrict input file profile script paths harts turns lists full is_settled why text diag → Due (asks_strict profile script paths harts turns lists) text ((diag ++ why) ++ full_text full) (full_status full (verdict_status true is_settled))
     no_strict : {profile : Profile} {script : Path} {paths : List (Bor Path)} {harts turns : ℕ} {lists : Lists} (fault : ProcessFault) → IsStrictFault input file profile script paths harts turns fault → Due (asks_strict profile script paths harts turns lists) [] (run_fault_told fault) (run_status fault)
-    -- the report of a check, by whether the script holds no `&` and no clash; or why there is none
-    checked : {script : Path} {text : Bytes} (is_harmless : Bool) → RanCheck input file script is_harmless text → Due (asks_check script) text [] (check_status is_harmless)
-    no_check : {script : Path} (fault : Fault) → IsCheckFault input file script fault → Due (asks_check script) [] (fault_told fault) (status_of fault)
+    -- the report of a check, by whether the script holds no `&` and no clash, and strictly no line that is no command; or why there is none
+    checked : {script : Path} {strict : Bool} {text : Bytes} (is_harmless : Bool) → RanCheck input file script strict is_harmless text → Due (asks_check script strict) text [] (check_status is_harmless)
+    no_check : {script : Path} {strict : Bool} (fault : Fault) → IsCheckFault input file script fault → Due (asks_check script strict) [] (fault_told fault) (status_of fault)
     -- the same with its turns after its lines
-    counted : {script : Path} {paths : List (Bor Path)} {text : Bytes} (is_harmless : Bool) → RanTurns input file script paths is_harmless text → Due (asks_turns script paths) text [] (check_status is_harmless)
-    not_counted : {script : Path} {paths : List (Bor Path)} (fault : Fault) → IsTurnsFault input file script paths fault → Due (asks_turns script paths) [] (fault_told fault) (status_of fault)
+    counted : {script : Path} {paths : List (Bor Path)} {strict : Bool} {text : Bytes} (is_harmless : Bool) → RanTurns input file script paths strict is_harmless text → Due (asks_turns script paths strict) text [] (check_status is_harmless)
+    not_counted : {script : Path} {paths : List (Bor Path)} {strict : Bool} (fault : Fault) → IsTurnsFault input file script paths fault → Due (asks_turns script paths strict) [] (fault_told fault) (status_of fault)
     -- the notes on a script in sentences; or why there are none
     explained : {script : Path} {text : Bytes} (is_fine : Bool) → RanExplain input file script is_fine text → Due (asks_explain script) text [] (check_status is_fine)
     not_explained : {script : Path} (fault : Fault) → IsCheckFault input file script fault → Due (asks_explain script) [] (fault_told fault) (status_of fault)

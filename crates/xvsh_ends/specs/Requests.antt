@@ -30,8 +30,8 @@ plain_asked request = strictly_asked request.is_strict request
 
 -- a check, with its turns or without
 abbrev pub check_asked : Bool → CheckRequest → Asked
-check_asked false request = asks_check request.script.now
-check_asked true request = asks_turns request.script.now request.files.now
+check_asked false request = asks_check request.script.now request.is_strict
+check_asked true request = asks_turns request.script.now request.files.now request.is_strict
 
 -- notes, with why the script is settled or without
 abbrev pub explain_asked : Bool → ExplainRequest → Asked
@@ -99,8 +99,8 @@ abbrev pub UnlessPrinted : Asked → ℕ → Type 0 → Type 0
 UnlessPrinted (asks_plain profile script paths lists strict) status same = status ≢ 0 → (IsTrue strict → status ≢ 3) → same
 UnlessPrinted (asks_run profile script paths how lists) status same = status ≢ 0 → status ≢ 4 → same
 UnlessPrinted (asks_strict profile script paths harts turns lists) status same = status ≢ 0 → status ≢ 3 → status ≢ 4 → same
-UnlessPrinted (asks_check script) status same = status ≢ 0 → status ≢ 3 → same
-UnlessPrinted (asks_turns script paths) status same = status ≢ 0 → status ≢ 3 → same
+UnlessPrinted (asks_check script strict) status same = status ≢ 0 → status ≢ 3 → same
+UnlessPrinted (asks_turns script paths strict) status same = status ≢ 0 → status ≢ 3 → same
 UnlessPrinted (asks_explain script) status same = status ≢ 0 → status ≢ 3 → same
 UnlessPrinted (asks_whys profile script paths) status same = status ≢ 0 → status ≢ 3 → same
 UnlessPrinted (asks_explore profile script paths states all) status same = status ≢ 0 → status ≢ 3 → status ≢ 4 → same

@@ -64,7 +64,7 @@ plain_shape = record (new_shape (codes "plain")) {
 -- files and an input only beside `--turns`
 abbrev pub check_shape : Shape
 check_shape = record (new_shape (codes "check")) {
-  rules = flag_rule (codes "turns") ∷ flag_rule (codes "json") ∷ apart input_rule ∷ text_rule ∷ word_rule (codes "script") ∷ record files_rule { is_free = false } ∷ [];
+  rules = flag_rule (codes "turns") ∷ flag_rule (codes "strict") ∷ flag_rule (codes "json") ∷ apart input_rule ∷ text_rule ∷ word_rule (codes "script") ∷ record files_rule { is_free = false } ∷ [];
 }
 
 -- `explore` by the most states that it may keep

@@ -305,6 +305,8 @@ fn plain_command<'a>(alloc: Global) -> Result<Command<'a>, AllocError>
 
 const CHECK_ABOUT: &str = "Tells where commands of a script may clash, and runs nothing";
 
+const CHECKED_STRICT_HELP: &str = "End with status 3 for a line that is no command, too";
+
 const COUNTED_HELP: &str =
     "Write last in how many turns the script runs to its end on the FILEs and its input";
 
@@ -315,6 +317,7 @@ fn check_command<'a>(alloc: Global) -> Result<Command<'a>, AllocError>
     let input = input_option(alloc).requires_arg("turns")?;
     let args = vec![in alloc;
         flag(alloc, "turns", COUNTED_HELP),
+        flag(alloc, "strict", CHECKED_STRICT_HELP),
         flag(alloc, "json", JSON_HELP),
         input,
         text_flag(alloc),

@@ -18,11 +18,11 @@ loop-i-preserved c =
     let cut = line_left lines c.loop-i.i c.line-item.result inside c.line-item.is in
     let later = map line_of (drop (c.loop-i.i + 1) lines) in
     let told = subst (λ ls. Completes (map line_of lines) (c.loop-i.i + 1) ls c.loop-i.text.items) cut c.loop-i.invariant.0 in
-    let fine = subst (λ ls. Decides (map line_of lines) ls c.loop-i.is_harmless) cut c.loop-i.invariant.1 in
+    let fine = subst (λ ls. Decides c.args.is_strict (map line_of lines) ls c.loop-i.is_harmless) cut c.loop-i.invariant.1 in
     let first = c.in_ok-is_fine.ensures.told in
     let joined : c.if-is_harmless.is_harmless ≡ (c.loop-i.is_harmless && c.in_ok-is_fine.is_fine) = elim c.if-is_harmless.branch [ then-is_harmless w ↦ w.is_harmless-is ∙ ap (λ b. b && c.in_ok-is_fine.is_fine) (sym w.if-is_harmless.true) | else-is_harmless w ↦ w.is_harmless-is ∙ w.if-is_harmless.false ∙ ap (λ b. b && c.in_ok-is_fine.is_fine) (sym w.if-is_harmless.false) ] in (
       told_one (map line_of lines) later line (c.loop-i.i + 1) c.loop-i.text.items first.0 c.check_line.new.text.items told first.1 first.2,
-      subst (Decides (map line_of lines) later) (sym joined) (harmless_one (map line_of lines) later line c.loop-i.is_harmless c.in_ok-is_fine.is_fine fine c.in_ok-is_fine.ensures.harmless),
+      subst (Decides c.args.is_strict (map line_of lines) later) (sym joined) (harmless_one c.args.is_strict (map line_of lines) later line c.loop-i.is_harmless c.in_ok-is_fine.is_fine fine c.in_ok-is_fine.ensures.harmless),
     )
 
 pub returns-clause-told : goal.returns-clause-told
@@ -32,5 +32,5 @@ returns-clause-told c =
 
 pub returns-clause-harmless : goal.returns-clause-harmless
 returns-clause-harmless c =
-    subst (λ ls. IsTrue c.loop-i.is_harmless ↔ AreHarmless ls) c.as_slice-line-items.ensures
-    (harmless_all (map line_of c.as_slice-line-items.result.now) (map line_of (drop c.loop-i.i c.as_slice-line-items.result.now)) c.loop-i.is_harmless (none_left c.as_slice-line-items.result.now c.loop-i.i (omega arith)) c.loop-i.invariant.1)
+    subst (λ ls. IsTrue c.loop-i.is_harmless ↔ AreHarmless c.args.is_strict ls) c.as_slice-line-items.ensures
+    (harmless_all c.args.is_strict (map line_of c.as_slice-line-items.result.now) (map line_of (drop c.loop-i.i c.as_slice-line-items.result.now)) c.loop-i.is_harmless (none_left c.as_slice-line-items.result.now c.loop-i.i (omega arith)) c.loop-i.invariant.1)

@@ -20,6 +20,6 @@ returns-clause-ran g c =
     let start = c.in_ok-start.start in
     let lines = lines_of start.script.lines in
     let found = c.in_ok-findings.findings in
-    ran_turns (g.H.Host.input c.args.host.now) (g.H.Host.file c.args.host.now) c.args.request.now.script.now c.args.request.now.files.now lines start.files start.stdin.items _ found.is_harmless c.in_ok-start.ensures.prepared
+    ran_turns (g.H.Host.input c.args.host.now) (g.H.Host.file c.args.host.now) c.args.request.now.script.now c.args.request.now.files.now lines start.files start.stdin.items _ c.args.request.now.is_strict found.is_harmless c.in_ok-start.ensures.prepared
     (findings_text found.list.items, turns_told c.turns_of-turns.result, c.in_ok-findings.ensures.told, subst (λ s. AreTurnsTold lines s (files start.files) (turns_told c.turns_of-turns.result)) c.as_slice.ensures.value c.turns_of-turns.ensures, refl)
     c.in_ok-findings.ensures.harmless

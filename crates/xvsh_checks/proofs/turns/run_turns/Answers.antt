@@ -21,6 +21,6 @@ returns-clause-ran g c =
     let start = c.in_ok-start.start in
     let lines = lines_of start.script.lines in
     let checked = c.in_ok-checked.checked in
-    ran_turns (g.H.Host.input c.args.host.now) (g.H.Host.file c.args.host.now) c.args.request.now.script.now c.args.request.now.files.now lines start.files start.stdin.items checked.text.items checked.is_harmless c.in_ok-start.ensures.prepared
+    ran_turns (g.H.Host.input c.args.host.now) (g.H.Host.file c.args.host.now) c.args.request.now.script.now c.args.request.now.files.now lines start.files start.stdin.items checked.text.items c.args.request.now.is_strict checked.is_harmless c.in_ok-start.ensures.prepared
     (subst (λ s. (text : Bytes) × (turns : Bytes) × AreTold 1 lines text × AreTurnsTold lines s (files start.files) turns × (checked.text.items ≡ text ++ turns)) c.as_slice-stdin.ensures.value c.in_ok-checked.ensures.told)
     c.in_ok-checked.ensures.harmless

@@ -16,8 +16,8 @@ returns c =
     let input = needing_rule c.input_option.result c.in_ok-input.input _ inputs ∙ ap {A = Rule} (λ r. record r { is_free = false }) c.input_option.ensures.rule in
     let input_local = ap {A = Arg} (λ a. a.global) inputs.0 ∙ c.input_option.ensures.local in
     let local = ap {A = Arg} (λ a. a.global) needs.0 ∙ c.file_words.ensures.local in
-    command_made c.in_ok-args.args.items (flag_rule (codes "turns") ∷ flag_rule (codes "json") ∷ apart input_rule ∷ text_rule ∷ word_rule (codes "script") ∷ record files_rule { is_free = false } ∷ []) (codes "check") c.about.result c.args-2.result c.args-2.ensures
-    (subst AreLocal (sym items) (c.flag.ensures.local, (c.flag-2.ensures.local, (input_local, (c.text_flag.ensures.local, (c.script_word.ensures.local, (local, tt)))))))
-    (ap (map rule_of) items ∙ (λ i. c.flag.ensures.rule i ∷ c.flag-2.ensures.rule i ∷ input i ∷ c.text_flag.ensures.rule i ∷ c.script_word.ensures.rule i ∷ files i ∷ []))
+    command_made c.in_ok-args.args.items (flag_rule (codes "turns") ∷ flag_rule (codes "strict") ∷ flag_rule (codes "json") ∷ apart input_rule ∷ text_rule ∷ word_rule (codes "script") ∷ record files_rule { is_free = false } ∷ []) (codes "check") c.about.result c.args-2.result c.args-2.ensures
+    (subst AreLocal (sym items) (c.flag.ensures.local, (c.flag-2.ensures.local, (c.flag-3.ensures.local, (input_local, (c.text_flag.ensures.local, (c.script_word.ensures.local, (local, tt))))))))
+    (ap (map rule_of) items ∙ (λ i. c.flag.ensures.rule i ∷ c.flag-2.ensures.rule i ∷ c.flag-3.ensures.rule i ∷ input i ∷ c.text_flag.ensures.rule i ∷ c.script_word.ensures.rule i ∷ files i ∷ []))
     (ap app_of_fields c.about.ensures ∙ c.new.ensures.app)
     (ap (λ f. f.has_globals) c.about.ensures ∙ c.new.ensures.local)
