@@ -1,12 +1,14 @@
-//! Pages that draw traces: HTML that stands alone, without scripts and without the network.
+//! Pages that draw traces, in HTML that stands alone: one or two traces and the numbers of events go in, and the bytes of a page come
+//! out.
 //!
-//! `run_page` draws one run, and `pair_page` two runs of one script, of which it tells where they part. Bytes of a trace enter a
-//! page in one place, as text (`page_markup`).
+//! A page has the script, what it printed and left, what happened in sentences, the figure of `figure_strips`, and a table of the
+//! calls; a page of two traces says where they part, and draws what both begin with once.
 #![tactic(auto)]
 
 mod header;
 mod page;
 mod pair;
+mod story;
 mod style;
 mod table;
 

@@ -1,10 +1,11 @@
 //! The page of one run.
 
 use crate::header::{add_facts, add_head};
+use crate::story::add_story;
 use crate::style::KEY;
 use crate::table::add_table;
 use Piece::{Mark, Num};
-use figure_strips::{Window, add_strip};
+use figure_strips::{Fold, Window, add_strips, folds_of};
 use figure_words::Run;
 use page_markup::{Page, Piece};
 use std::alloc::{AllocError, Allocator};
@@ -20,26 +21,43 @@ pub struct Bounds {
     pub to: Option<usize>,
 }
 
+/// Events that are drawn: the number of the first, and of the one behind the last.
+#[derive(Clone, Copy)]
+pub(crate) struct Span {
+    pub(crate) first: usize,
+    pub(crate) past: usize,
+}
+
+impl Span {
+    /// How many events it has.
+    pub(crate) fn count(self) -> usize {
+        self.past.saturating_sub(self.first)
+    }
+}
+
 impl Bounds {
     // The same of a run of so many events, of which at most `MOST_EVENTS` are drawn.
-    pub(crate) fn window(self, events: usize) -> Window {
+    pub(crate) fn span(self, events: usize) -> Span {
         let first = self.from.unwrap_or(1).max(1);
         let last = self
             .to
             .unwrap_or(events)
             .min(events)
             .min(first.saturating_add(MOST_EVENTS - 1));
-        Window::new(first, last.saturating_add(1).max(first))
+        Span {
+            first,
+            past: last.saturating_add(1).max(first),
+        }
     }
 }
 
 // Says which events are left out, if some are.
 pub(crate) fn add_left_out<A: Allocator>(
     page: &mut Page<A>,
-    window: Window,
+    span: Span,
     events: usize,
 ) -> Result<(), AllocError> {
-    let drawn = window.count();
+    let drawn = span.count();
     if drawn >= events {
         return Ok(());
     }
@@ -52,9 +70,9 @@ pub(crate) fn add_left_out<A: Allocator>(
     }
     page.add(&[
         Mark("<p class=\"note\"><b>Events "),
-        Num(window.first),
+        Num(span.first),
         Mark(" to "),
-        Num(window.past.saturating_sub(1)),
+        Num(span.past.saturating_sub(1)),
         Mark(" of "),
         Num(events),
         Mark("</b>: the other "),
@@ -63,27 +81,39 @@ pub(crate) fn add_left_out<A: Allocator>(
     ])
 }
 
-// The strips of these events.
-pub(crate) fn add_strips<A: Allocator + Copy>(
+// Says how many events are folded, if some are.
+fn add_folded<A: Allocator>(page: &mut Page<A>, folds: &[Fold]) -> Result<(), AllocError> {
+    let mut folded: usize = 0;
+    for fold in folds {
+        folded = folded.saturating_add(fold.count());
+    }
+    if folded == 0 {
+        return Ok(());
+    }
+    page.add(&[
+        Mark("<p class=\"note\"><b>"),
+        Num(folded),
+        Mark(
+            " events are folded</b>, in shaded columns with how many there are: reads and writes like those before them. The table has each.</p>\n",
+        ),
+    ])
+}
+
+// The figure of these events, which the run passes.
+pub(crate) fn add_figure<A: Allocator + Copy>(
     alloc: A,
     page: &mut Page<A>,
     run: &mut Run<'_, A>,
-    window: Window,
+    span: Span,
 ) -> Result<(), AllocError> {
-    let events = window.strip_events();
-    let mut strip = window;
-    for _strip in 0..window.count() {
-        if strip.first >= window.past {
-            return Ok(());
-        }
-        strip.past = strip.first.saturating_add(events).min(window.past);
-        add_strip(alloc, page, run, strip)?;
-        strip.first = strip.past;
-    }
-    Ok(())
+    let folds = folds_of(alloc, run, (span.first, span.past))?;
+    add_folded(page, folds.as_slice())?;
+    let window = Window::new(span.first, span.past, folds.as_slice());
+    add_strips(alloc, page, run, window)
 }
 
-/// The page of a run, in HTML: its script, what it printed and left, its figure, and a table of its calls. Of more than
+/// The page of a run, in HTML: its script, what it printed and left, what happened in sentences, its figure, and a table of its
+/// calls. Of more than
 /// `MOST_EVENTS` events the first so many of those in the bounds are drawn, and the page says which are left out. Own.
 ///
 /// `AllocError` where memory is refused.
@@ -94,22 +124,24 @@ pub fn run_page<A: Allocator + Copy>(
 ) -> Result<Vec<u8, A>, AllocError> {
     let mut page = Page::new(alloc);
     let mut run = Run::new(alloc, trace)?;
-    let window = bounds.window(trace.events.len());
+    let span = bounds.span(trace.events.len());
     add_head(
         &mut page,
         "A run of a script",
         trace.text(trace.head.script),
     )?;
     add_facts(&mut page, &run)?;
+    page.mark("<h2>What happened</h2>\n")?;
+    add_story(&mut page, &run, span)?;
     page.mark(
         "<h2>Processes, pipes and output</h2>\n<p class=\"note\">Events go from left to right.</p>\n",
     )?;
-    add_left_out(&mut page, window, trace.events.len())?;
+    add_left_out(&mut page, span, trace.events.len())?;
     page.mark(KEY)?;
-    run.pass(1, window.first);
-    add_strips(alloc, &mut page, &mut run, window)?;
+    run.pass(1, span.first);
+    add_figure(alloc, &mut page, &mut run, span)?;
     page.mark("<h2>Each call</h2>\n")?;
-    add_table(&mut page, &run, window)?;
+    add_table(&mut page, &run, span)?;
     page.mark("</main>\n</body>\n</html>\n")?;
     Ok(page.into_text())
 }

@@ -1,12 +1,12 @@
 //! The page of two runs of one script.
 
 use crate::header::{add_files, add_head, add_printed, add_size};
-use crate::page::{Bounds, add_left_out, add_strips};
+use crate::page::{Bounds, Span, add_figure, add_left_out};
+use crate::story::add_story;
 use crate::style::KEY;
 use crate::table::add_table;
 use Piece::{Mark, Num};
-use figure_strips::Window;
-use figure_words::{Run, add_call, add_outcome, add_process};
+use figure_words::{Run, add_process, add_sentence};
 use page_markup::{Page, Piece};
 use std::alloc::{AllocError, Allocator};
 use trace_data::{Event, Trace};
@@ -57,9 +57,7 @@ fn add_deed<A: Allocator + Copy>(
         page.mark("</p>")?;
         if let Some(trap) = &event.trap {
             page.mark("<p>")?;
-            add_call(page, run, trap)?;
-            page.mark(": ")?;
-            add_outcome(page, run, trap)?;
+            add_sentence(page, run, event, trap)?;
             page.mark("</p>")?;
         }
         return Ok(());
@@ -153,13 +151,13 @@ fn add_both_facts<A: Allocator + Copy>(
     page.mark("</dl>\n")
 }
 
-// The part of a window before an event, or from it on.
-fn cut(window: Window, at: usize, is_before: bool) -> Window {
-    let at = at.max(window.first).min(window.past);
+// The part of these events before an event, or from it on.
+fn cut(span: Span, at: usize, is_before: bool) -> Span {
+    let at = at.max(span.first).min(span.past);
     if is_before {
-        Window::new(window.first, at)
+        Span { past: at, ..span }
     } else {
-        Window::new(at, window.past)
+        Span { first: at, ..span }
     }
 }
 
@@ -169,18 +167,19 @@ fn add_rest<A: Allocator + Copy>(
     page: &mut Page<A>,
     run: &mut Run<'_, A>,
     title: &'static str,
-    window: Window,
+    span: Span,
 ) -> Result<(), AllocError> {
     page.add(&[
         Mark("<h2>"),
         Mark(title),
         Mark(", from event "),
-        Num(window.first),
+        Num(span.first),
         Mark(" on</h2>\n"),
     ])?;
-    run.pass(1, window.first);
-    add_strips(alloc, page, run, window)?;
-    add_table(page, run, window)
+    add_story(page, run, span)?;
+    run.pass(1, span.first);
+    add_figure(alloc, page, run, span)?;
+    add_table(page, run, span)
 }
 
 /// The page of two runs of one script: what both printed and left, the event at which they part, what both begin with once, and
@@ -201,16 +200,16 @@ pub fn pair_page<A: Allocator + Copy>(
     add_head(&mut page, "Two runs of a script", one.text(one.head.script))?;
     add_both_facts(&mut page, &first, &second)?;
     add_parting(&mut page, &first, &second, count)?;
-    let window = bounds.window(one.events.len());
+    let span = bounds.span(one.events.len());
     page.mark("<h2>What both begin with</h2>\n")?;
-    add_left_out(&mut page, window, one.events.len())?;
+    add_left_out(&mut page, span, one.events.len())?;
     page.mark(KEY)?;
-    first.pass(1, window.first);
-    add_strips(alloc, &mut page, &mut first, cut(window, parting, true))?;
-    add_table(&mut page, &first, cut(window, parting, true))?;
-    let rest = cut(window, parting, false);
+    first.pass(1, span.first);
+    add_figure(alloc, &mut page, &mut first, cut(span, parting, true))?;
+    add_table(&mut page, &first, cut(span, parting, true))?;
+    let rest = cut(span, parting, false);
     add_rest(alloc, &mut page, &mut first, "Run 1", rest)?;
-    let rest = cut(bounds.window(other.events.len()), parting, false);
+    let rest = cut(bounds.span(other.events.len()), parting, false);
     add_rest(alloc, &mut page, &mut second, "Run 2", rest)?;
     page.mark("</main>\n</body>\n</html>\n")?;
     Ok(page.into_text())

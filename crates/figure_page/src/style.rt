@@ -16,6 +16,7 @@ pub(crate) const STYLE: &str = "<style>
 --h0:#2459a8;--h1:#7a5a00;--h2:#1d6f45;--h3:#74398f;--h4:#0f6b78;--h5:#9a3f12;--h6:#4b5563;--h7:#9c2a63;
 --t0:#fff;--t1:#fff;--t2:#fff;--t3:#fff;--t4:#fff;--t5:#fff;--t6:#fff;--t7:#fff}}
 *{box-sizing:border-box}
+pre,code,td,dd,p,text,tspan{unicode-bidi:bidi-override}
 body{margin:0 auto;padding:24px 20px;max-width:1400px;background:var(--paper);color:var(--ink);font:15px/1.45 system-ui,sans-serif}
 h1{font-size:15px;margin:0 0 8px;color:var(--faint)}
 h2{font-size:18px;margin:28px 0 8px}
@@ -27,6 +28,8 @@ pre.script{font-size:22px;line-height:1.35;padding-bottom:12px;border-bottom:1px
 .facts dt{color:var(--faint);font-size:13px}
 .facts dd{margin:2px 0 0;overflow-wrap:anywhere}
 .note{color:var(--faint);margin:4px 0}
+.story{columns:3 300px;column-gap:28px;list-style:none;margin:0;padding:0;font-size:13px}
+.story li{break-inside:avoid;margin:0 0 4px;overflow-wrap:anywhere;unicode-bidi:bidi-override}
 .key{display:flex;flex-wrap:wrap;gap:4px 20px;margin:0 0 10px;padding:0;list-style:none;color:var(--faint);font-size:13px}
 .key svg{vertical-align:-4px;margin-right:6px}
 .strip{display:flex;border-top:1px solid var(--line);padding:6px 0 12px;break-inside:avoid}
@@ -60,6 +63,10 @@ rect.reap{fill:var(--paper);stroke-dasharray:none}
 .rail{stroke:var(--ink);stroke-width:2}
 .open .body{stroke-dasharray:3 2}
 .tick{stroke:var(--ink)}
+.file{fill:var(--paper);stroke:var(--faint)}
+.file.empty{stroke-dasharray:3 2}
+.shade{fill:var(--line);opacity:.35}
+.folded{fill:var(--paper);stroke:var(--faint);stroke-dasharray:2 2}
 .body{stroke:var(--c);fill:var(--t)}
 rect.cap{fill:var(--c)}
 text.cap{fill:var(--paper);font-size:9px}
@@ -98,5 +105,6 @@ pub(crate) const KEY: &str = "<ul class=\"key\">
 <li><svg width=\"12\" height=\"18\" aria-hidden=\"true\"><path class=\"wake\" d=\"M6 0V10\"/><path class=\"tip\" d=\"M2 10H10L6 17Z\"/></svg>wakes</li>
 <li><svg width=\"12\" height=\"18\" aria-hidden=\"true\"><path class=\"reap\" d=\"M6 0V10\"/><rect class=\"reap\" x=\"3\" y=\"10\" width=\"6\" height=\"6\"/></svg>wait takes the process out</li>
 <li><svg width=\"30\" height=\"16\" aria-hidden=\"true\"><rect class=\"fill\" y=\"4\" width=\"29\" height=\"12\"/></svg>bytes in a pipe, up to 512; above and below, the processes that hold its ends</li>
+<li><svg width=\"30\" height=\"16\" aria-hidden=\"true\"><rect class=\"file\" x=\"1\" y=\"1\" width=\"28\" height=\"14\"/></svg>what a file holds</li>
 </ul>
 ";

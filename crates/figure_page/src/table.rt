@@ -1,8 +1,8 @@
 //! The table of the events.
 
+use crate::page::Span;
 use Piece::{Mark, Num};
-use figure_strips::Window;
-use figure_words::{Run, add_call, add_node, add_outcome, add_process, events_of};
+use figure_words::{Run, add_call, add_node, add_process, add_sentence, events_of};
 use page_markup::{Page, Piece};
 use std::alloc::{AllocError, Allocator};
 use trace_data::{Event, Trap};
@@ -29,9 +29,11 @@ fn add_row<A: Allocator + Copy>(
     add_process(page, run, event, ROOM)?;
     add_node(page, &event.doing)?;
     page.mark("</td><td>")?;
+    page.mark("<code>")?;
     add_call(page, run, trap)?;
+    page.mark("</code>")?;
     page.mark("</td><td>")?;
-    add_outcome(page, run, trap)?;
+    add_sentence(page, run, event, trap)?;
     page.mark("</td></tr>\n")
 }
 
@@ -39,12 +41,12 @@ fn add_row<A: Allocator + Copy>(
 pub(crate) fn add_table<A: Allocator + Copy>(
     page: &mut Page<A>,
     run: &Run<'_, A>,
-    window: Window,
+    span: Span,
 ) -> Result<(), AllocError> {
     page.mark(
-        "<div class=\"wide\"><table><caption>Each call, at the event at which it was carried out; its process ran since the event beside it</caption>\n<thead><tr><th scope=\"col\">Event</th><th scope=\"col\">Since</th><th scope=\"col\">Hart</th><th scope=\"col\">Process</th><th scope=\"col\">Call</th><th scope=\"col\">What came of it</th></tr></thead>\n<tbody>\n",
+        "<div class=\"wide\"><table><caption>Each call, at the event at which it was carried out; its process ran since the event beside it</caption>\n<thead><tr><th scope=\"col\">Event</th><th scope=\"col\">Since</th><th scope=\"col\">Hart</th><th scope=\"col\">Process</th><th scope=\"col\">Call</th><th scope=\"col\">What happened</th></tr></thead>\n<tbody>\n",
     )?;
-    for event in events_of(run.trace, window.first, window.past) {
+    for event in events_of(run.trace, span.first, span.past) {
         if let Some(trap) = &event.trap {
             add_row(page, run, event, trap)?;
         }

@@ -1,6 +1,6 @@
 //! The bands of a strip: how full each pipe is, and who holds its ends.
 
-use crate::geometry::{BAND, FILL, LETTER, Window};
+use crate::geometry::{BAND, FILL, Fold, LETTER, TIME, Window};
 use crate::labels::{begin_label, begin_text};
 use crate::strip::{Strip, states_of};
 use Piece::{Bits, Mark, Num};
@@ -18,6 +18,9 @@ const WRITE_RAIL: usize = 12;
 const FILL_TOP: usize = 20;
 
 const READ_RAIL: usize = 66;
+
+// How many columns it takes to say that an end is closed.
+const CLOSED: usize = 19;
 
 // How many decimal digits a number of at most three has.
 fn digits(number: usize) -> usize {
@@ -95,8 +98,8 @@ fn add_rail<A: Allocator>(
     match closed {
         None => Ok(()),
         Some(end) => {
-            let place = (left.saturating_sub(3), at.saturating_add(4));
-            begin_label(page, "small left alert", place, 1)?;
+            let left = left.saturating_sub(3).min(TIME - CLOSED * LETTER);
+            begin_label(page, "small left alert", (left, at.saturating_add(4)), 1)?;
             page.add(&[Mark("× "), Mark(end), Mark(" end closed</text>")])
         }
     }
@@ -105,7 +108,7 @@ fn add_rail<A: Allocator>(
 // A pipe's state, from its event to the next one's.
 fn add_state<A: Allocator>(
     page: &mut Page<A>,
-    window: Window,
+    window: Window<'_>,
     (before, state): (Option<PipeState>, &PipeState),
     right: usize,
     top: usize,
@@ -142,7 +145,7 @@ fn add_state<A: Allocator>(
 // The states of a pipe in the strip.
 fn add_states<A: Allocator>(
     page: &mut Page<A>,
-    window: Window,
+    window: Window<'_>,
     states: &[PipeState],
     top: usize,
 ) -> Result<(), AllocError> {
@@ -165,7 +168,7 @@ fn add_states<A: Allocator>(
 fn add_alerts<A: Allocator + Copy>(
     page: &mut Page<A>,
     run: &Run<'_, A>,
-    window: Window,
+    window: Window<'_>,
     pipe: usize,
     top: usize,
 ) -> Result<(), AllocError> {
@@ -173,6 +176,9 @@ fn add_alerts<A: Allocator + Copy>(
         let Some(trap) = event.trap else {
             continue;
         };
+        if window.fold_of(event.number).is_some() {
+            continue;
+        }
         let text = match (trap.object, trap.state) {
             (Some(Object::PipeRead(name)), _) if name == pipe && trap.is_at_end => "EOF",
             (Some(Object::PipeWrite(name)), State::Runnable(Reply::Refused)) if name == pipe => {
@@ -193,12 +199,54 @@ fn add_alerts<A: Allocator + Copy>(
     Ok(())
 }
 
+// The least and the most bytes that a pipe holds after events of a fold; `None` where none of them changes it.
+fn range_in(states: &[PipeState], fold: Fold) -> Option<(usize, usize)> {
+    let mut range = None;
+    for state in states {
+        if fold.has(state.event) {
+            let (low, high) = range.unwrap_or((state.held, state.held));
+            range = Some((low.min(state.held), high.max(state.held)));
+        }
+    }
+    range
+}
+
+// Between which numbers of bytes a pipe is in each fold, in place of how full it is.
+fn add_ranges<A: Allocator>(
+    page: &mut Page<A>,
+    window: Window<'_>,
+    states: &[PipeState],
+    top: usize,
+) -> Result<(), AllocError> {
+    for fold in window.folds {
+        let Some((low, high)) = range_in(states, *fold) else {
+            continue;
+        };
+        let (left, right) = (window.left(fold.first), window.right(fold.first));
+        page.add(&[
+            Mark("<rect class=\"folded\" x=\""),
+            Num(left),
+            Mark("\" y=\""),
+            Num(top.saturating_add(FILL_TOP - 2)),
+            Mark("\" width=\""),
+            Num(right.saturating_sub(left)),
+            Mark("\" height=\""),
+            Num(FILL + 2),
+            Mark("\"/>"),
+        ])?;
+        let low_line = top.saturating_add(FILL_TOP + FILL / 2 + 4);
+        begin_text(page, "small", (window.middle(fold.first), low_line))?;
+        page.add(&[Num(low), Mark(" to "), Num(high), Mark("</text>")])?;
+    }
+    Ok(())
+}
+
 /// The bands of a strip.
 pub fn add_bands<A: Allocator + Copy>(
     alloc: A,
     page: &mut Page<A>,
     run: &Run<'_, A>,
-    strip: &Strip<A>,
+    strip: &Strip<'_, A>,
 ) -> Result<(), AllocError> {
     let mut top = strip.below;
     for band in strip.bands.as_slice() {
@@ -211,6 +259,7 @@ pub fn add_bands<A: Allocator + Copy>(
             Mark("\"/>"),
         ])?;
         add_states(page, strip.window, states.as_slice(), top)?;
+        add_ranges(page, strip.window, states.as_slice(), top)?;
         add_alerts(page, run, strip.window, band.pipe, top)?;
         top = top.saturating_add(BAND);
     }

@@ -1,11 +1,11 @@
 //! The lanes of a strip: where processes are, run, sleep, end, and what goes from one to another.
 
-use crate::geometry::{CAP, LETTER, Row, Window};
-use crate::labels::begin_label;
+use crate::geometry::{CAP, Fold, LETTER, Row, Window};
+use crate::labels::{begin_label, begin_text};
 use crate::strip::{Strip, row_of};
 use Piece::{Mark, Num, Pipe, Short};
 use figure_words::{Run, add_channel, call_name, events_of};
-use page_markup::{Page, Piece};
+use page_markup::{Page, Piece, shown_width};
 use run_figure::Bar;
 use std::alloc::{AllocError, Allocator};
 use trace_data::{Call, Channel, Event, Object, Process, Reply, State, Trap};
@@ -38,7 +38,11 @@ fn add_line<A: Allocator>(
 }
 
 // The life of a process: it can run, and after its end it is a zombie until it is taken out.
-fn add_life<A: Allocator>(page: &mut Page<A>, window: Window, row: &Row) -> Result<(), AllocError> {
+fn add_life<A: Allocator>(
+    page: &mut Page<A>,
+    window: Window<'_>,
+    row: &Row,
+) -> Result<(), AllocError> {
     let born = row.life.lane.process.born;
     let from = if window.has(born) && born != 0 {
         window.middle(born)
@@ -102,7 +106,7 @@ fn add_bar_text<A: Allocator + Copy>(
 fn add_bar<A: Allocator + Copy>(
     page: &mut Page<A>,
     run: &Run<'_, A>,
-    window: Window,
+    window: Window<'_>,
     row: &Row,
     bar: &Bar,
 ) -> Result<(), AllocError> {
@@ -187,7 +191,7 @@ fn add_edge<A: Allocator>(
 // A fork: a line to a ring on the child's lane.
 fn add_fork<A: Allocator>(
     page: &mut Page<A>,
-    strip: &Strip<A>,
+    strip: &Strip<'_, A>,
     event: &Event,
     pid: u8,
 ) -> Result<(), AllocError> {
@@ -212,7 +216,7 @@ fn add_fork<A: Allocator>(
 // A wait that takes a zombie out: dots from a square on its lane.
 fn add_reaped<A: Allocator>(
     page: &mut Page<A>,
-    strip: &Strip<A>,
+    strip: &Strip<'_, A>,
     event: &Event,
     reaped: Process,
 ) -> Result<(), AllocError> {
@@ -263,7 +267,7 @@ fn add_wake<A: Allocator>(
 fn add_wakes<A: Allocator + Copy>(
     page: &mut Page<A>,
     run: &Run<'_, A>,
-    strip: &Strip<A>,
+    strip: &Strip<'_, A>,
     event: &Event,
 ) -> Result<(), AllocError> {
     for bar in run.bars.as_slice() {
@@ -280,12 +284,15 @@ fn add_wakes<A: Allocator + Copy>(
 fn add_edges<A: Allocator + Copy>(
     page: &mut Page<A>,
     run: &Run<'_, A>,
-    strip: &Strip<A>,
+    strip: &Strip<'_, A>,
     event: &Event,
 ) -> Result<(), AllocError> {
     let Some(trap) = event.trap else {
         return Ok(());
     };
+    if strip.window.fold_of(event.number).is_some() {
+        return Ok(());
+    }
     if let Some(child) = trap.child {
         add_fork(page, strip, event, child.pid)?;
     }
@@ -314,6 +321,16 @@ fn short_object<'a, A: Allocator + Copy>(
     }
 }
 
+// Whether the name of a file has no room beside what was read of it.
+fn is_long<A: Allocator>(run: &Run<'_, A>, object: Option<Object>, room: usize) -> bool {
+    match object {
+        Some(Object::File(name, _)) => {
+            shown_width(run.trace.text(name)) > room.saturating_sub(4)
+        }
+        _ => false,
+    }
+}
+
 // What a read came to, in few columns.
 fn add_short_read<A: Allocator + Copy>(
     page: &mut Page<A>,
@@ -322,6 +339,14 @@ fn add_short_read<A: Allocator + Copy>(
     reply: Reply,
     room: usize,
 ) -> Result<(), AllocError> {
+    if is_long(run, trap.object, room) {
+        return match reply {
+            Reply::Bytes(bytes) if !trap.is_at_end => {
+                page.add(&[Num(run.trace.text(bytes).len()), Mark(" B")])
+            }
+            _ => page.mark(if trap.is_at_end { "EOF" } else { "−1" }),
+        };
+    }
     page.add(&[Mark(""), short_object(run, trap.object, room)])?;
     if trap.is_at_end {
         return page.mark("→EOF");
@@ -512,11 +537,15 @@ fn add_box_title<A: Allocator + Copy>(
 fn add_box<A: Allocator + Copy>(
     page: &mut Page<A>,
     run: &Run<'_, A>,
-    window: Window,
+    window: Window<'_>,
     row: &Row,
     (event, trap): (&Event, &Trap),
 ) -> Result<(), AllocError> {
-    let left = window.left(trap.from).saturating_add(1);
+    let left = match window.fold_of(trap.from) {
+        Some(fold) => window.left(fold.past),
+        None => window.left(trap.from),
+    };
+    let left = left.saturating_add(1);
     let wide = window
         .right(event.number)
         .saturating_sub(left)
@@ -544,7 +573,7 @@ fn add_box<A: Allocator + Copy>(
 }
 
 // Whether a call in the strip ends what this event began.
-fn is_ended<A: Allocator + Copy>(run: &Run<'_, A>, window: Window, number: usize) -> bool {
+fn is_ended<A: Allocator + Copy>(run: &Run<'_, A>, window: Window<'_>, number: usize) -> bool {
     events_of(run.trace, number, window.past)
         .iter()
         .any(|event| match event.trap {
@@ -557,7 +586,7 @@ fn is_ended<A: Allocator + Copy>(run: &Run<'_, A>, window: Window, number: usize
 fn add_open_box<A: Allocator + Copy>(
     page: &mut Page<A>,
     run: &Run<'_, A>,
-    window: Window,
+    window: Window<'_>,
     row: &Row,
     event: &Event,
 ) -> Result<(), AllocError> {
@@ -593,7 +622,7 @@ fn add_open_box<A: Allocator + Copy>(
 fn add_bars<A: Allocator + Copy>(
     page: &mut Page<A>,
     run: &Run<'_, A>,
-    strip: &Strip<A>,
+    strip: &Strip<'_, A>,
 ) -> Result<(), AllocError> {
     for bar in run.bars.as_slice() {
         if strip.window.meets(bar.from, bar.to.unwrap_or(usize::MAX)) {
@@ -609,13 +638,16 @@ fn add_bars<A: Allocator + Copy>(
 fn add_boxes<A: Allocator + Copy>(
     page: &mut Page<A>,
     run: &Run<'_, A>,
-    strip: &Strip<A>,
+    strip: &Strip<'_, A>,
 ) -> Result<(), AllocError> {
     let window = strip.window;
     for event in events_of(run.trace, window.first, window.past) {
         let Some(row) = row_of(strip.rows.as_slice(), event.process) else {
             continue;
         };
+        if window.fold_of(event.number).is_some() {
+            continue;
+        }
         match &event.trap {
             Some(trap) => add_box(page, run, window, row, (event, trap))?,
             None => {
@@ -628,11 +660,88 @@ fn add_boxes<A: Allocator + Copy>(
     Ok(())
 }
 
+// How many reads and writes of a process are folded.
+fn calls_in<A: Allocator>(run: &Run<'_, A>, fold: Fold, process: Process) -> (usize, usize) {
+    let (mut reads, mut writes): (usize, usize) = (0, 0);
+    for event in events_of(run.trace, fold.first, fold.past) {
+        match event.trap {
+            Some(trap) if event.process == process => match trap.call {
+                Call::Read(_, _) => reads = reads.saturating_add(1),
+                _ => writes = writes.saturating_add(1),
+            },
+            _ => {}
+        }
+    }
+    (reads, writes)
+}
+
+// A line of the box of folded calls.
+fn add_fold_line<A: Allocator>(
+    page: &mut Page<A>,
+    (count, what): (usize, &'static str),
+    place: (usize, usize),
+) -> Result<(), AllocError> {
+    if count == 0 {
+        return Ok(());
+    }
+    begin_text(page, "small", place)?;
+    page.add(&[Num(count), Mark("× "), Mark(what), Mark("</text>")])
+}
+
+// The calls of a process that are folded, as one box.
+fn add_fold_box<A: Allocator>(
+    page: &mut Page<A>,
+    window: Window<'_>,
+    row: &Row,
+    fold: Fold,
+    (reads, writes): (usize, usize),
+) -> Result<(), AllocError> {
+    let left = window.left(fold.first).saturating_add(1);
+    let right = window.right(fold.first).saturating_sub(1);
+    let (middle, line) = (window.middle(fold.first), row.middle());
+    page.add(&[
+        Mark("<rect class=\"folded\" x=\""),
+        Num(left),
+        Mark("\" y=\""),
+        Num(row.top.saturating_add(3)),
+        Mark("\" width=\""),
+        Num(right.saturating_sub(left)),
+        Mark("\" height=\""),
+        Num(row.height.saturating_sub(6)),
+        Mark("\"/>"),
+    ])?;
+    let is_both = reads > 0 && writes > 0;
+    let (high, low) = if is_both {
+        (line.saturating_sub(3), line.saturating_add(10))
+    } else {
+        (line.saturating_add(4), line.saturating_add(4))
+    };
+    add_fold_line(page, (reads, "read"), (middle, high))?;
+    add_fold_line(page, (writes, "write"), (middle, low))
+}
+
+// The folds of a strip.
+fn add_folds<A: Allocator + Copy>(
+    page: &mut Page<A>,
+    run: &Run<'_, A>,
+    strip: &Strip<'_, A>,
+) -> Result<(), AllocError> {
+    for fold in strip.window.folds {
+        for row in strip.rows.as_slice() {
+            let (reads, writes) = calls_in(run, *fold, row.life.lane.process);
+            if reads > 0 || writes > 0 {
+                add_fold_box(page, strip.window, row, *fold, (reads, writes))?;
+            }
+        }
+    }
+    Ok(())
+}
+
 /// The lanes of a strip.
 pub fn add_lanes<A: Allocator + Copy>(
     page: &mut Page<A>,
     run: &Run<'_, A>,
-    strip: &Strip<A>,
+    strip: &Strip<'_, A>,
 ) -> Result<(), AllocError> {
     for row in strip.rows.as_slice() {
         add_life(page, strip.window, row)?;
@@ -641,5 +750,6 @@ pub fn add_lanes<A: Allocator + Copy>(
     for event in events_of(run.trace, strip.window.first, strip.window.past) {
         add_edges(page, run, strip, event)?;
     }
-    add_boxes(page, run, strip)
+    add_boxes(page, run, strip)?;
+    add_folds(page, run, strip)
 }

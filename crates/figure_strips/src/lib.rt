@@ -1,12 +1,17 @@
-//! The figure of a run in strips of events, as pictures in SVG.
+//! The figure of a run in strips of events: a run and some of its events go in, and pictures in SVG are added to a page.
+//!
+//! `folds_of` says which events are drawn as one, and `add_strips` draws. All coordinates are whole pixels.
 #![tactic(auto)]
 
 mod bands;
 mod drawing;
+mod files;
+mod folds;
 mod geometry;
 mod labels;
 mod lanes;
 mod strip;
 
-pub use drawing::add_strip;
-pub use geometry::Window;
+pub use drawing::add_strips;
+pub use folds::folds_of;
+pub use geometry::{Fold, Window};

@@ -1,17 +1,20 @@
 //! One strip of the figure: the lanes, the bands and the output of some events.
 
-use crate::geometry::{AXIS, BAND, OUTPUT, Row, Window};
+use crate::files::touched_files;
+use crate::geometry::{AXIS, BAND, FILE, OUTPUT, Row, Window};
 use figure_words::{Run, events_of};
 use run_figure::Band;
 use std::alloc::{AllocError, Allocator};
-use trace_data::{PipeState, Process};
+use trace_data::{Part, PipeState, Process};
 
 /// What is drawn in a strip.
 #[derive(Drop)]
-pub struct Strip<A: Allocator> {
-    pub window: Window,
+pub struct Strip<'f, A: Allocator> {
+    pub window: Window<'f>,
     pub rows: Vec<Row, A>,
     pub bands: Vec<Band, A>,
+    /// The names of the files that have a band.
+    pub files: Vec<Part, A>,
     /// How far below its top the first band is.
     pub below: usize,
     /// Whether something is printed in it, and whether there are diagnostics.
@@ -32,7 +35,7 @@ const LANE_OF_HARTS: usize = 48;
 fn rows_of<A: Allocator + Copy>(
     alloc: A,
     run: &Run<'_, A>,
-    window: Window,
+    window: Window<'_>,
 ) -> Result<Vec<Row, A>, AllocError> {
     let mut rows: Vec<Row, A> = Vec::new(alloc);
     for life in run.lives.as_slice() {
@@ -54,7 +57,7 @@ pub fn row_of(rows: &[Row], process: Process) -> Option<&Row> {
 }
 
 // Marks the rows of processes that run in the strip.
-fn mark_busy<A: Allocator + Copy>(run: &Run<'_, A>, window: Window, rows: &mut [Row]) {
+fn mark_busy<A: Allocator + Copy>(run: &Run<'_, A>, window: Window<'_>, rows: &mut [Row]) {
     for event in events_of(run.trace, window.first, window.past) {
         for row in rows.iter_mut() {
             if row.life.lane.process == event.process {
@@ -81,7 +84,7 @@ fn set_rows(rows: &mut [Row], lane: usize) -> usize {
 pub fn states_of<A: Allocator + Copy>(
     alloc: A,
     run: &Run<'_, A>,
-    window: Window,
+    window: Window<'_>,
     pipe: usize,
 ) -> Result<Vec<PipeState, A>, AllocError> {
     let mut states: Vec<PipeState, A> = Vec::new(alloc);
@@ -100,7 +103,7 @@ pub fn states_of<A: Allocator + Copy>(
 fn bands_of<A: Allocator + Copy>(
     alloc: A,
     run: &Run<'_, A>,
-    window: Window,
+    window: Window<'_>,
 ) -> Result<Vec<Band, A>, AllocError> {
     let mut bands: Vec<Band, A> = Vec::new(alloc);
     for (band, closed) in run.bands.as_slice().iter().zip(run.closed.as_slice()) {
@@ -112,7 +115,7 @@ fn bands_of<A: Allocator + Copy>(
 }
 
 // Whether an event of the strip writes to the output, and to the diagnostics.
-fn writes<A: Allocator + Copy>(run: &Run<'_, A>, window: Window) -> (bool, bool) {
+fn writes<A: Allocator + Copy>(run: &Run<'_, A>, window: Window<'_>) -> (bool, bool) {
     let mut has_output = false;
     let mut has_messages = false;
     for event in events_of(run.trace, window.first, window.past) {
@@ -129,9 +132,9 @@ fn line_height(is_there: bool) -> usize {
     if is_there { OUTPUT } else { 0 }
 }
 
-impl<A: Allocator + Copy> Strip<A> {
+impl<'f, A: Allocator + Copy> Strip<'f, A> {
     /// The strip of these events.
-    pub fn new(alloc: A, run: &Run<'_, A>, window: Window) -> Result<Self, AllocError> {
+    pub fn new(alloc: A, run: &Run<'_, A>, window: Window<'f>) -> Result<Self, AllocError> {
         let lane = if run.trace.head.harts > 1 {
             LANE_OF_HARTS
         } else {
@@ -140,27 +143,33 @@ impl<A: Allocator + Copy> Strip<A> {
         let mut rows = rows_of(alloc, run, window)?;
         mark_busy(run, window, rows.as_mut_slice());
         let below = set_rows(rows.as_mut_slice(), lane);
-        let bands = bands_of(alloc, run, window)?;
         let (has_output, has_messages) = writes(run, window);
-        let height = below
-            .saturating_add(bands.len().saturating_mul(BAND))
-            .saturating_add(line_height(has_output))
-            .saturating_add(line_height(has_messages));
-        Ok(Strip {
+        let mut strip = Strip {
             window,
             rows,
-            bands,
+            bands: bands_of(alloc, run, window)?,
+            files: touched_files(alloc, run, window)?,
             below,
             has_output,
             has_messages,
-            height,
-        })
+            height: 0,
+        };
+        strip.height = strip
+            .message_top()
+            .saturating_add(line_height(has_messages));
+        Ok(strip)
+    }
+
+    /// How far below its top the first file is.
+    pub fn file_top(&self) -> usize {
+        self.below
+            .saturating_add(self.bands.len().saturating_mul(BAND))
     }
 
     /// How far below its top the line of the output is, and that of the diagnostics.
     pub fn output_top(&self) -> usize {
-        self.below
-            .saturating_add(self.bands.len().saturating_mul(BAND))
+        self.file_top()
+            .saturating_add(self.files.len().saturating_mul(FILE))
     }
 
     pub fn message_top(&self) -> usize {

@@ -1,10 +1,14 @@
-//! A run that is drawn: its trace with its figure, and its calls in words.
+//! A run that is drawn, and its calls in words.
+//!
+//! A trace goes in, and `Run` keeps it with its figure (lanes, bars and bands) and what the pages need besides: how long each process
+//! lived, and which files change. The functions add to a page what a process carries out, what a call is, and what it did, in a
+//! sentence; the bytes of a trace come out as text.
 #![tactic(auto)]
 
 mod run;
+mod sentences;
 mod words;
 
 pub use run::{Life, Run, events_of, place_of};
-pub use words::{
-    add_call, add_channel, add_doing, add_node, add_outcome, add_process, call_name, full_name,
-};
+pub use sentences::add_sentence;
+pub use words::{add_call, add_channel, add_doing, add_node, add_process, call_name, full_name};

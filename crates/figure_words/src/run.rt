@@ -2,7 +2,7 @@
 
 use run_figure::{Band, Bar, Lane, bands, bars, lanes};
 use std::alloc::{AllocError, Allocator};
-use trace_data::{Doing, Event, PipeState, Process, State, Trace};
+use trace_data::{Doing, Event, Part, PipeState, Process, State, Trace};
 
 /// A lane, and how long its process lived.
 #[derive(Clone, Copy)]
@@ -27,6 +27,8 @@ pub struct Run<'t, A: Allocator> {
     pub bands: Vec<Band, A>,
     /// The event after which nobody holds an end of the pipe of each band, or more than there are.
     pub closed: Vec<usize, A>,
+    /// The names of the files that events make, write to or empty, in the order in which they do so first.
+    pub changed: Vec<Part, A>,
 }
 
 // The events after which nobody holds an end of each pipe.
@@ -125,6 +127,27 @@ fn note_doing(lives: &mut [Life], event: &Event) {
     }
 }
 
+// The names of the files that events change.
+fn changed_files<A: Allocator + Copy>(
+    alloc: A,
+    trace: &Trace<A>,
+) -> Result<Vec<Part, A>, AllocError> {
+    let mut names: Vec<Part, A> = Vec::new(alloc);
+    for state in trace.files.as_slice() {
+        let is_event = state.event > 0 && state.event <= trace.events.len();
+        let text = trace.text(state.name);
+        if is_event
+            && !names
+                .as_slice()
+                .iter()
+                .any(|name| trace.text(*name) == text)
+        {
+            names.push(state.name)?;
+        }
+    }
+    Ok(names)
+}
+
 impl<'t, A: Allocator + Copy> Run<'t, A> {
     /// The figure of a trace.
     pub fn new(alloc: A, trace: &'t Trace<A>) -> Result<Self, AllocError> {
@@ -143,6 +166,7 @@ impl<'t, A: Allocator + Copy> Run<'t, A> {
             bars: bars(alloc, events)?,
             bands,
             closed,
+            changed: changed_files(alloc, trace)?,
         })
     }
 

@@ -1,4 +1,5 @@
-//! HTML, as it is written: pieces of a page, and the one place at which bytes of others enter it, as text.
+//! HTML, as it is written: pieces of a page go in, and a text in UTF-8 comes out. It is the one place at which bytes of others
+//! enter a page, as text: no byte of theirs is a mark of HTML, a control character or the half of a character.
 #![tactic(auto)]
 
 mod markup;

@@ -1,9 +1,15 @@
 //! The text of a page, as it is written.
 
+use bstr::decode_utf8;
 use itoa::Buffer;
 use std::alloc::{AllocError, Allocator};
+use unicode::properties::GeneralCategory;
+use unicode_width::UnicodeWidthChar;
 
-/// What is written.
+/// What is written. Bytes come out as text: printable ASCII and characters in UTF-8 as they are, but what HTML gives a meaning as
+/// its entity, a backslash as two, LF, CR and tab as `\n`, `\r` and `\t`, and each other byte as `\xNN`: bytes that aren't UTF-8,
+/// and characters that control, format (among them those that change the direction of text) or separate lines, are private or
+/// unassigned. Own.
 #[derive(Clone, Copy)]
 pub enum Piece<'a> {
     /// HTML of the page's own.
@@ -30,20 +36,75 @@ pub struct Page<A: Allocator> {
     text: Vec<u8, A>,
 }
 
-// How many columns a byte takes on one line.
-fn width(byte: u8) -> usize {
-    match byte {
+// Whether a character is shown as it is: it isn't one that controls, formats, separates lines, or has no meaning of its own.
+fn is_shown(letter: char) -> bool {
+    !matches!(
+        GeneralCategory::for_char(letter),
+        GeneralCategory::Control
+            | GeneralCategory::Format
+            | GeneralCategory::Surrogate
+            | GeneralCategory::PrivateUse
+            | GeneralCategory::Unassigned
+            | GeneralCategory::LineSeparator
+            | GeneralCategory::ParagraphSeparator
+    )
+}
+
+// What bytes begin with: whether that is shown as it is, how many bytes it takes, and how many columns.
+#[derive(Clone, Copy)]
+struct Glyph {
+    is_shown: bool,
+    bytes: usize,
+    columns: usize,
+}
+
+// What a byte of ASCII is shown as.
+fn ascii_glyph(byte: u8) -> Glyph {
+    let columns = match byte {
         b'\n' | b'\r' | b'\t' | b'\\' => 2,
         b' '..=b'~' => 1,
         _ => 4,
+    };
+    Glyph {
+        is_shown: false,
+        bytes: 1,
+        columns,
+    }
+}
+
+// What bytes begin with; bytes that aren't UTF-8, and characters that aren't shown, take four columns a byte.
+fn glyph_of(bytes: &[u8]) -> Glyph {
+    match bytes.first() {
+        Some(byte) if *byte < 128 => ascii_glyph(*byte),
+        _ => {
+            let (letter, size) = decode_utf8(bytes);
+            match letter {
+                Some(letter) if is_shown(letter) => Glyph {
+                    is_shown: true,
+                    bytes: size.max(1),
+                    columns: letter.width().unwrap_or(1),
+                },
+                _ => Glyph {
+                    is_shown: false,
+                    bytes: size.max(1),
+                    columns: size.max(1).saturating_mul(4),
+                },
+            }
+        }
     }
 }
 
 /// How many columns bytes take on one line.
 pub fn shown_width(bytes: &[u8]) -> usize {
     let mut total: usize = 0;
-    for byte in bytes {
-        total = total.saturating_add(width(*byte));
+    let mut rest = bytes;
+    for _glyph in 0..bytes.len() {
+        if rest.is_empty() {
+            break;
+        }
+        let glyph = glyph_of(rest);
+        total = total.saturating_add(glyph.columns);
+        rest = rest.get(glyph.bytes..).unwrap_or(&[]);
     }
     total
 }
@@ -139,21 +200,53 @@ impl<A: Allocator> Page<A> {
         }
     }
 
-    fn add_text(&mut self, bytes: &[u8]) -> Result<(), AllocError> {
+    // What bytes begin with.
+    fn add_glyph(&mut self, bytes: &[u8], glyph: Glyph) -> Result<(), AllocError> {
+        let bytes = bytes.get(..glyph.bytes).unwrap_or(bytes);
+        if glyph.is_shown {
+            return self.text.extend_from_slice(bytes);
+        }
         for byte in bytes {
             self.add_byte(*byte)?;
         }
         Ok(())
     }
 
-    fn add_lines(&mut self, bytes: &[u8]) -> Result<(), AllocError> {
-        for byte in bytes {
-            if *byte == b'\n' {
+    // The beginning of bytes that takes at most so many columns; returns how many bytes that is. LF are new lines or escapes.
+    fn add_within(
+        &mut self,
+        bytes: &[u8],
+        room: usize,
+        has_lines: bool,
+    ) -> Result<usize, AllocError> {
+        let mut left = room;
+        let mut rest = bytes;
+        for _glyph in 0..bytes.len() {
+            if rest.is_empty() {
+                break;
+            }
+            let glyph = glyph_of(rest);
+            if glyph.columns > left {
+                break;
+            }
+            left = left.saturating_sub(glyph.columns);
+            if has_lines && rest.first() == Some(&b'\n') {
                 self.text.push(b'\n')?;
             } else {
-                self.add_byte(*byte)?;
+                self.add_glyph(rest, glyph)?;
             }
+            rest = rest.get(glyph.bytes..).unwrap_or(&[]);
         }
+        Ok(bytes.len().saturating_sub(rest.len()))
+    }
+
+    fn add_text(&mut self, bytes: &[u8]) -> Result<(), AllocError> {
+        self.add_within(bytes, usize::MAX, false)?;
+        Ok(())
+    }
+
+    fn add_lines(&mut self, bytes: &[u8]) -> Result<(), AllocError> {
+        self.add_within(bytes, usize::MAX, true)?;
         Ok(())
     }
 
@@ -161,14 +254,7 @@ impl<A: Allocator> Page<A> {
         if shown_width(bytes) <= room {
             return self.add_text(bytes);
         }
-        let mut left = room.saturating_sub(1);
-        for byte in bytes {
-            if width(*byte) > left {
-                break;
-            }
-            left = left.saturating_sub(width(*byte));
-            self.add_byte(*byte)?;
-        }
+        self.add_within(bytes, room.saturating_sub(1), false)?;
         self.mark("…")
     }
 

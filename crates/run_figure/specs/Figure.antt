@@ -1,5 +1,5 @@
 -- What of a run's events stands in its figure.
-use Rattle.std.specs.Prelude.{ℕ, ◌-◌, ◌/◌, ◌%◌, ◌^◌, ◌&&◌, ◌==◌, nat_lt, Bool, false, cond, List, [], ◌∷◌, Option, Some, None, option_map, find, drop, slice_get}
+use Rattle.std.specs.Prelude.{◌≢◌, ℕ, ◌<◌, ◌-◌, ◌/◌, ◌%◌, ◌^◌, ◌&&◌, ◌==◌, nat_lt, Bool, false, cond, List, [], ◌∷◌, AllPairs, Option, Some, None, option_map, find, drop, slice_get}
 use Rattle.std.specs.Option.{option_and_then}
 use Rattle.trace_data.specs.declared.trace.Channel.{Channel}
 use Rattle.trace_data.specs.declared.trace.Child.{Child}
@@ -68,6 +68,15 @@ first_lane pid = record { process = record { pid = pid; born = 0 }; maker = reco
 -- the lanes of init and of the first shell, which no event makes
 abbrev pub first_lanes : List Lane
 first_lanes = first_lane 0 ∷ first_lane 1 ∷ []
+
+-- no two lanes are of one process
+abbrev pub AreApart : List Lane → Type 0
+AreApart lanes = AllPairs (λ (one later : Lane). one.process ≢ later.process) lanes
+
+-- the numbers of the events rise, from above this one on
+abbrev pub Rise : ℕ → List Event → Type 0
+Rise number [] = Unit {0}
+Rise number (event ∷ events) = (number < event.number) × Rise event.number events
 
 abbrev pub number_of : Event → ℕ
 number_of event = event.number

@@ -2,7 +2,7 @@
 
 ghost use Rattle.std.specs.Prelude.{◌≡◌, ◌++◌, ◌-◌, IfOk, position, not};
 ghost use Rattle.std.specs.List.{filter_map};
-ghost use Rattle.run_figure.specs.Figure.{lane_of, first_lane, first_lanes, bar_of, band_of, asleep_on, child_of, read_end_of, wakes, wake_of, is_made};
+ghost use Rattle.run_figure.specs.Figure.{lane_of, first_lane, first_lanes, AreApart, Rise, bar_of, band_of, asleep_on, child_of, read_end_of, wakes, wake_of, is_made};
 
 use std::alloc::{AllocError, Allocator};
 use trace_data::{Channel, Event, Process, Reply, State, Trap};
@@ -161,15 +161,25 @@ fn made_lanes<A: Allocator>(alloc: A, events: &[Event]) -> Result<Vec<Lane, A>, 
     Ok(lanes)
 }
 
-/// The lanes: of init, of the first shell, and then of each process in the order in which they were made. Own.
-///
-/// `AllocError` where memory is refused.
-pub fn lanes<A: Allocator>(alloc: A, events: &[Event]) -> Result<Vec<Lane, A>, AllocError>
+// The lanes of init, of the first shell, and then of the processes that events made.
+fn listed_lanes<A: Allocator>(alloc: A, events: &[Event]) -> Result<Vec<Lane, A>, AllocError>
     ensures { IfOk result (λ lanes. lanes.items ≡ first_lanes ++ filter_map lane_of events.now) }
 {
     let mut lanes = made_lanes(alloc, events)?;
     lanes.insert(0, first_lane(1))?;
     lanes.insert(0, first_lane(0))?;
+    Ok(lanes)
+}
+
+/// The lanes: of init, of the first shell, and then of each process in the order in which they were made. Where the numbers of the
+/// events rise from 1 or more on, no two are of one process. Own.
+///
+/// `AllocError` where memory is refused.
+pub fn lanes<A: Allocator>(alloc: A, events: &[Event]) -> Result<Vec<Lane, A>, AllocError>
+    ensures lanes { IfOk result (λ lanes. lanes.items ≡ first_lanes ++ filter_map lane_of events.now) }
+    ensures apart { Rise 0 events.now → IfOk result (λ lanes. AreApart lanes.items) }
+{
+    let lanes = listed_lanes(alloc, events)?;
     Ok(lanes)
 }
 

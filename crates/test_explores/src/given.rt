@@ -56,7 +56,7 @@ fn bounded(alloc: Global, bytes: &[u8], limit: usize) -> Result<Vec<u8>, HostFau
     }
 }
 
-/// What is told of a script, as an object, with a schedule of each outcome.
+/// What is told of a script, as an object, with a schedule of each outcome and a page of two.
 pub(crate) fn explored_of(alloc: Global, given: &Given) -> Result<Explored, Fail> {
     let mut host = *given;
     let request = ExploreRequest {
@@ -68,7 +68,7 @@ pub(crate) fn explored_of(alloc: Global, given: &Given) -> Result<Explored, Fail
         states: 200_000,
         is_thorough: false,
         witness: Some("w"),
-        draw: None,
+        draw: Some("p"),
         is_json: true,
         input: None,
         text: None,

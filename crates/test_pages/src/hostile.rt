@@ -104,7 +104,7 @@ fn files_and_replies_are_text(rt: HostRuntime) -> Result<(), Fail> {
     let page = run_page(rt.alloc(), &trace, ALL)?;
     assert!(&rt; is_safe(page.as_slice(), SHOWN));
     let reply = replaced(rt.alloc(), HOSTILE_REPLY, "HERE", HOSTILE)?;
-    let text = changed(rt.alloc(), "\"reply\":{\"type\":\"done\"}", reply.as_str())?;
+    let text = changed(rt.alloc(), SLEEP, reply.as_str())?;
     let trace = read_trace(rt.alloc(), text.as_bytes())?;
     let page = run_page(rt.alloc(), &trace, ALL)?;
     assert!(&rt; is_safe(page.as_slice(), SHOWN));
@@ -113,4 +113,38 @@ fn files_and_replies_are_text(rt: HostRuntime) -> Result<(), Fail> {
 
 const HOSTILE_FILE: &str = "\"object\":{\"type\":\"file\",\"name\":HERE,\"mode\":\"over\"}";
 
-const HOSTILE_REPLY: &str = "\"reply\":{\"type\":\"bytes\",\"size\":9,\"data\":HERE}";
+const SLEEP: &str = "\"state\":\"asleep\",\"sleep\":{\"on\":\"pipe_bytes\",\"pipe\":4}";
+
+const HOSTILE_REPLY: &str =
+    "\"state\":\"runnable\",\"reply\":{\"type\":\"bytes\",\"size\":9,\"data\":HERE}";
+
+// Texts as JSON, and what they come out as: characters in UTF-8 as they are; those that control, change the direction of text, have
+// no width, separate lines, are private or unassigned, and bytes that are no character, as escapes. The bytes are 195 and `<`, and
+// 224, 160 and `>`: beginnings of characters.
+const CHARACTERS: [(&str, &str); 13] = [
+    ("\"<\\u00e9\"", "&lt;é"),
+    ("\"<\\u03a9\"", "&lt;Ω"),
+    ("\"<\\u65e5\"", "&lt;日"),
+    ("\"<\\ud83d\\ude00\"", "&lt;😀"),
+    ("\"<\\u0085\"", "&lt;\\xc2\\x85"),
+    ("\"<\\u200b\"", "&lt;\\xe2\\x80\\x8b"),
+    ("\"<\\u202e\"", "&lt;\\xe2\\x80\\xae"),
+    ("\"<\\u2066\"", "&lt;\\xe2\\x81\\xa6"),
+    ("\"<\\u2028\"", "&lt;\\xe2\\x80\\xa8"),
+    ("\"<\\ufeff\"", "&lt;\\xef\\xbb\\xbf"),
+    ("\"<\\ue000\"", "&lt;\\xee\\x80\\x80"),
+    ("{\"base64\":\"wzw=\"}", "\\xc3&lt;"),
+    ("{\"base64\":\"4KA+\"}", "\\xe0\\xa0&gt;"),
+];
+
+#[test]
+fn characters_are_text(rt: HostRuntime) -> Result<(), Fail> {
+    for place in PLACES {
+        for (value, shown) in CHARACTERS {
+            let (page, pair) = pages_of(rt.alloc(), place, value)?;
+            assert!(&rt; is_safe(page.as_slice(), shown), "{place} {value}");
+            assert!(&rt; is_safe(pair.as_slice(), shown), "{place} {value}");
+        }
+    }
+    Ok(())
+}

@@ -18,11 +18,19 @@ has <title>2 sleeps until pipe A has bytes, from event 6 to event 8</title>
 has <title>1 sleeps until a child exits, from event 11 to the end</title>
 has <title>event 12, hart 1, process 2: write</title>
 has <tspan class="pid">pipe A</tspan> made by 2
-has <tr><th scope="row">2</th><td>1</td><td>0</td><td><b>1</b> sh, the script</td><td>fork</td><td>makes process 2</td></tr>
-has <td>pipe</td><td>descriptor 3 to read, 4 to write</td>
-has <td>read up to 512 bytes from pipe A</td><td>sleeps until pipe A has bytes</td>
-has <td>write 2 bytes “x\n” to pipe A</td><td>done; <b class="wakes">wakes 2</b></td>
-has <td>write 2 bytes “x\n” to the output</td><td>done; prints <b>“x\n”</b></td>
+has <tr><th scope="row">2</th><td>1</td><td>0</td><td><b>1</b> sh, the script</td><td><code>fork()</code></td><td>makes process 2</td></tr>
+has <td><code>pipe()</code></td><td>makes pipe A: descriptor 3 to read, 4 to write</td>
+has <td><code>read(3, 512)</code></td><td>sleeps: pipe A is empty</td>
+has <td><code>write(4, 2)</code></td><td>writes 2 bytes to pipe A: “x\n”; <b class="wakes">wakes 2</b></td>
+has <td><code>wait()</code></td><td>sleeps: no child has ended</td>
+has <td><code>write(1, 2)</code></td><td>writes 2 bytes to the output: “x\n”</td>
+has <li><span class="note">4</span> <b>2</b> sh: a | b makes pipe A: descriptor 3 to read, 4 to write</li>
+has <li><span class="note">6</span> <b>2</b> b sleeps: pipe A is empty</li>
+has <li><span class="note">12</span> <b>2</b> b writes 2 bytes to the output: “x\n”</li>
+hasnt <span class="note">2</span>
+hasnt <span class="note">8</span>
+hasnt <span class="note">11</span>
+hasnt are folded
 has prefers-color-scheme:dark
 has @media print
 hasnt <script
@@ -94,7 +102,7 @@ has <title>Two runs of a script: a | b\n</title>
 has <dt>Run 1 prints</dt><dd><pre>x
 has <dt>Run 2 prints</dt><dd><pre>x
 has Both runs begin with the same 8 events. They part at event 9
-has <b>In run 1, event 9</b><p>Process <b>2</b> b</p><p>write 2 bytes “x\n” to the output: done; prints <b>“x\n”</b></p>
+has <b>In run 1, event 9</b><p>Process <b>2</b> b</p><p>writes 2 bytes to the output: “x\n”</p>
 has <b>In run 2, event 9</b><p>Process <b>1</b> sh begins to run</p>
 has <h2>Run 1, from event 9 on</h2>
 has <h2>Run 2, from event 9 on</h2>
@@ -144,4 +152,30 @@ fn ends_of_pipes_are_told(rt: HostRuntime) -> Result<(), Fail> {
         page.as_slice(),
         "has nobody can read A any more\nhas × read end closed",
     )
+}
+
+// What the page has of a file that event 8 empties: what it holds before, from the left, and that it is empty from there on, behind
+// eight of twelve columns of 20 pixels.
+const FILE: &str = r#"
+has <tspan class="pid">file f</tspan>
+has <rect class="file" x="0"
+has >“x\n”</text>
+has <rect class="file empty" x="160"
+has >empty</text>
+"#;
+
+#[test]
+fn files_have_bands(rt: HostRuntime) -> Result<(), Fail> {
+    let all = Bounds {
+        from: None,
+        to: None,
+    };
+    let page = page_of(rt.alloc(), TRACE, all)?;
+    fits(page.as_slice(), "hasnt <tspan class=\"pid\">file")?;
+    let text = changed(
+        rt.alloc(),
+        "\"woken\":[2],",
+        "\"woken\":[2],\"files\":[{\"name\":\"f\",\"length\":0,\"head\":\"\"}],",
+    )?;
+    fits(page_of(rt.alloc(), text.as_str(), all)?.as_slice(), FILE)
 }

@@ -129,7 +129,11 @@ fn explore_json<H: Host + Traces + Watch>(
 }
 
 // The one or the other.
-fn told<H: Host + Traces + Watch>(alloc: Global, request: &ExploreRequest<'_>, host: &mut H) -> Told
+fn told_or_json<H: Host + Traces + Watch>(
+    alloc: Global,
+    request: &ExploreRequest<'_>,
+    host: &mut H,
+) -> Told
     ensures { IsDue (H.input host.old) (H.file host.old) (json_asked request.now.is_json (explore_told_asked request.now)) result.ending }
 {
     if request.is_json {
@@ -148,6 +152,6 @@ pub fn explore_ending<H: Host + Traces + Watch>(
 ) -> Ending
     ensures { IsDue (H.input host.old) (H.file host.old) (explore_asked request.now) result }
 {
-    let Told { ending, page } = told(alloc, request, host);
+    let Told { ending, page } = told_or_json(alloc, request, host);
     drawn(alloc, ending, page, request.draw, host)
 }
