@@ -9,4 +9,4 @@ use Rattle.xvsh_checks.proofs.finding.find.Given as goal
 abbrev pub invariant-loop-i : goal.invariant-loop-i
 invariant-loop-i l =
     Completes (map line_of l.line-items) (l.i + 1) (map line_of (drop l.i l.line-items)) (findings_text l.list.items)
-    × Decides l.args.is_strict (map line_of l.line-items) (map line_of (drop l.i l.line-items)) l.is_harmless
+    × Decides l.is_strict (map line_of l.line-items) (map line_of (drop l.i l.line-items)) l.is_harmless
