@@ -284,7 +284,7 @@ fn add_fold_outputs<A: Allocator + Copy>(
 ) -> Result<(), AllocError> {
     let window = strip.window;
     let low = strip.output_top().saturating_add(16);
-    for fold in window.folds {
+    for fold in strip.window.folds {
         let (left, right) = (window.left(fold.first), window.right(fold.first));
         add_folded_output(page, run, *fold, (left, right, low))?;
     }
