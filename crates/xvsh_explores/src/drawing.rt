@@ -48,35 +48,63 @@ fn way_at<'o>(
     }))
 }
 
-// The page of the runs by two ways.
-fn page_of_two(
+// The ways to the first outcome, if one was found, and to the one with this place.
+fn two_ways<'o>(
+    alloc: Global,
+    outcomes: &'o [Outcome],
+    findings: &Findings,
+    place: usize,
+) -> Result<Vec<Way<'o>>, AllocError> {
+    let mut ways = Vec::new(alloc);
+    if let Some(first) = way_at(alloc, outcomes, findings, 0)? {
+        ways.push(first)?;
+    }
+    if let Some(other) = way_at(alloc, outcomes, findings, place)? {
+        ways.push(other)?;
+    }
+    Ok(ways)
+}
+
+// Whether it was told where the ways to the first outcome and to the one with this place part; then they were made alike.
+fn is_parted(findings: &Findings, place: usize) -> bool {
+    matches!(findings.partings.as_slice().get(place), Some(Some(_)))
+}
+
+// The page of the run by a way, or with another of both runs.
+fn page_of_runs(
     alloc: Global,
     start: &Start,
     first: &Way<'_>,
-    other: &Way<'_>,
+    other: Option<&Way<'_>>,
 ) -> Result<Vec<u8>, AllocError> {
     let one = events_of(alloc, first.pids.as_slice())?;
+    let Some(other) = other else {
+        return draw_runs(alloc, start, one.as_slice(), None);
+    };
     let two = events_of(alloc, other.pids.as_slice())?;
     draw_runs(alloc, start, one.as_slice(), Some(two.as_slice()))
 }
 
-// Makes the way to the outcome at this place like the first one, unless it was told already where these part.
-fn make_alike(
+// The page of the runs by these ways, of which there are two at most, made alike unless they were.
+fn page_of_ways(
     alloc: Global,
     start: &Start,
-    findings: &Findings,
-    place: usize,
-    (first, other): (&mut Way<'_>, &mut [Way<'_>]),
-) -> Result<(), AllocError> {
-    if let Some(Some(_)) = findings.partings.as_slice().get(place) {
-        return Ok(());
-    }
-    let scene = Scene {
-        script: &start.script,
-        stdin: start.stdin.as_slice(),
-        files: &start.files,
+    are_alike: bool,
+    ways: &mut [Way<'_>],
+) -> Result<Option<Vec<u8>>, AllocError> {
+    let Some((first, others)) = ways.split_first_mut() else {
+        return Ok(None);
     };
-    align(alloc, &scene, first, other)
+    if !are_alike {
+        let scene = Scene {
+            script: &start.script,
+            stdin: start.stdin.as_slice(),
+            files: &start.files,
+        };
+        align(alloc, &scene, first, &mut others[0..])?;
+    }
+    let page = page_of_runs(alloc, start, first, others.first())?;
+    Ok(Some(page))
 }
 
 /// The page of the runs to the first outcome and to the next one with another output, or with other files or diagnostics where
@@ -91,22 +119,12 @@ pub fn page_of(
     if request.draw.is_none() {
         return Ok(None);
     }
-    let Some(mut first) = way_at(alloc, outcomes, findings, 0)? else {
-        return Ok(None);
-    };
     let place = other_place(outcomes, findings.order.as_slice());
-    let Some(other) = way_at(alloc, outcomes, findings, place)? else {
-        let events = events_of(alloc, first.pids.as_slice())?;
-        return Ok(Some(draw_runs(alloc, start, events.as_slice(), None)?));
-    };
-    let mut others = [other];
-    make_alike(
+    let mut ways = two_ways(alloc, outcomes, findings, place)?;
+    page_of_ways(
         alloc,
         start,
-        findings,
-        place,
-        (&mut first, others.as_mut_slice()),
-    )?;
-    let [other] = others;
-    Ok(Some(page_of_two(alloc, start, &first, &other)?))
+        is_parted(findings, place),
+        ways.as_mut_slice(),
+    )
 }
