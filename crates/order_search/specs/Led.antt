@@ -1,11 +1,12 @@
 -- Kernels that turns lead to. No public clause cites this module.
-use Rattle.std.specs.Prelude.{◌≡◌, ℕ, List, Some, count_by}
+use Rattle.std.specs.Prelude.{◌≡◌, ℕ, ◌<◌, ◌^◌, List, Some, count_by}
 use Rattle.mem_files.specs.Name.{Name, Bytes}
 use Rattle.user_calls.specs.declared.calls.Call.{Call}
 use Rattle.user_calls.specs.declared.calls.Reply.{Reply}
 use Rattle.proc_table.specs.Slots.{is_running}
 use Rattle.kernel_model.specs.KernelState.{KernelState}
 use Rattle.kernel_model.specs.Boot.{boot_kernel}
+use Rattle.kernel_model.specs.Sound.{IsSound}
 use Rattle.order_model.specs.Key.{key}
 use Rattle.order_model.specs.Turns.{after_turns}
 
@@ -28,3 +29,10 @@ pub record IsLed {S : Type 0} (call : S → Reply → Call) (next : S → Reply 
 -- the kernel of a node
 abbrev pub kernel_of : {S : Type 0} → Led S → KernelState S
 kernel_of n = n.now
+
+-- the turns lead there, few events were counted, nobody runs, and descriptors hold entries
+pub record IsStop {S : Type 0} (call : S → Reply → Call) (next : S → Reply → S) (start : KernelState S) (pids : List ℕ) (now : KernelState S) : Type 0 where
+  pub turns : after_turns call next start pids ≡ Some now
+  pub few : now.events < 2 ^ 32
+  pub idle : count_by is_running now.table ≡ 0
+  pub sound : IsSound now.table now.entries

@@ -1,4 +1,5 @@
-//! What is kept of a kernel, part by part: each is compared by its whole value.
+//! What is kept of a kernel, part by part: each is compared by its whole value. Each has its digest, which is no part of its
+//! value.
 
 ghost use Rattle.std.specs.Prelude.{◌≡◌, true};
 
@@ -19,6 +20,7 @@ pub struct Held<M: Machine> {
     pub reply: Reply,
     pub places: Vec<Option<u8>>,
     pub put: usize,
+    pub digest: u64,
 }
 
 impl<M: Machine> Model for Held<M> {
@@ -49,6 +51,7 @@ impl Model for Opened {
 #[derive(Drop)]
 pub struct Entries {
     pub slots: Vec<Option<Opened>>,
+    pub digest: u64,
 }
 
 impl Model for Entries {
@@ -81,6 +84,7 @@ impl Model for Piped {
 #[derive(Drop)]
 pub struct Pipes {
     pub pipes: Vec<Piped>,
+    pub digest: u64,
 }
 
 impl Model for Pipes {
@@ -95,6 +99,7 @@ impl Model for Pipes {
 #[derive(Drop)]
 pub struct Bytes {
     pub bytes: Vec<u8>,
+    pub digest: u64,
 }
 
 impl Model for Bytes {
@@ -109,6 +114,7 @@ impl Model for Bytes {
 #[derive(Drop)]
 pub struct AllFiles {
     pub files: Files<Global>,
+    pub digest: u64,
 }
 
 impl Model for AllFiles {
@@ -125,9 +131,23 @@ impl Same for Bytes {
     }
 
     fn digest(&self) -> u64 {
+        self.digest
+    }
+}
+
+impl Bytes {
+    ghost use Rattle.std.specs.Prelude.{◌≡◌};
+
+    // The bytes, with their digest.
+    pub fn of(bytes: Vec<u8>) -> Bytes
+        ensures { result ≡ bytes.items }
+    {
         let mut digest = Digest::new();
-        digest.add_bytes(&self.bytes);
-        digest.so_far
+        digest.add_bytes(&bytes);
+        Bytes {
+            bytes,
+            digest: digest.so_far,
+        }
     }
 }
 
@@ -137,14 +157,28 @@ impl Same for AllFiles {
     }
 
     fn digest(&self) -> u64 {
+        self.digest
+    }
+}
+
+impl AllFiles {
+    ghost use Rattle.std.specs.Prelude.{◌≡◌};
+
+    // The files, with their digest.
+    pub fn of(files: Files<Global>) -> AllFiles
+        ensures { result ≡ files }
+    {
         let mut digest = Digest::new();
-        for place in 0..self.files.count() {
-            if let Some(name) = self.files.name_at(place) {
+        for place in 0..files.count() {
+            if let Some(name) = files.name_at(place) {
                 digest.add_bytes(name);
-                digest.add_bytes(self.files.get(name).unwrap_or(b""));
+                digest.add_bytes(files.get(name).unwrap_or(b""));
             }
         }
-        digest.so_far
+        AllFiles {
+            files,
+            digest: digest.so_far,
+        }
     }
 }
 
@@ -175,12 +209,26 @@ impl Same for Pipes {
     }
 
     fn digest(&self) -> u64 {
+        self.digest
+    }
+}
+
+impl Pipes {
+    ghost use Rattle.std.specs.Prelude.{◌≡◌};
+
+    // The pipes, with their digest.
+    pub fn of(pipes: Vec<Piped>) -> Pipes
+        ensures { result ≡ pipes.items }
+    {
         let mut digest = Digest::new();
-        for pipe in &self.pipes {
+        for pipe in &pipes {
             digest.add(u64::from(pipe.reader) + 2 * u64::from(pipe.writer));
             digest.add_bytes(&pipe.bytes);
         }
-        digest.so_far
+        Pipes {
+            pipes,
+            digest: digest.so_far,
+        }
     }
 }
 
@@ -264,14 +312,28 @@ impl Same for Entries {
     }
 
     fn digest(&self) -> u64 {
+        self.digest
+    }
+}
+
+impl Entries {
+    ghost use Rattle.std.specs.Prelude.{◌≡◌};
+
+    // The entries, with their digest.
+    pub fn of(slots: Vec<Option<Opened>>) -> Entries
+        ensures { result ≡ slots.items }
+    {
         let mut digest = Digest::new();
-        for slot in &self.slots {
+        for slot in &slots {
             match slot {
                 None => digest.add(0),
                 Some(opened) => opened.add_to(&mut digest),
             }
         }
-        digest.so_far
+        Entries {
+            slots,
+            digest: digest.so_far,
+        }
     }
 }
 
@@ -333,6 +395,13 @@ impl<M: Machine> Same for Held<M> {
     }
 
     fn digest(&self) -> u64 {
+        self.digest
+    }
+}
+
+impl<M: Machine> Held<M> {
+    // What the digest is to be.
+    pub fn digest_of(&self) -> u64 {
         let mut digest = Digest::new();
         digest.add(status_number(self.status));
         digest.add(u64::from(self.parent.unwrap_or(64)));

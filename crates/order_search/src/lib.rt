@@ -13,7 +13,9 @@ mod places;
 mod pools;
 mod reading;
 mod standing;
+mod trail;
 mod turning;
+mod unchanged;
 
 pub use closed_search::{Unwatched, Watch};
 pub use fault::ExploreFault;

@@ -7,6 +7,8 @@ ghost use Rattle.order_search.specs.Shown.{slot_of};
 use crate::kept::{AllFiles, Bytes, Entries, Held, Pipes};
 use crate::pools::{Digest, Same};
 use kernel_model::Full;
+use mem_files::Files;
+use std::alloc::{AllocError, Global};
 use std::marker::Model;
 use std::rc::Rc;
 use user_calls::Machine;
@@ -74,6 +76,29 @@ impl<M: Machine> Look<M> {
     ghost use Rattle.std.specs.Prelude.{ℕ};
     ghost use Rattle.proc_table.specs.Slots.{at, is_runnable};
     ghost use Rattle.kernel_model.specs.Events.{IsFinished};
+
+    // A look at nothing.
+    pub fn blank(alloc: Global) -> Result<Look<M>, AllocError> {
+        Ok(Look {
+            slots: Vec::new(alloc),
+            entries: Rc::new(alloc, Entries::of(Vec::new(alloc)))?,
+            pipes: Rc::new(alloc, Pipes::of(Vec::new(alloc)))?,
+            files: Rc::new(alloc, AllFiles::of(Files::new(alloc)))?,
+            input: Rc::new(alloc, Bytes::of(Vec::new(alloc)))?,
+            out: Rc::new(alloc, Bytes::of(Vec::new(alloc)))?,
+            diag: Rc::new(alloc, Bytes::of(Vec::new(alloc)))?,
+            full: None,
+            digest: 0,
+        })
+    }
+
+    // What is kept of a slot, if there is anything.
+    pub fn slot(&self, number: usize) -> Option<&Rc<Held<M>>> {
+        match self.slots.get(number) {
+            Some(Some(held)) => Some(held),
+            _ => None,
+        }
+    }
 
     // Whether the two are equal.
     pub fn same(&self, other: &Look<M>) -> bool

@@ -10,8 +10,7 @@ ghost use Rattle.order_search.specs.Exploring.{Explores};
 use crate::fault::ExploreFault;
 use crate::origin::Origin;
 use crate::outcomes::{Outcome, outcomes_of, stuck_of};
-use crate::reading::Reader;
-use crate::standing::Standing;
+use crate::standing::{Standing, Tools};
 use closed_search::{Bounds, Found, Watch, search};
 use proc_table::PROCS;
 use std::alloc::{Allocator, Global};
@@ -41,13 +40,13 @@ pub fn explore_from<M: Machine, C: Allocator, W: Watch>(
 ) -> Result<Exploration, ExploreFault>
     ensures { IfOk result (Explores M.call_of M.next_of (start_kernel (M.view origin.now.init) (M.view origin.now.shell) origin.now.stdin.now origin.now.files.now)) }
 {
-    let mut reader = Reader::new(alloc)?;
-    let start = Standing::start(&mut reader, origin)?;
+    let mut tools = Tools::new(alloc, origin)?;
+    let start = Standing::start(&mut tools, origin)?;
     let bounds = Bounds {
         moves: PROCS,
         limit: states,
     };
-    let found = search(alloc, &mut reader, start, bounds, watch)?;
+    let found = search(alloc, &mut tools, start, bounds, watch)?;
     let told = tell(alloc, origin, &found)?;
     Ok(told)
 }

@@ -26,6 +26,21 @@ pub struct Origin<'t, M: Machine, C: Allocator> {
     pub files: &'t Files<C>,
 }
 
+impl<'t, M: Machine, C: Allocator> Origin<'t, M, C> {
+    ghost use Rattle.std.specs.Prelude.{◌≡◌, true};
+    ghost use Rattle.order_search.specs.Led.{start_kernel};
+
+    // Whether the two are equal.
+    pub fn same(&self, other: &Origin<'_, M, C>) -> bool
+        ensures { result ≡ true → start_kernel (M.view self.now.init) (M.view self.now.shell) self.now.stdin.now self.now.files.now ≡ start_kernel (M.view other.now.init) (M.view other.now.shell) other.now.stdin.now other.now.files.now }
+    {
+        self.init.same(&other.init)
+            && self.shell.same(&other.shell)
+            && self.stdin == other.stdin
+            && self.files.same(other.files)
+    }
+}
+
 // The kernel after turns of these processes, at which no memory was refused.
 pub fn remake<M: Machine, C: Allocator>(
     alloc: Global,

@@ -1,6 +1,6 @@
 //! What of a kernel is read, part by part.
 
-ghost use Rattle.std.specs.Prelude.{◌≡◌, ◌⊎◌, ℕ, ◌<◌, ◌++◌, ◌∷◌, [], None, Some, IfOk, OnOk, length, map, take};
+ghost use Rattle.std.specs.Prelude.{◌≡◌, ◌⊎◌, ℕ, ◌<◌, ◌++◌, ◌∷◌, [], None, Some, IfOk, IfSome, IsSome, OnOk, length, map, take};
 ghost use Rattle.byte_pipe.specs.PipeState.{PipeState};
 ghost use Rattle.fd_table.specs.Descriptors.{entry_of};
 ghost use Rattle.fd_table.specs.Entries.{entry_at, count_of};
@@ -22,7 +22,7 @@ use std::alloc::{AllocError, Allocator, Global};
 use user_calls::Machine;
 
 // The status of a slot in use, as if nobody ran.
-fn idle_status(names: &[u64], state: SlotState) -> Result<Status, ExploreFault>
+pub fn idle_status(names: &[u64], state: SlotState) -> Result<Status, ExploreFault>
     ensures { IfOk result (λ read. (status : ShownStatus) → state ≡ state_by status → read ≡ idle_status (place_among names.now) status) }
 {
     match state {
@@ -44,12 +44,25 @@ fn read_places(alloc: Global, fds: &Fds) -> Result<Vec<Option<u8>>, AllocError>
 }
 
 // The number of the entry that a descriptor holds.
-fn entry_of(fds: &Fds, fd: usize) -> Option<u8>
+pub fn entry_of(fds: &Fds, fd: usize) -> Option<u8>
     ensures { result ≡ entry_of fds.now fd }
 {
     match fds.get(fd) {
         Ok(entry) => Some(entry.index() as u8),
         Err(_) => None,
+    }
+}
+
+// The parent of a process; `None` of init.
+pub fn parent_of<M: Machine, A: Allocator>(state: &State<M, A>, pid: Pid) -> Option<u8>
+    requires orderly { IsOrderly state.now }
+    requires used { IsSome (at state.now.table pid) }
+    ensures { IfSome (at state.now.table pid) (λ p. result ≡ p.parent) }
+{
+    if pid.index() == 0 {
+        None
+    } else {
+        Some(state.procs.parent(pid).index() as u8)
     }
 }
 
@@ -67,19 +80,17 @@ pub fn read_slot<M: Machine, A: Allocator>(
     if !state.procs.is_used(pid) {
         return Ok(None);
     }
-    let parent = if pid.index() == 0 {
-        None
-    } else {
-        Some(state.procs.parent(pid).index() as u8)
-    };
-    Ok(Some(Held {
+    let mut held = Held {
         status: idle_status(names, state.procs.state(pid))?,
-        parent,
+        parent: parent_of(state, pid),
         machine: state.procs.machine(pid).twin(),
         reply: state.procs.reply(pid).to_reply(),
         places: read_places(alloc, state.procs.fds(pid))?,
         put: state.procs.put(pid),
-    }))
+        digest: 0,
+    };
+    held.digest = held.digest_of();
+    Ok(Some(held))
 }
 
 // The object, its pipe named by its place.
@@ -161,7 +172,7 @@ pub fn read_entries(
         let entry = read_entry(names, entries, numbers[number])?;
         push_entry(&mut slots, entry)?;
     }
-    Ok(Entries { slots })
+    Ok(Entries::of(slots))
 }
 
 fn push_entry(slots: &mut Vec<Option<Opened>>, entry: Option<Opened>) -> Result<(), AllocError>
@@ -186,7 +197,7 @@ pub fn read_pipes<M: Machine, A: Allocator>(
         let place = place_of(names, *name)?;
         push_pipe(alloc, &mut pipes, state, *name, place)?;
     }
-    Ok(Pipes { pipes })
+    Ok(Pipes::of(pipes))
 }
 
 fn push_pipe<M: Machine, A: Allocator>(

@@ -1,6 +1,10 @@
 //! A kernel is read.
 
-ghost use Rattle.std.specs.Prelude.{◌≡◌, ◌++◌, ◌∷◌, [], IfOk, OnOk, map};
+ghost use Rattle.std.specs.Prelude.{◌≡◌, ◌++◌, ◌∷◌, [], IfOk, IfSome, OnOk, Some, map};
+ghost use Rattle.proc_table.specs.Slots.{at};
+ghost use Rattle.kernel_model.specs.Sound.{IsSound};
+ghost use Rattle.order_model.specs.Idle.{idle_slot};
+ghost use Rattle.order_search.specs.Places.{IsOrderly, place_among};
 ghost use Rattle.order_search.specs.Shown.{slot_of};
 
 use crate::fault::ExploreFault;
@@ -10,6 +14,8 @@ use crate::numbers::Numbers;
 use crate::parts::{read_entries, read_pipes, read_slot};
 use crate::places::names_of;
 use crate::pools::Pool;
+use crate::unchanged::{are_entries, is_held};
+use fd_table::OpenFiles;
 use kernel_state::{State, Unread};
 use mem_files::Files;
 use proc_table::{PROCS, Pid};
@@ -30,10 +36,11 @@ pub struct Reader<M: Machine> {
 }
 
 impl<M: Machine> Reader<M> {
-    ghost use Rattle.std.specs.Prelude.{◌≡◌, ◌<◌, IfOk, length, map};
+    ghost use Rattle.std.specs.Prelude.{◌≡◌, ◌⊎◌, ℕ, ◌<◌, IfOk, None, length, map};
+    ghost use Rattle.fd_table.specs.Entries.{entry_at, count_of};
     ghost use Rattle.proc_table.specs.Slots.{at};
     ghost use Rattle.kernel_model.specs.Sound.{IsSound};
-    ghost use Rattle.order_model.specs.Idle.{idle_slot};
+    ghost use Rattle.order_model.specs.Idle.{idle_slot, renamed_entry};
     ghost use Rattle.order_model.specs.Key.{key};
     ghost use Rattle.order_search.specs.Shown.{slot_of};
     ghost use Rattle.order_search.specs.Places.{IsOrderly, names_in, place_among};
@@ -50,30 +57,44 @@ impl<M: Machine> Reader<M> {
         })
     }
 
-    fn read_bytes(&mut self, bytes: &[u8]) -> Result<Rc<Bytes>, AllocError>
+    fn read_bytes(&mut self, bytes: &[u8], before: &Rc<Bytes>) -> Result<Rc<Bytes>, AllocError>
         ensures { IfOk result (λ kept. kept.value ≡ bytes.now) }
     {
+        if before.bytes.as_slice() == bytes {
+            return before.clone();
+        }
         let bytes = Vec::from_slice(self.alloc, bytes)?;
-        self.bytes.keep(self.alloc, Bytes { bytes })
+        self.bytes.keep(self.alloc, Bytes::of(bytes))
     }
 
-    fn read_input<A: Allocator>(&mut self, input: &Unread<A>) -> Result<Rc<Bytes>, ExploreFault>
+    fn read_input<A: Allocator>(
+        &mut self,
+        input: &Unread<A>,
+        before: &Rc<Bytes>,
+    ) -> Result<Rc<Bytes>, ExploreFault>
         ensures { IfOk result (λ kept. kept.value ≡ input.now) }
     {
         let bytes = input.first(usize::MAX);
         if bytes.len() == usize::MAX {
             return Err(ExploreFault::TooLong);
         }
-        Ok(self.read_bytes(bytes)?)
+        Ok(self.read_bytes(bytes, before)?)
     }
 
-    fn read_files<A: Allocator>(&mut self, files: &Files<A>) -> Result<Rc<AllFiles>, AllocError>
+    fn read_files<A: Allocator>(
+        &mut self,
+        files: &Files<A>,
+        before: &Rc<AllFiles>,
+    ) -> Result<Rc<AllFiles>, AllocError>
         ensures { IfOk result (λ kept. kept.value ≡ files.now) }
     {
+        if before.files.same(files) {
+            return before.clone();
+        }
         let Ok(files) = files.copy(self.alloc) else {
             return Err(AllocError);
         };
-        self.files.keep(self.alloc, AllFiles { files })
+        self.files.keep(self.alloc, AllFiles::of(files))
     }
 
     fn read_slot<A: Allocator>(
@@ -81,6 +102,7 @@ impl<M: Machine> Reader<M> {
         state: &State<M, A>,
         names: &[u64],
         number: usize,
+        before: &Look<M>,
     ) -> Result<Option<Rc<Held<M>>>, ExploreFault>
         requires orderly { IsOrderly state.now }
         requires sound { IsSound state.now.table state.now.entries }
@@ -90,6 +112,9 @@ impl<M: Machine> Reader<M> {
         let Some(pid) = Pid::new(number) else {
             return Ok(None);
         };
+        if let Some(held) = unchanged(state, names, pid, before)? {
+            return Ok(Some(held));
+        }
         match read_slot(self.alloc, state, names, pid)? {
             None => Ok(None),
             Some(held) => Ok(Some(self.slots.keep(self.alloc, held)?)),
@@ -100,6 +125,7 @@ impl<M: Machine> Reader<M> {
         &mut self,
         state: &State<M, A>,
         names: &[u64],
+        before: &Look<M>,
     ) -> Result<Vec<Option<Rc<Held<M>>>>, ExploreFault>
         requires orderly { IsOrderly state.now }
         requires sound { IsSound state.now.table state.now.entries }
@@ -107,14 +133,35 @@ impl<M: Machine> Reader<M> {
     {
         let mut slots = Vec::with_capacity(self.alloc, PROCS)?;
         for number in 0..PROCS {
-            let slot = self.read_slot(state, names, number)?;
+            let slot = self.read_slot(state, names, number, before)?;
             push_slot(&mut slots, slot)?;
         }
         Ok(slots)
     }
 
-    // Reads a kernel between turns.
-    pub fn read<A: Allocator>(&mut self, state: &State<M, A>) -> Result<Look<M>, ExploreFault>
+    fn read_entries(
+        &mut self,
+        names: &[u64],
+        entries: &OpenFiles,
+        before: &Rc<Entries>,
+    ) -> Result<Rc<Entries>, ExploreFault>
+        requires all { length entries.now ≡ 100 }
+        requires counted { (e : ℕ) → (entry_at entries.now e ≡ None) ⊎ (0 < count_of (entry_at entries.now e)) }
+        ensures { IfOk result (λ kept. kept.value ≡ map (renamed_entry (place_among names.now)) entries.now) }
+    {
+        if are_entries(names, self.numbers.as_slice(), entries, before)? {
+            return Ok(before.clone()?);
+        }
+        let entries = read_entries(self.alloc, names, self.numbers.as_slice(), entries)?;
+        Ok(self.entries.keep(self.alloc, entries)?)
+    }
+
+    // Reads a kernel between turns. What is as it was before, in another one, is kept as it was.
+    pub fn read<A: Allocator>(
+        &mut self,
+        state: &State<M, A>,
+        before: &Look<M>,
+    ) -> Result<Look<M>, ExploreFault>
         requires orderly { IsOrderly state.now }
         requires sound { IsSound state.now.table state.now.entries }
         requires all { length state.now.entries ≡ 100 }
@@ -122,15 +169,14 @@ impl<M: Machine> Reader<M> {
     {
         let kept = names_of(self.alloc, state)?;
         let names = kept.as_slice();
-        let slots = self.read_slots(state, names)?;
-        let entries = read_entries(self.alloc, names, self.numbers.as_slice(), &state.entries)?;
-        let entries = self.entries.keep(self.alloc, entries)?;
+        let slots = self.read_slots(state, names, before)?;
+        let entries = self.read_entries(names, &state.entries, &before.entries)?;
         let pipes = read_pipes(self.alloc, names, state)?;
         let pipes = self.pipes.keep(self.alloc, pipes)?;
-        let input = self.read_input(&state.input)?;
-        let out = self.read_bytes(&state.out)?;
-        let diag = self.read_bytes(&state.diag)?;
-        let files = self.read_files(&state.files)?;
+        let input = self.read_input(&state.input, &before.input)?;
+        let out = self.read_bytes(&state.out, &before.out)?;
+        let diag = self.read_bytes(&state.diag, &before.diag)?;
+        let files = self.read_files(&state.files, &before.files)?;
         let mut look = Look {
             slots,
             entries,
@@ -145,6 +191,26 @@ impl<M: Machine> Reader<M> {
         look.digest = look.digest_of();
         Ok(look)
     }
+}
+
+// What was kept of the slot, if it is as it was.
+fn unchanged<M: Machine, A: Allocator>(
+    state: &State<M, A>,
+    names: &[u64],
+    pid: Pid,
+    before: &Look<M>,
+) -> Result<Option<Rc<Held<M>>>, ExploreFault>
+    requires orderly { IsOrderly state.now }
+    requires sound { IsSound state.now.table state.now.entries }
+    ensures { IfOk result (λ kept. IfSome kept (λ held. Some held.value ≡ idle_slot (place_among names.now) (at state.now.table pid))) }
+{
+    let Some(held) = before.slot(pid.index()) else {
+        return Ok(None);
+    };
+    if !is_held(state, names, pid, held)? {
+        return Ok(None);
+    }
+    Ok(Some(held.clone()?))
 }
 
 fn push_slot<M: Machine>(

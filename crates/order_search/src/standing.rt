@@ -6,12 +6,40 @@ use crate::fault::ExploreFault;
 use crate::looks::Look;
 use crate::origin::{Origin, remake, turn_by};
 use crate::reading::Reader;
+use crate::trail::Trail;
 use closed_search::Node;
 use kernel_state::State;
 use std::alloc::{AllocError, Allocator, Global};
 use std::marker::Model;
 use std::snapshot::Snapshot;
 use user_calls::{CallSlot, Machine};
+
+// What nodes are made with: what was kept so far, and kernels that are written over.
+#[derive(Drop)]
+pub struct Tools<'t, M: Machine, C: Allocator> {
+    alloc: Global,
+    reader: Reader<M>,
+    trail: Trail<'t, M, C>,
+    kernel: State<M, Global>,
+    call: CallSlot,
+}
+
+impl<'t, M: Machine, C: Allocator> Tools<'t, M, C> {
+    pub fn new(alloc: Global, origin: &'t Origin<'t, M, C>) -> Result<Self, ExploreFault> {
+        Ok(Tools {
+            alloc,
+            reader: Reader::new(alloc)?,
+            trail: Trail::new(alloc),
+            kernel: remake(alloc, origin, &[])?,
+            call: CallSlot::new(),
+        })
+    }
+
+    // Makes the stop where turns of these processes lead.
+    fn lead(&mut self, origin: &'t Origin<'t, M, C>, pids: &[u8]) -> Result<(), ExploreFault> {
+        self.trail.lead(self.alloc, origin, pids, &mut self.call)
+    }
+}
 
 // A kernel that turns of these processes lead to.
 #[derive(Drop)]
@@ -42,14 +70,18 @@ impl<'t, M: Machine, C: Allocator> Standing<'t, M, C> {
     ghost use Rattle.order_search.specs.Led.{start_kernel};
 
     // The kernel at its start.
-    pub fn start(reader: &mut Reader<M>, origin: &'t Origin<'t, M, C>) -> Result<Self, ExploreFault>
+    pub fn start(
+        tools: &mut Tools<'t, M, C>,
+        origin: &'t Origin<'t, M, C>,
+    ) -> Result<Self, ExploreFault>
         ensures { IfOk result (λ node. node.now ≡ start_kernel (M.view origin.now.init) (M.view origin.now.shell) origin.now.stdin.now origin.now.files.now) }
     {
-        let state = remake(reader.alloc, origin, &[])?;
-        let look = reader.read(&state)?;
+        let state = remake(tools.alloc, origin, &[])?;
+        let blank = Look::blank(tools.alloc)?;
+        let look = tools.reader.read(&state, &blank)?;
         Ok(Standing {
             origin,
-            pids: Vec::new(reader.alloc),
+            pids: Vec::new(tools.alloc),
             look,
             kernel: Snapshot::of(&state),
         })
@@ -65,6 +97,29 @@ impl<'t, M: Machine, C: Allocator> Standing<'t, M, C> {
         ensures { result ≡ false → IsFinishedOrReady self.now.now }
     {
         !self.look.is_finished() && !self.look.is_ready()
+    }
+}
+
+impl<'t, M: Machine, C: Allocator> Standing<'t, M, C> {
+    ghost use Rattle.std.specs.Prelude.{◌≡◌, Some, IfOk};
+    ghost use Rattle.order_model.specs.Turns.{after_turn};
+
+    // The node after a turn of this process.
+    fn turned(&self, tools: &mut Tools<'t, M, C>, pid: u8) -> Result<Self, ExploreFault>
+        ensures { IfOk result (λ node. after_turn M.call_of M.next_of self.now.now pid ≡ Some node.now) }
+    {
+        tools.lead(self.origin, &self.pids)?;
+        let stop = tools.trail.stop_at(self.origin, &self.pids)?;
+        tools.kernel.copy_from(stop.kernel())?;
+        turn_by(&mut tools.kernel, pid, &mut tools.call)?;
+        let pids = longer(tools.alloc, &self.pids, pid)?;
+        let look = tools.reader.read(&tools.kernel, &self.look)?;
+        Ok(Standing {
+            origin: self.origin,
+            pids,
+            look,
+            kernel: Snapshot::of(&tools.kernel),
+        })
     }
 }
 
@@ -94,13 +149,13 @@ impl<'t, M: Machine, C: Allocator> Node for Standing<'t, M, C> {
 
     ghost itself = { λ k. refl };
 
-    type Tools = Reader<M>;
+    type Tools = Tools<'t, M, C>;
 
     type Fault = ExploreFault;
 
     fn after(
         &self,
-        reader: &mut Reader<M>,
+        tools: &mut Tools<'t, M, C>,
         step_number: usize,
     ) -> Result<Option<Self>, ExploreFault> {
         if !self.look.is_runnable(step_number) {
@@ -109,16 +164,7 @@ impl<'t, M: Machine, C: Allocator> Node for Standing<'t, M, C> {
         let Ok(pid) = u8::try_from(step_number) else {
             return Err(ExploreFault::TooLong);
         };
-        let mut state = remake(reader.alloc, self.origin, &self.pids)?;
-        turn_by(&mut state, pid, &mut CallSlot::new())?;
-        let pids = longer(reader.alloc, &self.pids, pid)?;
-        let look = reader.read(&state)?;
-        Ok(Some(Standing {
-            origin: self.origin,
-            pids,
-            look,
-            kernel: Snapshot::of(&state),
-        }))
+        Ok(Some(self.turned(tools, pid)?))
     }
 
     fn is_like(&self, other: &Self) -> bool {

@@ -14,7 +14,7 @@ returns g c =
     key_by k _ names
     (c.as_slice-names.ensures.value ∙ c.in_ok-kept.ensures)
     c.in_ok-slots.ensures
-    (c.in_ok-entries-2.ensures ∙ c.in_ok-entries.ensures ∙ ap (λ (j : KernelState S). map (renamed_entry (place_among names)) j.entries) v)
+    (c.in_ok-entries.ensures ∙ ap (λ (j : KernelState S). map (renamed_entry (place_among names)) j.entries) v)
     (c.in_ok-pipes-2.ensures ∙ c.in_ok-pipes.ensures)
     (c.in_ok-files.ensures ∙ ap (λ (j : KernelState S). j.files) v)
     (c.in_ok-input.ensures ∙ ap (λ (j : KernelState S). j.input) v)

@@ -1,0 +1,7 @@
+use Rattle.std.proofs.Common.{◌≡◌, take, map}
+use Rattle.order_model.specs.Idle.{renamed_entry}
+use Rattle.order_search.specs.Places.{place_among}
+use Rattle.order_search.proofs.unchanged.are_entries.Given as goal
+
+abbrev pub invariant-loop-number : goal.invariant-loop-number
+invariant-loop-number l = take l.number l.kept ≡ map (renamed_entry (place_among l.names)) (take l.number l.entries)
