@@ -1,5 +1,5 @@
 //! How the program ends: what it prints, with which status, and how that is written.
-ghost use Rattle.std.specs.Prelude.{◌≡◌, ℕ, List, [], OnErr, OnOk, MatchResult, string_bytes};
+ghost use Rattle.std.specs.Prelude.{◌≡◌, [], OnErr, OnOk, MatchResult, string_bytes};
 ghost use Rattle.std.specs.Io.KnownBytes.{Appends};
 ghost use Rattle.xvsh_read.specs.Status.{fault_told, status_of};
 ghost use Rattle.xvsh_read.specs.Writing.{AppendsPart, out_text};
@@ -62,8 +62,8 @@ pub fn no_output(alloc: Global) -> Output
     }
 }
 
-/// This report alone, and the status.
-pub fn report(alloc: Global, line: Line, status: u8) -> Ending
+// This report alone, the status, and what helps.
+fn report_with(alloc: Global, line: Line, status: u8, hint: &'static str) -> Ending
     ensures { Tells (line_text line) status result }
 {
     Ending {
@@ -72,8 +72,15 @@ pub fn report(alloc: Global, line: Line, status: u8) -> Ending
         status,
         recording: None,
         left: None,
-        hint: "",
+        hint,
     }
+}
+
+/// This report alone, and the status.
+pub fn report(alloc: Global, line: Line, status: u8) -> Ending
+    ensures { Tells (line_text line) status result }
+{
+    report_with(alloc, line, status, "")
 }
 
 /// The report that memory was refused. It takes none.
@@ -93,27 +100,45 @@ pub fn report_made(alloc: Global, made: Result<String, AllocError>, status: u8) 
     }
 }
 
-// The same ending, with this hint.
-fn hinted(ending: Ending, hint: &'static str) -> Ending
-    ensures { (told : List ℕ) (status : ℕ) → TellsOr told status ending → TellsOr told status result }
+// The same, with what helps.
+fn report_hinted(
+    alloc: Global,
+    made: Result<String, AllocError>,
+    status: u8,
+    hint: &'static str,
+) -> Ending
+    ensures { MatchResult made (λ text. Tells (string_bytes text) status result) (λ _. Tells (fault_told Fault.Memory) 4 result) }
 {
-    Ending { hint, ..ending }
+    match made {
+        Ok(text) => report_with(alloc, Line::Made(text), status, hint),
+        Err(_) => report_no_memory(alloc),
+    }
 }
 
 /// The report of a fault.
 pub fn report_fault(alloc: Global, fault: Fault<'_>) -> Ending
     ensures { TellsOr (fault_told fault.entry) (status_of fault.entry) result }
 {
-    let made = format!(in alloc; "xvsh: {fault}\n");
-    hinted(report_made(alloc, made, fault.status()), fault.hint())
+    let hint = fault.hint();
+    report_hinted(
+        alloc,
+        format!(in alloc; "xvsh: {fault}\n"),
+        fault.status(),
+        hint,
+    )
 }
 
 /// The report of a fault of a run by processes.
 pub fn report_run_fault(alloc: Global, fault: ProcessFault<'_>) -> Ending
     ensures { TellsOr (run_fault_told fault.entry) (run_status fault.entry) result }
 {
-    let made = format!(in alloc; "xvsh: {fault}\n");
-    hinted(report_made(alloc, made, fault.status()), fault.hint())
+    let hint = fault.hint();
+    report_hinted(
+        alloc,
+        format!(in alloc; "xvsh: {fault}\n"),
+        fault.status(),
+        hint,
+    )
 }
 
 /// The report of a trace or a schedule that can't be written at the path.

@@ -20,6 +20,16 @@ fn path_of(alloc: Global, folder: &str, name: &str) -> Result<String, AllocError
     format!(in alloc; "{folder}/{name}")
 }
 
+// That the folder can't be written, or that memory for its path is refused.
+fn unwritten_folder(alloc: Global, folder: &str) -> WitnessFault
+    ensures { IsFilingFault folder.now result }
+{
+    match String::from_str(alloc, folder) {
+        Ok(path) => WitnessFault::Unwritten(path),
+        Err(_) => WitnessFault::Memory,
+    }
+}
+
 // Makes the file of this name, which can't be made where it isn't text in UTF-8.
 fn make_file<T: Traces>(
     alloc: Global,
@@ -30,10 +40,10 @@ fn make_file<T: Traces>(
 ) -> Result<(), WitnessFault>
     ensures { IfErr result (IsFilingFault folder.now) }
 {
-    let Ok(name) = str::from_utf8(name) else {
-        return Err(WitnessFault::Unwritten(String::from_str(alloc, folder)?));
+    let Ok(text) = str::from_utf8(name) else {
+        return Err(unwritten_folder(alloc, folder));
     };
-    let path = path_of(alloc, folder, name)?;
+    let path = path_of(alloc, folder, text)?;
     match write_file(traces, path.as_str(), bytes) {
         Ok(()) => Ok(()),
         Err(Unwritten) => Err(WitnessFault::Unwritten(path)),

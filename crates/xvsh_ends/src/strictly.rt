@@ -7,7 +7,7 @@ ghost use Rattle.xvsh_ends.specs.Requests.{strictly_asked};
 use crate::ending::{Ending, Line, report_fault, report_no_memory};
 use crate::plain::{verdict, verdict_status};
 use std::alloc::{AllocError, Global};
-use xvsh_plain::{PlainRequest, ToldRun, run_told};
+use xvsh_plain::{PlainRequest, PlainRun, ToldRun, run_told};
 use xvsh_read::Host;
 use xvsh_runs::{Run, StrictRun};
 
@@ -17,18 +17,23 @@ fn told(told: ToldRun) -> Result<Ending, AllocError>
     ensures told { IfOk result (λ ending. told_text ending ≡ told.run.output.err.items ++ (verdict_text told.run.is_settled ++ told.why.items)) }
     ensures status { IfOk result (λ ending. ending.status ≡ verdict_status true told.run.is_settled) }
 {
-    let is_settled = told.run.is_settled;
-    let mut output = told.run.output;
+    let ToldRun { run, why } = told;
+    let PlainRun {
+        output,
+        files,
+        is_settled,
+    } = run;
+    let mut output = output;
     output
         .err
         .extend_from_slice(verdict(is_settled).as_bytes())?;
-    output.err.extend_from_slice(told.why.as_slice())?;
+    output.err.extend_from_slice(why.as_slice())?;
     Ok(Ending {
         output,
         line: Line::Fixed(""),
         status: verdict_status(true, is_settled),
         recording: None,
-        left: Some(told.run.files),
+        left: Some(files),
         hint: "",
     })
 }

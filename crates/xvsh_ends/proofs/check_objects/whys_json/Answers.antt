@@ -1,4 +1,4 @@
-use Rattle.std.proofs.Common.{[], false, subst}
+use Rattle.std.proofs.Common.{[], true, subst}
 use Rattle.std.specs.Prelude.{MatchResult}
 use Rattle.xvsh_read.specs.declared.fault.Fault.TheVariants.{Memory}
 use Rattle.xvsh_read.specs.Status.{fault_told, status_of}

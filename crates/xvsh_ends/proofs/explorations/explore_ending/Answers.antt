@@ -4,4 +4,4 @@ use Rattle.xvsh_ends.proofs.explorations.explore_ending.Goals as goal
 pub returns : goal.returns
 returns g c =
     let request = c.args.request.now in
-    c.drawn.ensures (g.H.Host.input c.args.host.now) (g.H.Host.file c.args.host.now) (json_asked request.is_json (explore_told_asked request)) c.told_or_json.ensures
+    c.drawn.ensures (g.H.Host.input c.args.host.now) (g.H.Host.file c.args.host.now) (json_asked request.is_json (explore_told_asked request)) c.told_or_json-ending.ensures
