@@ -50,40 +50,46 @@ fn notes_are_told(rt: HostRuntime) -> Result<(), Fail> {
     Ok(())
 }
 
+// Whether the object of the notes on a script and these reasons is this text.
+fn is_told(
+    alloc: Global,
+    script: &[u8],
+    reasons: &[Reason<Global>],
+    code: u8,
+    told: &str,
+) -> Result<bool, Fail> {
+    let notes = notes_of(alloc, script)?;
+    let values = ExplainValues {
+        notes: notes.as_slice(),
+        reasons: Some(reasons),
+    };
+    let text = explain_result(alloc, &values, code)?;
+    let _ = value_of(alloc, text.as_slice())?;
+    let whole = format!(in alloc; "{HEAD}{told}")?;
+    Ok(text.as_slice() == whole.as_bytes())
+}
+
 #[test]
 fn reasons_stand_behind_the_notes(rt: HostRuntime) -> Result<(), Fail> {
-    let reasons = [Reason::LooseInput { line: 1, user: 2 }];
-    let rows = [
-        (
+    let none = Vec::new(rt.alloc());
+    let told = "\"nothing to tell\",\"code\":0,\"notes\":[],\"settled\":true,\"reasons\":[]}\n";
+    assert!(&rt; is_told(rt.alloc(), b"echo a\n".as_slice(), none.as_slice(), 0, told)?);
+    let mut loose = Vec::new(rt.alloc());
+    loose.push(Reason::LooseInput { line: 1, user: 2 })?;
+    let told =
+        "\"not settled\",\"code\":3,\"notes\":[],\"settled\":false,\"reasons\":[{\"kind\":\"loose input\",\"line\":1,\"user\":2}]}\n";
+    assert!(&rt;
+        is_told(
+            rt.alloc(),
             b"echo a\n".as_slice(),
-            reasons.as_slice(),
+            loose.as_slice(),
             3,
-            "\"not settled\",\"code\":3,\"notes\":[],\"settled\":false,\"reasons\":[{\"kind\":\"loose input\",\"line\":1,\"user\":2}]}\n",
-        ),
-        (
-            b"echo a\n".as_slice(),
-            [].as_slice(),
-            0,
-            "\"nothing to tell\",\"code\":0,\"notes\":[],\"settled\":true,\"reasons\":[]}\n",
-        ),
-        (
-            b"cat <".as_slice(),
-            reasons.as_slice(),
-            3,
-            "\"notes\",\"code\":3,\"notes\":[{\"kind\":\"MissingName\",\"line\":1,\"places\":[{\"first\":5,\"past\":5}],\"sentence\":\"a file's name has to stand here: the line is no command, and nothing of it runs\",\"text\":\"cat <\"}],\"settled\":false,\"reasons\":[{\"kind\":\"loose input\",\"line\":1,\"user\":2}]}\n",
-        ),
-    ];
-    for (script, reasons, code, told) in rows {
-        let notes = notes_of(rt.alloc(), script)?;
-        let values = ExplainValues {
-            notes: notes.as_slice(),
-            reasons: Some(reasons),
-        };
-        let text = explain_result(rt.alloc(), &values, code)?;
-        let _ = value_of(rt.alloc(), text.as_slice())?;
-        let whole = format!(in rt.alloc(); "{HEAD}{told}")?;
-        assert!(&rt; text.as_slice() == whole.as_bytes());
-    }
+            told
+        )?
+    );
+    let told =
+        "\"notes\",\"code\":3,\"notes\":[{\"kind\":\"MissingName\",\"line\":1,\"places\":[{\"first\":5,\"past\":5}],\"sentence\":\"a file's name has to stand here: the line is no command, and nothing of it runs\",\"text\":\"cat <\"}],\"settled\":false,\"reasons\":[{\"kind\":\"loose input\",\"line\":1,\"user\":2}]}\n";
+    assert!(&rt; is_told(rt.alloc(), b"cat <".as_slice(), loose.as_slice(), 3, told)?);
     Ok(())
 }
 

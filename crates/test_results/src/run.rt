@@ -63,44 +63,55 @@ fn a_run_says_what_it_was(rt: HostRuntime) -> Result<(), Fail> {
     Ok(())
 }
 
+// Whether the object of a strict run with this verdict is this text, by its status and its last members.
+fn is_verdict(
+    alloc: Global,
+    files: &Files<Global>,
+    verdict: Verdict<'_>,
+    code: u8,
+    (status, last): (&str, &str),
+) -> Result<bool, Fail> {
+    let strict = RunValues {
+        verdict: Some(verdict),
+        ..values_of(b"".as_slice(), b"".as_slice(), files)
+    };
+    let whole = format!(in alloc;
+        "{{\"format\":\"xvsh-result\",\"version\":1,\"command\":\"run\",\"status\":\"{status}\",\"code\":{code},\"output\":\"\",\"diagnostics\":\"\",\"files\":[{{\"name\":\"f\",\"length\":1,\"bytes\":\"a\",\"soft\":false}},{{\"name\":\"g\",\"length\":0,\"bytes\":\"\",\"soft\":true}}],\"finished\":true,\"full\":null,\"events\":4,\"harts\":8,{last}}}\n"
+    )?;
+    is_text(alloc, &strict, code, whole.as_str())
+}
+
 #[test]
 fn a_strict_run_says_what_is_soft(rt: HostRuntime) -> Result<(), Fail> {
     let mut files = Files::new(rt.alloc());
     files.put(b"f", b"a".as_slice())?;
     files.put(b"g", b"".as_slice())?;
-    let soft = [Bytes::copy_of(rt.alloc(), b"g".as_slice())?];
-    let reasons = [
-        Reason::Background { line: 2 },
-        Reason::CutPipe {
-            line: 3,
-            name: Bytes::copy_of(rt.alloc(), b"g".as_slice())?,
-            again: 4,
-        },
-    ];
-    let rows = [
-        (true, [].as_slice(), "settled", 0, "[]"),
-        (
-            false,
-            reasons.as_slice(),
-            "not settled",
-            3,
-            "[{\"kind\":\"background\",\"line\":2},{\"kind\":\"cut pipe\",\"line\":3,\"name\":\"g\",\"again\":4}]",
-        ),
-    ];
-    for (is_settled, reasons, status, code, told) in rows {
-        let strict = RunValues {
-            verdict: Some(Verdict {
-                is_settled,
-                soft: &soft,
-                reasons,
-            }),
-            ..values_of(b"".as_slice(), b"".as_slice(), &files)
-        };
-        let whole = format!(in rt.alloc();
-            "{{\"format\":\"xvsh-result\",\"version\":1,\"command\":\"run\",\"status\":\"{status}\",\"code\":{code},\"output\":\"\",\"diagnostics\":\"\",\"files\":[{{\"name\":\"f\",\"length\":1,\"bytes\":\"a\",\"soft\":false}},{{\"name\":\"g\",\"length\":0,\"bytes\":\"\",\"soft\":true}}],\"finished\":true,\"full\":null,\"events\":4,\"harts\":8,\"settled\":{is_settled},\"reasons\":{told}}}\n"
-        )?;
-        assert!(&rt; is_text(rt.alloc(), &strict, code, whole.as_str())?);
-    }
+    let mut soft = Vec::new(rt.alloc());
+    soft.push(Bytes::copy_of(rt.alloc(), b"g".as_slice())?)?;
+    let mut reasons = Vec::new(rt.alloc());
+    let settled = Verdict {
+        is_settled: true,
+        soft: soft.as_slice(),
+        reasons: reasons.as_slice(),
+    };
+    let told = ("settled", "\"settled\":true,\"reasons\":[]");
+    assert!(&rt; is_verdict(rt.alloc(), &files, settled, 0, told)?);
+    reasons.push(Reason::Background { line: 2 })?;
+    reasons.push(Reason::CutPipe {
+        line: 3,
+        name: Bytes::copy_of(rt.alloc(), b"g".as_slice())?,
+        again: 4,
+    })?;
+    let other = Verdict {
+        is_settled: false,
+        soft: soft.as_slice(),
+        reasons: reasons.as_slice(),
+    };
+    let told = (
+        "not settled",
+        "\"settled\":false,\"reasons\":[{\"kind\":\"background\",\"line\":2},{\"kind\":\"cut pipe\",\"line\":3,\"name\":\"g\",\"again\":4}]",
+    );
+    assert!(&rt; is_verdict(rt.alloc(), &files, other, 3, told)?);
     Ok(())
 }
 

@@ -8,29 +8,29 @@ use Rattle.xvsh.proofs.driver.drive.Goals as goal
 pub returns-clause-meaning : goal.returns-clause-meaning
 returns-clause-meaning g c none zero =
     let ending = c.ending_on-ending.result in
-    run_writes_meaning (g.H.Host.input c.args.console.now.host) (g.H.Host.file c.args.console.now.host) (g.W.Write.contents c.args.console.now.out) (g.W.Write.contents c.write_ending.new.out) (g.E.Write.contents c.args.console.now.err) (g.E.Write.contents c.write_ending.new.err) c.write_ending.result
-    (record { text = out_text ending.output; told = told_text ending; status = ending.status; due = c.ending_on-ending.ensures.no_words none; writes = c.write_ending.ensures.writes })
+    run_writes_meaning (g.H.Host.input c.args.console.now.host) (g.H.Host.file c.args.console.now.host) (g.W.Write.contents c.args.console.now.out) (g.W.Write.contents c.write_ending-status.new.out) (g.E.Write.contents c.args.console.now.err) (g.E.Write.contents c.write_ending-status.new.err) c.write_ending-status.result
+    (record { text = out_text ending.output; told = told_text ending; status = ending.status; due = c.ending_on-ending.ensures.no_words none; writes = c.write_ending-status.ensures.writes })
     zero
 
 pub returns-clause-no_words : goal.returns-clause-no_words
 returns-clause-no_words g c none =
     let ending = c.ending_on-ending.result in
-    record { text = out_text ending.output; told = told_text ending; status = ending.status; due = c.ending_on-ending.ensures.no_words none; writes = c.write_ending.ensures.writes }
+    record { text = out_text ending.output; told = told_text ending; status = ending.status; due = c.ending_on-ending.ensures.no_words none; writes = c.write_ending-status.ensures.writes }
 
 pub returns-clause-ends : goal.returns-clause-ends
 returns-clause-ends g c some =
     let ending = c.ending_on-ending.result in
     let due = c.ending_on-ending.ensures.due some in
-    (due.0, due.1, due.2, record { text = out_text ending.output; told = told_text ending; status = ending.status; due = due.3; writes = c.write_ending.ensures.writes })
+    (due.0, due.1, due.2, record { text = out_text ending.output; told = told_text ending; status = ending.status; due = due.3; writes = c.write_ending-status.ensures.writes })
 
 pub returns-clause-nothing_written : goal.returns-clause-nothing_written
 returns-clause-nothing_written g c some one three four =
     let ending = c.ending_on-ending.result in
-    let same = status_due (out_text ending.output) (told_text ending) ending.status (g.W.Write.contents c.args.console.now.out) (g.W.Write.contents c.write_ending.new.out) (g.E.Write.contents c.args.console.now.err) (g.E.Write.contents c.write_ending.new.err) c.write_ending.result c.write_ending.ensures.writes one in
-    c.write_ending.ensures.nothing (c.ending_on-ending.ensures.nothing (λ is. some (same ∙ is)) (λ is. one (same ∙ is)) (λ is. three (same ∙ is)) (λ is. four (same ∙ is)))
+    let same = status_due (out_text ending.output) (told_text ending) ending.status (g.W.Write.contents c.args.console.now.out) (g.W.Write.contents c.write_ending-status.new.out) (g.E.Write.contents c.args.console.now.err) (g.E.Write.contents c.write_ending-status.new.err) c.write_ending-status.result c.write_ending-status.ensures.writes one in
+    c.write_ending-status.ensures.nothing (c.ending_on-ending.ensures.nothing (λ is. some (same ∙ is)) (λ is. one (same ∙ is)) (λ is. three (same ∙ is)) (λ is. four (same ∙ is)))
 
 pub returns-clause-no_words_written : goal.returns-clause-no_words_written
 returns-clause-no_words_written g c none some one =
     let ending = c.ending_on-ending.result in
-    let same = status_due (out_text ending.output) (told_text ending) ending.status (g.W.Write.contents c.args.console.now.out) (g.W.Write.contents c.write_ending.new.out) (g.E.Write.contents c.args.console.now.err) (g.E.Write.contents c.write_ending.new.err) c.write_ending.result c.write_ending.ensures.writes one in
-    c.write_ending.ensures.nothing (c.ending_on-ending.ensures.no_words_nothing none (λ is. some (same ∙ is)))
+    let same = status_due (out_text ending.output) (told_text ending) ending.status (g.W.Write.contents c.args.console.now.out) (g.W.Write.contents c.write_ending-status.new.out) (g.E.Write.contents c.args.console.now.err) (g.E.Write.contents c.write_ending-status.new.err) c.write_ending-status.result c.write_ending-status.ensures.writes one in
+    c.write_ending-status.ensures.nothing (c.ending_on-ending.ensures.no_words_nothing none (λ is. some (same ∙ is)))
