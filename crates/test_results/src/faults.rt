@@ -32,7 +32,7 @@ fn a_fault_has_its_text(rt: HostRuntime) -> Result<(), Fail> {
         let has_path = told.get("path").and_then(serde_json::Value::as_str);
         assert!(&rt;
             has_path
-                == if number == 1 || number == 2 || number == 5 {
+                == if matches!(number, 1 | 2 | 5 | 15) {
                     Some(path)
                 } else {
                     None
