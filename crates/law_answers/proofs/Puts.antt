@@ -5,7 +5,7 @@ use Rattle.std.proofs.lemmas.Bool.{false≢true}
 use Rattle.std.proofs.lemmas.List.Elements.{All-pop}
 use Rattle.mem_files.specs.Name.{Name, Bytes}
 use Rattle.mem_files.specs.Listing.{with_entry}
-use Rattle.xvsh_read.specs.Path.{Path, IsNameOf}
+use Rattle.xvsh_read.specs.Path.{Path, IsNameOf, place_of}
 use Rattle.xvsh_read.specs.Reading.{Agree, ArePut, none_put, one_put}
 use Rattle.law_answers.proofs.Names.{one_name}
 
@@ -33,7 +33,7 @@ same_last (a ∷ before) (b ∷ earlier) last final same =
 
 module _ (file : Path → Option Bytes) where
   abbrev Tells : Bor Path → Type 0
-  Tells path = is_some (file path.now) ≡ true
+  Tells path = is_some (file (place_of path.now)) ≡ true
 
   pub put_alike : (paths others : List (Bor Path)) (given other : List (Name × Bytes)) → paths ≡ others → All Tells paths → ArePut file paths given → ArePut file others other → given ≡ other
   put_alike paths others given other same told none_put none_put = refl
@@ -43,6 +43,6 @@ module _ (file : Path → Option Bytes) where
       let ends = same_last before earlier path last same in
       let parts = All-pop Tells (before ++ path ∷ []) before (Some path) refl told in
       let one : name ≡ called = one_name path.now name called is (subst (λ p. IsNameOf p.now called) (sym ends.1) named) in
-      let content : bytes ≡ read = one_told (file path.now) bytes read parts.1 own (subst (λ p. Agree (file p.now) read) (sym ends.1) has) in
+      let content : bytes ≡ read = one_told (file (place_of path.now)) bytes read parts.1 own (subst (λ p. Agree (file (place_of p.now)) read) (sym ends.1) has) in
       let rest : sooner ≡ held = put_alike before earlier sooner held ends.0 parts.0 put puts in
       λ i. with_entry (rest i) (one i) (content i)

@@ -6,7 +6,7 @@ use Rattle.mem_files.specs.Files.{files}
 use Rattle.script_load.specs.declared.profile.Profile.{Profile}
 use Rattle.script_load.specs.Line.{ScriptLine}
 use Rattle.meaning_model.specs.Settled.{IsSettledScript}
-use Rattle.xvsh_read.specs.Path.{Path}
+use Rattle.xvsh_read.specs.Path.{Path, place_of}
 use Rattle.xvsh_read.specs.Reading.{told_at}
 use Rattle.xvsh_read.specs.Starting.{Starts}
 
@@ -14,7 +14,7 @@ use Rattle.xvsh_read.specs.Starting.{Starts}
 pub record IsTold (input : Option Bytes) (file : Path → Option Bytes) (script : Path) (paths : List (Bor Path)) : Type 0 where
   pub of_input : is_some input ≡ true
   pub of_script : is_some (told_at input file script) ≡ true
-  pub of_paths : All (λ path. is_some (file path.now) ≡ true) paths
+  pub of_paths : All (λ path. is_some (file (place_of path.now)) ≡ true) paths
 
 -- whatever a run of the script at a path begins with, where standard input wasn't taken before, the script is settled on it
 abbrev pub IsSettledAt : Option Bytes → (Path → Option Bytes) → Profile → Path → List (Bor Path) → Type 0

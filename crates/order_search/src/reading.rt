@@ -112,9 +112,26 @@ impl<M: Machine> Reader<M> {
         let Some(pid) = Pid::new(number) else {
             return Ok(None);
         };
+        if !state.procs.is_used(pid) {
+            return Ok(None);
+        }
         if let Some(held) = unchanged(state, names, pid, before)? {
             return Ok(Some(held));
         }
+        self.read_anew(state, names, pid)
+    }
+
+    // Reads a slot that isn't as it was. (Apart, since what is read is a large value, for which a function makes room when it begins.)
+    fn read_anew<A: Allocator>(
+        &mut self,
+        state: &State<M, A>,
+        names: &[u64],
+        pid: Pid,
+    ) -> Result<Option<Rc<Held<M>>>, ExploreFault>
+        requires orderly { IsOrderly state.now }
+        requires sound { IsSound state.now.table state.now.entries }
+        ensures { IfOk result (λ slot. slot_of slot ≡ idle_slot (place_among names.now) (at state.now.table pid)) }
+    {
         match read_slot(self.alloc, state, names, pid)? {
             None => Ok(None),
             Some(held) => Ok(Some(self.slots.keep(self.alloc, held)?)),

@@ -2,6 +2,7 @@
 
 use crate::head::begin_result;
 use crate::reasons::write_reasons;
+use missing_names::Missing;
 use plain_run::Reason;
 use script_notes::{LineNote, NoteKind, Span};
 use std::alloc::{AllocError, Global};
@@ -81,8 +82,22 @@ fn write_note(object: &mut Line, note: &LineNote) -> Result<(), AllocError> {
 pub struct ExplainValues<'a> {
     /// The notes on its lines.
     pub notes: &'a [LineNote],
+    /// The names that no file has, where reasons were asked for.
+    pub missing: &'a [Missing],
     /// Why it isn't settled on its files and its input, where that was asked for.
     pub reasons: Option<&'a [Reason<Global>]>,
+}
+
+// The names that no file has, as a list.
+fn write_missing(object: &mut Line, missing: &[Missing]) -> Result<(), AllocError> {
+    object.begin_list("missing")?;
+    for name in missing {
+        object.begin_raw_object()?;
+        object.count("line", name.line as u64)?;
+        object.bytes("name", name.name.as_slice())?;
+        object.end_object()?;
+    }
+    object.end_list()
 }
 
 // The word of the status: what is told first.
@@ -92,15 +107,17 @@ fn status_word(values: &ExplainValues<'_>) -> &'static str {
     }
     match values.reasons {
         Some(reasons) if !reasons.is_empty() => "not settled",
+        _ if !values.missing.is_empty() => "missing names",
         _ => "nothing to tell",
     }
 }
 
 /// The result of an explanation as one object of JSON, and LF (own): `format`, `version`, `command` `explain`, `status`
-/// (`notes` where there is one; else `not settled` where there is a reason, else `nothing to tell`), `code`, the status with which
+/// (`notes` where there is one; else `not settled` where there is a reason, else `missing names` where a name has no file, else
+/// `nothing to tell`), `code`, the status with which
 /// the program ends, and `notes`, in the order of the lines: of each its `kind`, its `line`, counted from 1, its `places`, each
 /// from the byte `first` up to and without the byte `past` of the line, counted from 0, its `sentence`, and the line's `text`;
-/// and `settled` and `reasons`, where these were asked for.
+/// and `missing`, the names that no file has, each with its `line` and its `name`, `settled` and `reasons`, where these were asked for.
 ///
 /// Bytes are a string where they are UTF-8, else an object whose member `base64` is their base64. `AllocError` where memory for
 /// the text is refused.
@@ -116,6 +133,7 @@ pub fn explain_result(
     }
     object.end_list()?;
     if let Some(reasons) = values.reasons {
+        write_missing(&mut object, values.missing)?;
         object.truth("settled", reasons.is_empty())?;
         write_reasons(&mut object, reasons)?;
     }

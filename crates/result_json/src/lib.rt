@@ -2,6 +2,7 @@
 #![tactic(auto)]
 
 mod check;
+mod dead;
 mod explain;
 mod faults;
 mod files;

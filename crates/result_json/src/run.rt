@@ -1,5 +1,6 @@
 //! The result of a run by processes.
 
+use crate::dead::is_dead;
 use crate::files::write_files;
 use crate::head::begin_result;
 use crate::reasons::write_reasons;
@@ -7,6 +8,7 @@ use crate::words::full_word;
 use kernel_model::{Event, Full};
 use mem_files::Files;
 use plain_run::Reason;
+use script_load::Line as ScriptLine;
 use sh_lexer::Bytes;
 use std::alloc::{AllocError, Global};
 use trace_lines::Line;
@@ -35,6 +37,8 @@ pub struct RunValues<'a> {
     pub full: Option<Full>,
     /// On how many harts it was run.
     pub harts: u8,
+    /// The lines of its script.
+    pub lines: &'a [ScriptLine<Global>],
     /// Its events.
     pub schedule: &'a [Event],
     /// Whether the events are listed.
@@ -84,10 +88,21 @@ fn write_full(line: &mut Line, full: Option<Full>) -> Result<(), AllocError> {
     }
 }
 
+// The numbers of the lines that do nothing, counted from 1.
+fn write_dead(line: &mut Line, lines: &[ScriptLine<Global>]) -> Result<(), AllocError> {
+    line.begin_list("dead_lines")?;
+    for (place, script_line) in lines.iter().enumerate() {
+        if is_dead(script_line) {
+            line.raw_count((place as u64).saturating_add(1))?;
+        }
+    }
+    line.end_list()
+}
+
 /// The result of a finished run by processes as one object of JSON, and LF (own): `format`, `version`, `command`, `status`
 /// (`full` where something was; else `settled` or `not settled` where that is known, else `finished`), `code`, the status with
 /// which the program ends, `output`, `diagnostics`, `files`, each `soft` or not where that is known, `finished`, `full`, the
-/// number of `events` and of `harts`; `schedule`, a list of the events as the lines of a schedule, where they are listed; and
+/// number of `events` and of `harts`, `dead_lines`, the numbers of the lines that are no command or name no program; `schedule`, a list of the events as the lines of a schedule, where they are listed; and
 /// `settled` and `reasons`, where these are known.
 ///
 /// Bytes are a string where they are UTF-8, else an object whose member `base64` is their base64. `AllocError` where memory for
@@ -110,6 +125,7 @@ pub fn run_result(
     write_full(&mut line, values.full)?;
     line.count("events", values.schedule.len() as u64)?;
     line.count("harts", u64::from(values.harts))?;
+    write_dead(&mut line, values.lines)?;
     if values.lists_events {
         write_schedule(&mut line, alloc, values.schedule)?;
     }

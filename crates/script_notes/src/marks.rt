@@ -1,12 +1,13 @@
 //! A note as text: its sentence, the line, and marks under its places.
-ghost use Rattle.std.specs.Prelude.{◌≡◌, ◌++◌, OnOk, slice_range};
-ghost use Rattle.script_notes.specs.Marks.{takes_column, blank_of, blanks, shown, mark, marks};
+ghost use Rattle.std.specs.Prelude.{◌≡◌, ◌++◌, IfOk, OnOk, flat_map, replicate, slice_range};
+ghost use Rattle.script_notes.specs.Marks.{blank_of, blanks, columns_of, letters, mark, mark_of, marks, shown};
 ghost use Rattle.script_notes.specs.Notes.{head_text};
 ghost use Rattle.script_notes.specs.Written.{line_note_text};
 
 use crate::kind::NoteKind;
 use crate::line_note::LineNote;
 use std::alloc::{AllocError, Global};
+use unicode_width::UnicodeWidthChar;
 
 /// The bytes of a line from `first` up to and without `past`, counted from 0 (own).
 #[derive(Clone, Copy, Debug, PartialEq, Eq)]
@@ -15,31 +16,11 @@ pub struct Span {
     pub past: usize,
 }
 
-// Whether a byte begins a column: it is no later byte of a UTF-8 character, and no carriage return.
-fn takes_column(byte: u8) -> bool
-    ensures { result ≡ takes_column byte }
+// How many columns a character takes: one where it controls.
+fn columns_of(letter: char) -> usize
+    ensures { result ≡ columns_of letter }
 {
-    byte != b'\r' && (byte < 128 || 191 < byte)
-}
-
-// What stands under a byte that is not marked.
-fn blank_of(byte: u8) -> u8
-    ensures { result ≡ blank_of byte }
-{
-    if byte == b'\t' { b'\t' } else { b' ' }
-}
-
-// Adds what stands under bytes that are not marked.
-fn add_blanks(alloc: Global, bytes: &[u8], told: &mut Vec<u8>) -> Result<(), AllocError>
-    ensures { OnOk result (told.new.items ≡ told.old.items ++ blanks bytes.now) }
-{
-    let columns: Vec<u8> = bytes
-        .iter()
-        .copied()
-        .filter(|byte| takes_column(*byte))
-        .map(|byte| blank_of(byte))
-        .collect(alloc)?;
-    told.extend_from_slice(columns.as_slice())
+    letter.width().unwrap_or(1)
 }
 
 // Adds the line's text as it is shown.
@@ -54,21 +35,70 @@ fn add_shown(alloc: Global, text: &[u8], told: &mut Vec<u8>) -> Result<(), Alloc
     told.extend_from_slice(bytes.as_slice())
 }
 
+// The characters that bytes are shown as.
+fn letters_of(alloc: Global, bytes: &[u8]) -> Result<Vec<char>, AllocError>
+    ensures { IfOk result (λ found. found.items ≡ letters bytes.now) }
+{
+    let mut line = Vec::new(alloc);
+    add_shown(alloc, bytes, &mut line)?;
+    let text = String::from_utf8_lossy(alloc, line.as_slice())?;
+    text.chars().collect(alloc)
+}
+
+// Adds a byte so many times.
+fn add_copies(count: usize, byte: u8, told: &mut Vec<u8>) -> Result<(), AllocError>
+    ensures { OnOk result (told.new.items ≡ told.old.items ++ replicate count byte) }
+{
+    for _copy in 0..count {
+        told.push(byte)?;
+    }
+    Ok(())
+}
+
+// Adds what stands under a character that is not marked.
+fn add_blank(letter: char, told: &mut Vec<u8>) -> Result<(), AllocError>
+    ensures { OnOk result (told.new.items ≡ told.old.items ++ blank_of letter) }
+{
+    if letter == '\t' {
+        told.push(b'\t')?;
+        return Ok(());
+    }
+    add_copies(columns_of(letter), b' ', told)
+}
+
+// Adds what stands under bytes that are not marked.
+fn add_blanks(alloc: Global, bytes: &[u8], told: &mut Vec<u8>) -> Result<(), AllocError>
+    ensures { OnOk result (told.new.items ≡ told.old.items ++ blanks bytes.now) }
+{
+    let letters = letters_of(alloc, bytes)?;
+    for letter in &letters {
+        add_blank(*letter, told)?;
+    }
+    Ok(())
+}
+
+// The marks in each column of bytes.
+fn marks_of(alloc: Global, bytes: &[u8]) -> Result<Vec<u8>, AllocError>
+    ensures { IfOk result (λ under. under.items ≡ flat_map mark_of (letters bytes.now)) }
+{
+    let letters = letters_of(alloc, bytes)?;
+    let mut under = Vec::new(alloc);
+    for letter in &letters {
+        add_copies(columns_of(*letter), b'^', &mut under)?;
+    }
+    Ok(under)
+}
+
 // Adds the marks under bytes: one at least.
 fn add_mark(alloc: Global, bytes: &[u8], told: &mut Vec<u8>) -> Result<(), AllocError>
     ensures { OnOk result (told.new.items ≡ told.old.items ++ mark bytes.now) }
 {
-    told.push(b'^')?;
-    let Some((_, more)) = bytes.split_first() else {
+    let under = marks_of(alloc, bytes)?;
+    if under.is_empty() {
+        told.push(b'^')?;
         return Ok(());
-    };
-    let columns: Vec<u8> = more
-        .iter()
-        .copied()
-        .filter(|byte| takes_column(*byte))
-        .map(|_| b'^')
-        .collect(alloc)?;
-    told.extend_from_slice(columns.as_slice())
+    }
+    told.extend_from_slice(under.as_slice())
 }
 
 // The bytes of a line from one up to and without another, as far as there are any.

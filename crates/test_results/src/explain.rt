@@ -1,6 +1,7 @@
 //! Explanations as objects.
 
 use crate::read_back::{count_of, member_of, value_of, word_of};
+use missing_names::Missing;
 use plain_run::Reason;
 use result_json::{ExplainValues, explain_result};
 use script_notes::{LineNote, notes_of};
@@ -12,6 +13,7 @@ use std::test::Fail;
 fn values_of<'v>(notes: &'v [LineNote]) -> ExplainValues<'v> {
     ExplainValues {
         notes,
+        missing: &[],
         reasons: None,
     }
 }
@@ -61,6 +63,7 @@ fn is_told(
     let notes = notes_of(alloc, script)?;
     let values = ExplainValues {
         notes: notes.as_slice(),
+        missing: &[],
         reasons: Some(reasons),
     };
     let text = explain_result(alloc, &values, code)?;
@@ -72,12 +75,13 @@ fn is_told(
 #[test]
 fn reasons_stand_behind_the_notes(rt: HostRuntime) -> Result<(), Fail> {
     let none = Vec::new(rt.alloc());
-    let told = "\"nothing to tell\",\"code\":0,\"notes\":[],\"settled\":true,\"reasons\":[]}\n";
+    let told =
+        "\"nothing to tell\",\"code\":0,\"notes\":[],\"missing\":[],\"settled\":true,\"reasons\":[]}\n";
     assert!(&rt; is_told(rt.alloc(), b"echo a\n".as_slice(), none.as_slice(), 0, told)?);
     let mut loose = Vec::new(rt.alloc());
     loose.push(Reason::LooseInput { line: 1, user: 2 })?;
     let told =
-        "\"not settled\",\"code\":3,\"notes\":[],\"settled\":false,\"reasons\":[{\"kind\":\"loose input\",\"line\":1,\"user\":2}]}\n";
+        "\"not settled\",\"code\":3,\"notes\":[],\"missing\":[],\"settled\":false,\"reasons\":[{\"kind\":\"loose input\",\"line\":1,\"user\":2}]}\n";
     assert!(&rt;
         is_told(
             rt.alloc(),
@@ -88,8 +92,41 @@ fn reasons_stand_behind_the_notes(rt: HostRuntime) -> Result<(), Fail> {
         )?
     );
     let told =
-        "\"notes\",\"code\":3,\"notes\":[{\"kind\":\"MissingName\",\"line\":1,\"places\":[{\"first\":5,\"past\":5}],\"sentence\":\"a file's name has to stand here: the line is no command, and nothing of it runs\",\"text\":\"cat <\"}],\"settled\":false,\"reasons\":[{\"kind\":\"loose input\",\"line\":1,\"user\":2}]}\n";
+        "\"notes\",\"code\":3,\"notes\":[{\"kind\":\"MissingName\",\"line\":1,\"places\":[{\"first\":5,\"past\":5}],\"sentence\":\"a file's name has to stand here: the line is no command, and nothing of it runs\",\"text\":\"cat <\"}],\"missing\":[],\"settled\":false,\"reasons\":[{\"kind\":\"loose input\",\"line\":1,\"user\":2}]}\n";
     assert!(&rt; is_told(rt.alloc(), b"cat <".as_slice(), loose.as_slice(), 3, told)?);
+    Ok(())
+}
+
+const ODD_NAME: &[u8] = b"a\"\n\xff";
+
+// Whether the object of these missing names, of which there is one, gives back that one, of line 7.
+fn is_missing_told(alloc: Global, missing: &[Missing]) -> Result<bool, Fail> {
+    let values = ExplainValues {
+        notes: &[],
+        missing,
+        reasons: Some(&[]),
+    };
+    let text = explain_result(alloc, &values, 3)?;
+    let value = value_of(alloc, text.as_slice())?;
+    let names = value
+        .get("missing")
+        .and_then(Value::as_array)
+        .ok_or("no names")?;
+    let first = names.first().ok_or("no name")?;
+    Ok(
+        word_of(&value, "status")? == "missing names"
+            && names.len() == 1
+            && count_of(first, "line")? == 7
+            && member_of(alloc, first, "name")?.as_slice() == ODD_NAME,
+    )
+}
+
+#[test]
+fn names_that_no_file_has_stand_behind_the_notes(rt: HostRuntime) -> Result<(), Fail> {
+    let mut missing = Vec::new(rt.alloc());
+    let name = Vec::from_slice(rt.alloc(), ODD_NAME)?;
+    missing.push(Missing { line: 7, name })?;
+    assert!(&rt; is_missing_told(rt.alloc(), missing.as_slice())?);
     Ok(())
 }
 

@@ -29,6 +29,7 @@ fn values_of<'r>(
         files,
         full: None,
         harts: 8,
+        lines: &[],
         schedule: EVENTS,
         lists_events: false,
         verdict: None,
@@ -49,7 +50,7 @@ fn a_run_says_what_it_was(rt: HostRuntime) -> Result<(), Fail> {
     files.put(b"g", b"".as_slice())?;
     let plain = values_of(b"o\n".as_slice(), b"".as_slice(), &files);
     let whole =
-        "{\"format\":\"xvsh-result\",\"version\":1,\"command\":\"run\",\"status\":\"finished\",\"code\":0,\"output\":\"o\\n\",\"diagnostics\":\"\",\"files\":[{\"name\":\"f\",\"length\":2,\"bytes\":\"a\\n\"},{\"name\":\"g\",\"length\":0,\"bytes\":\"\"}],\"finished\":true,\"full\":null,\"events\":4,\"harts\":8}\n";
+        "{\"format\":\"xvsh-result\",\"version\":1,\"command\":\"run\",\"status\":\"finished\",\"code\":0,\"output\":\"o\\n\",\"diagnostics\":\"\",\"files\":[{\"name\":\"f\",\"length\":2,\"bytes\":\"a\\n\"},{\"name\":\"g\",\"length\":0,\"bytes\":\"\"}],\"finished\":true,\"full\":null,\"events\":4,\"harts\":8,\"dead_lines\":[]}\n";
     assert!(&rt; is_text(rt.alloc(), &plain, 0, whole)?);
     let none = Files::new(rt.alloc());
     let listed = RunValues {
@@ -58,7 +59,7 @@ fn a_run_says_what_it_was(rt: HostRuntime) -> Result<(), Fail> {
         ..values_of(b"".as_slice(), b"fork\n".as_slice(), &none)
     };
     let whole =
-        "{\"format\":\"xvsh-result\",\"version\":1,\"command\":\"run\",\"status\":\"full\",\"code\":4,\"output\":\"\",\"diagnostics\":\"fork\\n\",\"files\":[],\"finished\":true,\"full\":\"descriptors\",\"events\":4,\"harts\":8,\"schedule\":[\"D 0 1\",\"T 0 1\",\"D 7 63\",\"T 7 63\"]}\n";
+        "{\"format\":\"xvsh-result\",\"version\":1,\"command\":\"run\",\"status\":\"full\",\"code\":4,\"output\":\"\",\"diagnostics\":\"fork\\n\",\"files\":[],\"finished\":true,\"full\":\"descriptors\",\"events\":4,\"harts\":8,\"dead_lines\":[],\"schedule\":[\"D 0 1\",\"T 0 1\",\"D 7 63\",\"T 7 63\"]}\n";
     assert!(&rt; is_text(rt.alloc(), &listed, 4, whole)?);
     Ok(())
 }
@@ -76,7 +77,7 @@ fn is_verdict(
         ..values_of(b"".as_slice(), b"".as_slice(), files)
     };
     let whole = format!(in alloc;
-        "{{\"format\":\"xvsh-result\",\"version\":1,\"command\":\"run\",\"status\":\"{status}\",\"code\":{code},\"output\":\"\",\"diagnostics\":\"\",\"files\":[{{\"name\":\"f\",\"length\":1,\"bytes\":\"a\",\"soft\":false}},{{\"name\":\"g\",\"length\":0,\"bytes\":\"\",\"soft\":true}}],\"finished\":true,\"full\":null,\"events\":4,\"harts\":8,{last}}}\n"
+        "{{\"format\":\"xvsh-result\",\"version\":1,\"command\":\"run\",\"status\":\"{status}\",\"code\":{code},\"output\":\"\",\"diagnostics\":\"\",\"files\":[{{\"name\":\"f\",\"length\":1,\"bytes\":\"a\",\"soft\":false}},{{\"name\":\"g\",\"length\":0,\"bytes\":\"\",\"soft\":true}}],\"finished\":true,\"full\":null,\"events\":4,\"harts\":8,\"dead_lines\":[],{last}}}\n"
     )?;
     is_text(alloc, &strict, code, whole.as_str())
 }

@@ -252,12 +252,9 @@ impl<'t> TraceLines<'t> {
         pid: Pid,
         number: u64,
     ) -> Result<(), AllocError> {
-        match self.call.kind() {
-            CallKind::Fork => self.write_fork(line, tracer, pid, number)?,
-            kind => {
-                let is_over = is_done(tracer.kernel(), pid);
-                self.followed.follow(pid, kind, is_over, None);
-            }
+        if let Some(child) = follow(&mut self.followed, tracer, pid, self.call.kind()) {
+            self.past.fork(pid, child, number);
+            self.write_child(line, child)?;
         }
         match self.call.kind() {
             CallKind::Wait => self.write_reaped(line, tracer)?,
@@ -265,27 +262,6 @@ impl<'t> TraceLines<'t> {
             _ => {}
         }
         write_pids(line, "woken", |other| tracer.is_woken(other))
-    }
-
-    // The child that a fork made, if it did.
-    fn write_fork<M: Machine>(
-        &mut self,
-        line: &mut Line,
-        tracer: &Tracer<M, Global>,
-        pid: Pid,
-        number: u64,
-    ) -> Result<(), AllocError> {
-        match found(|other| tracer.is_made(other)) {
-            Some(child) => {
-                self.followed.follow(pid, CallKind::Fork, true, Some(child));
-                self.past.fork(pid, child, number);
-                self.write_child(line, child)
-            }
-            None => {
-                self.followed.follow(pid, CallKind::Fork, false, None);
-                Ok(())
-            }
-        }
     }
 
     // The child that a wait took away, if it did.
@@ -433,6 +409,26 @@ fn is_done<M: Machine>(kernel: &Kernel<M, Global>, pid: Pid) -> bool {
         Some(reply) => !matches!(reply.kind(), ReplyKind::Refused),
         None => false,
     }
+}
+
+/// What the processes carry out follows the process's last call, which was of this kind. Returns the child that it made, if it was a
+/// fork that did.
+pub fn follow<M: Machine>(
+    followed: &mut Followed<'_>,
+    tracer: &Tracer<M, Global>,
+    pid: Pid,
+    kind: CallKind,
+) -> Option<Pid> {
+    let child = match kind {
+        CallKind::Fork => found(|other| tracer.is_made(other)),
+        _ => None,
+    };
+    let is_over = match kind {
+        CallKind::Fork => child.is_some(),
+        _ => is_done(tracer.kernel(), pid),
+    };
+    followed.follow(pid, kind, is_over, child);
+    child
 }
 
 // Whether the process was a child of the other, and has init as its parent now.

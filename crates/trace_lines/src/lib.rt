@@ -14,6 +14,6 @@ mod past;
 mod pipes;
 mod run;
 
-pub use events::TraceLines;
+pub use events::{TraceLines, follow};
 pub use line::Line;
 pub use run::{End, Head, end_line, head_line};

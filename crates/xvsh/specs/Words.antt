@@ -112,6 +112,7 @@ pub record IsRunOf (found : Found) (request : RunRequest) : Type 0 where
   pub schedule_to : IsWord found (codes "schedule-to") request.schedule_to
   pub files_to : IsWord found (codes "files-to") request.files_to
   pub trace : IsWord found (codes "trace") request.trace
+  pub lines : IsFlag found (codes "lines") request.is_lined
   pub json : IsFlag found (codes "json") request.is_json
 
 pub record IsReplayOf (found : Found) (request : ReplayRequest) : Type 0 where
@@ -121,6 +122,7 @@ pub record IsReplayOf (found : Found) (request : ReplayRequest) : Type 0 where
   pub events : request.lists.events ≡ false
   pub files_to : IsWord found (codes "files-to") request.files_to
   pub trace : IsWord found (codes "trace") request.trace
+  pub lines : IsFlag found (codes "lines") request.is_lined
   pub json : IsFlag found (codes "json") request.is_json
 
 pub record IsPlainOf (found : Found) (request : PlainRequest) : Type 0 where

@@ -193,6 +193,7 @@ fn run_of<'m>(words: &'m ArgMatches<'_>) -> RunRequest<'m>
         schedule_to: schedule_to_of(words),
         files_to: files_to_of(words),
         trace: trace_of(words),
+        is_lined: flag_of(words, "lines"),
         is_json: flag_of(words, "json"),
     }
 }
@@ -209,6 +210,7 @@ fn replay_of<'m>(words: &'m ArgMatches<'_>) -> ReplayRequest<'m>
         },
         files_to: files_to_of(words),
         trace: trace_of(words),
+        is_lined: flag_of(words, "lines"),
         is_json: flag_of(words, "json"),
     }
 }

@@ -1,9 +1,12 @@
-//! What `explain` reports of a script on its files and its input: its notes, and why it is settled or isn't.
+//! What `explain` reports of a script on its files and its input: its notes, the names that no file has, and why it is settled or
+//! isn't.
 ghost use Rattle.std.specs.Prelude.{◌≡◌, ◌++◌, ◌↔◌, [], IfOk, IfErr, IsTrue, map};
 ghost use Rattle.mem_files.specs.Files.{files};
 ghost use Rattle.script_load.specs.Line.{lines_of};
 ghost use Rattle.script_notes.specs.Written.{written};
 ghost use Rattle.xvsh_plain.specs.Running.{IsMeaningFault};
+ghost use Rattle.missing_names.specs.Missing.{missing_names};
+ghost use Rattle.missing_names.specs.Texts.{missing_texts, shown};
 ghost use Rattle.reason_sentences.specs.Sentences.{reason_text, why_text};
 ghost use Rattle.reason_sentences.specs.Whys.{AreReasonTexts};
 ghost use Rattle.xvsh_checks.specs.Whys.{RanWhys, IsWhysFault};
@@ -11,6 +14,7 @@ ghost use Rattle.xvsh_checks.specs.Whys.{RanWhys, IsWhysFault};
 use crate::explaining::Explained;
 use crate::noting::are_none;
 use crate::request::ExplainRequest;
+use missing_names::{Missing, missing_names, text_of_missing};
 use plain_run::{Reason, plain_with_reasons};
 use reason_sentences::why;
 use script_notes::{LineNote, explain, notes_of};
@@ -29,25 +33,48 @@ fn reasons_of<'a>(alloc: Global, start: &Start) -> Result<Vec<Reason<Global>>, F
     }
 }
 
-// The notes, and behind them these reasons or that there is none.
+// The names of what was read that no file has.
+fn missing_of(alloc: Global, start: &Start) -> Result<Vec<Missing>, AllocError>
+    ensures { IfOk result (λ missing. map shown missing.items ≡ missing_names (lines_of start.now.script.lines) start.now.files) }
+{
+    missing_names(alloc, &start.script, &start.files)
+}
+
+// The sentences of these names, and behind them these reasons or that there is none.
+fn names_and_why(
+    alloc: Global,
+    missing: &[Missing],
+    reasons: &[Reason<Global>],
+) -> Result<Vec<u8>, AllocError>
+    ensures { IfOk result (λ text. text.items ≡ missing_texts (map shown missing.now) ++ why_text (map reason_text reasons.now)) }
+{
+    let mut text = text_of_missing(alloc, missing)?;
+    let told = why(alloc, reasons)?;
+    text.extend_from_slice(told.as_slice())?;
+    Ok(text)
+}
+
+// The notes, and behind them these names, and these reasons or that there is none.
 fn with_why(
     alloc: Global,
     notes: Vec<u8>,
+    missing: &[Missing],
     reasons: &[Reason<Global>],
 ) -> Result<Explained, AllocError>
-    ensures text { IfOk result (λ explained. explained.text.items ≡ notes.items ++ why_text (map reason_text reasons.now)) }
-    ensures fine { IfOk result (λ explained. IsTrue explained.is_fine ↔ ((notes.items ≡ []) × (reasons.now ≡ []))) }
+    ensures text { IfOk result (λ explained. explained.text.items ≡ notes.items ++ (missing_texts (map shown missing.now) ++ why_text (map reason_text reasons.now))) }
+    ensures fine { IfOk result (λ explained. IsTrue explained.is_fine ↔ ((notes.items ≡ []) × (missing.now ≡ []) × (reasons.now ≡ []))) }
 {
     let mut text = notes;
-    let is_fine = text.as_slice().is_empty() && reasons.is_empty();
-    let told = why(alloc, reasons)?;
+    let is_fine = text.as_slice().is_empty() && missing.is_empty() && reasons.is_empty();
+    let told = names_and_why(alloc, missing, reasons)?;
     text.extend_from_slice(told.as_slice())?;
     Ok(Explained { text, is_fine })
 }
 
 /// `explain` with files: reads the script, the files in order, and standard input unless that is the script, and returns its notes
-/// on the lines in sentences, and behind them each reason why the script isn't settled on these files and this input, or why it is
-/// (own); and whether there is neither a note nor a reason. The script is run by its meaning to find that out. Nothing is written.
+/// on the lines in sentences, behind them the first name of each line that no file has when the line runs, and then each reason why
+/// the script isn't settled on these files and this input, or why it is (own); and whether there is no note, no such name and no
+/// reason. The script is run by its meaning to find that out. Nothing is written.
 pub fn run_whys<'a, H: Host>(
     alloc: Global,
     request: &ExplainRequest<'a>,
@@ -60,15 +87,16 @@ pub fn run_whys<'a, H: Host>(
     let notes = explain(alloc, bytes.as_slice())?;
     let start = prepare_read(alloc, host, &request.source, bytes.as_slice())?;
     let reasons = reasons_of(alloc, &start)?;
-    let explained = with_why(alloc, notes, reasons.as_slice())?;
+    let missing = missing_of(alloc, &start)?;
+    let explained = with_why(alloc, notes, missing.as_slice(), reasons.as_slice())?;
     Ok(explained)
 }
 
-// Whether there is neither a note nor a reason.
-fn is_nothing(notes: &[LineNote], reasons: &[Reason<Global>]) -> bool
-    ensures { IsTrue result ↔ ((written notes.now ≡ []) × (reasons.now ≡ [])) }
+// Whether there is no note, no missing name and no reason.
+fn is_nothing(notes: &[LineNote], missing: &[Missing], reasons: &[Reason<Global>]) -> bool
+    ensures { IsTrue result ↔ ((written notes.now ≡ []) × (missing.now ≡ []) × (reasons.now ≡ [])) }
 {
-    are_none(notes) && reasons.is_empty()
+    are_none(notes) && missing.is_empty() && reasons.is_empty()
 }
 
 /// What `explain` tells of a script on its files and its input.
@@ -76,29 +104,33 @@ fn is_nothing(notes: &[LineNote], reasons: &[Reason<Global>]) -> bool
 pub struct NotedWhys {
     /// The notes, in the order of the lines.
     pub notes: Vec<LineNote>,
+    /// The first name of each line that no file has when the line runs.
+    pub missing: Vec<Missing>,
     /// Why the script isn't settled; nothing where it is.
     pub reasons: Vec<Reason<Global>>,
-    /// There is neither a note nor a reason.
+    /// There is no note, no such name and no reason.
     pub is_fine: bool,
 }
 
-/// `explain --json` with files: reads what `run_whys` reads, and returns the notes and the reasons as values, and whether there is
-/// neither (own). The script is run by its meaning to find that out. Nothing is written.
+/// `explain --json` with files: reads what `run_whys` reads, and returns the notes, the names that no file has and the reasons as
+/// values, and whether there is none of these (own). The script is run by its meaning to find that out. Nothing is written.
 pub fn run_note_whys<'a, H: Host>(
     alloc: Global,
     request: &ExplainRequest<'a>,
     host: &mut H,
 ) -> Result<NotedWhys, Fault<'a>>
-    ensures ran { IfOk result (λ noted. RanWhys (H.input host.old) (H.file host.old) request.now.source.profile request.now.source.script.now request.now.source.files.now noted.is_fine (written noted.notes.items ++ why_text (map reason_text noted.reasons.items))) }
+    ensures ran { IfOk result (λ noted. RanWhys (H.input host.old) (H.file host.old) request.now.source.profile request.now.source.script.now request.now.source.files.now noted.is_fine (written noted.notes.items ++ (missing_texts (map shown noted.missing.items) ++ why_text (map reason_text noted.reasons.items)))) }
     ensures fault { IfErr result (IsWhysFault (H.input host.old) (H.file host.old) request.now.source.profile request.now.source.script.now request.now.source.files.now) }
 {
     let bytes = read(alloc, host, request.source.script, MAX_INPUT)?;
     let notes = notes_of(alloc, bytes.as_slice())?;
     let start = prepare_read(alloc, host, &request.source, bytes.as_slice())?;
     let reasons = reasons_of(alloc, &start)?;
-    let is_fine = is_nothing(notes.as_slice(), reasons.as_slice());
+    let missing = missing_of(alloc, &start)?;
+    let is_fine = is_nothing(notes.as_slice(), missing.as_slice(), reasons.as_slice());
     Ok(NotedWhys {
         notes,
+        missing,
         reasons,
         is_fine,
     })

@@ -13,7 +13,7 @@ use Rattle.xvsh_read.specs.Writing.{out_text}
 use Rattle.xvsh_runs.specs.declared.fault.ProcessFault.{ProcessFault}
 use Rattle.xvsh_runs.specs.declared.fault.ProcessFault.TheVariants.{Common, BadHarts, BadTurns, BadOrder, Spent, SharedInput, NoEvent, NotRunnable, NotRunning, Unfinished}
 use Rattle.xvsh_runs.specs.Status.{run_status}
-use Rattle.xvsh_ends.specs.Ends.{Asked, asks_plain, asks_run, asks_strict, asks_check, asks_turns, asks_explain, asks_whys, asks_explore, help, misuse, verdict_status, check_status, explore_status, full_status, told_text, Due, plain_ran, no_plain, ran, no_run, ran_strict, no_strict, checked, no_check, counted, not_counted, explained, not_explained, whys_told, no_whys_told, explored, not_explored, helped, misused, no_memory, IsDue, Tells, TellsOr, tells, lacks_memory, asks_traced, traced, untraced, beside_trace, asks_witnessed, asks_filed, asks_json, asks_draw, drawn, undrawn, asks_input, unread, witnessed, unwitnessed, filed, unfiled, valued, unvalued, IsObjectStatus, PrintsAlone}
+use Rattle.xvsh_ends.specs.Ends.{Asked, asks_plain, asks_run, asks_strict, asks_check, asks_turns, asks_explain, asks_whys, asks_explore, help, misuse, verdict_status, check_status, explore_status, full_status, told_text, Due, plain_ran, no_plain, ran, no_run, ran_strict, no_strict, checked, no_check, counted, not_counted, explained, not_explained, whys_told, no_whys_told, explored, not_explored, helped, misused, no_memory, IsDue, Tells, TellsOr, tells, lacks_memory, asks_traced, traced, untraced, beside_trace, asks_witnessed, asks_filed, asks_lined, asks_json, asks_draw, drawn, undrawn, asks_input, unread, witnessed, unwitnessed, filed, unfiled, lined, valued, unvalued, IsObjectStatus, PrintsAlone}
 use Rattle.std.specs.Borrow.{Bor}
 use Rattle.xvsh_ends.specs.Requests.{UnlessPrinted, witnessed_asked, json_asked}
 use Rattle.xvsh_ends.specs.declared.ending.Ending.{Ending}
@@ -104,6 +104,7 @@ unless (asks_explore profile script paths states all) status same is = λ some t
 unless (asks_traced what path) status same is = unless what status same is
 unless (asks_witnessed what path) status same is = unless what status same is
 unless (asks_filed what path) status same is = unless what status same is
+unless (asks_lined what) status same is = unless what status same is
 unless (asks_json what) status same is = λ some one three four. is
 unless asks_draw status same is = λ some. is
 unless (asks_input path) status same is = is
@@ -122,6 +123,7 @@ unless_implied (asks_explore profile script paths states all) status same other 
 unless_implied (asks_traced what path) status same other implies is = unless_implied what status same other implies is
 unless_implied (asks_witnessed what path) status same other implies is = unless_implied what status same other implies is
 unless_implied (asks_filed what path) status same other implies is = unless_implied what status same other implies is
+unless_implied (asks_lined what) status same other implies is = unless_implied what status same other implies is
 unless_implied (asks_json what) status same other implies is = λ some one three four. implies (is some one three four)
 unless_implied asks_draw status same other implies is = λ some. implies (is some)
 unless_implied (asks_input path) status same other implies is = implies is
@@ -141,6 +143,7 @@ unless_any (asks_explore profile script paths states all) status same is some on
 unless_any (asks_traced what path) status same is some one three four = unless_any what status same is some one three four
 unless_any (asks_witnessed what path) status same is some one three four = unless_any what status same is some one three four
 unless_any (asks_filed what path) status same is some one three four = unless_any what status same is some one three four
+unless_any (asks_lined what) status same is some one three four = unless_any what status same is some one three four
 unless_any (asks_json what) status same is some one three four = is some one three four
 unless_any asks_draw status same is some one three four = is some
 unless_any (asks_input path) status same is some one three four = is
@@ -183,6 +186,7 @@ module _ (input : Option Bytes) (file : Path → Option Bytes) where
   nothing_due asked text told status (witnessed {what = what} due) = nothing_due what text told status due
   nothing_due asked text told status (unwitnessed {what = what} of) = unless what 1 ([] ≡ []) refl
   nothing_due asked text told status (filed {what = what} due) = nothing_due what text told status due
+  nothing_due asked text told status (lined {what = what} {told = plain} is due) = nothing_due what text plain status due
   nothing_due asked text told status (unfiled {what = what} of) = unless what 1 ([] ≡ []) refl
   nothing_due asked text told status (valued object is due) = object_prints status is
   nothing_due asked text told status (unvalued {what = what} is due) = unless_any what status (text ≡ []) (nothing_due what text told status due)

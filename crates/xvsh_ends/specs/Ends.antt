@@ -27,6 +27,7 @@ use Rattle.xvsh_checks.specs.Turns.{RanTurns, IsTurnsFault}
 use Rattle.xvsh_checks.specs.Whys.{RanWhys, IsWhysFault}
 use Rattle.xvsh_explores.specs.Explores.{RanExplore, IsExploreFault}
 use Rattle.xvsh_runs.specs.Strict.{RanStrict, IsStrictFault}
+use Rattle.xvsh_traces.specs.Lined.{IsLined}
 use Rattle.xvsh_ends.specs.declared.ending.Ending.{Ending}
 use Rattle.xvsh_ends.specs.declared.ending.Line.{Line}
 use Rattle.xvsh_ends.specs.declared.ending.Line.TheVariants.{Fixed, Made}
@@ -56,6 +57,8 @@ pub data Asked : Type 0 where
   asks_witnessed : Asked → Path → Asked
   -- the same, with a file for each that the run leaves, in a folder
   asks_filed : Asked → Path → Asked
+  -- the same, with the numbers of the script's lines before those of its diagnostics
+  asks_lined : Asked → Asked
   -- the same, with one object of JSON in place of what is printed
   asks_json : Asked → Asked
   -- a page that draws traces
@@ -166,6 +169,8 @@ module _ (input : Option Bytes) (file : Path → Option Bytes) where
     -- the same of a request with files in a folder, beside these; or that the folder or one of them can't be written
     filed : {what : Asked} {path : Path} {text told : Bytes} {status : ℕ} → Due what text told status → Due (asks_filed what path) text told status
     unfiled : {what : Asked} {path place : Path} → IsInFolder path place → Due (asks_filed what path) [] (untraced_told place) 1
+    -- the same of a request with the numbers of lines, which stand between the bytes of what is told
+    lined : {what : Asked} {text told marked : Bytes} {status : ℕ} → IsLined told marked → Due what text told status → Due (asks_lined what) text marked status
     -- an object of what is due without it, or that itself where it has another status
     valued : {what : Asked} {text told : Bytes} {status : ℕ} (object : Bytes) → IsObjectStatus status → Due what text told status → Due (asks_json what) object [] status
     unvalued : {what : Asked} {text told : Bytes} {status : ℕ} → (IsObjectStatus status → ⊥) → Due what text told status → Due (asks_json what) text told status

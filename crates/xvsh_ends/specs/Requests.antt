@@ -11,7 +11,7 @@ use Rattle.xvsh_checks.specs.declared.request.ExplainRequest.{ExplainRequest}
 use Rattle.xvsh_explores.specs.declared.request.ExploreRequest.{ExploreRequest}
 use Rattle.xvsh_ends.specs.declared.request.Request.{Request}
 use Rattle.xvsh_ends.specs.declared.request.Request.TheVariants.{Run, Replay, Plain, Check, Explain, Explore, Draw}
-use Rattle.xvsh_ends.specs.Ends.{Asked, asks_plain, asks_run, asks_strict, asks_check, asks_turns, asks_explain, asks_whys, asks_explore, help, misuse, on_harts, by_schedule, Ends, asks_traced, asks_witnessed, asks_filed, asks_json, asks_draw, asks_input}
+use Rattle.xvsh_ends.specs.Ends.{Asked, asks_plain, asks_run, asks_strict, asks_check, asks_turns, asks_explain, asks_whys, asks_explore, help, misuse, on_harts, by_schedule, Ends, asks_traced, asks_witnessed, asks_filed, asks_lined, asks_json, asks_draw, asks_input}
 
 -- a run by processes, strictly or not
 abbrev pub run_asked : Bool → RunRequest → Asked
@@ -48,6 +48,11 @@ abbrev pub filed_asked : Option (Bor Path) → Asked → Asked
 filed_asked None what = what
 filed_asked (Some path) what = asks_filed what path.now
 
+-- the same, with the numbers of lines before those of the diagnostics, or without
+abbrev pub lined_asked : Bool → Asked → Asked
+lined_asked false what = what
+lined_asked true what = asks_lined what
+
 -- the same, with an object or without
 abbrev pub json_asked : Bool → Asked → Asked
 json_asked false what = what
@@ -70,8 +75,8 @@ explore_asked request = traced_asked request.draw (json_asked request.is_json (e
 
 -- what a request asks for
 abbrev pub asked : Request → Asked
-asked (Run request) = traced_asked request.trace (traced_asked request.schedule_to (filed_asked request.files_to (json_asked request.is_json (run_asked request.is_strict request))))
-asked (Replay request) = traced_asked request.trace (filed_asked request.files_to (json_asked request.is_json (replay_asked request)))
+asked (Run request) = traced_asked request.trace (traced_asked request.schedule_to (filed_asked request.files_to (lined_asked request.is_lined (json_asked request.is_json (run_asked request.is_strict request)))))
+asked (Replay request) = traced_asked request.trace (filed_asked request.files_to (lined_asked request.is_lined (json_asked request.is_json (replay_asked request))))
 asked (Plain request) = filed_asked request.files_to (json_asked request.is_json (plain_asked request))
 asked (Check request) = json_asked request.is_json (check_asked request.counts_turns request)
 asked (Explain request) = json_asked request.is_json (explain_asked request.tells_why request)
@@ -107,6 +112,7 @@ UnlessPrinted (asks_explore profile script paths states all) status same = statu
 UnlessPrinted (asks_traced what path) status same = UnlessPrinted what status same
 UnlessPrinted (asks_witnessed what path) status same = UnlessPrinted what status same
 UnlessPrinted (asks_filed what path) status same = UnlessPrinted what status same
+UnlessPrinted (asks_lined what) status same = UnlessPrinted what status same
 UnlessPrinted (asks_json what) status same = status ≢ 0 → status ≢ 1 → status ≢ 3 → status ≢ 4 → same
 UnlessPrinted asks_draw status same = status ≢ 0 → same
 UnlessPrinted (asks_input path) status same = same

@@ -72,6 +72,7 @@ fn notes_json<H: Host>(alloc: Global, request: &ExplainRequest<'_>, host: &mut H
             let code = code_of(noted.is_fine);
             let values = ExplainValues {
                 notes: noted.notes.as_slice(),
+                missing: &[],
                 reasons: None,
             };
             let made = explain_result(alloc, &values, code);
@@ -93,6 +94,7 @@ fn whys_json<H: Host>(alloc: Global, request: &ExplainRequest<'_>, host: &mut H)
             let code = code_of(noted.is_fine);
             let values = ExplainValues {
                 notes: noted.notes.as_slice(),
+                missing: noted.missing.as_slice(),
                 reasons: Some(noted.reasons.as_slice()),
             };
             let made = explain_result(alloc, &values, code);

@@ -7,6 +7,7 @@ mod drawing;
 mod ending;
 mod explorations;
 mod filing;
+mod lining;
 mod objects;
 mod pages;
 mod plain;

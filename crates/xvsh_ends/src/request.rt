@@ -9,6 +9,7 @@ use crate::drawing::draw_ending;
 use crate::ending::Ending;
 use crate::explorations::explore_ending;
 use crate::filing::filed;
+use crate::lining::lined_if;
 use crate::plain::plain_ending;
 use crate::run_objects::{replay_told, run_told};
 use crate::tracing::{scheduled, traced};
@@ -57,12 +58,14 @@ pub fn ending_of<R: Threads + Wait + Clock + Sync, H: Host + Traces + Watch>(
     match request {
         Request::Run(run) => {
             let ending = run_told(rt, alloc, run, host);
+            let ending = lined_if(alloc, ending, run.is_lined);
             let ending = filed(alloc, ending, run.files_to, host);
             let ending = scheduled(alloc, ending, run.schedule_to, host);
             traced(alloc, ending, run.trace, host)
         }
         Request::Replay(replay) => {
             let ending = replay_told(alloc, replay, host);
+            let ending = lined_if(alloc, ending, replay.is_lined);
             let ending = filed(alloc, ending, replay.files_to, host);
             traced(alloc, ending, replay.trace, host)
         }

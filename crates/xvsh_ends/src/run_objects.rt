@@ -36,6 +36,7 @@ fn values_of<'r>(run: &'r Run, lists_events: bool) -> RunValues<'r> {
         files: &run.files,
         full: run.full,
         harts: run.recording.harts,
+        lines: run.recording.start.script.lines.as_slice(),
         schedule: run.recording.schedule.as_slice(),
         lists_events,
         verdict: None,

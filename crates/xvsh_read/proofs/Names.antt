@@ -5,7 +5,7 @@ use Rattle.std.proofs.lemmas.Bool.Decides.{nat_tests}
 use Rattle.std.proofs.lemmas.Grind.{get_or_default_zero}
 use Rattle.std.proofs.lemmas.List.{take-append-drop, get_or-drop, length-drop, take_all}
 use Rattle.memchr.specs.Find.{NoneAfter, Passes, is_byte}
-use Rattle.xvsh_read.specs.Path.{IsNameOf}
+use Rattle.xvsh_read.specs.Path.{IsLastPart}
 
 -- a byte that is 47 passes the search
 passes : (path : List ℕ) (k d : ℕ) → k < length path → get_or path k d ≡ 47 → Passes (is_byte 47) path k
@@ -14,7 +14,7 @@ passes path k d inside is = ap (λ b. b == 47) (sym (get_or_default_zero path k 
 is_slash : (b : ℕ) → (b == 47) ≡ true → b ≡ 47
 is_slash b is = grind (arith, nat_tests)
 
-last_name : (path : List ℕ) (k : ℕ) → NoneAfter (Passes (is_byte 47) path) 0 (length path) k → Passes (is_byte 47) path k → IsNameOf path (drop (k + 1) path)
+last_name : (path : List ℕ) (k : ℕ) → NoneAfter (Passes (is_byte 47) path) 0 (length path) k → Passes (is_byte 47) path k → IsLastPart path (drop (k + 1) path)
 last_name path k none is =
     let next : suc k ≡ k + 1 = omega arith in
     let slash : get_or path k 0 ≡ 47 = is_slash (get_or path k 0) is in (
@@ -25,6 +25,6 @@ last_name path k none is =
     )
 
 -- the same of the slice that the code takes
-pub sliced_name : (path : List ℕ) (k : ℕ) → NoneAfter (Passes (is_byte 47) path) 0 (length path) k → Passes (is_byte 47) path k → IsNameOf path (take (length path - (k + 1)) (drop (k + 1) path))
+pub sliced_name : (path : List ℕ) (k : ℕ) → NoneAfter (Passes (is_byte 47) path) 0 (length path) k → Passes (is_byte 47) path k → IsLastPart path (take (length path - (k + 1)) (drop (k + 1) path))
 sliced_name path k none is =
-    subst (IsNameOf path) (sym (take_all (length path - (k + 1)) (drop (k + 1) path) (omega (arith, length-drop (k + 1) path)))) (last_name path k none is)
+    subst (IsLastPart path) (sym (take_all (length path - (k + 1)) (drop (k + 1) path) (omega (arith, length-drop (k + 1) path)))) (last_name path k none is)

@@ -7,7 +7,7 @@ use Rattle.mem_files.specs.Files.{files}
 use Rattle.mem_files.specs.Listing.{max_size, with_entry, IsFullFor}
 use Rattle.xvsh_read.specs.declared.fault.Fault.{Fault}
 use Rattle.xvsh_read.specs.declared.fault.Fault.TheVariants.{Unreadable, TooLong, LineTooLong, ByteZero, BadName, TakenName, TooManyFiles, TooLarge, Memory}
-use Rattle.xvsh_read.specs.Path.{Path, IsNameOf}
+use Rattle.xvsh_read.specs.Path.{Path, IsNameOf, place_of}
 
 -- the most bytes of a script, and of a standard input
 abbrev pub max_input : ℕ
@@ -34,11 +34,11 @@ IsReadFault limit told path TooManyFiles = ⊥
 IsReadFault limit told path TooLarge = ⊥
 IsReadFault limit told path Memory = Unit {0}
 
--- why a path's file can't be put to these: it can't be read, is too long, its name can't be opened or is that of one of
+-- why the file of a FILE can't be put to these: it can't be read, is too long, its name can't be opened or is that of one of
 -- them, or there is no room for it
 abbrev pub IsFileFault : (Path → Option Bytes) → List (Name × Bytes) → Path → Fault → Type 0
-IsFileFault file given path (Unreadable at) = (at.now ≡ path) × (file path ≡ None)
-IsFileFault file given path (TooLong at) = (at.now ≡ path) × IfSome (file path) (λ bytes. max_size < length bytes)
+IsFileFault file given path (Unreadable at) = (at.now ≡ path) × (file (place_of path) ≡ None)
+IsFileFault file given path (TooLong at) = (at.now ≡ path) × IfSome (file (place_of path)) (λ bytes. max_size < length bytes)
 IsFileFault file given path (LineTooLong n) = ⊥
 IsFileFault file given path (ByteZero n) = ⊥
 IsFileFault file given path (BadName at) = (at.now ≡ path) × ((name : Name) × IsNameOf path name × (is_openable name ≡ false))
@@ -47,10 +47,10 @@ IsFileFault file given path TooManyFiles = (name : Name) × IsNameOf path name �
 IsFileFault file given path TooLarge = ⊥
 IsFileFault file given path Memory = Unit {0}
 
--- the files once those at the paths were put in order, each under its path's name, which none before it has
+-- the files once those of the FILEs were put in order, each under its FILE's name, which none before it has
 pub data ArePut (file : Path → Option Bytes) : List (Bor Path) → List (Name × Bytes) → Type 0 where
   none_put : ArePut file [] []
-  one_put : {paths : List (Bor Path)} {given : List (Name × Bytes)} (path : Bor Path) (name : Name) (bytes : Bytes) → ArePut file paths given → IsNameOf path.now name → files given name ≡ None → Agree (file path.now) bytes → ArePut file (paths ++ path ∷ []) (with_entry given name bytes)
+  one_put : {paths : List (Bor Path)} {given : List (Name × Bytes)} (path : Bor Path) (name : Name) (bytes : Bytes) → ArePut file paths given → IsNameOf path.now name → files given name ≡ None → Agree (file (place_of path.now)) bytes → ArePut file (paths ++ path ∷ []) (with_entry given name bytes)
 
 -- a path's file can't be put, once those before it were
 pub record IsFilesFault (file : Path → Option Bytes) (paths : List (Bor Path)) (fault : Fault) : Type 0 where

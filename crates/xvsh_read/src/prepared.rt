@@ -14,7 +14,7 @@ use script_load::load_with;
 use std::alloc::Global;
 
 /// What a run begins with whose script has these bytes, which were read at its path: loads them, and reads the files in order,
-/// each under the part of its path after the last `/`, and standard input, of which none is left where it is the script. The
+/// each under its name as in `prepare`, and standard input, of which none is left where it is the script. The
 /// faults are those of `prepare` but that the script can't be read (own).
 pub fn prepare_read<'a, H: Host>(
     alloc: Global,

@@ -1,8 +1,9 @@
 //! What is read at the paths of the command line.
-ghost use Rattle.std.specs.Prelude.{◌≡◌, ◌≢◌, ℕ, List, None, codes, OnOk, IfOk, IfErr};
+ghost use Rattle.std.specs.Prelude.{◌≡◌, ◌≢◌, ◌==◌, ℕ, List, None, codes, OnOk, IfOk, IfErr};
+ghost use Rattle.std.specs.List.{list_any};
 ghost use Rattle.mem_files.specs.Files.{files};
 ghost use Rattle.mem_files.specs.Listing.{with_entry};
-ghost use Rattle.xvsh_read.specs.Path.{IsNameOf};
+ghost use Rattle.xvsh_read.specs.Path.{IsLastPart, IsNameOf, can_be_given, place_of};
 ghost use Rattle.xvsh_read.specs.Reading.{Agree, told_at, ArePut, IsReadFault, IsFileFault, IsFilesFault};
 
 use crate::fault::Fault;
@@ -41,13 +42,53 @@ pub fn read<'a, H: Host>(
 }
 
 // The part of a path after its last `/`.
-fn name_of(path: &str) -> &[u8]
-    ensures { IsNameOf path.now result.now }
+fn last_part(path: &str) -> &[u8]
+    ensures { IsLastPart path.now result.now }
 {
     let bytes = path.as_bytes();
     match memrchr(b'/', bytes) {
         Some(slash) => &bytes[slash + 1..],
         None => bytes,
+    }
+}
+
+fn has_slash(name: &[u8]) -> bool
+    ensures { result ≡ list_any (λ byte. byte == 47) name.now }
+{
+    name.iter().any(|byte| *byte == b'/')
+}
+
+// Whether a name can stand before a `=`: it isn't empty, and has no `/`.
+fn can_be_given(name: &[u8]) -> bool
+    ensures { result ≡ can_be_given name.now }
+{
+    0 < name.len() && !has_slash(name)
+}
+
+// What a FILE of the command line stands for.
+#[derive(Clone, Copy)]
+struct Given<'a> {
+    // The name of the script's file.
+    name: &'a [u8],
+    // The path of its bytes.
+    path: &'a str,
+}
+
+// What a FILE stands for: `NAME=PATH` the bytes at PATH under the name NAME, where NAME isn't empty and has no `/`, and any other
+// path the bytes there under the part after its last `/`.
+fn given_by(word: &str) -> Given<'_>
+    ensures name { IsNameOf word.now result.name.now }
+    ensures place { result.path.now ≡ place_of word.now }
+{
+    if let Some((name, path)) = word.split_once('=') {
+        let name = name.as_bytes();
+        if can_be_given(name) {
+            return Given { name, path };
+        }
+    }
+    Given {
+        name: last_part(word),
+        path: word,
     }
 }
 
@@ -59,19 +100,19 @@ fn add_file<'a, H: Host>(
     given: &mut Files<Global>,
 ) -> Result<(), Fault<'a>>
     ensures put { OnOk result ((name : List ℕ) × (bytes : List ℕ) × IsNameOf path.now name
-        × (files given.old name ≡ None) × Agree (H.file host.old path.now) bytes × (given.new ≡ with_entry given.old name bytes)) }
+        × (files given.old name ≡ None) × Agree (H.file host.old (place_of path.now)) bytes × (given.new ≡ with_entry given.old name bytes)) }
     ensures fault { IfErr result (IsFileFault (H.file host.old) given.old path.now) }
     ensures stays { (H.input host.new ≡ H.input host.old) × (H.file host.new ≡ H.file host.old) }
 {
-    let bytes = match host.read_path(alloc, path, MAX_SIZE) {
+    let file = given_by(path);
+    let bytes = match host.read_path(alloc, file.path, MAX_SIZE) {
         Ok(bytes) => bytes,
         Err(fault) => return Err(Fault::at_path(path, fault)),
     };
-    let name = name_of(path);
-    if given.get(name).is_some() {
+    if given.get(file.name).is_some() {
         return Err(Fault::TakenName(path));
     }
-    match given.put(name, bytes.as_slice()) {
+    match given.put(file.name, bytes.as_slice()) {
         Ok(()) => Ok(()),
         Err(fault) => Err(Fault::of_file(path, fault)),
     }

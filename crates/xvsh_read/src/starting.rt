@@ -79,8 +79,9 @@ pub struct Start {
     pub files: Files<Global>,
 }
 
-/// Reads the script at a path, the files in order, each under the part of its path after the last `/`, and standard
-/// input, of which none is left where it was taken before or is the script.
+/// Reads the script at a path, the files in order, and standard input, of which none is left where it was taken before or is
+/// the script. The file of a FILE `NAME=PATH` has the name NAME, where NAME isn't empty and has no `/`, and that of any other path
+/// the part after its last `/` (own).
 pub fn prepare<'a, H: Host>(
     alloc: Global,
     host: &mut H,

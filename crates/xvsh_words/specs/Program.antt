@@ -48,12 +48,12 @@ apart rule = record rule { is_free = false }
 -- the commands; `run` by the most harts and the most turns that it may have
 abbrev pub run_shape : ℕ → ℕ → Shape
 run_shape harts turns = record (new_shape (codes "run")) {
-  rules = number_rule (codes "harts") harts ∷ number_rule (codes "turns") turns ∷ apart (number_rule (codes "seed") most_seed) ∷ apart (path_rule (codes "order")) ∷ flag_rule (codes "schedule") ∷ path_rule (codes "schedule-to") ∷ path_rule (codes "files-to") ∷ path_rule (codes "trace") ∷ flag_rule (codes "strict") ∷ flag_rule (codes "append") ∷ flag_rule (codes "files") ∷ flag_rule (codes "json") ∷ input_rule ∷ text_rule ∷ word_rule (codes "script") ∷ files_rule ∷ [];
+  rules = number_rule (codes "harts") harts ∷ number_rule (codes "turns") turns ∷ apart (number_rule (codes "seed") most_seed) ∷ apart (path_rule (codes "order")) ∷ flag_rule (codes "schedule") ∷ path_rule (codes "schedule-to") ∷ path_rule (codes "files-to") ∷ path_rule (codes "trace") ∷ apart (flag_rule (codes "lines")) ∷ flag_rule (codes "strict") ∷ flag_rule (codes "append") ∷ flag_rule (codes "files") ∷ flag_rule (codes "json") ∷ input_rule ∷ text_rule ∷ word_rule (codes "script") ∷ files_rule ∷ [];
 }
 
 abbrev pub replay_shape : Shape
 replay_shape = record (new_shape (codes "replay")) {
-  rules = path_rule (codes "files-to") ∷ path_rule (codes "trace") ∷ flag_rule (codes "append") ∷ flag_rule (codes "files") ∷ flag_rule (codes "json") ∷ input_rule ∷ text_rule ∷ word_rule (codes "events") ∷ word_rule (codes "script") ∷ files_rule ∷ [];
+  rules = path_rule (codes "files-to") ∷ path_rule (codes "trace") ∷ apart (flag_rule (codes "lines")) ∷ flag_rule (codes "append") ∷ flag_rule (codes "files") ∷ flag_rule (codes "json") ∷ input_rule ∷ text_rule ∷ word_rule (codes "events") ∷ word_rule (codes "script") ∷ files_rule ∷ [];
 }
 
 abbrev pub plain_shape : Shape

@@ -36,7 +36,8 @@ Any other name does nothing.
 
 Files live in memory, and none of them on the disk: at most 200, with names of
 1 to 14 bytes and at most 274,432 bytes each. A script and a standard input
-have at most 1,048,576 bytes.
+have at most 1,048,576 bytes. A FILE is a path, whose last part is the file's
+name, or NAME=PATH.
 
 Examples:
   echo 'echo hello | cat > f; cat f' | xvsh
@@ -49,7 +50,8 @@ that work side by side, and tells what they tell, such as `open f failed`.
 Where something was full, as at a pipeline of more processes than there are, a
 last line `xvsh: full procs`, `open`, `descriptors`, `files`, `size` or
 `memory` says so. `run --schedule` ends its output with a line an event, and
-`replay` runs the script by those lines again.
+`replay` runs the script by those lines again. `--lines` tells of each message
+which line of the script wrote it.
 
 After `plain` one line goes to standard error: `settled` where the script was
 shown to print the same in whatever order its processes run, and else `not
@@ -75,7 +77,7 @@ nothing is full.
 that is a letter here, a command that is no program, a name that no file can
 have, a `>>` that writes over. Each sentence comes with its line and marks
 under the place. With FILEs, or `--why`, it reads standard input too, and tells
-each reason why the script isn't settled on them.
+which names no file has, and each reason why the script isn't settled on them.
 
 `xvsh explore SCRIPT [FILE]..` tries every order in which the script's
 processes can take their turns, and writes a line for each output that the
@@ -183,7 +185,9 @@ fn file_words<'a>(alloc: Global) -> Arg<'a>
 {
     Arg::new(alloc, "paths")
         .value_name("FILE")
-        .help("Files for the script, each under the part of its path after the last `/`")
+        .help(
+            "Files for the script, each under the part of its path after the last `/`, or NAME=PATH",
+        )
         .num_args(0..)
         .action(ArgAction::Append)
 }
@@ -224,6 +228,9 @@ const FILES_TO_HELP: &str = "Make a file in DIR, and DIR, for each that the scri
 const TRACE_HELP: &str =
     "Write what each event did to FILE, an object of JSON a line; for `-` to standard output, and nothing else there";
 
+const LINES_HELP: &str =
+    "Tell before each line of the diagnostics which line of the script wrote it: `line N: `";
+
 fn run_command<'a>(
     alloc: Global,
     most_harts: u64,
@@ -234,6 +241,7 @@ fn run_command<'a>(
     let seed = number_option(alloc, "seed", SEED_HELP, u64::MAX).conflicts_with("harts")?;
     let alone = path_option(alloc, "order", "ORDER", ORDER_HELP).conflicts_with("harts")?;
     let order = alone.conflicts_with("seed")?;
+    let lines = flag(alloc, "lines", LINES_HELP).conflicts_with("json")?;
     let args = vec![in alloc;
         number_option(alloc, "harts", HARTS_HELP, most_harts),
         number_option(alloc, "turns", TURNS_HELP, most_turns),
@@ -243,6 +251,7 @@ fn run_command<'a>(
         path_option(alloc, "schedule-to", "FILE", SCHEDULE_TO_HELP),
         path_option(alloc, "files-to", "DIR", FILES_TO_HELP),
         path_option(alloc, "trace", "FILE", TRACE_HELP),
+        lines,
         flag(alloc, "strict", STRICT_HELP),
         flag(alloc, "append", APPEND_HELP),
         flag(alloc, "files", RUN_FILES_HELP),
@@ -266,9 +275,11 @@ const SCHEDULE_HELP: &str =
 fn replay_command<'a>(alloc: Global) -> Result<Command<'a>, AllocError>
     ensures { IfOk result (IsCommand replay_shape) }
 {
+    let lines = flag(alloc, "lines", LINES_HELP).conflicts_with("json")?;
     let args = vec![in alloc;
         path_option(alloc, "files-to", "DIR", FILES_TO_HELP),
         path_option(alloc, "trace", "FILE", TRACE_HELP),
+        lines,
         flag(alloc, "append", APPEND_HELP),
         flag(alloc, "files", RUN_FILES_HELP),
         flag(alloc, "json", JSON_HELP),

@@ -5,6 +5,8 @@ use Rattle.script_load.specs.Line.{lines_of}
 use Rattle.script_load.specs.Script.{HasLoadFault}
 use Rattle.script_notes.specs.Explained.{IsExplained}
 use Rattle.script_notes.specs.Written.{written}
+use Rattle.missing_names.specs.Missing.{missing_names}
+use Rattle.missing_names.specs.Texts.{missing_texts, shown}
 use Rattle.reason_sentences.specs.Sentences.{reason_text, why_text}
 use Rattle.reason_sentences.specs.Whys.{AreReasonTexts}
 use Rattle.xvsh_plain.specs.Running.{IsMeaningFault}
@@ -12,7 +14,7 @@ use Rattle.xvsh_read.specs.Reading.{Agree, told_at}
 use Rattle.xvsh_read.specs.Starting.{Starts, unread_script, bad_script}
 use Rattle.xvsh_read.proofs.Faults.{at_fault}
 use Rattle.xvsh_read.proofs.Begins.{load_fault}
-use Rattle.xvsh_checks.specs.Whys.{no_notes, no_whys_start, no_whys}
+use Rattle.xvsh_checks.specs.Whys.{no_notes, no_whys_start, no_whys, whys_not_told}
 use Rattle.xvsh_checks.proofs.Reasoned.{ran_whys}
 use Rattle.xvsh_checks.proofs.whys.run_note_whys.Goals as goal
 
@@ -40,6 +42,10 @@ returns-in_err-reasons-clause-fault g c =
     let starts = c.in_ok-start.ensures.prepared input file c.read.ensures.files_stay c.read.ensures.input_stays (subst (Agree (told_at input file c.args.request.now.source.script.now)) (sym c.as_slice-2.ensures.value) c.in_ok-bytes.ensures.bytes) in
     at_fault c.from_residual-in_err-reasons.result _ _ c.from_residual-in_err-reasons.ensures.1 (no_whys lines start.files start.stdin.items starts.0 (subst (λ profile. IsMeaningFault profile lines start.stdin.items (files start.files) c.in_err-reasons.field-0.0) c.in_ok-start.ensures.profile c.in_err-reasons.ensures.fault))
 
+pub returns-in_err-missing-clause-fault : goal.returns-in_err-missing-clause-fault
+returns-in_err-missing-clause-fault g c =
+    at_fault c.from_residual-in_err-missing.result _ _ c.from_residual-in_err-missing.ensures.1 whys_not_told
+
 pub returns-clause-ran : goal.returns-clause-ran
 returns-clause-ran g c =
     let input = g.H.Host.input c.args.host.now in
@@ -49,12 +55,15 @@ returns-clause-ran g c =
     let lines = lines_of start.script.lines in
     let bytes = c.in_ok-bytes.bytes.items in
     let notes = written c.in_ok-notes.notes.items in
+    let missing = c.in_ok-missing.missing.items in
     let reasons = c.in_ok-reasons.reasons.items in
     let starts = c.in_ok-start.ensures.prepared input file c.read.ensures.files_stay c.read.ensures.input_stays (subst (Agree (told_at input file source.script.now)) (sym c.as_slice-2.ensures.value) c.in_ok-bytes.ensures.bytes) in
-    ran_whys input file source.profile source.script.now source.files.now lines start.files start.stdin.items bytes notes (notes ++ why_text (map reason_text reasons)) reasons c.is_nothing-is_fine.result
+    ran_whys input file source.profile source.script.now source.files.now lines start.files start.stdin.items bytes notes (notes ++ (missing_texts (map shown missing) ++ why_text (map reason_text reasons))) missing reasons c.is_nothing-is_fine.result
     (starts.0, starts.1 ∙ c.as_slice-2.ensures.value)
     (subst (λ b. IsExplained b notes) c.as_slice.ensures.value c.in_ok-notes.ensures.told)
     (subst (λ profile. AreReasonTexts profile lines start.stdin.items (files start.files) (map reason_text reasons)) c.in_ok-start.ensures.profile c.in_ok-reasons.ensures.reasons)
+    c.in_ok-missing.ensures
     refl
-    (subst (λ rs. IsTrue c.is_nothing-is_fine.result ↔ ((notes ≡ []) × (rs ≡ []))) c.as_slice-4.ensures.value
-    (subst (λ ns. IsTrue c.is_nothing-is_fine.result ↔ ((written ns ≡ []) × (c.as_slice-4.result.now ≡ []))) c.as_slice-3.ensures.value c.is_nothing-is_fine.ensures))
+    (subst (λ rs. IsTrue c.is_nothing-is_fine.result ↔ ((notes ≡ []) × (missing ≡ []) × (rs ≡ []))) c.as_slice-5.ensures.value
+    (subst (λ ms. IsTrue c.is_nothing-is_fine.result ↔ ((notes ≡ []) × (ms ≡ []) × (c.as_slice-5.result.now ≡ []))) c.as_slice-4.ensures.value
+    (subst (λ ns. IsTrue c.is_nothing-is_fine.result ↔ ((written ns ≡ []) × (c.as_slice-4.result.now ≡ []) × (c.as_slice-5.result.now ≡ []))) c.as_slice-3.ensures.value c.is_nothing-is_fine.ensures)))

@@ -4,6 +4,8 @@ use Rattle.mem_files.specs.Files.{files}
 use Rattle.script_load.specs.Line.{lines_of}
 use Rattle.script_load.specs.Script.{HasLoadFault}
 use Rattle.script_notes.specs.Explained.{IsExplained}
+use Rattle.missing_names.specs.Missing.{missing_names}
+use Rattle.missing_names.specs.Texts.{missing_texts, shown}
 use Rattle.reason_sentences.specs.Sentences.{reason_text, why_text}
 use Rattle.reason_sentences.specs.Whys.{AreReasonTexts}
 use Rattle.xvsh_plain.specs.Running.{IsMeaningFault}
@@ -39,6 +41,10 @@ returns-in_err-reasons-clause-fault g c =
     let starts = c.in_ok-start.ensures.prepared input file c.read.ensures.files_stay c.read.ensures.input_stays (subst (Agree (told_at input file c.args.request.now.source.script.now)) (sym c.as_slice-2.ensures.value) c.in_ok-bytes.ensures.bytes) in
     at_fault c.from_residual-in_err-reasons.result _ _ c.from_residual-in_err-reasons.ensures.1 (no_whys lines start.files start.stdin.items starts.0 (subst (λ profile. IsMeaningFault profile lines start.stdin.items (files start.files) c.in_err-reasons.field-0.0) c.in_ok-start.ensures.profile c.in_err-reasons.ensures.fault))
 
+pub returns-in_err-missing-clause-fault : goal.returns-in_err-missing-clause-fault
+returns-in_err-missing-clause-fault g c =
+    at_fault c.from_residual-in_err-missing.result _ _ c.from_residual-in_err-missing.ensures.1 whys_not_told
+
 pub returns-in_err-explained-clause-fault : goal.returns-in_err-explained-clause-fault
 returns-in_err-explained-clause-fault g c =
     at_fault c.from_residual-in_err-explained.result _ _ c.from_residual-in_err-explained.ensures.1 whys_not_told
@@ -52,12 +58,16 @@ returns-clause-ran g c =
     let lines = lines_of start.script.lines in
     let bytes = c.in_ok-bytes.bytes.items in
     let notes = c.in_ok-notes.notes.items in
+    let missing = c.in_ok-missing.missing.items in
     let reasons = c.in_ok-reasons.reasons.items in
     let explained = c.in_ok-explained.explained in
     let starts = c.in_ok-start.ensures.prepared input file c.read.ensures.files_stay c.read.ensures.input_stays (subst (Agree (told_at input file source.script.now)) (sym c.as_slice-2.ensures.value) c.in_ok-bytes.ensures.bytes) in
-    ran_whys input file source.profile source.script.now source.files.now lines start.files start.stdin.items bytes notes explained.text.items reasons explained.is_fine
+    ran_whys input file source.profile source.script.now source.files.now lines start.files start.stdin.items bytes notes explained.text.items missing reasons explained.is_fine
     (starts.0, starts.1 ∙ c.as_slice-2.ensures.value)
     (subst (λ b. IsExplained b notes) c.as_slice.ensures.value c.in_ok-notes.ensures.told)
     (subst (λ profile. AreReasonTexts profile lines start.stdin.items (files start.files) (map reason_text reasons)) c.in_ok-start.ensures.profile c.in_ok-reasons.ensures.reasons)
-    (subst (λ rs. explained.text.items ≡ notes ++ why_text (map reason_text rs)) c.as_slice-3.ensures.value c.in_ok-explained.ensures.text)
-    (subst (λ rs. IsTrue explained.is_fine ↔ ((notes ≡ []) × (rs ≡ []))) c.as_slice-3.ensures.value c.in_ok-explained.ensures.fine)
+    c.in_ok-missing.ensures
+    (subst (λ rs. explained.text.items ≡ notes ++ (missing_texts (map shown missing) ++ why_text (map reason_text rs))) c.as_slice-4.ensures.value
+    (subst (λ ms. explained.text.items ≡ notes ++ (missing_texts (map shown ms) ++ why_text (map reason_text c.as_slice-4.result.now))) c.as_slice-3.ensures.value c.in_ok-explained.ensures.text))
+    (subst (λ rs. IsTrue explained.is_fine ↔ ((notes ≡ []) × (missing ≡ []) × (rs ≡ []))) c.as_slice-4.ensures.value
+    (subst (λ ms. IsTrue explained.is_fine ↔ ((notes ≡ []) × (ms ≡ []) × (c.as_slice-4.result.now ≡ []))) c.as_slice-3.ensures.value c.in_ok-explained.ensures.fine))

@@ -1,7 +1,7 @@
 use Rattle.std.proofs.Common.{◌≡◌, [], sym, subst}
 use Rattle.xvsh_read.specs.Writing.{out_text}
 use Rattle.xvsh_ends.specs.Ends.{asks_draw}
-use Rattle.xvsh_ends.specs.Requests.{UnlessPrinted, asked, check_asked, explain_asked, explore_asked, filed_asked, json_asked, plain_asked, run_asked, replay_asked, traced_asked}
+use Rattle.xvsh_ends.specs.Requests.{UnlessPrinted, asked, check_asked, explain_asked, explore_asked, filed_asked, json_asked, lined_asked, plain_asked, run_asked, replay_asked, traced_asked}
 use Rattle.xvsh_ends.proofs.Dues.{nothing_due}
 use Rattle.xvsh_ends.proofs.request.ending_of.Goals as goal
 
@@ -10,23 +10,25 @@ returns-in-Run-clause-nothing g c =
     let request = c.in-Run.run' in
     let input = g.H.Host.input c.args.host.now in
     let file = g.H.Host.file c.args.host.now in
-    let what = json_asked request.is_json (run_asked request.is_strict request) in
+    let plain = json_asked request.is_json (run_asked request.is_strict request) in
+    let what = lined_asked request.is_lined plain in
     let kept = filed_asked request.files_to what in
     let listed = traced_asked request.schedule_to kept in
     let ending = c.traced.result in
     subst (λ r. UnlessPrinted (asked r) ending.status (out_text ending.output ≡ [])) (sym c.in-Run.is)
-    (nothing_due input file (traced_asked request.trace listed) _ _ _ (c.traced.ensures input file listed (c.scheduled-ending.ensures input file kept (c.filed-ending.ensures input file what c.run_told-ending.ensures))))
+    (nothing_due input file (traced_asked request.trace listed) _ _ _ (c.traced.ensures input file listed (c.scheduled-ending.ensures input file kept (c.filed-ending.ensures input file what (c.lined_if-ending.ensures input file plain c.run_told-ending.ensures)))))
 
 pub returns-in-Replay-clause-nothing : goal.returns-in-Replay-clause-nothing
 returns-in-Replay-clause-nothing g c =
     let request = c.in-Replay.replay in
     let input = g.H.Host.input c.args.host.now in
     let file = g.H.Host.file c.args.host.now in
-    let what = json_asked request.is_json (replay_asked request) in
+    let plain = json_asked request.is_json (replay_asked request) in
+    let what = lined_asked request.is_lined plain in
     let kept = filed_asked request.files_to what in
     let ending = c.traced-in-Replay.result in
     subst (λ r. UnlessPrinted (asked r) ending.status (out_text ending.output ≡ [])) (sym c.in-Replay.is)
-    (nothing_due input file (traced_asked request.trace kept) _ _ _ (c.traced-in-Replay.ensures input file kept (c.filed-ending-in-Replay.ensures input file what c.replay_told-ending.ensures)))
+    (nothing_due input file (traced_asked request.trace kept) _ _ _ (c.traced-in-Replay.ensures input file kept (c.filed-ending-in-Replay.ensures input file what (c.lined_if-ending-in-Replay.ensures input file plain c.replay_told-ending.ensures))))
 
 pub returns-in-Plain-clause-nothing : goal.returns-in-Plain-clause-nothing
 returns-in-Plain-clause-nothing g c =

@@ -1,6 +1,6 @@
 use Rattle.std.proofs.Common.{[], refl, sym, ◌∙◌, subst, arith, get_or}
 use Rattle.std.specs.Borrow.{Bor}
-use Rattle.xvsh_read.specs.Path.{Path}
+use Rattle.xvsh_read.specs.Path.{Path, place_of}
 use Rattle.xvsh_read.specs.Reading.{Agree, ArePut, none_put, IsFileFault}
 use Rattle.xvsh_read.proofs.Faults.{at_fault}
 use Rattle.xvsh_read.proofs.Putting.{put_more, stopped}
@@ -27,7 +27,7 @@ loop-path-preserved g c =
     let i = c.loop-path.path-index in
     let d : Bor Path = record { ref_ptr = (0, 0); now = [] } in
     record {
-      put = put_more (g.H.Host.file c.args.host.now) c.args.paths.now i d (omega arith) c.loop-path.given c.loop-path.invariant.put c.add_file.new.given put.0 put.1 put.2 put.3 (subst (λ file. Agree (file (get_or c.args.paths.now i d).now) put.1) c.loop-path.invariant.files_stay put.4) put.5;
+      put = put_more (g.H.Host.file c.args.host.now) c.args.paths.now i d (omega arith) c.loop-path.given c.loop-path.invariant.put c.add_file.new.given put.0 put.1 put.2 put.3 (subst (λ file. Agree (file (place_of (get_or c.args.paths.now i d).now)) put.1) c.loop-path.invariant.files_stay put.4) put.5;
       input_stays = c.add_file.ensures.stays.0 ∙ c.loop-path.invariant.input_stays;
       files_stay = c.add_file.ensures.stays.1 ∙ c.loop-path.invariant.files_stay;
     }
