@@ -1,11 +1,9 @@
 use Rattle.std.proofs.Common.{◌∙◌, subst, sym, IsTrue}
 use Rattle.std.specs.Prelude.{◌↔◌}
-use Rattle.prog_parts.specs.NameSets.{among}
 use Rattle.mem_files.specs.Files.{files}
 use Rattle.script_load.specs.Line.{lines_of}
 use Rattle.meaning_model.specs.Meaning.{script_meaning}
 use Rattle.meaning_model.specs.Settled.{IsSettledScript}
-use Rattle.embed_task.specs.Packing.{sizes_of}
 use Rattle.embed_plain.proofs.Agreeing.{soft_sizes}
 use Rattle.embed_plain.proofs.plain.plain_in.Goals as goal
 

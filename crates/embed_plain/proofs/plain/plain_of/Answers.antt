@@ -1,6 +1,5 @@
 use Rattle.std.proofs.Common.{subst}
 use Rattle.script_load.specs.Line.{lines_of}
-use Rattle.embed_task.specs.Profiles.{profile_by}
 use Rattle.embed_plain.specs.Plain.{IsMeaningFault, IsPlainFault, no_start, no_run}
 use Rattle.embed_plain.proofs.Agreeing.{of_fault}
 use Rattle.embed_plain.proofs.plain.plain_of.Goals as goal

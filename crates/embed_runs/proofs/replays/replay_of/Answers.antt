@@ -1,11 +1,10 @@
-use Rattle.std.proofs.Common.{◌≡◌, ◌∙◌, subst, sym}
+use Rattle.std.proofs.Common.{◌∙◌, subst, sym}
 use Rattle.script_load.specs.Line.{lines_of}
 use Rattle.run_model.specs.ScriptRun.{script_kernel}
 use Rattle.kernel_events.specs.Reports.{IsRunFrom}
 use Rattle.kernel_runs.specs.Refused.{IsReplayFault}
 use Rattle.kernel_core.specs.Answer.{IsAnswerIfSettled}
 use Rattle.schedule_lines.specs.EventLines.{AreLinesOf}
-use Rattle.embed_task.specs.Profiles.{profile_by}
 use Rattle.embed_runs.specs.Runs.{IsReplayRefusal, cannot_start, no_schedule, no_replay, no_room}
 use Rattle.embed_runs.proofs.replays.replay_of.Goals as goal
 

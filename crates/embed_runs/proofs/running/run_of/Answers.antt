@@ -1,4 +1,4 @@
-use Rattle.std.proofs.Common.{◌≡◌, Err, ap, subst}
+use Rattle.std.proofs.Common.{Err, ap, subst}
 use Rattle.script_load.specs.Line.{lines_of}
 use Rattle.run_model.specs.ScriptRun.{IsSpentFrom, script_kernel}
 use Rattle.kernel_events.specs.Reports.{IsRunFrom}
