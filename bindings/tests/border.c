@@ -1,0 +1,308 @@
+/* Tests of include/xvsh.h at its border: nulls, lengths past every limit, budgets, faults, leaks, threads and stacks. What scripts give is
+ * tested by drawn.py. usage: border COUNT */
+#include "xvsh.h"
+#include <pthread.h>
+#include <stdio.h>
+
+_Static_assert(sizeof(xvsh_task) == 64 && sizeof(xvsh_answer) == 120 && sizeof(xvsh_sizes) == 24, "the layout of version 0.1");
+
+static long failed, tested;
+
+static void test(bool holds, const char *what, int line) {
+  tested++;
+  if (!holds) {
+    failed++;
+    fprintf(stderr, "border.c:%d: %s\n", line, what);
+  }
+}
+#define TEST(holds) test((holds), #holds, __LINE__)
+
+static bool is(xvsh_bytes bytes, const char *text) {
+  return bytes.length == strlen(text) && memcmp(bytes.at, text, bytes.length) == 0;
+}
+
+static bool is_nothing(const xvsh_answer *answer) {
+  return !answer->out.length && !answer->diag.length && !answer->events.length && !answer->json.length && !answer->block.length
+      && !answer->sizes.length && !answer->full && !answer->fine && !answer->whole;
+}
+
+static xvsh_task task_of(const char *script, const xvsh_file *files, size_t count) {
+  xvsh_task task = { xvsh_text(script), XVSH_NO_BYTES, { files, count }, 0, 0 };
+  return task;
+}
+
+static bool refused(const xvsh_task *task, uint32_t fault, uint64_t place) {
+  xvsh_answer answer = XVSH_ANSWER;
+  bool right = xvsh_plain(task, &answer) == fault && answer.place == place && is_nothing(&answer);
+  if (!right) fprintf(stderr, "status %u place %llu\n", answer.status, (unsigned long long)answer.place);
+  right = xvsh_run(task, 1000000, XVSH_KERNEL, 0, &answer) == fault && answer.place == place && is_nothing(&answer) && right;
+  right = xvsh_replay(task, xvsh_text(""), &answer) == fault && answer.place == place && is_nothing(&answer) && right;
+  xvsh_answer_free(&answer);
+  return right;
+}
+
+static void nulls(void) {
+  xvsh_answer answer = XVSH_ANSWER;
+  xvsh_task task;
+  memset(&task, 0, sizeof task);
+  TEST(xvsh_plain(&task, &answer) == XVSH_OK && answer.fine == 1 && answer.out.length == 0);
+  task.script.length = 1;
+  TEST(refused(&task, XVSH_NULL, 0));
+  task.script.length = SIZE_MAX;
+  TEST(refused(&task, XVSH_NULL, 0));
+  task.script.length = 0;
+  task.input.length = 1;
+  TEST(refused(&task, XVSH_NULL, 0));
+  task.input.length = 0;
+  task.files.length = 1;
+  TEST(refused(&task, XVSH_NULL, 0));
+  xvsh_file files[2] = { { xvsh_text("f"), { NULL, 0 } }, { xvsh_text("g"), xvsh_text("x\n") } };
+  task = task_of("cat f g | wc\n", files, 2);
+  TEST(xvsh_plain(&task, &answer) == XVSH_OK && is(answer.out, "1 1 2 \n") && answer.sizes.length == 2);
+  files[0].bytes.length = 1;
+  TEST(refused(&task, XVSH_NULL, 0));
+  files[0].bytes.length = 0;
+  files[1].name.at = NULL;
+  TEST(refused(&task, XVSH_NULL, 0));
+  files[1].name.length = 0;
+  TEST(refused(&task, XVSH_BAD_NAME, 2));
+  xvsh_bytes schedule = { NULL, 1 };
+  TEST(xvsh_replay(&task, schedule, &answer) == XVSH_NULL && is_nothing(&answer));
+  schedule.length = 0;
+  task = task_of("echo\n", NULL, 0);
+  TEST(xvsh_replay(&task, schedule, &answer) == XVSH_UNFINISHED && is_nothing(&answer));
+  xvsh_answer_free(&answer);
+}
+
+static void limits(void) {
+  static char bytes[XVSH_MAX_SCRIPT + 1];
+  static char names[XVSH_MAX_FILES + 2][4];
+  static xvsh_file files[XVSH_MAX_FILES + 2];
+  xvsh_answer answer = XVSH_ANSWER;
+  memset(bytes, '\n', sizeof bytes);
+  xvsh_task task = task_of("", NULL, 0);
+  task.script.at = (const uint8_t *)bytes;
+  task.script.length = XVSH_MAX_SCRIPT + 1;
+  TEST(refused(&task, XVSH_SCRIPT_TOO_LONG, 0));
+  task.script.length = SIZE_MAX;
+  TEST(refused(&task, XVSH_SCRIPT_TOO_LONG, 0));
+  task.script.length = XVSH_MAX_SCRIPT;
+  TEST(xvsh_plain(&task, &answer) == XVSH_OK);
+  task = task_of("wc\n", NULL, 0);
+  task.input.at = (const uint8_t *)bytes;
+  task.input.length = XVSH_MAX_INPUT;
+  TEST(xvsh_plain(&task, &answer) == XVSH_OK && is(answer.out, "1048576 0 1048576 \n"));
+  task.input.length = XVSH_MAX_INPUT + 1;
+  TEST(refused(&task, XVSH_INPUT_TOO_LONG, 0));
+  task.input.length = SIZE_MAX;
+  TEST(refused(&task, XVSH_INPUT_TOO_LONG, 0));
+
+  memset(bytes, 'x', XVSH_MAX_LINE + 1);
+  task = task_of("", NULL, 0);
+  task.script.at = (const uint8_t *)bytes;
+  task.script.length = XVSH_MAX_LINE;
+  TEST(xvsh_plain(&task, &answer) == XVSH_OK);
+  task.script.length = XVSH_MAX_LINE + 1;
+  TEST(refused(&task, XVSH_LINE_TOO_LONG, 1));
+  task.script.at = (const uint8_t *)"echo\necho \0\n";
+  task.script.length = 12;
+  TEST(refused(&task, XVSH_BYTE_ZERO, 2));
+
+  for (size_t i = 0; i < XVSH_MAX_FILES + 2; i++) {
+    snprintf(names[i], sizeof names[i], "%03zu", i);
+    files[i].name = xvsh_text(names[i]);
+    files[i].bytes = xvsh_text("");
+  }
+  task = task_of("echo\n", files, XVSH_MAX_FILES);
+  TEST(xvsh_plain(&task, &answer) == XVSH_OK && answer.sizes.length == XVSH_MAX_FILES && answer.block.length == 3 * XVSH_MAX_FILES);
+  task.files.length = XVSH_MAX_FILES + 1;
+  TEST(refused(&task, XVSH_TOO_MANY_FILES, XVSH_MAX_FILES + 1));
+  files[7].bytes.at = NULL; /* so the header copies the rows */
+  TEST(refused(&task, XVSH_TOO_MANY_FILES, XVSH_MAX_FILES + 1));
+  task.files.length = SIZE_MAX / sizeof *files;
+  TEST(refused(&task, XVSH_TOO_MANY_FILES, XVSH_MAX_FILES + 1));
+  files[200].name = files[3].name;
+  TEST(refused(&task, XVSH_TAKEN_NAME, 201));
+  task.files.length = 2;
+  files[1].name = files[0].name;
+  TEST(refused(&task, XVSH_TAKEN_NAME, 2));
+  files[1].name = xvsh_text("fifteenletters_");
+  TEST(refused(&task, XVSH_BAD_NAME, 2));
+  files[1].name = xvsh_text("a/b");
+  TEST(refused(&task, XVSH_BAD_NAME, 2));
+  files[1].name = xvsh_text("b");
+  files[1].bytes.at = (const uint8_t *)bytes;
+  files[1].bytes.length = XVSH_MAX_FILE + 1;
+  TEST(refused(&task, XVSH_TOO_LONG, 2));
+  files[1].bytes.length = SIZE_MAX;
+  TEST(refused(&task, XVSH_TOO_LONG, 2));
+  files[1].bytes.length = XVSH_MAX_FILE;
+  TEST(xvsh_plain(&task, &answer) == XVSH_OK && answer.block.length == XVSH_MAX_FILE + 4);
+  xvsh_answer_free(&answer);
+}
+
+static void runs(void) {
+  xvsh_answer answer = XVSH_ANSWER, again = XVSH_ANSWER;
+  xvsh_file files[1] = { { xvsh_text("todo"), xvsh_text("alpha\nbeta\ngamma\n") } };
+  xvsh_task task = task_of("lss\ngrep a todo | head -2 > top; cat top\n", files, 1);
+  for (uint32_t order = XVSH_KERNEL; order <= XVSH_EAGER; order++) {
+    TEST(xvsh_run(&task, 100000, order, 7, &answer) == XVSH_OK);
+    TEST(is(answer.out, "alpha\nbeta\n") && is(answer.diag, "exec lss failed\n") && answer.full == XVSH_ROOMY);
+    TEST(xvsh_replay(&task, answer.events, &again) == XVSH_OK && is(again.out, "alpha\nbeta\n"));
+    TEST(again.events.length == answer.events.length && memcmp(again.events.at, answer.events.at, again.events.length) == 0);
+  }
+  xvsh_bytes cut = { answer.events.at, 12 };
+  TEST(xvsh_replay(&task, cut, &again) == XVSH_UNFINISHED && is_nothing(&again));
+  TEST(xvsh_replay(&task, xvsh_text("D 0 0\nX\n"), &again) == XVSH_NO_EVENT && again.place == 2);
+  TEST(xvsh_replay(&task, xvsh_text("D 0 5\n"), &again) == XVSH_NOT_RUNNABLE && again.place == 1);
+  TEST(xvsh_replay(&task, xvsh_text("# a note\nT 0 0\n"), &again) == XVSH_NOT_RUNNING && again.place == 1);
+  TEST(xvsh_run(&task, 10, XVSH_KERNEL, 0, &answer) == XVSH_SPENT && is_nothing(&answer));
+  TEST(xvsh_run(&task, 0, XVSH_KERNEL, 0, &answer) == XVSH_BAD_TURNS && is_nothing(&answer));
+  TEST(xvsh_run(&task, XVSH_MAX_TURNS + 1u, XVSH_KERNEL, 0, &answer) == XVSH_BAD_TURNS);
+  TEST(xvsh_run(&task, UINT64_MAX, XVSH_KERNEL, 0, &answer) == XVSH_BAD_TURNS);
+  TEST(xvsh_run(&task, 1000, 6, 0, &answer) == XVSH_BAD_ORDER && is_nothing(&answer));
+  TEST(xvsh_run(&task, 1000, XVSH_STARVING, 64, &answer) == XVSH_BAD_ORDER);
+  xvsh_answer_free(&answer);
+  xvsh_answer_free(&again);
+}
+
+static void appends(void) {
+  xvsh_answer answer = XVSH_ANSWER;
+  xvsh_task task = task_of("echo hello > f; echo J >> f; cat f\n", NULL, 0);
+  TEST(xvsh_plain(&task, &answer) == XVSH_OK && is(answer.out, "J\nllo\n"));
+  task.appends = 1;
+  TEST(xvsh_plain(&task, &answer) == XVSH_OK && is(answer.out, "hello\nJ\n"));
+  task.appends = UINT32_MAX;
+  TEST(xvsh_plain(&task, &answer) == XVSH_OK && is(answer.out, "hello\nJ\n"));
+  xvsh_left left;
+  memset(&left, 0, sizeof left);
+  TEST(xvsh_next_file(&answer, &left) && is(left.name, "f") && is(left.bytes, "hello\nJ\n") && !left.soft);
+  TEST(!xvsh_next_file(&answer, &left));
+  xvsh_answer_free(&answer);
+  TEST(is_nothing(&answer) && answer.status == 0);
+}
+
+/* A few kilobytes of script that write hundreds of megabytes: refused within the budget, quickly. */
+static void budgets(void) {
+  static uint8_t big[XVSH_MAX_FILE];
+  static char script[8192];
+  memset(big, 'y', sizeof big);
+  size_t length = 0;
+  for (int line = 0; line < 16; line++) {
+    for (int at = 0; at < 30; at++) length += (size_t)sprintf(script + length, "cat f f f f f;");
+    script[length - 1] = '\n';
+  }
+  script[length] = 0;
+  xvsh_file files[1] = { { xvsh_text("f"), { big, sizeof big } } };
+  xvsh_task task = task_of(script, files, 1);
+  task.budget = 64 << 20;
+  xvsh_answer answer = XVSH_ANSWER;
+  TEST(xvsh_plain(&task, &answer) == XVSH_MEMORY && is_nothing(&answer));
+  task = task_of("cat f | wc\n", files, 1);
+  task.budget = 64 << 20;
+  TEST(xvsh_plain(&task, &answer) == XVSH_OK && is(answer.out, "0 1 274432 \n"));
+  task.budget = 1;
+  TEST(xvsh_plain(&task, &answer) == XVSH_MEMORY && is_nothing(&answer));
+  xvsh_answer_free(&answer);
+}
+
+static void words(void) {
+  int named = 0;
+  for (uint32_t number = 0; number < 100; number++) {
+    xvsh_bytes name = xvsh_fault_name(number), text = xvsh_fault_text(number);
+    TEST((name.length == 0) == (text.length == 0));
+    named += name.length > 0;
+  }
+  TEST(named == 19 && xvsh_fault_name(XVSH_OK).length == 0 && xvsh_fault_name(UINT32_MAX).length == 0);
+  TEST(is(xvsh_fault_name(XVSH_TOO_LONG), "TooLong") && is(xvsh_fault_name(XVSH_LINE_TOO_LONG), "LineTooLong"));
+  TEST(is(xvsh_fault_name(XVSH_BYTE_ZERO), "ByteZero") && is(xvsh_fault_name(XVSH_BAD_NAME), "BadName"));
+  TEST(is(xvsh_fault_name(XVSH_TOO_MANY_FILES), "TooManyFiles") && is(xvsh_fault_name(XVSH_TOO_LARGE), "TooLarge"));
+  TEST(is(xvsh_fault_name(XVSH_MEMORY), "Memory") && is(xvsh_fault_name(XVSH_SPENT), "Spent") && is(xvsh_fault_name(XVSH_NO_EVENT), "NoEvent"));
+  TEST(is(xvsh_fault_name(XVSH_NOT_RUNNABLE), "NotRunnable") && is(xvsh_fault_name(XVSH_NOT_RUNNING), "NotRunning"));
+  TEST(is(xvsh_fault_name(XVSH_UNFINISHED), "Unfinished") && is(xvsh_fault_name(XVSH_TAKEN_NAME), "TakenName"));
+  TEST(is(xvsh_fault_name(XVSH_SCRIPT_TOO_LONG), "ScriptTooLong") && is(xvsh_fault_name(XVSH_INPUT_TOO_LONG), "InputTooLong"));
+  TEST(is(xvsh_fault_name(XVSH_BAD_TURNS), "BadTurns") && is(xvsh_fault_name(XVSH_BAD_ORDER), "BadOrder"));
+  TEST(is(xvsh_fault_name(XVSH_NULL), "Null"));
+  TEST(xvsh_version() == XVSH_VERSION);
+}
+
+static long repeats;
+
+/* Each call `repeats` times in all, on an answer of the thread's own. */
+static void *again(void *unused) {
+  xvsh_file files[1] = { { xvsh_text("f"), xvsh_text("a\nb\n") } };
+  xvsh_task task = task_of("echo hello | tee g; cat f g | wc\n", files, 1);
+  xvsh_answer answer = XVSH_ANSWER, other = XVSH_ANSWER;
+  bool right = true;
+  for (long i = 0; i < repeats; i++) {
+    right = xvsh_plain(&task, &answer) == XVSH_OK && is(answer.out, "hello\n3 3 10 \n") && right;
+    if (i % 20 == 0) {
+      right = xvsh_run(&task, 100000, XVSH_DRAWN, (uint64_t)i, &answer) == XVSH_OK && is(answer.out, "hello\n3 3 10 \n") && right;
+      right = xvsh_replay(&task, answer.events, &other) == XVSH_OK && is(other.out, "hello\n3 3 10 \n") && right;
+    }
+  }
+  xvsh_answer_free(&answer);
+  xvsh_answer_free(&other);
+  (void)unused;
+  return right ? NULL : "wrong";
+}
+
+static void threads(long count) {
+  pthread_t made[4];
+  void *wrong;
+  repeats = count / 4;
+  for (int i = 0; i < 4; i++) TEST(pthread_create(&made[i], NULL, again, NULL) == 0);
+  for (int i = 0; i < 4; i++) TEST(pthread_join(made[i], &wrong) == 0 && wrong == NULL);
+}
+
+/* The deepest lines of 511 bytes: 255 groups round a command, and 256 commands between pipes, `;` and `&`. */
+static size_t deep_line(int kind, char *line) {
+  size_t length = 0;
+  for (int i = 0; i < 255; i++) {
+    if (kind > 0) line[length++] = 'a';
+    line[length++] = "(|;&"[kind];
+  }
+  line[length++] = 'a';
+  for (int i = 0; kind == 0 && i < 255; i++) line[length++] = ')';
+  return length;
+}
+
+static void *deepest(void *unused) {
+  char line[XVSH_MAX_LINE];
+  bool right = true;
+  xvsh_answer answer = XVSH_ANSWER;
+  for (int kind = 0; kind < 4; kind++) {
+    xvsh_task task = { { (const uint8_t *)line, deep_line(kind, line) }, XVSH_NO_BYTES, XVSH_NO_FILES, 0, 0 };
+    right = task.script.length == XVSH_MAX_LINE && right;
+    right = xvsh_plain(&task, &answer) == XVSH_OK && right;
+    right = xvsh_run(&task, 100000, XVSH_KERNEL, 0, &answer) == XVSH_OK && right;
+  }
+  xvsh_answer_free(&answer);
+  (void)unused;
+  return right ? NULL : "wrong";
+}
+
+static void stack(size_t size) {
+  pthread_attr_t attributes;
+  pthread_t made;
+  void *wrong;
+  pthread_attr_init(&attributes);
+  TEST(pthread_attr_setstacksize(&attributes, size) == 0);
+  TEST(pthread_create(&made, &attributes, deepest, NULL) == 0);
+  TEST(pthread_join(made, &wrong) == 0 && wrong == NULL);
+  pthread_attr_destroy(&attributes);
+}
+
+int main(int count, char **arguments) {
+  long repeats_asked = count > 1 ? atol(arguments[1]) : 1000;
+  nulls();
+  limits();
+  runs();
+  appends();
+  budgets();
+  words();
+  threads(repeats_asked);
+  stack(count > 2 ? (size_t)atol(arguments[2]) : 1 << 20);
+  printf("%ld tested, %ld failed\n", tested, failed);
+  return failed != 0;
+}

@@ -1,0 +1,153 @@
+"""Draws scripts, and compares what the library tells of each from Python with the program's own answers.
+
+usage: drawn.py PROGRAM COUNT [SEED]
+"""
+import base64
+import json
+import os
+import random
+import subprocess
+import sys
+import tempfile
+
+import xvsh
+
+NAMES = ["f", "g", "todo", "out", "a.b"]
+WORDS = ["a", "hello", "x1", "-2", "-n", "^a", "e$", ".", "no_such", "é", "tenth"]
+PROGRAMS = ["cat", "echo", "grep", "head", "tee", "wc", "lss"]
+
+
+def simple(draw):
+    """A simple command, most often one that runs a program on what it takes."""
+    program = draw.choice(PROGRAMS)
+    words = [draw.choice(NAMES + WORDS) for _ in range(draw.randrange(4))]
+    if program == "grep":
+        words = [draw.choice(["a", "^h", "o$", "."])] + words[:2]
+    text = " ".join([program, *words])
+    for mark in ("<", ">", ">>"):
+        if draw.random() < 0.15:
+            text += f" {mark} {draw.choice(NAMES)}"
+    return text
+
+
+def command(draw, depth):
+    """A command of the grammar."""
+    kind = draw.random()
+    if depth == 0 or kind < 0.45:
+        return simple(draw)
+    if kind < 0.7:
+        return f"{command(draw, depth - 1)} | {command(draw, depth - 1)}"
+    if kind < 0.85:
+        return f"{command(draw, depth - 1)}; {command(draw, depth - 1)}"
+    if kind < 0.95:
+        return f"({command(draw, depth - 1)})" + (f" > {draw.choice(NAMES)}" if draw.random() < 0.4 else "")
+    return f"{command(draw, depth - 1)} &"
+
+
+def script(draw):
+    """Some lines, of which some are no command, with bytes that are no UTF-8 now and then."""
+    lines = [command(draw, 3).encode() for _ in range(draw.randrange(1, 4))]
+    if draw.random() < 0.1:
+        lines.append(draw.choice([b"(echo a", b"echo > ", b"echo 1 2 3 4 5 6 7 8 9 10", b"cd /", b"# a", b"x" * 512, b"echo \0"]))
+    text = b"\n".join(lines) + draw.choice([b"\n", b""])
+    return text.replace(b"hello", b"h\xff") if draw.random() < 0.1 else text
+
+
+def files(draw):
+    """Some files."""
+    made = {}
+    for name in NAMES[:3]:
+        if draw.random() < 0.6:
+            made[name] = b"".join(draw.choice([b"alpha\n", b"hello a\n", b"\n", b"o\xfe\n", b"no end"]) for _ in range(draw.randrange(6)))
+    return made
+
+
+def bytes_of(value):
+    """The bytes of a value of docs/FORMATS.md."""
+    return base64.b64decode(value["base64"]) if isinstance(value, dict) else value.encode()
+
+
+def files_of(made):
+    return {os.fsdecode(bytes_of(it["name"])): xvsh.File(bytes_of(it["bytes"]), it.get("soft", False)) for it in made["files"]}
+
+
+class Program:
+    """The program, on a task that lies in a folder."""
+
+    def __init__(self, path, room, text, stdin, given, append):
+        self.path, self.room, self.stdin = path, room, stdin
+        for name in os.listdir(room):
+            os.remove(os.path.join(room, name))
+        with open(os.path.join(room, "script of it"), "wb") as file:
+            file.write(text)
+        for name, data in given.items():
+            with open(os.path.join(room, name), "wb") as file:
+                file.write(data)
+        self.given, self.append = sorted(given), ["--append"] if append else []
+
+    def json(self, *words, given=True, schedule=()):
+        """The object that a command prints."""
+        line = [self.path, *words, "--json", *schedule, os.path.join(self.room, "script of it")]
+        line += [os.path.join(self.room, name) for name in self.given] if given else []
+        done = subprocess.run(line, input=self.stdin, stdout=subprocess.PIPE, stderr=subprocess.PIPE, check=False)
+        if not done.stdout:
+            raise SystemExit(f"{line} printed nothing: {done.stderr!r}")
+        return json.loads(done.stdout)
+
+
+def same(program, text, stdin, given, append, draw):
+    """Compares each call with its command, and returns why they differ, or nothing."""
+    made = program.json("plain", *program.append)
+    try:
+        plain = xvsh.plain(text, stdin, given, append=append)
+    except xvsh.XvshError as error:
+        told = made.get("fault") or {}
+        return None if (told.get("name"), told.get("line")) == (error.fault.name, error.place or None) else f"plain: {error!r} beside {made}"
+    if "fault" in made or (plain.out, plain.settled, plain.files) != (bytes_of(made["output"]), made["settled"], files_of(made)):
+        return f"plain: {plain} beside {made}"
+    try:
+        order, seed = draw.choice(list(xvsh.Order)), draw.randrange(64)
+        run = xvsh.run(text, stdin, given, append=append, turns=1_000_000, order=order, seed=seed)
+    except xvsh.Spent:
+        return None if "&" in text.decode("latin-1") else "run: the turns are spent"
+    path = os.path.join(program.room, "schedule of it")
+    with open(path, "wb") as file:
+        file.write(run.schedule)
+    made = program.json("replay", *program.append, schedule=[path])
+    if "fault" in made or (run.out, run.diag, run.files, run.full) != (bytes_of(made["output"]), bytes_of(made["diagnostics"]), files_of(made), made["full"]):
+        return f"run: {run} beside {made}"
+    if len(list(run)) != made["events"]:
+        return f"run: {len(list(run))} events beside {made}"
+    if xvsh.replay(text, run.schedule, stdin, given, append=append) != xvsh.Run(run.out, run.files, run.diag, run.schedule, run.full):
+        return "replay: another run than the one whose schedule it is"
+    if plain.settled and run.full is None:
+        left = {name: file.bytes for name, file in run.files.items() if not plain.files.get(name, file).soft}
+        if (run.out, left) != (plain.out, {name: file.bytes for name, file in plain.files.items() if not file.soft}):
+            return f"a settled script has two answers: {plain} and {run}"
+    return None
+
+
+def main():
+    path, count = sys.argv[1], int(sys.argv[2])
+    seed = int(sys.argv[3]) if len(sys.argv) > 3 else 1
+    refused = settled = 0
+    with tempfile.TemporaryDirectory() as room:
+        for number in range(count):
+            draw = random.Random(seed * 1_000_003 + number)
+            text, given, append = script(draw), files(draw), draw.random() < 0.3
+            stdin = draw.choice([b"", b"one\ntwo a\n", b"h\xff\n" * 300])
+            why = same(Program(path, room, text, stdin, given, append), text, stdin, given, append, draw)
+            try:
+                settled += xvsh.plain(text, stdin, given, append=append).settled
+            except xvsh.XvshError:
+                refused += 1
+            if why:
+                sys.exit(f"drawn.py: script {number} of seed {seed}: {text!r} with {given!r} on {stdin!r}, append {append}:\n{why}")
+    # what is drawn must be of each kind, else little was compared
+    if count >= 200 and not (count // 100 <= refused < count // 2 and settled > count // 10 and settled + refused < count):
+        sys.exit(f"drawn.py: of {count} scripts {refused} were refused and {settled} settled")
+    print(f"{count} drawn scripts: the same from Python as by the program ({settled} settled, {refused} refused)")
+
+
+if __name__ == "__main__":
+    main()

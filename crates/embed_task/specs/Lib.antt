@@ -1,0 +1,3 @@
+pub mod Packing
+pub mod Profiles
+pub mod Starting

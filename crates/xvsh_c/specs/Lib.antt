@@ -1,0 +1,3 @@
+pub mod Answers
+pub mod PlainCalls
+pub mod RunCalls

@@ -1,0 +1,12 @@
+//! The simulator for programs in C, and in what calls C: `include/xvsh.h` declares these functions.
+#![tactic(auto)]
+
+mod answer;
+mod handing;
+mod plain;
+mod runs;
+mod version;
+mod words;
+
+pub use answer::Answer;
+pub use words::FaultWords;

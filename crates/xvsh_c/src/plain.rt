@@ -1,0 +1,30 @@
+//! Runs by meaning.
+ghost use Rattle.xvsh_c.specs.PlainCalls.{PlainCall, TellsPlain};
+
+use crate::answer::{Answer, put_fault};
+use crate::handing::{given_out, table_out};
+use embed_plain::{PlainAnswer, plain_of};
+use embed_task::Task;
+use std::alloc::Global;
+
+// Puts what a script gives into an answer.
+fn put_plain(told: PlainAnswer, answer: &mut Answer)
+    ensures { TellsPlain answer.new told }
+{
+    answer.clear();
+    answer.fine = told.is_settled as u32;
+    answer.sizes = table_out(told.files.sizes);
+    answer.block = given_out(told.files.block);
+    answer.out = given_out(told.out);
+}
+
+/// `xvsh_plain_call`: runs a script by its meaning.
+#[unsafe(no_mangle)]
+pub extern "C" fn xvsh_plain_call(alloc: Global, task: &Task<'_>, answer: &mut Answer)
+    ensures { PlainCall task.now answer.new }
+{
+    match plain_of(alloc, task) {
+        Ok(told) => put_plain(told, answer),
+        Err(fault) => put_fault(fault, answer),
+    }
+}

@@ -1,0 +1,257 @@
+/* xvsh.h: xv6's shell, its processes and six programs, as a library. Version 0.1.0.
+ *
+ * Each call below does what a command of the program `xvsh` does, on bytes in memory; docs/LIBRARY.md says what is proved of each.
+ * What is not proved: this header, three functions of the heap under the library (malloc, realloc and free), the compiler, and that
+ * a caller keeps the rules that follow.
+ *
+ * What nothing checks:
+ *  - A length counts the bytes that lie at its pointer, or the rows. Where the length is 0 the pointer may be null.
+ *  - What is lent for a call (a task, all that it points to, and a schedule) is written by nobody while the call runs, and shares no
+ *    byte with the answer.
+ *  - An answer was begun by XVSH_ANSWER or is one that an earlier call filled, and no other call writes it at the same time.
+ *
+ * Who owns what. A task and what it points to stay the caller's; a call keeps none of it. The bytes of an answer are the caller's
+ * from the call's return until xvsh_answer_free; each call of this header frees first what its answer held. They lie in memory of
+ * malloc. Nothing is kept between calls: a session is its schedule, which the caller holds.
+ *
+ * Null. A pointer to a task, to an answer and to `more` isn't null. Of a pair of a pointer and a length, a null of length 0 is as no
+ * bytes; any other null is the fault XVSH_NULL.
+ *
+ * Threads. The library has no state, starts no thread, takes no lock, and reads no file, clock or environment. Any number of calls
+ * may run at once, each on an answer of its own. No call from a signal handler, and none in the child of a fork of a process that
+ * has threads. A call needs a stack of 1 MiB at most: it grows with how deeply the parentheses of a line of 511 bytes are nested.
+ *
+ * Faults. A call returns 0, or the number of a fault: then the answer has that number as `status`, what it is about as `place`, and
+ * nothing else. xvsh_fault_name and xvsh_fault_text have the name and the text of a number. A number is never given to another
+ * fault; new ones may come, so have a default. No call aborts, and each returns: xvsh_run takes at most `turns` events, and
+ * xvsh_plain asks for at most the task's budget of memory, where it has one.
+ *
+ * Versions. xvsh_version() is 1,000,000 times the first number, 1,000 times the second, and the third. Structs and calls change only
+ * with the first number, or, as long as that is 0, with the second: compare xvsh_version() / 1000 with XVSH_VERSION / 1000.
+ */
+#ifndef XVSH_H
+#define XVSH_H
+#include <stdbool.h>
+#include <stddef.h>
+#include <stdint.h>
+#include <stdlib.h>
+#include <string.h>
+#ifdef __cplusplus
+extern "C" {
+#endif
+
+#define XVSH_VERSION 1000u             /* 1,000,000 * 0 + 1,000 * 1 + 0 */
+
+/* Limits. What passes one is a fault. */
+#define XVSH_MAX_SCRIPT 1048576u       /* bytes of a script */
+#define XVSH_MAX_INPUT 1048576u        /* bytes of a standard input */
+#define XVSH_MAX_LINE 511u             /* bytes of a line of a script, before its LF */
+#define XVSH_MAX_FILES 200u            /* files at once */
+#define XVSH_MAX_FILE 274432u          /* bytes of a file */
+#define XVSH_MAX_NAME 14u              /* bytes of a file's name, which has at least one, and none that is 0 or '/' */
+#define XVSH_MAX_TURNS 1000000000u     /* events of a run */
+
+/* Bytes, which need not end in 0. */
+typedef struct { const uint8_t *at; size_t length; } xvsh_bytes;
+
+/* A file of a task. */
+typedef struct { xvsh_bytes name, bytes; } xvsh_file;
+typedef struct { const xvsh_file *at; size_t length; } xvsh_files;
+
+/* What a call is about: a script, its standard input, and its files, no two of one name. */
+typedef struct {
+  xvsh_bytes script, input;
+  xvsh_files files;
+  uint64_t budget;   /* the most bytes of memory that the run of xvsh_plain may ask for in all, counting none that it gives back;
+                        0: no such bound. The answer comes on top, and is no longer than what the run held */
+  uint32_t appends;  /* 0: `>>` writes over a file from its beginning, as xv6's does; else it appends */
+} xvsh_task;
+
+/* Faults. Those up to 63 have the numbers and names of docs/FORMATS.md. */
+typedef enum {
+  XVSH_OK = 0,
+  XVSH_TOO_LONG = 2,          /* a file has too many bytes; place: the file of the task, from 1 */
+  XVSH_LINE_TOO_LONG = 3,     /* place: the line of the script, from 1 */
+  XVSH_BYTE_ZERO = 4,         /* a line holds a byte 0; place: the line of the script, from 1 */
+  XVSH_BAD_NAME = 5,          /* no file of a script can have that name; place: the file, from 1 */
+  XVSH_TOO_MANY_FILES = 6,    /* place: the file, from 1 */
+  XVSH_TOO_LARGE = 7,         /* the script makes a file too large, or one too many */
+  XVSH_MEMORY = 8,            /* memory was refused, or the budget is spent */
+  XVSH_SPENT = 9,             /* the turns are over, and the run isn't finished */
+  XVSH_NO_EVENT = 10,         /* a line of the schedule is no event; place: the line, from 1 */
+  XVSH_NOT_RUNNABLE = 11,     /* an event dispatches what can't be dispatched; place: the event, from 1 */
+  XVSH_NOT_RUNNING = 12,      /* an event is a call of a process that isn't running there; place: the event, from 1 */
+  XVSH_UNFINISHED = 13,       /* all events took place, and the run isn't finished */
+  XVSH_TAKEN_NAME = 15,       /* a file before it has its name; place: the file, from 1 */
+  XVSH_SCRIPT_TOO_LONG = 64,
+  XVSH_INPUT_TOO_LONG = 65,
+  XVSH_BAD_TURNS = 66,        /* 0, or more than XVSH_MAX_TURNS */
+  XVSH_BAD_ORDER = 67,        /* no xvsh_order */
+  XVSH_NULL = 69              /* a null pointer with a length other than 0 */
+} xvsh_status;
+
+/* Which process takes the next turn of a run. */
+typedef enum {
+  XVSH_KERNEL = 0,    /* the one that the kernel chooses */
+  XVSH_DRAWN = 1,     /* any, drawn by a generator that `number` seeds: one number, one order, on every machine */
+  XVSH_LOWEST = 2,    /* the one in the lowest slot */
+  XVSH_HIGHEST = 3,   /* the one in the highest slot */
+  XVSH_STARVING = 4,  /* the lowest but the one in slot `number`, which waits until no other can run */
+  XVSH_EAGER = 5      /* the one that took the last turn, as long as it can */
+} xvsh_order;
+
+/* What was full first in a run. */
+typedef enum { XVSH_ROOMY, XVSH_PROCS, XVSH_OPEN, XVSH_DESCRIPTORS, XVSH_FILES, XVSH_SIZE, XVSH_HEAP } xvsh_full;
+
+/* How long a file's name and bytes are, and 1 where its bytes may depend on the order of processes. */
+typedef struct { size_t name, bytes; uint32_t soft; } xvsh_sizes;
+typedef struct { const xvsh_sizes *at; size_t length; } xvsh_table;
+
+/* What a call gives. What a call doesn't speak of is empty or 0. */
+typedef struct {
+  xvsh_bytes out;      /* the standard output */
+  xvsh_bytes diag;     /* the diagnostics of a run */
+  xvsh_bytes events;   /* a line an event: `D HART PROCESS` or `T HART PROCESS` */
+  xvsh_bytes json;     /* no call fills it yet */
+  xvsh_bytes block;    /* the files at the end, in byte order of their names: of each its name, and behind it its bytes */
+  xvsh_table sizes;    /* how long these are: a row a file; xvsh_next_file walks them */
+  uint64_t place;      /* what a fault is about, or 0 */
+  uint32_t status;     /* XVSH_OK, or the fault */
+  uint32_t full;       /* an xvsh_full */
+  uint32_t fine;       /* xvsh_plain: 1 where the script is settled */
+  uint32_t whole;      /* no call fills it yet */
+} xvsh_answer;
+
+#define XVSH_NO_BYTES { (const uint8_t *)"", 0 }
+#define XVSH_NO_FILES { (const xvsh_file *)(const void *)"", 0 }
+#define XVSH_ANSWER { XVSH_NO_BYTES, XVSH_NO_BYTES, XVSH_NO_BYTES, XVSH_NO_BYTES, XVSH_NO_BYTES, \
+                      { (const xvsh_sizes *)(const void *)"", 0 }, 0, 0, 0, 0, 0 }
+
+/* The calls of the library as they are, for bindings: as those below, where no pointer is null and the answer holds nothing. */
+uint32_t xvsh_version(void);
+void xvsh_fault_call(uint32_t number, xvsh_bytes *words);
+void xvsh_plain_call(const xvsh_task *task, xvsh_answer *answer);
+void xvsh_run_call(const xvsh_task *task, uint64_t turns, uint32_t order, uint64_t number, xvsh_answer *answer);
+void xvsh_replay_call(const xvsh_task *task, const uint8_t *schedule, size_t length, xvsh_answer *answer);
+
+/* The bytes of a C string without its 0; of a null none. */
+static inline xvsh_bytes xvsh_text(const char *text) {
+  xvsh_bytes bytes = XVSH_NO_BYTES;
+  if (text) { bytes.at = (const uint8_t *)text; bytes.length = strlen(text); }
+  return bytes;
+}
+
+/* Frees what an answer holds, and begins it anew. */
+static inline void xvsh_answer_free(xvsh_answer *answer) {
+  static const xvsh_answer begun = XVSH_ANSWER;
+  if (answer->out.length) free((void *)answer->out.at);
+  if (answer->diag.length) free((void *)answer->diag.at);
+  if (answer->events.length) free((void *)answer->events.at);
+  if (answer->json.length) free((void *)answer->json.at);
+  if (answer->block.length) free((void *)answer->block.at);
+  if (answer->sizes.length) free((void *)answer->sizes.at);
+  *answer = begun;
+}
+
+/* A fault's name, as "LineTooLong"; no bytes for a number that is none. The bytes are the library's, for ever. */
+static inline xvsh_bytes xvsh_fault_name(uint32_t number) {
+  xvsh_bytes words[2] = { XVSH_NO_BYTES, XVSH_NO_BYTES };
+  xvsh_fault_call(number, words);
+  return words[0];
+}
+
+/* A fault's text, as "a line has more than 511 bytes". */
+static inline xvsh_bytes xvsh_fault_text(uint32_t number) {
+  xvsh_bytes words[2] = { XVSH_NO_BYTES, XVSH_NO_BYTES };
+  xvsh_fault_call(number, words);
+  return words[1];
+}
+
+/* A file of an answer. */
+typedef struct { xvsh_bytes name, bytes; bool soft; size_t next, from; } xvsh_left;
+
+/* Walks the files of an answer: begin with an xvsh_left that is all 0, and go on while it returns true. */
+static inline bool xvsh_next_file(const xvsh_answer *answer, xvsh_left *left) {
+  if (left->next >= answer->sizes.length) return false;
+  const xvsh_sizes *sizes = &answer->sizes.at[left->next++];
+  left->name.at = answer->block.at + left->from;
+  left->name.length = sizes->name;
+  left->bytes.at = left->name.at + sizes->name;
+  left->bytes.length = sizes->bytes;
+  left->soft = sizes->soft != 0;
+  left->from += sizes->name + sizes->bytes;
+  return true;
+}
+
+/* Used below: a task without null pointers, and room for the files of one that had some. A 202nd file and those behind it are left
+ * out, since one of the 201 before it is a fault. */
+typedef struct { xvsh_task task; xvsh_file files[XVSH_MAX_FILES + 1]; } xvsh_safe_task_;
+
+static inline bool xvsh_make_safe_(xvsh_bytes *bytes) {
+  if (!bytes->at) { bytes->at = (const uint8_t *)""; return bytes->length == 0; }
+  return true;
+}
+
+/* Frees what the answer held. False where a pointer is null and its length isn't 0: then the answer tells that. */
+static inline bool xvsh_begin_(const xvsh_task *task, xvsh_safe_task_ *safe, xvsh_answer *answer) {
+  xvsh_answer_free(answer);
+  safe->task = *task;
+  bool good = xvsh_make_safe_(&safe->task.script);
+  good = xvsh_make_safe_(&safe->task.input) && good;
+  size_t count = task->files.length, null = 0;
+  if (!task->files.at) {
+    static const xvsh_files none = XVSH_NO_FILES;
+    safe->task.files = none;
+    good = good && count == 0;
+    count = 0;
+  }
+  if (count > XVSH_MAX_FILES + 1) count = XVSH_MAX_FILES + 1;
+  for (size_t i = 0; i < count; i++) null += !task->files.at[i].name.at || !task->files.at[i].bytes.at;
+  if (null) {
+    for (size_t i = 0; i < count; i++) {
+      safe->files[i] = task->files.at[i];
+      good = xvsh_make_safe_(&safe->files[i].name) && good;
+      good = xvsh_make_safe_(&safe->files[i].bytes) && good;
+    }
+    safe->task.files.at = safe->files;
+    safe->task.files.length = count;
+  }
+  if (!good) answer->status = XVSH_NULL;
+  return good;
+}
+
+/* Runs the script by its meaning: each pipe's left side to its end before its right side starts. Gives out, the files, and whether
+ * the script is settled (fine): then no order of its processes changes any of it, soft files left out. */
+static inline uint32_t xvsh_plain(const xvsh_task *task, xvsh_answer *answer) {
+  xvsh_safe_task_ safe;
+  if (xvsh_begin_(task, &safe, answer)) xvsh_plain_call(&safe.task, answer);
+  return answer->status;
+}
+
+/* Runs the script by its processes on one hart, in at most `turns` events, from 1 to XVSH_MAX_TURNS, and in this xvsh_order, whose
+ * `number` is 0 where it needs none. Gives out, diag, the files, the events, and what was full. */
+static inline uint32_t xvsh_run(const xvsh_task *task, uint64_t turns, uint32_t order, uint64_t number, xvsh_answer *answer) {
+  xvsh_safe_task_ safe;
+  if (xvsh_begin_(task, &safe, answer)) xvsh_run_call(&safe.task, turns, order, number, answer);
+  return answer->status;
+}
+
+/* Used below: no null schedule. */
+static inline bool xvsh_begin_events_(const xvsh_task *task, xvsh_bytes *schedule, xvsh_safe_task_ *safe, xvsh_answer *answer) {
+  if (!xvsh_begin_(task, safe, answer)) return false;
+  if (xvsh_make_safe_(schedule)) return true;
+  answer->status = XVSH_NULL;
+  return false;
+}
+
+/* Runs it by the events of a schedule of one to eight harts: a run's, or any other. Gives what xvsh_run gives. */
+static inline uint32_t xvsh_replay(const xvsh_task *task, xvsh_bytes schedule, xvsh_answer *answer) {
+  xvsh_safe_task_ safe;
+  if (xvsh_begin_events_(task, &schedule, &safe, answer)) xvsh_replay_call(&safe.task, schedule.at, schedule.length, answer);
+  return answer->status;
+}
+
+#ifdef __cplusplus
+}
+#endif
+#endif
