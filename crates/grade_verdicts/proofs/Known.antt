@@ -1,0 +1,136 @@
+-- What verdicts follow from what the meaning and an exploration say.
+use Rattle.std.proofs.Common.{◌≡◌, Bool, true, false, List, [], ◌∷◌, length, map, Option, Some, None, All, refl, sym, ap, subst, ◌∙◌, arith}
+use Rattle.std.specs.Prelude.{◌↔◌, Contains, slice_index_or}
+use Rattle.std.proofs.lemmas.Bool.{false≢true}
+use Rattle.std.proofs.lemmas.List.Elements.{All-cons, All-contains, All-map}
+use Rattle.mem_files.specs.Name.{Name, Bytes}
+use Rattle.mem_files.specs.Files.{FileMap, files}
+use Rattle.mem_files.specs.Listing.{AreFiles}
+use Rattle.prog_parts.specs.NameSets.{Names, among}
+use Rattle.script_load.specs.Limits.{are_small}
+use Rattle.script_load.specs.Line.{ScriptLine}
+use Rattle.script_load.specs.declared.profile.Profile.{Profile}
+use Rattle.meaning_model.specs.Meaning.{script_meaning}
+use Rattle.meaning_model.specs.Settled.{IsSettledScript}
+use Rattle.plain_run.proofs.NameSets.{contained}
+use Rattle.sh_machine.specs.Turn.{call_of, next_of}
+use Rattle.order_model.specs.Outcome.{outcome_of}
+use Rattle.order_model.specs.Explored.{AreAllOutcomes, IsNeverStuck}
+use Rattle.order_search.specs.Told.{outcome_by}
+use Rattle.order_search.specs.declared.outcomes.Outcome.{Outcome}
+use Rattle.law_standing.proofs.RunsEnd.{finished_means}
+use Rattle.law_trees.proofs.Short.{small_short}
+use Rattle.grade_verdicts.specs.Agrees.{Agrees, AgreesIn, AgreesWith, AreRight, HasFile}
+use Rattle.grade_verdicts.specs.Judged.{InEveryRun, IsPassed, IsPassedInEveryOrder, IsSettledOn, IsWrong, by_meaning, meaning_of, start_of}
+use Rattle.grade_verdicts.specs.declared.expected.Expected.{Expected}
+use Rattle.grade_verdicts.specs.declared.expected.ExpectedFile.{ExpectedFile}
+use Rattle.grade_verdicts.specs.declared.expected.Task.{Task}
+
+moved : (F G : FileMap) (file : ExpectedFile) → F file.name.items ≡ G file.name.items → HasFile F file → HasFile G file
+moved F G file same is = sym same ∙ is
+
+-- what agrees in one output and one map agrees in equal ones
+carried : (e : Expected) (out printed : Bytes) (F G : FileMap) → out ≡ printed → All (λ file. F file.name.items ≡ G file.name.items) e.files.items → Agrees e out F → Agrees e printed G
+carried e out printed F G one same a =
+    record {
+      out = sym one ∙ a.out;
+      files = λ k d less. moved F G (slice_index_or e.files.items k d) (same k d less) (a.files k d less);
+    }
+
+not_true : (b : Bool) → (b ≡ true → ⊥) → b ≡ false
+not_true true not = absurd (not refl)
+not_true false not = refl
+
+is_firm : (soft : List Name) (is_soft : Names) (name : Name) → (Contains soft name ↔ (is_soft name ≡ true)) → among soft name ≡ false → is_soft name ≡ false
+is_firm soft is_soft name each not = not_true (is_soft name) (λ is. false≢true (sym not ∙ contained soft name (each.1 is)))
+
+-- what was found by the meaning: of a settled script, no expected file of which is soft
+pub record Found (t : Task) (lines : List ScriptLine) (soft : List Name) (printed : Bytes) (F : FileMap) : Type 0 where
+  pub small : are_small lines ≡ true
+  pub are : AreFiles t.files.now
+  pub settled : IsSettledOn t lines
+  pub out : printed ≡ (meaning_of t lines).out
+  pub files : (name : Name) → F name ≡ (meaning_of t lines).files name
+  pub each : (name : Name) → Contains soft name ↔ ((meaning_of t lines).soft name ≡ true)
+  pub firm : All (λ file. among soft file.name.items ≡ false) t.expected.now.files.items
+
+-- the same by what is known under a profile that is the test's
+pub found : (t : Task) (lines : List ScriptLine) (p : Profile) (soft : List Name) (printed out : Bytes) (F : FileMap) → p ≡ t.profile → are_small lines ≡ true → AreFiles t.files.now
+    → IsSettledScript p lines t.stdin.now (files t.files.now) → printed ≡ out → out ≡ (script_meaning p lines t.stdin.now (files t.files.now)).out
+    → ((name : Name) → F name ≡ (script_meaning p lines t.stdin.now (files t.files.now)).files name)
+    → ((name : Name) → Contains soft name ↔ ((script_meaning p lines t.stdin.now (files t.files.now)).soft name ≡ true))
+    → All (λ file. among soft file.name.items ≡ false) t.expected.now.files.items → Found t lines soft printed F
+found t lines p soft printed out F same small are settled one is each_file each firm =
+    record {
+      small = small;
+      are = are;
+      settled = subst (λ q. IsSettledScript q lines t.stdin.now (files t.files.now)) same settled;
+      out = subst (λ q. printed ≡ (script_meaning q lines t.stdin.now (files t.files.now)).out) same (one ∙ is);
+      files = λ name. subst (λ q. F name ≡ (script_meaning q lines t.stdin.now (files t.files.now)).files name) same (each_file name);
+      each = λ name. subst (λ q. Contains soft name ↔ ((script_meaning q lines t.stdin.now (files t.files.now)).soft name ≡ true)) same (each name);
+      firm = firm;
+    }
+
+-- a value isn't both there and missing
+abbrev Missing : {X : Type 0} → Option X → Type 0
+Missing None = Unit {0}
+Missing (Some x) = ⊥
+
+pub not_both : {X : Type 0} (o : Option X) (x : X) → o ≡ Some x → o ≡ None → ⊥
+not_both o x some none = subst Missing some (subst Missing (sym none) tt)
+
+-- every finished run in which nothing was full has the output and the expected files that were found
+same_in_runs : (t : Task) (lines : List ScriptLine) (soft : List Name) (out : Bytes) (F : FileMap) → Found t lines soft out F
+    → InEveryRun t lines (λ o. (out ≡ o.out) × All (λ file. F file.name.items ≡ files o.files file.name.items) t.expected.now.files.items)
+same_in_runs t lines soft out F f schedule notes last ran quiet finished =
+    let m = finished_means t.profile lines t.stdin.now t.files.now schedule notes last f.are f.settled (small_short lines f.small) ran quiet finished in
+    let value = meaning_of t lines in (
+      f.out ∙ sym m.out,
+      λ k d less.
+          let name = (slice_index_or t.expected.now.files.items k d).name.items in
+          f.files name ∙ sym (m.files name (is_firm soft value.soft name (f.each name) (f.firm k d less))),
+    )
+
+pub passed : (t : Task) (lines : List ScriptLine) (soft : List Name) (out : Bytes) (F : FileMap) → Found t lines soft out F → Agrees t.expected.now out F → IsPassed t lines
+passed t lines soft out F f a =
+    let e = t.expected.now in
+    let value = meaning_of t lines in
+    record {
+      settled = f.settled;
+      meant = carried e out value.out F value.files f.out (λ k d less. f.files (slice_index_or e.files.items k d).name.items) a;
+      runs = λ schedule notes last ran quiet finished.
+          let same = same_in_runs t lines soft out F f schedule notes last ran quiet finished in
+          carried e out last.out F (files last.files) same.0 same.1 a;
+    }
+
+pub wrong : (t : Task) (lines : List ScriptLine) (soft : List Name) (out : Bytes) (F : FileMap) → Found t lines soft out F → (Agrees t.expected.now out F → ⊥) → IsWrong t lines
+wrong t lines soft out F f not =
+    let e = t.expected.now in
+    let value = meaning_of t lines in
+    by_meaning f.settled
+    (λ a. not (carried e value.out out value.files F (sym f.out) (λ k d less. sym (f.files (slice_index_or e.files.items k d).name.items)) a))
+    (λ schedule notes last ran quiet finished a.
+    let same = same_in_runs t lines soft out F f schedule notes last ran quiet finished in
+    not (carried e last.out out (files last.files) F (sym same.0) (λ k d less. sym (same.1 k d less)) a))
+
+all_right : (e : Expected) (outcomes : List Outcome) → AreRight e outcomes → All (AgreesWith e) outcomes
+all_right e [] are = absurd are
+all_right e (first ∷ rest) are = All-cons (AgreesWith e) first rest are.0 are.1
+
+some_right : (e : Expected) (outcomes : List Outcome) → AreRight e outcomes → map outcome_by outcomes ≡ [] → ⊥
+some_right e [] are none = are
+some_right e (first ∷ rest) are none = let z : ⊥ = omega (arith, ap length none) in z
+
+pub passed_in_every_order : (t : Task) (lines : List ScriptLine) (outcomes : List Outcome) → AreAllOutcomes call_of next_of (start_of t lines) (map outcome_by outcomes) → AreRight t.expected.now outcomes
+    → IsNeverStuck call_of next_of (start_of t lines) → IsPassedInEveryOrder t lines
+passed_in_every_order t lines outcomes all are awake =
+    let e = t.expected.now in
+    let agree : All (AgreesIn e) (map outcome_by outcomes) = All-map (AgreesIn e) outcome_by outcomes (all_right e outcomes are) in
+    record {
+      outcomes = map outcome_by outcomes;
+      all = all;
+      some = some_right e outcomes are;
+      agree = agree;
+      runs = λ schedule notes last ran quiet finished. All-contains (AgreesIn e) (map outcome_by outcomes) (outcome_of last) agree (all.roomy schedule notes last ran quiet finished);
+      awake = awake;
+    }

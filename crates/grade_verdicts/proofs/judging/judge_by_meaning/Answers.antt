@@ -1,0 +1,24 @@
+use Rattle.mem_files.specs.Files.{files}
+use Rattle.script_load.specs.Line.{lines_of}
+use Rattle.grade_verdicts.proofs.Known.{found, not_both, passed, wrong}
+use Rattle.grade_verdicts.proofs.judging.judge_by_meaning.Goals as goal
+
+pub wrong-requires : goal.wrong-requires
+wrong-requires c =
+    let task = c.args.task.now in
+    let script = c.args.script.now in
+    let value = c.in-Ok.value in
+    let says = c.in-Ok.ensures in
+    let lines = lines_of script.lines in
+    let known = found task lines script.profile value.soft c.as_slice.result.now value.out (files value.files) c.requires script.small c.are_files.ensures (says.settled.0 c.if-not-value.false) c.as_slice.ensures says.out says.files says.soft (c.are_firm.ensures.0 c.if-not-are_firm.false) in
+    wrong task lines value.soft c.as_slice.result.now (files value.files) known (λ agrees. not_both c.in_ok-difference.difference c.in-Some.difference c.in-Some.is (c.in_ok-difference.ensures.1 agrees))
+
+pub returns : goal.returns
+returns c =
+    let task = c.args.task.now in
+    let script = c.args.script.now in
+    let value = c.in-Ok.value in
+    let says = c.in-Ok.ensures in
+    let lines = lines_of script.lines in
+    let known = found task lines script.profile value.soft c.as_slice.result.now value.out (files value.files) c.requires script.small c.are_files.ensures (says.settled.0 c.if-not-value.false) c.as_slice.ensures says.out says.files says.soft (c.are_firm.ensures.0 c.if-not-are_firm.false) in
+    passed task lines value.soft c.as_slice.result.now (files value.files) known (c.in_ok-difference.ensures.0 c.in-None.is)

@@ -1,0 +1,29 @@
+-- What is expected of a script, and when what a run left agrees with it.
+use Rattle.std.specs.Prelude.{◌≡◌, Some, List, [], ◌∷◌, All}
+use Rattle.mem_files.specs.Name.{Bytes}
+use Rattle.mem_files.specs.Files.{FileMap, files}
+use Rattle.order_model.specs.Outcome.{RunOutcome}
+use Rattle.order_search.specs.declared.outcomes.Outcome.{Outcome}
+use Rattle.grade_verdicts.specs.declared.expected.Expected.{Expected}
+use Rattle.grade_verdicts.specs.declared.expected.ExpectedFile.{ExpectedFile}
+
+-- the file is there, with the bytes that are expected
+abbrev pub HasFile : FileMap → ExpectedFile → Type 0
+HasFile F file = F file.name.items ≡ Some file.bytes.items
+
+-- the output is the one that is expected, and each file that is expected is there with its bytes; others may be there too
+pub record Agrees (expected : Expected) (printed : Bytes) (F : FileMap) : Type 0 where
+  pub out : printed ≡ expected.out.items
+  pub files : All (HasFile F) expected.files.items
+
+-- the same of what an exploration tells, and of what a run comes to
+abbrev pub AgreesWith : Expected → Outcome → Type 0
+AgreesWith expected outcome = Agrees expected outcome.out.items (files outcome.files)
+
+abbrev pub AgreesIn : Expected → RunOutcome → Type 0
+AgreesIn expected outcome = Agrees expected outcome.out (files outcome.files)
+
+-- there is an outcome, and each agrees
+abbrev pub AreRight : Expected → List Outcome → Type 0
+AreRight expected [] = ⊥
+AreRight expected (first ∷ rest) = AgreesWith expected first × All (AgreesWith expected) rest

@@ -1,0 +1,96 @@
+-- What each verdict of a test on a script means.
+use Rattle.std.specs.Prelude.{◌≡◌, ◌<◌, ⊤, Bool, List, [], Some, None, All, length}
+use Rattle.mem_files.specs.Name.{Bytes}
+use Rattle.mem_files.specs.Files.{files}
+use Rattle.script_load.specs.declared.fault.LoadFault.{LoadFault}
+use Rattle.script_load.specs.Line.{ScriptLine}
+use Rattle.script_load.specs.Script.{IsScript, HasLoadFault}
+use Rattle.meaning_model.specs.Limits.{Outgrows}
+use Rattle.meaning_model.specs.Meaning.{script_meaning, script_tree}
+use Rattle.meaning_model.specs.Settled.{IsSettledScript}
+use Rattle.meaning_model.specs.Value.{Value}
+use Rattle.sh_machine.specs.State.{User}
+use Rattle.sh_machine.specs.Turn.{call_of, next_of}
+use Rattle.kernel_model.specs.declared.events.Event.{Event}
+use Rattle.kernel_model.specs.KernelState.{KernelState}
+use Rattle.kernel_model.specs.Events.{run, IsFinished}
+use Rattle.run_model.specs.ScriptRun.{script_kernel}
+use Rattle.order_model.specs.Outcome.{RunOutcome, outcome_of}
+use Rattle.order_model.specs.Explored.{AreAllOutcomes, IsNeverStuck}
+use Rattle.order_search.specs.Told.{IsReplayed}
+use Rattle.order_search.specs.declared.outcomes.Outcome.{Outcome}
+use Rattle.grade_verdicts.specs.Agrees.{Agrees, AgreesIn, AgreesWith}
+use Rattle.grade_verdicts.specs.declared.expected.Task.{Task}
+use Rattle.grade_verdicts.specs.declared.verdict.Race.{Race}
+use Rattle.grade_verdicts.specs.declared.verdict.Refusal.TheVariants.{Script, Line}
+use Rattle.grade_verdicts.specs.declared.verdict.Verdict.{Verdict}
+use Rattle.grade_verdicts.specs.declared.verdict.Verdict.TheVariants.{Pass, PassEveryOrder, Wrong, Race as IsRacing, Unsure, Refused, TooLarge, Spent}
+
+-- the kernel at the start of a script under a test, what the script means there, and that it is settled there
+abbrev pub start_of : Task → List ScriptLine → KernelState User
+start_of t lines = script_kernel t.profile lines t.stdin.now t.files.now
+
+abbrev pub meaning_of : Task → List ScriptLine → Value
+meaning_of t lines = script_meaning t.profile lines t.stdin.now (files t.files.now)
+
+abbrev pub IsSettledOn : Task → List ScriptLine → Type 0
+IsSettledOn t lines = IsSettledScript t.profile lines t.stdin.now (files t.files.now)
+
+-- what every finished run of the script leaves in which nothing was full, on any harts, in any order and whenever memory was refused
+abbrev pub InEveryRun : Task → List ScriptLine → (RunOutcome → Type 0) → Type 0
+InEveryRun t lines Leaves = (schedule : List Event) (notes : List Bool) (last : KernelState User)
+    → run call_of next_of (Some (start_of t lines)) schedule notes ≡ Some last → last.full ≡ None → IsFinished last → Leaves (outcome_of last)
+
+-- the script is settled, its meaning is what is expected, and so is what every run leaves
+pub record IsPassed (t : Task) (lines : List ScriptLine) : Type 0 where
+  pub settled : IsSettledOn t lines
+  pub meant : Agrees t.expected.now (meaning_of t lines).out (meaning_of t lines).files
+  pub runs : InEveryRun t lines (AgreesIn t.expected.now)
+
+-- these are all outcomes, there is one, and each is what is expected; so is what every run leaves, and none comes to where all processes sleep
+pub record IsPassedInEveryOrder (t : Task) (lines : List ScriptLine) : Type 0 where
+  pub outcomes : List RunOutcome
+  pub all : AreAllOutcomes call_of next_of (start_of t lines) outcomes
+  pub some : outcomes ≡ [] → ⊥
+  pub agree : All (AgreesIn t.expected.now) outcomes
+  pub runs : InEveryRun t lines (AgreesIn t.expected.now)
+  pub awake : IsNeverStuck call_of next_of (start_of t lines)
+
+-- a finished run by this outcome's own schedule leaves what isn't expected
+pub record HasWrongRun (t : Task) (lines : List ScriptLine) (outcome : Outcome) : Type 0 where
+  pub replayed : IsReplayed call_of next_of (start_of t lines) outcome
+  pub differs : AgreesWith t.expected.now outcome → ⊥
+
+-- the script is settled, and what its meaning leaves, and every run, isn't what is expected; or some run's isn't
+pub data IsWrong (t : Task) (lines : List ScriptLine) : Type 0 where
+  by_meaning : IsSettledOn t lines → (Agrees t.expected.now (meaning_of t lines).out (meaning_of t lines).files → ⊥)
+      → InEveryRun t lines (λ outcome. AgreesIn t.expected.now outcome → ⊥) → IsWrong t lines
+  by_run : (outcome : Outcome) → HasWrongRun t lines outcome → IsWrong t lines
+
+-- one finished run leaves what is expected, another doesn't, and these are their schedules
+pub record IsRace (t : Task) (lines : List ScriptLine) (race : Race) : Type 0 where
+  pub right : Outcome
+  pub wrong : Outcome
+  pub to_right : race.right.items ≡ right.pids.items
+  pub to_wrong : race.wrong.items ≡ wrong.pids.items
+  pub replayed : IsReplayed call_of next_of (start_of t lines) right
+  pub agrees : AgreesWith t.expected.now right
+  pub other : HasWrongRun t lines wrong
+
+-- what the verdict says of a script of these lines
+abbrev pub IsVerdict : Task → List ScriptLine → Verdict → Type 0
+IsVerdict t lines Pass = IsPassed t lines
+IsVerdict t lines PassEveryOrder = IsPassedInEveryOrder t lines
+IsVerdict t lines (Wrong difference) = IsWrong t lines
+IsVerdict t lines (IsRacing race) = IsRace t lines race
+IsVerdict t lines Unsure = ⊤
+IsVerdict t lines (Refused (Script fault)) = ⊥
+IsVerdict t lines (Refused (Line number kind)) = IsWrong t lines
+IsVerdict t lines TooLarge = Outgrows t.profile (script_tree lines) t.stdin.now (files t.files.now)
+IsVerdict t lines Spent = ⊤
+
+-- what it says of some bytes: that they are no script, or too many, or a script of these lines
+pub data IsJudged (t : Task) (bytes : Bytes) : Verdict → Type 0 where
+  no_script : {fault : LoadFault} → HasLoadFault bytes fault → IsJudged t bytes (Refused (Script fault))
+  too_long : t.bytes < length bytes → IsJudged t bytes TooLarge
+  judged : {verdict : Verdict} (lines : List ScriptLine) → IsScript bytes lines → IsVerdict t lines verdict → IsJudged t bytes verdict

@@ -1,0 +1,13 @@
+//! What a test says of a script: its verdict, and why.
+#![tactic(auto)]
+
+mod agreeing;
+mod differing;
+mod expected;
+mod judging;
+mod verdict;
+
+pub use differing::first_difference;
+pub use expected::{Expected, ExpectedFile, Task};
+pub use judging::judge;
+pub use verdict::{Difference, Place, Race, Refusal, Verdict, passes};

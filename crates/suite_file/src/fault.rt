@@ -1,0 +1,24 @@
+//! Why a text is no suite.
+
+use std::alloc::{AllocError, AllocFailed};
+
+/// Why a text is no suite (own).
+#[derive(Debug, Drop)]
+pub enum SuiteFault {
+    /// This line, counted from 1, is wrong, and what is wrong with it.
+    At { line: usize, told: String },
+    /// Memory was refused.
+    Memory,
+}
+
+impl From<AllocError> for SuiteFault {
+    fn from(_error: AllocError) -> SuiteFault {
+        SuiteFault::Memory
+    }
+}
+
+impl<T: Drop> From<AllocFailed<T>> for SuiteFault {
+    fn from(_error: AllocFailed<T>) -> SuiteFault {
+        SuiteFault::Memory
+    }
+}

@@ -1,0 +1,58 @@
+//! A suite.
+
+/// The most bytes that a script may have, and how many it may have where a test doesn't say (own).
+pub const MOST_BYTES: usize = 1_048_576;
+
+/// The most states through which a test may have orders tried (own).
+pub const MOST_STATES: usize = 10_000_000;
+
+/// Through how many orders are tried where neither the test nor the suite says (own).
+pub const STATES: usize = 200_000;
+
+/// The most points of a test (own).
+pub const MOST_POINTS: u64 = 1_000_000;
+
+/// Where bytes come from (own).
+#[derive(Debug, Drop)]
+pub enum Source {
+    /// They are in the suite.
+    Inline(Vec<u8>),
+    /// They are those of the file at a path, which begins at the suite's folder unless it begins with `/`.
+    Beside(String),
+}
+
+/// A file of a test (own).
+#[derive(Debug, Drop)]
+pub struct NamedSource {
+    pub name: Vec<u8>,
+    pub source: Source,
+}
+
+/// A test of a suite (own).
+#[derive(Debug, Drop)]
+pub struct SuiteTest {
+    pub name: String,
+    pub points: u64,
+    /// Its own script; `None` where it is run on each script that is graded.
+    pub script: Option<Source>,
+    /// The standard input.
+    pub stdin: Source,
+    /// The files at the beginning, in byte order of their names.
+    pub files: Vec<NamedSource>,
+    /// The standard output that is expected.
+    pub output: Source,
+    /// The files that are expected at the end, in byte order of their names.
+    pub expected: Vec<NamedSource>,
+    /// Whether `>>` appends.
+    pub appends: bool,
+    /// The most bytes that a script may have.
+    pub bytes: usize,
+    /// The most states through which orders are tried.
+    pub states: usize,
+}
+
+/// A suite: tests, of which no two have one name (own).
+#[derive(Debug, Drop)]
+pub struct Suite {
+    pub tests: Vec<SuiteTest>,
+}
