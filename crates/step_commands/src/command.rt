@@ -11,7 +11,7 @@ pub enum Goal {
     Sleep(u64),
     /// Until the process in this slot has exited.
     Exit(u64),
-    /// Until nobody is Runnable.
+    /// Until the run is finished, or nobody is Runnable.
     End,
 }
 
