@@ -1,5 +1,5 @@
 -- What a session shows, and what is done in it.
-use Rattle.std.specs.Prelude.{◌≡◌, ℕ, ◌-◌, ◌*◌, Bool, List, Option, Some, None, count_by, length, take, true}
+use Rattle.std.specs.Prelude.{◌≡◌, ℕ, ◌-◌, ◌*◌, Bool, List, Some, None, count_by, length, take, true}
 use Rattle.mem_files.specs.Name.{Name, Bytes}
 use Rattle.user_calls.specs.declared.calls.Call.{Call}
 use Rattle.user_calls.specs.declared.calls.Reply.{Reply}

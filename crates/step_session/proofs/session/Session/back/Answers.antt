@@ -1,9 +1,9 @@
-use Rattle.std.proofs.Common.{◌≡◌, ◌∙◌, ◌<◌, ◌≤◌, ◌-◌, ◌*◌, length, take, Err, Ok, sym, ap, refl, arith, rules}
+use Rattle.std.proofs.Common.{◌≡◌, ◌<◌, ◌≤◌, ◌-◌, ◌*◌, length, take, Err, refl, arith, rules}
 use Rattle.std.specs.Prelude.{count_by}
 use Rattle.proc_table.specs.Slots.{is_running}
 use Rattle.kernel_model.proofs.Quiet.{one_run}
-use Rattle.step_session.specs.declared.fault.BackFault.TheVariants.{TooFar, Memory}
-use Rattle.step_session.specs.Sessions.{AreTurns, first_kernel}
+use Rattle.step_session.specs.declared.fault.BackFault.TheVariants.{Memory}
+use Rattle.step_session.specs.Sessions.{AreTurns}
 use Rattle.step_session.proofs.Adding.{fewer, long, nobody}
 use Rattle.step_session.proofs.session.Session.back.Goals as goal
 
