@@ -1,5 +1,5 @@
 -- What the rest of a line begins with.
-use Rattle.std.proofs.Common.{◌≡◌, ℕ, ◌+◌, ◌<◌, ◌≤◌, List, [], ◌∷◌, true, false, length, drop, get_or, sym, subst}
+use Rattle.std.proofs.Common.{◌≡◌, ℕ, ◌<◌, ◌≤◌, List, true, false, length, drop, get_or, sym, subst}
 use Rattle.std.proofs.lemmas.List.{drop_all, drop_more}
 use Rattle.step_commands.specs.Lines.{BeginsBlank, BeginsSolid, is_blank}
 

@@ -1,5 +1,5 @@
 -- Each name is one of all names.
-use Rattle.std.proofs.Common.{◌≡◌, ℕ, ◌<◌, List, get_or, refl, arith}
+use Rattle.std.proofs.Common.{◌≡◌, ℕ, ◌<◌, get_or, refl, arith}
 use Rattle.step_commands.specs.declared.name.Name.{Name}
 use Rattle.step_commands.specs.declared.name.Name.TheVariants.{Go, Back, Until, Ps, Pipes, Fds, Files, Out, Why, Schedule, Save, Help, Quit}
 use Rattle.step_commands.specs.declared.name.TheConstants.{NAMES}

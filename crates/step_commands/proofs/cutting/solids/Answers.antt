@@ -1,4 +1,4 @@
-use Rattle.std.proofs.Common.{◌≡◌, ◌<◌, true, false, length, get_or, arith, rules}
+use Rattle.std.proofs.Common.{◌≡◌, ◌<◌, false, length, get_or, arith, rules}
 use Rattle.std.proofs.lemmas.List.Elements.{All-more}
 use Rattle.step_commands.specs.Lines.{is_blank}
 use Rattle.step_commands.proofs.cutting.solids.Goals as goal

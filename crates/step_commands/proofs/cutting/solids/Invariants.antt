@@ -1,5 +1,5 @@
 -- The bytes so far are all blanks, or none is.
-use Rattle.std.proofs.Common.{◌≡◌, ◌-◌, ◌≤◌, All, length, take, true, false}
+use Rattle.std.proofs.Common.{◌≡◌, ◌-◌, ◌≤◌, All, length, take, false}
 use Rattle.step_commands.specs.Lines.{is_blank}
 use Rattle.step_commands.proofs.cutting.solids.Given as goal
 

@@ -1,4 +1,4 @@
-use Rattle.std.proofs.Common.{◌≡◌, ◌∙◌, ◌<◌, List, sym, ap, subst, get_or, length, arith, rules}
+use Rattle.std.proofs.Common.{◌∙◌, List, sym, ap, get_or, arith}
 use Rattle.step_commands.specs.declared.name.Name.{Name}
 use Rattle.step_commands.specs.declared.name.Name.TheVariants.{Quit}
 use Rattle.step_commands.specs.Commands.{word_of}
