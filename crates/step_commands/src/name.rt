@@ -1,0 +1,108 @@
+//! The names of commands.
+
+ghost use Rattle.std.specs.Prelude.{◌≡◌, ◌≢◌, ℕ, IfSome, IfNone, Contains, string_bytes};
+ghost use Rattle.step_commands.specs.Commands.{word_of};
+
+/// The names of commands, but for a turn, whose command is a number.
+#[derive(Clone, Copy, Debug, PartialEq, Eq)]
+pub enum Name {
+    Go,
+    Back,
+    Until,
+    Ps,
+    Pipes,
+    Fds,
+    Files,
+    Out,
+    Why,
+    Schedule,
+    Save,
+    Help,
+    Quit,
+}
+
+/// All names.
+pub const NAMES: [Name; 13] = [
+    Name::Go,
+    Name::Back,
+    Name::Until,
+    Name::Ps,
+    Name::Pipes,
+    Name::Fds,
+    Name::Files,
+    Name::Out,
+    Name::Why,
+    Name::Schedule,
+    Name::Save,
+    Name::Help,
+    Name::Quit,
+];
+
+impl Name {
+    /// The word of a line that names the command.
+    pub fn word(self) -> &'static str
+        ensures { result.now ≡ word_of self }
+    {
+        match self {
+            Name::Go => "go",
+            Name::Back => "back",
+            Name::Until => "until",
+            Name::Ps => "ps",
+            Name::Pipes => "pipes",
+            Name::Fds => "fds",
+            Name::Files => "files",
+            Name::Out => "out",
+            Name::Why => "why",
+            Name::Schedule => "schedule",
+            Name::Save => "save",
+            Name::Help => "help",
+            Name::Quit => "quit",
+        }
+    }
+
+    /// The whole command: its word and what stands behind it.
+    pub fn usage(self) -> &'static str {
+        match self {
+            Name::Go => "go N",
+            Name::Back => "back N",
+            Name::Until => "until out, until sleep N, until exit N, until end",
+            Name::Fds => "fds N",
+            Name::Why => "why N",
+            Name::Save => "save FILE",
+            other => other.word(),
+        }
+    }
+
+    /// What the command does, in a line.
+    pub fn help(self) -> &'static str {
+        match self {
+            Name::Go => "turns of process N, until it sleeps or exits",
+            Name::Back => "takes the last N turns back",
+            Name::Until =>
+                "turns in the kernel's own order until the output grows, or N sleeps or exits",
+            Name::Ps => "the processes, and what each does next",
+            Name::Pipes => "the pipes: how full they are, and who holds their ends",
+            Name::Fds => "what process N has open",
+            Name::Files => "the files",
+            Name::Out => "the output and the diagnostics so far",
+            Name::Why => "why process N can't go on",
+            Name::Schedule => "what happened so far, as `xvsh replay` takes it",
+            Name::Save => "writes that to FILE",
+            Name::Help => "the commands",
+            Name::Quit => "ends the program",
+        }
+    }
+}
+
+// The name that is this word.
+pub(crate) fn name_of(word: &[u8]) -> Option<Name>
+    ensures some { IfSome result (λ name. word.now ≡ word_of name) }
+    ensures none { IfNone result ((name : Name) → word.now ≢ word_of name) }
+{
+    for name in NAMES {
+        if name.word().as_bytes() == word {
+            return Some(name);
+        }
+    }
+    None
+}
