@@ -1,0 +1,111 @@
+//! Verdicts in words.
+
+use crate::escaping::add_escaped;
+use grade_verdicts::{Difference, Place, Race, Refusal, Verdict};
+use std::alloc::{AllocError, Global};
+
+/// The verdict in a word or a few (own).
+pub fn word_of(verdict: &Verdict) -> &'static str {
+    match verdict {
+        Verdict::Pass => "pass",
+        Verdict::PassEveryOrder => "pass, every order tried",
+        Verdict::Wrong(_) => "wrong",
+        Verdict::Race(_) => "race",
+        Verdict::Unsure => "unsure",
+        Verdict::Refused(_) => "refused",
+        Verdict::TooLarge => "too large",
+        Verdict::Spent => "spent",
+    }
+}
+
+fn add(text: &mut Vec<u8>, words: &str) -> Result<(), AllocError> {
+    text.extend_from_slice(words.as_bytes())
+}
+
+// Adds where the difference is.
+fn add_place(text: &mut Vec<u8>, place: &Place) -> Result<(), AllocError> {
+    match place {
+        Place::Output => add(text, "output"),
+        Place::File(name) | Place::NoFile(name) => {
+            add(text, "file ")?;
+            add_escaped(text, name.as_slice())
+        }
+    }
+}
+
+// Adds a line, or that there is none.
+fn add_line(text: &mut Vec<u8>, from: usize, line: Option<&Vec<u8>>) -> Result<(), AllocError> {
+    match line {
+        None => add(text, "no more"),
+        Some(line) => {
+            add(text, if from == 0 { "`" } else { "..`" })?;
+            add_escaped(text, line.as_slice())?;
+            add(text, "`")
+        }
+    }
+}
+
+fn add_difference(
+    alloc: Global,
+    text: &mut Vec<u8>,
+    difference: &Difference,
+) -> Result<(), AllocError> {
+    add_place(text, &difference.place)?;
+    if let Place::NoFile(_) = &difference.place {
+        return add(text, " is expected, and isn't there");
+    }
+    let line = format!(in alloc; ", line {}: expected ", difference.line)?;
+    add(text, line.as_str())?;
+    add_line(text, difference.from, difference.expected.as_ref())?;
+    add(text, ", found ")?;
+    add_line(text, difference.from, difference.found.as_ref())
+}
+
+fn add_race(alloc: Global, text: &mut Vec<u8>, race: &Race) -> Result<(), AllocError> {
+    let right = race.right.len().saturating_mul(2);
+    let wrong = race.wrong.len().saturating_mul(2);
+    let begin = format!(in alloc;
+        "right in one order of its processes ({right} events), and not in another ({wrong} events): "
+    )?;
+    add(text, begin.as_str())?;
+    add_difference(alloc, text, &race.difference)
+}
+
+fn add_refusal(alloc: Global, text: &mut Vec<u8>, refusal: &Refusal) -> Result<(), AllocError> {
+    match refusal {
+        Refusal::Script(fault) => {
+            let told = format!(in alloc; "{fault}")?;
+            add(text, told.as_str())
+        }
+        Refusal::Line(line, kind) => {
+            let begin = format!(in alloc; "line {line}: ")?;
+            add(text, begin.as_str())?;
+            text.extend_from_slice(kind.sentence())
+        }
+    }
+}
+
+/// Why this is the verdict, on one line in printable ASCII (own); empty of a test that is passed.
+///
+/// `AllocError` where memory is refused.
+pub fn sentence_of(alloc: Global, verdict: &Verdict) -> Result<Vec<u8>, AllocError> {
+    let mut text = Vec::new(alloc);
+    match verdict {
+        Verdict::Pass | Verdict::PassEveryOrder => {}
+        Verdict::Wrong(difference) => add_difference(alloc, &mut text, difference)?,
+        Verdict::Race(race) => add_race(alloc, &mut text, race)?,
+        Verdict::Unsure => add(&mut text, UNSURE)?,
+        Verdict::Refused(refusal) => add_refusal(alloc, &mut text, refusal)?,
+        Verdict::TooLarge => add(&mut text, TOO_LARGE)?,
+        Verdict::Spent => add(&mut text, SPENT)?,
+    }
+    Ok(text)
+}
+
+const UNSURE: &str =
+    "right in each order of its processes that was tried, but not every order was tried";
+
+const TOO_LARGE: &str =
+    "the script is too long, or one of its files would be too large, or one too many";
+
+const SPENT: &str = "in some order of its processes it never comes to its end";
