@@ -1,0 +1,20 @@
+//! What `xvsh step` answers: what a turn did, and what there is of processes, pipes, descriptors and files, as text and as JSON.
+//!
+//! A `Play` is a session and a teller beside it: a second kernel in which the same events happen, one by one, so that each can be
+//! told. All is for readers: no law speaks of it, and tests compare it with worked runs.
+#![tactic(auto)]
+
+mod answers;
+mod deeds;
+mod ends;
+mod objects;
+mod plans;
+mod play;
+mod scene;
+mod sleeps;
+mod teller;
+mod views;
+mod words;
+
+pub use play::{MOST_TURNS, Play, PlayFault};
+pub use scene::Scene;

@@ -1,0 +1,304 @@
+//! A session with its teller, and the turns that are taken in it.
+
+use crate::deeds::{add_deed, plan_of};
+use crate::scene::Scene;
+use crate::teller::Teller;
+use crate::words::{add, add_number, add_process};
+use kernel_events::{Event, Kernel};
+use proc_table::{Pid, State};
+use std::alloc::{AllocError, Global};
+use step_commands::Goal;
+use step_session::{BackFault, ChooseFault, Session};
+use user_calls::Machine;
+
+/// How many turns one command takes at most (own).
+pub const MOST_TURNS: usize = 100_000;
+
+/// Why a play can't go on.
+#[derive(Clone, Copy, Debug)]
+pub enum PlayFault {
+    /// The event of this number, counted from 1, of a schedule that is taken up can't take place.
+    Stopped(usize),
+    /// Memory was refused.
+    Memory,
+}
+
+impl From<AllocError> for PlayFault {
+    fn from(_error: AllocError) -> PlayFault {
+        PlayFault::Memory
+    }
+}
+
+// Who takes turns, and how many.
+#[derive(Clone, Copy)]
+pub enum Pace {
+    // The process of this slot, once.
+    Once(usize),
+    // The process of this slot, until it sleeps or exits.
+    Go(usize),
+    // Whoever the kernel chooses, until this.
+    Until(Goal),
+}
+
+// What is told of turns: text, or the records of a trace, a line each; and how many turns there were.
+#[derive(Drop)]
+pub struct Told {
+    pub text: Vec<u8>,
+    pub records: Vec<u8>,
+    pub turns: usize,
+    // Whether the turns ended because there were too many.
+    pub is_cut: bool,
+}
+
+/// A session that is told.
+#[derive(Drop)]
+pub struct Play<'t, M: Machine> {
+    pub(crate) alloc: Global,
+    scene: Scene<'t, M>,
+    session: Session<'t, M, Global>,
+    pub(crate) teller: Teller<'t, M>,
+    pub(crate) is_json: bool,
+}
+
+impl<'t, M: Machine> Play<'t, M> {
+    /// A session from its start, told as text or as JSON.
+    pub fn start(
+        alloc: Global,
+        scene: Scene<'t, M>,
+        is_json: bool,
+    ) -> Result<Play<'t, M>, PlayFault> {
+        let (init, shell) = (scene.init.twin(), scene.shell.twin());
+        let session = Session::start(alloc, init, shell, scene.stdin, scene.files)?;
+        let teller = Teller::new(alloc, &scene)?;
+        Ok(Play {
+            alloc,
+            scene,
+            session,
+            teller,
+            is_json,
+        })
+    }
+
+    /// Takes the turns of a schedule, which may be one of several harts: each process that makes a call takes a turn.
+    ///
+    /// `Stopped` where one can't.
+    pub fn take_up(&mut self, events: &[Event]) -> Result<(), PlayFault> {
+        for (place, event) in events.iter().enumerate() {
+            if let Event::Trap(_, pid) = event {
+                match self.session.choose(*pid as usize) {
+                    Ok(()) => {}
+                    Err(ChooseFault::Memory) => return Err(PlayFault::Memory),
+                    Err(ChooseFault::NotRunnable) => {
+                        return Err(PlayFault::Stopped(place.saturating_add(1)));
+                    }
+                }
+            }
+        }
+        self.follow()
+    }
+
+    /// The kernel as it is.
+    pub fn kernel(&self) -> &Kernel<M, Global> {
+        self.session.kernel()
+    }
+
+    // How many turns were taken.
+    pub(crate) fn turns(&self) -> usize {
+        self.session.turns()
+    }
+
+    // Makes the teller anew, and lets the session's events happen in it.
+    fn follow(&mut self) -> Result<(), PlayFault> {
+        let mut teller = Teller::new(self.alloc, &self.scene)?;
+        let mut lines = Vec::new(self.alloc);
+        for event in self.session.kernel().schedule() {
+            lines.clear();
+            lines = match happen(&mut teller, *event, lines)? {
+                Some(lines) => lines,
+                None => return Err(PlayFault::Memory),
+            };
+        }
+        self.teller = teller;
+        Ok(())
+    }
+
+    // Takes turns back; `false` where there were fewer.
+    pub(crate) fn back(&mut self, turns: u64) -> Result<bool, PlayFault> {
+        let turns = usize::try_from(turns).unwrap_or(usize::MAX);
+        match self.session.back(self.alloc, turns) {
+            Ok(()) => {
+                self.follow()?;
+                Ok(true)
+            }
+            Err(BackFault::TooFar) => Ok(false),
+            Err(BackFault::Memory) => Err(PlayFault::Memory),
+        }
+    }
+
+    // Somebody takes a turn in the session, and who it was; `None` where that can't be.
+    fn choose(&mut self, pace: Pace) -> Result<Option<Pid>, PlayFault> {
+        let (Pace::Once(slot) | Pace::Go(slot)) = pace else {
+            return Ok(self.session.choose_next()?);
+        };
+        match self.session.choose(slot) {
+            Ok(()) => Ok(Pid::new(slot)),
+            Err(ChooseFault::NotRunnable) => Ok(None),
+            Err(ChooseFault::Memory) => Err(PlayFault::Memory),
+        }
+    }
+
+    // Tells the turn that the process took, which happens in the teller's kernel now.
+    fn tell(&mut self, pid: Pid, told: &mut Told) -> Result<(), PlayFault> {
+        if self.is_json {
+            return self.tell_records(pid, told);
+        }
+        let alloc = self.alloc;
+        let first = self.teller.kernel().schedule().len() as u64;
+        add_event_numbers(alloc, &mut told.text, first)?;
+        add_process(alloc, &mut told.text, pid, self.teller.doing(pid))?;
+        add(&mut told.text, " ")?;
+        if self.teller.dispatch(pid, Vec::new(alloc))?.is_none() {
+            return Err(PlayFault::Memory);
+        }
+        let plan = plan_of(alloc, &self.teller, pid)?;
+        if self.teller.trap(pid, Vec::new(alloc))?.is_none() {
+            return Err(PlayFault::Memory);
+        }
+        add_deed(alloc, &mut told.text, &self.teller, pid, &plan)?;
+        add(&mut told.text, "\n")?;
+        Ok(())
+    }
+
+    // The same with the two records of the turn.
+    fn tell_records(&mut self, pid: Pid, told: &mut Told) -> Result<(), PlayFault> {
+        let Some(records) = self.teller.dispatch(pid, Vec::new(self.alloc))? else {
+            return Err(PlayFault::Memory);
+        };
+        let Some(records) = self.teller.trap(pid, records)? else {
+            return Err(PlayFault::Memory);
+        };
+        told.records.extend_from_slice(records.as_slice())?;
+        Ok(())
+    }
+
+    // Whether the process of this slot can take no turn.
+    fn is_still(&self, slot: usize) -> bool {
+        match Pid::new(slot) {
+            Some(pid) => !matches!(self.kernel().state(pid), State::Runnable),
+            None => true,
+        }
+    }
+
+    // Whether the process of this number sleeps.
+    fn is_asleep(&self, number: u64) -> bool {
+        match pid_of(number) {
+            Some(pid) => self.teller.is_asleep(pid),
+            None => false,
+        }
+    }
+
+    // Whether the last turn reached what was waited for; `out` bytes were written before.
+    fn is_there(&self, pace: Pace, out: usize) -> bool {
+        match pace {
+            Pace::Once(_) => true,
+            Pace::Go(slot) => self.is_still(slot),
+            Pace::Until(Goal::Out) => out < self.kernel().out().len(),
+            Pace::Until(Goal::End) => false,
+            Pace::Until(Goal::Sleep(number)) => self.is_asleep(number),
+            Pace::Until(Goal::Exit(number)) => self.has_exited(number),
+        }
+    }
+
+    // Whether the process of this number has exited, and by the last turn at the latest was waited for.
+    fn has_exited(&self, number: u64) -> bool {
+        let Some(pid) = pid_of(number) else {
+            return false;
+        };
+        if matches!(self.kernel().state(pid), State::Zombie) {
+            return true;
+        }
+        match self.teller.gone() {
+            Some(gone) => gone.index() == pid.index(),
+            None => false,
+        }
+    }
+
+    // Whether only init is left, which would wait for ever; one turn of it may be asked for.
+    fn is_over(&self, pace: Pace) -> bool {
+        match pace {
+            Pace::Once(_) => false,
+            Pace::Go(_) | Pace::Until(_) => self.kernel().is_finished(),
+        }
+    }
+
+    // Takes one more turn, if that can be done, and tells it; and returns whether another one may follow.
+    fn take_turn(&mut self, pace: Pace, out: usize, told: &mut Told) -> Result<bool, PlayFault> {
+        if self.is_over(pace) {
+            return Ok(false);
+        }
+        match self.choose(pace)? {
+            Some(pid) => {
+                self.tell(pid, told)?;
+                told.turns = told.turns.saturating_add(1);
+                Ok(!self.is_there(pace, out))
+            }
+            None => Ok(false),
+        }
+    }
+
+    // Takes turns, as far as that can be done, and tells each; and returns whether they ended because there were too many.
+    fn take_most(&mut self, pace: Pace, told: &mut Told) -> Result<bool, PlayFault> {
+        let out = self.kernel().out().len();
+        for _ in 0..MOST_TURNS {
+            if !self.take_turn(pace, out, told)? {
+                return Ok(false);
+            }
+        }
+        Ok(true)
+    }
+
+    // Takes turns, as far as that can be done, and tells each.
+    pub(crate) fn take_turns(&mut self, pace: Pace) -> Result<Told, PlayFault> {
+        let mut told = Told {
+            text: Vec::new(self.alloc),
+            records: Vec::new(self.alloc),
+            turns: 0,
+            is_cut: false,
+        };
+        let is_cut = self.take_most(pace, &mut told)?;
+        told.is_cut = is_cut;
+        Ok(told)
+    }
+}
+
+// The slot of this number.
+pub(crate) fn pid_of(number: u64) -> Option<Pid> {
+    Pid::new(usize::try_from(number).ok()?)
+}
+
+// Which events come behind so many.
+fn add_event_numbers(alloc: Global, text: &mut Vec<u8>, first: u64) -> Result<(), AllocError> {
+    add(text, "event ")?;
+    add_number(alloc, text, first.saturating_add(1))?;
+    text.push(b'-')?;
+    add_number(alloc, text, first.saturating_add(2))?;
+    add(text, ": ")
+}
+
+// Lets an event happen in the teller's kernel, with its record; `None` where it can't.
+fn happen<M: Machine>(
+    teller: &mut Teller<'_, M>,
+    event: Event,
+    lines: Vec<u8>,
+) -> Result<Option<Vec<u8>>, AllocError> {
+    match event {
+        Event::Dispatch(_, number) => match Pid::new(number as usize) {
+            Some(pid) => teller.dispatch(pid, lines),
+            None => Ok(None),
+        },
+        Event::Trap(_, number) => match Pid::new(number as usize) {
+            Some(pid) => teller.trap(pid, lines),
+            None => Ok(None),
+        },
+    }
+}

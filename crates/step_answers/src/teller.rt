@@ -1,0 +1,181 @@
+//! A second kernel, in which each event of a session is made again and told.
+
+use crate::scene::Scene;
+use command_text::{Doing, Followed};
+use kernel_events::{Event, Kernel};
+use proc_table::{PROCS, Pid, State};
+use run_trace::Tracer;
+use script_load::Script;
+use std::alloc::{AllocError, Global};
+use trace_lines::TraceLines;
+use user_calls::{CallKind, CallSlot, Machine, ReplyKind};
+
+// Follows a session event by event.
+#[derive(Drop)]
+pub struct Teller<'t, M: Machine> {
+    script: &'t Script<Global>,
+    tracer: Tracer<M, Global>,
+    lines: TraceLines<'t>,
+    followed: Followed<'t>,
+    // The machine of each slot's process.
+    machines: Vec<Option<M>>,
+}
+
+// The lowest slot that passes the test.
+fn found<F: Fn(Pid) -> bool>(test: F) -> Option<Pid>
+    requires { F.IsAlwaysCallable test }
+{
+    for index in 0..PROCS {
+        if let Some(pid) = Pid::new(index) {
+            if test(pid) {
+                return Some(pid);
+            }
+        }
+    }
+    None
+}
+
+// The machines of both first processes, and room for the others'.
+fn first_machines<M: Machine>(
+    alloc: Global,
+    scene: &Scene<'_, M>,
+) -> Result<Vec<Option<M>>, AllocError> {
+    let mut machines = Vec::new(alloc);
+    machines.push(Some(scene.init.twin()))?;
+    machines.push(Some(scene.shell.twin()))?;
+    for _ in 2..PROCS {
+        machines.push(None)?;
+    }
+    Ok(machines)
+}
+
+impl<'t, M: Machine> Teller<'t, M> {
+    pub(crate) fn new(alloc: Global, scene: &Scene<'t, M>) -> Result<Self, AllocError> {
+        Ok(Teller {
+            script: scene.script,
+            tracer: scene.tracer(alloc)?,
+            lines: TraceLines::new(alloc, scene.script),
+            followed: Followed::new(scene.script),
+            machines: first_machines(alloc, scene)?,
+        })
+    }
+
+    pub(crate) fn script(&self) -> &'t Script<Global> {
+        self.script
+    }
+
+    // What the last event did.
+    pub(crate) fn tracer(&self) -> &Tracer<M, Global> {
+        &self.tracer
+    }
+
+    // The kernel after the last event.
+    pub(crate) fn kernel(&self) -> &Kernel<M, Global> {
+        self.tracer.kernel()
+    }
+
+    // What the process carries out by its next call.
+    pub(crate) fn doing(&self, pid: Pid) -> Doing<'t> {
+        self.followed.doing(pid)
+    }
+
+    // The machine of the slot's process, if there is one.
+    fn machine(&self, pid: Pid) -> Option<&M> {
+        match self.machines.get(pid.index()) {
+            Some(Some(machine)) => Some(machine),
+            _ => None,
+        }
+    }
+
+    // Writes the call that the slot's process makes next, and returns whether there is one.
+    pub(crate) fn next_call(&self, pid: Pid, call: &mut CallSlot) -> bool {
+        match (self.machine(pid), self.kernel().reply(pid)) {
+            (Some(machine), Some(reply)) => {
+                machine.ask(reply, call);
+                true
+            }
+            _ => false,
+        }
+    }
+
+    // The machine of the process after its next call.
+    fn machine_after(&self, pid: Pid) -> Option<M> {
+        let mut after = self.machine(pid)?.twin();
+        after.advance(self.kernel().reply(pid)?);
+        Some(after)
+    }
+
+    // The process is given to hart 0. The record of that is added to the lines; `None` where it can't be.
+    pub(crate) fn dispatch(
+        &mut self,
+        pid: Pid,
+        lines: Vec<u8>,
+    ) -> Result<Option<Vec<u8>>, AllocError> {
+        let event = Event::Dispatch(0, pid.index() as u32);
+        self.lines.happen(&mut self.tracer, event, lines)
+    }
+
+    // The process on hart 0 makes its call. The record of that is added to the lines; `None` where it doesn't run there.
+    pub(crate) fn trap(&mut self, pid: Pid, lines: Vec<u8>) -> Result<Option<Vec<u8>>, AllocError> {
+        let after = self.machine_after(pid);
+        let event = Event::Trap(0, pid.index() as u32);
+        let Some(lines) = self.lines.happen(&mut self.tracer, event, lines)? else {
+            return Ok(None);
+        };
+        let kind = self.tracer.call().kind();
+        let child = self.child();
+        let is_done = match kind {
+            CallKind::Fork => child.is_some(),
+            _ => self.is_done(pid),
+        };
+        self.followed.follow(pid, kind, is_done, child);
+        self.keep(pid, child, after);
+        Ok(Some(lines))
+    }
+
+    // Keeps the machine after a call, unless the process sleeps and makes the call again; a child has the same.
+    fn keep(&mut self, pid: Pid, child: Option<Pid>, after: Option<M>) {
+        if self.is_asleep(pid) {
+            return;
+        }
+        if let (Some(child), Some(machine)) = (child, &after) {
+            put(&mut self.machines, child, Some(machine.twin()));
+        }
+        put(&mut self.machines, pid, after);
+    }
+
+    // The process that the last event made, if it made one.
+    pub(crate) fn child(&self) -> Option<Pid> {
+        let tracer = &self.tracer;
+        found(|pid| tracer.is_made(pid))
+    }
+
+    // The process that the last event took away, if it did.
+    pub(crate) fn gone(&self) -> Option<Pid> {
+        let tracer = &self.tracer;
+        found(|pid| tracer.is_gone(pid))
+    }
+
+    // Whether the process's last call put it to sleep.
+    pub(crate) fn is_asleep(&self, pid: Pid) -> bool {
+        matches!(self.kernel().state(pid), State::Asleep(_))
+    }
+
+    // Whether the process's last call is over, and was not refused.
+    pub(crate) fn is_done(&self, pid: Pid) -> bool {
+        if !matches!(self.kernel().state(pid), State::Runnable) {
+            return false;
+        }
+        match self.kernel().reply(pid) {
+            Some(reply) => !matches!(reply.kind(), ReplyKind::Refused),
+            None => false,
+        }
+    }
+}
+
+// The machine is that of the slot from now on.
+fn put<M: Machine>(machines: &mut Vec<Option<M>>, pid: Pid, machine: Option<M>) {
+    if let Some(place) = machines.get_mut(pid.index()) {
+        *place = machine;
+    }
+}
