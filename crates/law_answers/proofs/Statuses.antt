@@ -9,7 +9,7 @@ use Rattle.script_load.specs.declared.profile.Profile.{Profile}
 use Rattle.script_load.specs.Line.{ScriptLine}
 use Rattle.reason_sentences.specs.Whys.{IsWhy}
 use Rattle.xvsh_read.specs.Path.{Path}
-use Rattle.xvsh_ends.specs.Ends.{verdict_text, Asked, asks_plain, asks_run, asks_strict, asks_check, asks_turns, asks_explain, asks_whys, asks_explore, asks_traced, asks_witnessed, asks_filed, asks_lined, asks_json, asks_draw, drawn, undrawn, asks_input, verdict_status, help, misuse, How, by_schedule, RanBy, Due, plain_ran, no_plain, ran, no_run, ran_strict, no_strict, checked, no_check, counted, not_counted, explained, not_explained, whys_told, no_whys_told, explored, not_explored, traced, untraced, witnessed, unwitnessed, filed, unfiled, lined, valued, unvalued, unread, helped, misused, no_memory, Writes, whole, out_stopped, err_stopped, Ends}
+use Rattle.xvsh_ends.specs.Ends.{verdict_text, Asked, asks_plain, asks_diagnosed, asks_run, asks_strict, asks_check, asks_turns, asks_explain, asks_whys, asks_explore, asks_traced, asks_witnessed, asks_filed, asks_lined, asks_json, asks_draw, drawn, undrawn, asks_input, verdict_status, help, misuse, How, by_schedule, RanBy, Due, plain_ran, no_plain, diagnosed, not_diagnosed, ran, no_run, ran_strict, no_strict, checked, no_check, counted, not_counted, explained, not_explained, whys_told, no_whys_told, explored, not_explored, traced, untraced, witnessed, unwitnessed, filed, unfiled, lined, valued, unvalued, unread, helped, misused, no_memory, Writes, whole, out_stopped, err_stopped, Ends}
 use Rattle.xvsh_plain.specs.Running.{RanPlain}
 use Rattle.xvsh_runs.specs.Strict.{RanStrict}
 use Rattle.xvsh_ends.proofs.Dues.{some_status, some_run_status}
@@ -38,6 +38,7 @@ module _ (input : Option Bytes) (file : Path → Option Bytes) where
   -- what a run of the request did that ended well
   abbrev pub DidRun : Asked → Bytes → Bytes → Type 0
   DidRun (asks_plain profile script paths lists strict) text told = (is_settled : Bool) × RanPlain input file profile script paths lists is_settled text × (told ≡ verdict_text is_settled) × (verdict_status strict is_settled ≡ 0)
+  DidRun (asks_diagnosed profile script paths lists strict) text told = Unit {0}
   DidRun (asks_run profile script paths how lists) text told = (diag : Bytes) × RanBy input file how profile script paths lists None text diag
   DidRun (asks_strict profile script paths harts turns lists) text told = (why : Bytes) × (diag : Bytes) × RanStrict input file profile script paths harts turns lists None true why text diag
   DidRun (asks_check script strict) text told = Unit {0}
@@ -58,6 +59,8 @@ module _ (input : Option Bytes) (file : Path → Option Bytes) where
   due_well : (request : Asked) (text told : Bytes) (status : ℕ) → Due input file request text told status → status ≡ 0 → DidRun request text told
   due_well request text told status (plain_ran {profile = profile} {strict = strict} is_settled why gave told_why) zero = (is_settled, gave, told_well profile gave.lines gave.stdin (files gave.given) strict is_settled why zero told_why, zero)
   due_well request text told status (no_plain fault why) zero = absurd (some_status fault zero)
+  due_well request text told status (diagnosed is_settled why known gave told_why is_known) zero = tt
+  due_well request text told status (not_diagnosed fault why) zero = tt
   due_well request text told status (ran diag None gave) zero = (diag, gave)
   due_well request text told status (ran diag (Some full) gave) zero = cc
   due_well request text told status (no_run fault why) zero = absurd (some_run_status fault zero)

@@ -13,7 +13,7 @@ use Rattle.xvsh_read.specs.Writing.{out_text}
 use Rattle.xvsh_runs.specs.declared.fault.ProcessFault.{ProcessFault}
 use Rattle.xvsh_runs.specs.declared.fault.ProcessFault.TheVariants.{Common, BadHarts, BadTurns, BadOrder, Spent, SharedInput, NoEvent, NotRunnable, NotRunning, Unfinished}
 use Rattle.xvsh_runs.specs.Status.{run_status}
-use Rattle.xvsh_ends.specs.Ends.{Asked, asks_plain, asks_run, asks_strict, asks_check, asks_turns, asks_explain, asks_whys, asks_explore, help, misuse, verdict_status, check_status, explore_status, full_status, told_text, Due, plain_ran, no_plain, ran, no_run, ran_strict, no_strict, checked, no_check, counted, not_counted, explained, not_explained, whys_told, no_whys_told, explored, not_explored, helped, misused, no_memory, IsDue, Tells, TellsOr, tells, lacks_memory, asks_traced, traced, untraced, beside_trace, asks_witnessed, asks_filed, asks_lined, asks_json, asks_draw, drawn, undrawn, asks_input, unread, witnessed, unwitnessed, filed, unfiled, lined, valued, unvalued, IsObjectStatus, PrintsAlone}
+use Rattle.xvsh_ends.specs.Ends.{Asked, asks_plain, asks_diagnosed, asks_run, asks_strict, asks_check, asks_turns, asks_explain, asks_whys, asks_explore, help, misuse, verdict_status, check_status, explore_status, full_status, told_text, Due, plain_ran, no_plain, diagnosed, not_diagnosed, ran, no_run, ran_strict, no_strict, checked, no_check, counted, not_counted, explained, not_explained, whys_told, no_whys_told, explored, not_explored, helped, misused, no_memory, IsDue, Tells, TellsOr, tells, lacks_memory, asks_traced, traced, untraced, beside_trace, asks_witnessed, asks_filed, asks_lined, asks_json, asks_draw, drawn, undrawn, asks_input, unread, witnessed, unwitnessed, filed, unfiled, lined, valued, unvalued, IsObjectStatus, PrintsAlone}
 use Rattle.std.specs.Borrow.{Bor}
 use Rattle.xvsh_ends.specs.Requests.{UnlessPrinted, witnessed_asked, json_asked}
 use Rattle.xvsh_ends.specs.declared.ending.Ending.{Ending}
@@ -94,6 +94,7 @@ explore_prints true true some three four = absurd (some refl)
 
 unless : (asked : Asked) (status : ℕ) (same : Type 0) → same → UnlessPrinted asked status same
 unless (asks_plain profile script paths lists strict) status same is = λ some three. is
+unless (asks_diagnosed profile script paths lists strict) status same is = λ some three. is
 unless (asks_run profile script paths how lists) status same is = λ some four. is
 unless (asks_strict profile script paths harts turns lists) status same is = λ some three four. is
 unless (asks_check script strict) status same is = λ some three. is
@@ -113,6 +114,7 @@ unless misuse status same is = is
 
 unless_implied : (asked : Asked) (status : ℕ) (same other : Type 0) → (same → other) → UnlessPrinted asked status same → UnlessPrinted asked status other
 unless_implied (asks_plain profile script paths lists strict) status same other implies is = λ some three. implies (is some three)
+unless_implied (asks_diagnosed profile script paths lists strict) status same other implies is = λ some three. implies (is some three)
 unless_implied (asks_run profile script paths how lists) status same other implies is = λ some four. implies (is some four)
 unless_implied (asks_strict profile script paths harts turns lists) status same other implies is = λ some three four. implies (is some three four)
 unless_implied (asks_check script strict) status same other implies is = λ some three. implies (is some three)
@@ -133,6 +135,7 @@ unless_implied misuse status same other implies is = implies is
 -- where nothing is printed but with the statuses of a request, nothing is with others than these
 pub unless_any : (asked : Asked) (status : ℕ) (same : Type 0) → UnlessPrinted asked status same → status ≢ 0 → status ≢ 1 → status ≢ 3 → status ≢ 4 → same
 unless_any (asks_plain profile script paths lists strict) status same is some one three four = is some (λ _. three)
+unless_any (asks_diagnosed profile script paths lists strict) status same is some one three four = is some (λ _. three)
 unless_any (asks_run profile script paths how lists) status same is some one three four = is some four
 unless_any (asks_strict profile script paths harts turns lists) status same is some one three four = is some three four
 unless_any (asks_check script strict) status same is some one three four = is some three
@@ -165,6 +168,8 @@ module _ (input : Option Bytes) (file : Path → Option Bytes) where
   pub nothing_due : (asked : Asked) (text told : Bytes) (status : ℕ) → Due input file asked text told status → UnlessPrinted asked status (text ≡ [])
   nothing_due asked text told status (plain_ran {strict = strict} is_settled why gave told_why) = λ some three. verdict_prints strict is_settled some three
   nothing_due asked text told status (no_plain fault why) = λ some three. refl
+  nothing_due asked text told status (diagnosed {strict = strict} is_settled why known gave told_why is_known) = λ some three. verdict_prints strict is_settled some three
+  nothing_due asked text told status (not_diagnosed fault why) = λ some three. refl
   nothing_due asked text told status (ran diag None gave) = λ some four. absurd (some refl)
   nothing_due asked text told status (ran diag (Some full) gave) = λ some four. absurd (four refl)
   nothing_due asked text told status (no_run fault why) = λ some four. refl

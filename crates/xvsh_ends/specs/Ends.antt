@@ -21,6 +21,9 @@ use Rattle.xvsh_runs.specs.Runs.{RanRun, RanReplay}
 use Rattle.xvsh_runs.specs.Status.{run_status, run_fault_told, full_told}
 use Rattle.xvsh_runs.specs.Why.{IsRunFault, IsReplayingFault}
 use Rattle.xvsh_plain.specs.Running.{RanPlain, IsPlainFault}
+use Rattle.known_diagnostics.specs.Known.{IsKnown}
+use Rattle.known_diagnostics.specs.declared.known.Diagnostics.{Diagnostics}
+use Rattle.xvsh_diagnoses.specs.Telling.{told}
 use Rattle.xvsh_checks.specs.Check.{RanCheck, IsCheckFault}
 use Rattle.xvsh_checks.specs.Explain.{RanExplain}
 use Rattle.xvsh_checks.specs.Turns.{RanTurns, IsTurnsFault}
@@ -44,6 +47,8 @@ pub data How : Type 0 where
 -- order tried of a settled script too or not; the help; or no command
 pub data Asked : Type 0 where
   asks_plain : Profile → Path → List (Bor Path) → Bool → Bool → Asked
+  -- the same, with the diagnostics that every order of the script's processes writes
+  asks_diagnosed : Profile → Path → List (Bor Path) → Bool → Bool → Asked
   asks_run : Profile → Path → List (Bor Path) → How → Lists → Asked
   asks_strict : Profile → Path → List (Bor Path) → ℕ → ℕ → Lists → Asked
   asks_check : Path → Bool → Asked
@@ -139,6 +144,9 @@ module _ (input : Option Bytes) (file : Path → Option Bytes) where
     -- the script's run by its meaning, and whether it is settled, and where that was asked strictly a reason why it isn't; or why there is none
     plain_ran : {profile : Profile} {script : Path} {paths : List (Bor Path)} {lists strict : Bool} {text : Bytes} (is_settled : Bool) (why : Bytes) (gave : RanPlain input file profile script paths lists is_settled text) → IsWhy profile gave.lines gave.stdin (files gave.given) strict is_settled why → Due (asks_plain profile script paths lists strict) text (verdict_text is_settled ++ why) (verdict_status strict is_settled)
     no_plain : {profile : Profile} {script : Path} {paths : List (Bor Path)} {lists strict : Bool} (fault : Fault) → IsPlainFault input file profile script paths fault → Due (asks_plain profile script paths lists strict) [] (fault_told fault) (status_of fault)
+    -- the same, with what is known of the diagnostics of all runs of the lines that were read, on the same files and input, before its verdict
+    diagnosed : {profile : Profile} {script : Path} {paths : List (Bor Path)} {lists strict : Bool} {text : Bytes} (is_settled : Bool) (why : Bytes) (known : Diagnostics) (gave : RanPlain input file profile script paths lists is_settled text) → IsWhy profile gave.lines gave.stdin (files gave.given) strict is_settled why → IsKnown profile gave.lines gave.stdin gave.given known → Due (asks_diagnosed profile script paths lists strict) text (told known ++ (verdict_text is_settled ++ why)) (verdict_status strict is_settled)
+    not_diagnosed : {profile : Profile} {script : Path} {paths : List (Bor Path)} {lists strict : Bool} (fault : Fault) → IsPlainFault input file profile script paths fault → Due (asks_diagnosed profile script paths lists strict) [] (fault_told fault) (status_of fault)
     -- its run by its processes, with its diagnostics and then what was full, if something was; or why there is none
     ran : {profile : Profile} {script : Path} {paths : List (Bor Path)} {how : How} {lists : Lists} {text : Bytes} (diag : Bytes) (full : Option Full) → RanBy how profile script paths lists full text diag → Due (asks_run profile script paths how lists) text (diag ++ full_text full) (full_status full 0)
     no_run : {profile : Profile} {script : Path} {paths : List (Bor Path)} {how : How} {lists : Lists} (fault : ProcessFault) → IsFaultBy how profile script paths fault → Due (asks_run profile script paths how lists) [] (run_fault_told fault) (run_status fault)

@@ -11,7 +11,7 @@ use Rattle.xvsh_checks.specs.declared.request.ExplainRequest.{ExplainRequest}
 use Rattle.xvsh_explores.specs.declared.request.ExploreRequest.{ExploreRequest}
 use Rattle.xvsh_ends.specs.declared.request.Request.{Request}
 use Rattle.xvsh_ends.specs.declared.request.Request.TheVariants.{Run, Replay, Plain, Check, Explain, Explore, Draw}
-use Rattle.xvsh_ends.specs.Ends.{Asked, asks_plain, asks_run, asks_strict, asks_check, asks_turns, asks_explain, asks_whys, asks_explore, help, misuse, on_harts, by_schedule, Ends, asks_traced, asks_witnessed, asks_filed, asks_lined, asks_json, asks_draw, asks_input}
+use Rattle.xvsh_ends.specs.Ends.{Asked, asks_plain, asks_diagnosed, asks_run, asks_strict, asks_check, asks_turns, asks_explain, asks_whys, asks_explore, help, misuse, on_harts, by_schedule, Ends, asks_traced, asks_witnessed, asks_filed, asks_lined, asks_json, asks_draw, asks_input}
 
 -- a run by processes, strictly or not
 abbrev pub run_asked : Bool → RunRequest → Asked
@@ -27,6 +27,16 @@ strictly_asked strict request = asks_plain request.source.profile request.source
 
 abbrev pub plain_asked : PlainRequest → Asked
 plain_asked request = strictly_asked request.is_strict request
+
+-- the same, with what is known of its diagnostics or without
+abbrev pub diagnosed_asked : Bool → PlainRequest → Asked
+diagnosed_asked false request = plain_asked request
+diagnosed_asked true request = asks_diagnosed request.source.profile request.source.script.now request.source.files.now request.lists_files request.is_strict
+
+-- the same as an object, which tells no diagnostics, or as a text
+abbrev pub plain_told_asked : Bool → PlainRequest → Asked
+plain_told_asked false request = diagnosed_asked request.tells_diagnostics request
+plain_told_asked true request = asks_json (plain_asked request)
 
 -- a check, with its turns or without
 abbrev pub check_asked : Bool → CheckRequest → Asked
@@ -77,7 +87,7 @@ explore_asked request = traced_asked request.draw (json_asked request.is_json (e
 abbrev pub asked : Request → Asked
 asked (Run request) = traced_asked request.trace (traced_asked request.schedule_to (filed_asked request.files_to (lined_asked request.is_lined (json_asked request.is_json (run_asked request.is_strict request)))))
 asked (Replay request) = traced_asked request.trace (filed_asked request.files_to (lined_asked request.is_lined (json_asked request.is_json (replay_asked request))))
-asked (Plain request) = filed_asked request.files_to (json_asked request.is_json (plain_asked request))
+asked (Plain request) = filed_asked request.files_to (plain_told_asked request.is_json request)
 asked (Check request) = json_asked request.is_json (check_asked request.counts_turns request)
 asked (Explain request) = json_asked request.is_json (explain_asked request.tells_why request)
 asked (Explore request) = explore_asked request
@@ -102,6 +112,7 @@ unread_asked request path = json_asked (wants_json request) (asks_input path)
 -- with which an object is printed
 abbrev pub UnlessPrinted : Asked → ℕ → Type 0 → Type 0
 UnlessPrinted (asks_plain profile script paths lists strict) status same = status ≢ 0 → (IsTrue strict → status ≢ 3) → same
+UnlessPrinted (asks_diagnosed profile script paths lists strict) status same = status ≢ 0 → (IsTrue strict → status ≢ 3) → same
 UnlessPrinted (asks_run profile script paths how lists) status same = status ≢ 0 → status ≢ 4 → same
 UnlessPrinted (asks_strict profile script paths harts turns lists) status same = status ≢ 0 → status ≢ 3 → status ≢ 4 → same
 UnlessPrinted (asks_check script strict) status same = status ≢ 0 → status ≢ 3 → same

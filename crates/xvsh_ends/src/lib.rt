@@ -3,6 +3,7 @@
 
 mod check_objects;
 mod checks;
+mod diagnosing;
 mod drawing;
 mod ending;
 mod explorations;

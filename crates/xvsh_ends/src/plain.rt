@@ -2,8 +2,9 @@
 ghost use Rattle.std.specs.Prelude.{◌≡◌, ◌++◌, false};
 ghost use Rattle.xvsh_read.specs.Writing.{out_text};
 ghost use Rattle.xvsh_ends.specs.Ends.{IsDue, told_text, verdict_status, verdict_text};
-ghost use Rattle.xvsh_ends.specs.Requests.{json_asked, plain_asked, strictly_asked};
+ghost use Rattle.xvsh_ends.specs.Requests.{diagnosed_asked, plain_asked, plain_told_asked, strictly_asked};
 
+use crate::diagnosing::diagnosed_ending;
 use crate::ending::{Ending, Line, report_fault};
 use crate::strictly::told_ending;
 use crate::values::plain_json;
@@ -66,14 +67,25 @@ fn text_ending<H: Host>(alloc: Global, request: &PlainRequest<'_>, host: &mut H)
     }
 }
 
-/// Runs a script by its meaning, and returns what it prints and whether it is settled, or why it can't be run; as one object of
-/// JSON, if that is requested.
+// The same, with what is known of its diagnostics if that is requested.
+fn known_ending<H: Host>(alloc: Global, request: &PlainRequest<'_>, host: &mut H) -> Ending
+    ensures { IsDue (H.input host.old) (H.file host.old) (diagnosed_asked request.now.tells_diagnostics request.now) result }
+{
+    if request.tells_diagnostics {
+        diagnosed_ending(alloc, request, host)
+    } else {
+        text_ending(alloc, request, host)
+    }
+}
+
+/// Runs a script by its meaning, and returns what it prints and whether it is settled, with what is known of its diagnostics if that is
+/// requested, or why it can't be run; as one object of JSON, which tells no diagnostics, if that is requested.
 pub fn plain_ending<H: Host>(alloc: Global, request: &PlainRequest<'_>, host: &mut H) -> Ending
-    ensures { IsDue (H.input host.old) (H.file host.old) (json_asked request.now.is_json (plain_asked request.now)) result }
+    ensures { IsDue (H.input host.old) (H.file host.old) (plain_told_asked request.now.is_json request.now) result }
 {
     if request.is_json {
         plain_json(alloc, request, host)
     } else {
-        text_ending(alloc, request, host)
+        known_ending(alloc, request, host)
     }
 }

@@ -7,8 +7,8 @@ mod running;
 mod strict;
 mod verdict;
 
-pub use reasoned::run_reasoned;
+pub use reasoned::{reason_script, run_reasoned};
 pub use request::PlainRequest;
 pub use running::{PlainRun, of_plain, run_plain};
-pub use strict::{ToldRun, run_told};
+pub use strict::{ToldRun, printed, run_told};
 pub use verdict::{Verdict, verdict_of};

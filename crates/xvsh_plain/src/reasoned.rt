@@ -14,8 +14,9 @@ use script_load::Script;
 use std::alloc::Global;
 use xvsh_read::{Fault, Host, prepare};
 
-// Runs a script.
-fn reason_script<'a>(
+/// Runs a script by its meaning on this standard input and these files, and returns its outcome and why it isn't settled, as
+/// values (own). The faults are that it would be too large, and that memory was refused.
+pub fn reason_script<'a>(
     alloc: Global,
     script: &Script<Global>,
     stdin: &[u8],

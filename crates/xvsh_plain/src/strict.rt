@@ -24,8 +24,14 @@ pub struct ToldRun {
     pub why: Vec<u8>,
 }
 
-// What a run with this outcome prints, with the list of all files if that is requested.
-fn printed(alloc: Global, outcome: Plain<Global>, lists_files: bool) -> Result<PlainRun, AllocError>
+/// What a run with this outcome prints, with the list of all files if that is requested (own).
+///
+/// `AllocError` where memory is refused.
+pub fn printed(
+    alloc: Global,
+    outcome: Plain<Global>,
+    lists_files: bool,
+) -> Result<PlainRun, AllocError>
     ensures settled { IfOk result (λ run. run.is_settled ≡ outcome.settled) }
     ensures meaning { IfOk result (λ run. (value : Value) → AreFiles outcome.files → outcome.out ≡ value.out → ((name : List ℕ) → files outcome.files name ≡ value.files name) → ((name : List ℕ) → Contains outcome.soft name ↔ (value.soft name ≡ true))
         → IsRunText lists_files value (out_text run.output)) }

@@ -1,7 +1,7 @@
 use Rattle.std.proofs.Common.{◌≡◌, [], sym, subst}
 use Rattle.xvsh_read.specs.Writing.{out_text}
 use Rattle.xvsh_ends.specs.Ends.{asks_draw}
-use Rattle.xvsh_ends.specs.Requests.{UnlessPrinted, asked, check_asked, explain_asked, explore_asked, filed_asked, json_asked, lined_asked, plain_asked, run_asked, replay_asked, traced_asked}
+use Rattle.xvsh_ends.specs.Requests.{UnlessPrinted, asked, check_asked, explain_asked, explore_asked, filed_asked, json_asked, lined_asked, plain_told_asked, run_asked, replay_asked, traced_asked}
 use Rattle.xvsh_ends.proofs.Dues.{nothing_due}
 use Rattle.xvsh_ends.proofs.request.ending_of.Goals as goal
 
@@ -35,7 +35,7 @@ returns-in-Plain-clause-nothing g c =
     let request = c.in-Plain.plain in
     let input = g.H.Host.input c.args.host.now in
     let file = g.H.Host.file c.args.host.now in
-    let what = json_asked request.is_json (plain_asked request) in
+    let what = plain_told_asked request.is_json request in
     let ending = c.filed.result in
     subst (λ r. UnlessPrinted (asked r) ending.status (out_text ending.output ≡ [])) (sym c.in-Plain.is)
     (nothing_due input file (filed_asked request.files_to what) _ _ _ (c.filed.ensures input file what c.plain_ending-ending.ensures))
