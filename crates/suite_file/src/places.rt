@@ -149,7 +149,7 @@ impl Search {
             self.enter(name, number, key);
             return key.key.is_empty() && self.test == key.test && self.is_in_table;
         }
-        self.is_in_table && self.test == key.test && gives(line, key.key)
+        self.is_in_table && self.test == key.test && !key.key.is_empty() && gives(line, key.key)
     }
 }
 

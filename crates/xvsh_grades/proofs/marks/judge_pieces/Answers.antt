@@ -1,0 +1,20 @@
+use Rattle.std.proofs.Common.{subst, sym}
+use Rattle.std.specs.List.{AllZip}
+use Rattle.grade_verdicts.specs.Judged.{IsJudged}
+use Rattle.grade_verdicts.specs.declared.verdict.Verdict.{Verdict}
+use Rattle.grade_jobs.specs.Judges.{IsVerdictOn}
+use Rattle.grade_jobs.specs.declared.judging.Job.{Job}
+use Rattle.xvsh_grades.specs.Due.{IsJobOf, IsVerdictOf}
+use Rattle.xvsh_grades.specs.declared.marks.Piece.{Piece}
+use Rattle.xvsh_grades.proofs.Joined.{joined}
+use Rattle.xvsh_grades.proofs.marks.judge_pieces.Goals as goal
+
+-- what is due of its job is due of the piece
+of_job : (piece : Piece) (job : Job) (verdict : Verdict) → IsJobOf piece job → IsVerdictOn job verdict → IsVerdictOf piece verdict
+of_job piece job verdict h k = record { t = job.task; task = h.task; due = subst (λ bytes. IsJudged job.task bytes verdict) h.bytes k }
+
+pub returns : goal.returns
+returns g c =
+    let pieces = c.args.pieces.now in
+    joined IsJobOf IsVerdictOn IsVerdictOf of_job pieces c.as_slice.result.now c.in_ok-verdicts.verdicts.items
+    (subst (AllZip IsJobOf pieces) (sym c.as_slice.ensures.value) c.in_ok-jobs.ensures) c.in_ok-verdicts.ensures

@@ -1,0 +1,92 @@
+//! Verdicts with what they are of.
+
+ghost use Rattle.std.specs.Prelude.{IfOk};
+ghost use Rattle.std.specs.List.{AllZip};
+ghost use Rattle.xvsh_grades.specs.Due.{IsJobOf, IsVerdictOf};
+
+use crate::loading::Loaded;
+use grade_jobs::{Job, judge_all};
+use grade_verdicts::Verdict;
+use std::alloc::{AllocError, Global};
+use std::thread::Threads;
+
+/// What a test says of a script (own).
+#[derive(Drop)]
+pub struct Mark<'t, 'a> {
+    /// The script's path; `None` where the test has its own.
+    pub script: Option<&'a str>,
+    pub test: &'t Loaded,
+    pub verdict: Verdict,
+}
+
+/// A test and the bytes of a script that are judged by it.
+#[derive(Clone, Copy)]
+pub struct Piece<'t, 'a, 'b> {
+    /// The script's path; `None` where the test has its own.
+    pub script: Option<&'a str>,
+    pub test: &'t Loaded,
+    pub bytes: &'b [u8],
+}
+
+// The job of a piece.
+fn job_of<'j>(piece: &'j Piece<'_, '_, '_>) -> Job<'j>
+    ensures { IsJobOf piece.now result }
+{
+    Job {
+        task: piece.test.task(),
+        bytes: piece.bytes,
+    }
+}
+
+// The jobs of the pieces, in their order.
+fn jobs_of<'j>(alloc: Global, pieces: &'j [Piece<'_, '_, '_>]) -> Result<Vec<Job<'j>>, AllocError>
+    ensures { IfOk result (λ jobs. AllZip IsJobOf pieces.now jobs.items) }
+{
+    let mut jobs = Vec::with_capacity(alloc, pieces.len())?;
+    for piece in pieces {
+        jobs.push(job_of(piece))?;
+    }
+    Ok(jobs)
+}
+
+// The verdicts of the pieces, in their order: each has one, and it is due.
+fn judge_pieces<R: Threads + Sync>(
+    rt: &R,
+    alloc: Global,
+    pieces: &[Piece<'_, '_, '_>],
+    threads: usize,
+) -> Result<Vec<Verdict>, AllocError>
+    ensures { IfOk result (λ verdicts. AllZip IsVerdictOf pieces.now verdicts.items) }
+{
+    let jobs = jobs_of(alloc, pieces)?;
+    let verdicts = judge_all(rt, alloc, jobs.as_slice(), threads)?;
+    Ok(verdicts)
+}
+
+// Adds the verdicts of the pieces, in their order.
+fn add_marks<'t, 'a>(
+    pieces: &[Piece<'t, 'a, '_>],
+    verdicts: Vec<Verdict>,
+    marks: &mut Vec<Mark<'t, 'a>>,
+) -> Result<(), AllocError> {
+    for (piece, verdict) in pieces.iter().zip(verdicts) {
+        marks.push(Mark {
+            script: piece.script,
+            test: piece.test,
+            verdict,
+        })?;
+    }
+    Ok(())
+}
+
+/// Judges the pieces by at most so many threads, and adds their verdicts, in order.
+pub(crate) fn mark_all<'t, 'a, R: Threads + Sync>(
+    rt: &R,
+    alloc: Global,
+    pieces: &[Piece<'t, 'a, '_>],
+    threads: usize,
+    marks: &mut Vec<Mark<'t, 'a>>,
+) -> Result<(), AllocError> {
+    let verdicts = judge_pieces(rt, alloc, pieces, threads)?;
+    add_marks(pieces, verdicts, marks)
+}

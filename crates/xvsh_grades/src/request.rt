@@ -1,0 +1,43 @@
+//! What `grade` is asked for, what it answers, and who is told how far it is.
+
+/// How the report is written.
+#[derive(Clone, Copy, Debug, PartialEq, Eq)]
+pub enum Form {
+    /// A text for people.
+    Table,
+    /// One object of JSON.
+    Json,
+    /// The Test Anything Protocol, version 13.
+    Tap,
+    /// Gradescope's `results.json`.
+    Gradescope,
+}
+
+/// The tests of a suite on scripts.
+#[derive(Clone, Copy, Debug)]
+pub struct GradeRequest<'a> {
+    /// The path of the suite; `-` is standard input.
+    pub suite: &'a str,
+    /// The paths of the scripts on which the tests without a script of their own are run; `-` is standard input.
+    pub scripts: &'a [&'a str],
+    pub form: Form,
+    /// How many threads judge.
+    pub threads: usize,
+    /// The most states through which orders are tried, whatever the suite says.
+    pub states: Option<u64>,
+    /// Whether a text for people is in colour.
+    pub is_coloured: bool,
+}
+
+/// What is printed, and whether every test was passed.
+#[derive(Debug, Drop)]
+pub struct Report {
+    pub text: Vec<u8>,
+    pub has_passed: bool,
+}
+
+/// Who is told how far the grading is.
+pub trait Grading {
+    /// So many verdicts of so many are there.
+    fn graded(&mut self, done: usize, of: usize);
+}
