@@ -3,13 +3,14 @@
 
 use std::io;
 use std::process::ExitCode;
-use xvsh::Terminal;
+use xvsh_system::Terminal;
 
 fn main(rt: HostRuntime) -> io::Result<ExitCode> {
     let terminal = Terminal {
         err: rt.stderr(),
         reads: false,
+        writes: false,
         shows: false,
     };
-    xvsh::run(&rt, &mut rt.stderr(), terminal)
+    xvsh_system::run(&rt, &mut rt.stderr(), terminal)
 }

@@ -10,7 +10,7 @@ use Rattle.script_load.specs.Script.{IsScript}
 use Rattle.xvsh_read.specs.Path.{Path}
 use Rattle.xvsh_read.specs.Reading.{ArePut, none_put, one_put}
 use Rattle.xvsh_plain.specs.Running.{RanPlain}
-use Rattle.xvsh_ends.specs.Ends.{Asked, asks_plain, Due, plain_ran, no_plain, ran, no_run, ran_strict, no_strict, checked, no_check, counted, not_counted, explained, not_explained, whys_told, no_whys_told, explored, not_explored, traced, untraced, witnessed, unwitnessed, filed, unfiled, lined, valued, unvalued, drawn, undrawn, unread, helped, misused, no_memory, Writes, whole, out_stopped, err_stopped, Ends}
+use Rattle.xvsh_ends.specs.Ends.{Asked, asks_plain, Due, plain_ran, no_plain, diagnosed, not_diagnosed, ran, no_run, ran_strict, no_strict, checked, no_check, counted, not_counted, explained, not_explained, whys_told, no_whys_told, explored, not_explored, traced, untraced, witnessed, unwitnessed, filed, unfiled, lined, valued, unvalued, drawn, undrawn, unread, helped, misused, no_memory, Writes, whole, out_stopped, err_stopped, Ends}
 use Rattle.xvsh_ends.proofs.Dues.{some_status}
 use Rattle.xvsh.specs.Drive.{WritesMeaning}
 
@@ -46,6 +46,8 @@ module _ (input : Option Bytes) (file : Path → Option Bytes) where
         subst (λ l. RanPlain input file Xv6 (codes "-") [] l is_settled text) unlisted (subst (λ ps. RanPlain input file Xv6 (codes "-") ps lists is_settled text) none (subst (λ s. RanPlain input file Xv6 s paths lists is_settled text) own (subst (λ p. RanPlain input file p script paths lists is_settled text) xv6 gave))),
       )
   ran_of request text told status (no_plain fault why) is zero = absurd (some_status fault zero)
+  ran_of request text told status (diagnosed is_settled why known gave told_why is_known) is zero = cc
+  ran_of request text told status (not_diagnosed fault why) is zero = cc
   ran_of request text told status (ran diag full gave) is zero = cc
   ran_of request text told status (no_run fault why) is zero = cc
   ran_of request text told status (ran_strict diag why is_settled full gave) is zero = cc

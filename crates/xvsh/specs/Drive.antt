@@ -43,9 +43,10 @@ pub data IsDueGiven (input : Option (List ℕ)) (file : Path → Option (List �
   due : (sight : Sight) → Sees input file inputs sight → IsDue sight.input sight.file (asked request) ending → IsDueGiven input file inputs request ending
   ungiven : {path : Bor Path} → inputs.input ≡ Some path → IsDue input file (unread_asked request path.now) ending → IsDueGiven input file inputs request ending
 
--- the program's command line: on at most 8 harts, in at most 1,000,000,000 turns, and of at most 10,000,000 states
+-- the program's command line: on at most 8 harts, in at most 1,000,000,000 turns, of at most 10,000,000 states, and by at most 256
+-- threads
 abbrev pub own_program : App
-own_program = program 8 1000000000 10000000
+own_program = program 8 1000000000 10000000 256
 
 -- the words with the command that they leave out: that of `-c TEXT` is `plain`
 abbrev pub completed : List (List ℕ) → List (List ℕ)

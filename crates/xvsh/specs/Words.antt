@@ -131,6 +131,7 @@ pub record IsPlainOf (found : Found) (request : PlainRequest) : Type 0 where
   pub files_to : IsWord found (codes "files-to") request.files_to
   pub strict : IsFlag found (codes "strict") request.is_strict
   pub json : IsFlag found (codes "json") request.is_json
+  pub diagnostics : IsFlag found (codes "diagnostics") request.tells_diagnostics
 
 pub record IsCheckOf (found : Found) (request : CheckRequest) : Type 0 where
   pub script : IsScriptOf found request.script.now

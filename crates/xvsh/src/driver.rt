@@ -1,15 +1,16 @@
 ghost use Rattle.std.specs.Prelude.{◌≡◌, ◌≢◌, ℕ, List, Option, [], codes, false, map, string_bytes, IfOk};
+ghost use Rattle.clap.specs.Simple.{app_of};
 ghost use Rattle.xvsh_read.specs.Console.{known};
 ghost use Rattle.xvsh_read.specs.Path.{Path};
 ghost use Rattle.xvsh_read.specs.Writing.{out_text};
 ghost use Rattle.xvsh_ends.specs.Ends.{Asked, IsDue, asks_plain, told_text};
 ghost use Rattle.xvsh_ends.specs.Requests.{EndsAt};
-ghost use Rattle.xvsh.specs.Drive.{EndsFrom, IsAskedBy, IsAskedByWords, IsDueGiven, IsNoRequest, WritesMeaning, completed};
+ghost use Rattle.xvsh.specs.Drive.{EndsFrom, IsAskedBy, IsAskedByWords, IsDueGiven, IsNoRequest, WritesMeaning, completed, own_program};
 ghost use Rattle.xvsh_given.specs.Given.{Sight};
 
 use crate::request::{inputs_of, request_of};
-use clap::ArgMatches;
 use clap::error::ErrorKind;
+use clap::{ArgMatches, Command};
 use script_load::Profile;
 use sh_lexer::Bytes;
 use std::alloc::{AllocError, Global};
@@ -90,8 +91,8 @@ fn help_ending(alloc: Global, text: String) -> Ending
     }
 }
 
-// Why there is no command: the words ask for help, or are no command line.
-fn error_ending(alloc: Global, error: &clap::Error) -> Ending
+/// How the program ends where there is no command: the words ask for help, or are no command line.
+pub fn error_ending(alloc: Global, error: &clap::Error) -> Ending
     ensures due { (input : Option (List ℕ)) (file : Path → Option (List ℕ)) → (asked : Asked) × IsNoRequest asked × IsDue input file asked result }
     ensures nothing { result.status ≢ 0 → out_text result.output ≡ [] }
 {
@@ -110,6 +111,16 @@ fn error_ending(alloc: Global, error: &clap::Error) -> Ending
     }
 }
 
+/// The most threads that grade (own).
+pub const MAX_JOBS: u64 = 256;
+
+/// The command line of the program, with the most that its numbers may be.
+pub fn own_command_line<'a>(alloc: Global) -> Result<Command<'a>, AllocError>
+    ensures { IfOk result (λ command. app_of command ≡ own_program) }
+{
+    command_line(alloc, u64::from(MAX_HARTS), MAX_TURNS, MAX_STATES, MAX_JOBS)
+}
+
 // How the program ends on these words, of which there is one.
 fn words_ending<R: Threads + Wait + Clock + Sync, H: Host + Traces + Watch>(
     rt: &R,
@@ -120,7 +131,7 @@ fn words_ending<R: Threads + Wait + Clock + Sync, H: Host + Traces + Watch>(
     ensures due { (sight : Sight) × (asked : Asked) × IsAskedByWords (H.input host.old) (H.file host.old) (map string_bytes words.now) sight asked × IsDue sight.input sight.file asked result }
     ensures nothing { result.status ≢ 0 → result.status ≢ 1 → result.status ≢ 3 → result.status ≢ 4 → out_text result.output ≡ [] }
 {
-    let Ok(command) = command_line(alloc, u64::from(MAX_HARTS), MAX_TURNS, MAX_STATES) else {
+    let Ok(command) = own_command_line(alloc) else {
         return report_no_memory(alloc);
     };
     match command.try_get_matches_from(words) {
@@ -148,6 +159,7 @@ fn no_words_ending<R: Threads + Wait + Clock + Sync, H: Host + Traces + Watch>(
         files_to: None,
         is_strict: false,
         is_json: false,
+        tells_diagnostics: false,
     });
     ending_of(rt, alloc, &request, host)
 }

@@ -1,16 +1,11 @@
-//! Runs scripts of xv6's shell: all of the program but its `main`.
+//! From the words of a command line to how the program ends, over any host.
 #![tactic(auto)]
 
 mod driver;
-mod program;
 mod request;
-mod system;
-mod terminal;
 
-pub use driver::drive;
-pub use program::run;
-pub use request::{inputs_of, request_of};
-pub use terminal::Terminal;
+pub use driver::{MAX_JOBS, drive, error_ending, own_command_line};
+pub use request::{OWN_INPUT, inputs_of, request_of};
 pub use xvsh_ends::Request;
 pub use xvsh_explores::Watch;
 pub use xvsh_given::{Inputs, NOTHING};

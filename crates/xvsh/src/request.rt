@@ -224,6 +224,7 @@ fn plain_of<'m>(words: &'m ArgMatches<'_>) -> PlainRequest<'m>
         files_to: files_to_of(words),
         is_strict: flag_of(words, "strict"),
         is_json: flag_of(words, "json"),
+        tells_diagnostics: flag_of(words, "diagnostics"),
     }
 }
 

@@ -3,13 +3,14 @@
 
 use std::io::{self, IsTerminal};
 use std::process::ExitCode;
-use xvsh::Terminal;
+use xvsh_system::Terminal;
 
 fn main(rt: HostRuntime) -> io::Result<ExitCode> {
     let terminal = Terminal {
         err: rt.stderr(),
         reads: rt.stdin().is_terminal(),
+        writes: rt.stdout().is_terminal(),
         shows: rt.stderr().is_terminal(),
     };
-    xvsh::run(&rt, &mut rt.stderr(), terminal)
+    xvsh_system::run(&rt, &mut rt.stderr(), terminal)
 }

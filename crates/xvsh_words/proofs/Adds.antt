@@ -63,6 +63,12 @@ apart_rule old new other adds =
     ∙ ap (λ b. record (rule_of old) { is_free = not old.exclusive && (b && later) }) some
     ∙ ap (λ b. record (rule_of old) { is_free = b }) (unfree old.exclusive later)
 
+-- the same of what is returned
+pub apart_last : {X : Type 0} (rule : Rule) (old : Arg) (other : _) (result : Result Arg X) → IfOk result (λ new. AddsConflicts old new (other ∷ [])) → rule_of old ≡ record rule { is_free = false } → old.global ≡ false → IfOk result (λ arg. (rule_of arg ≡ record rule { is_free = false }) × (arg.global ≡ false))
+apart_last rule old other (Err error) adds is local = tt
+apart_last rule old other (Ok new) adds is local =
+    (apart_rule old new other adds ∙ ap {A = Rule} (λ r. record r { is_free = false }) is, ap {A = Arg} (λ a. a.global) adds.0 ∙ local)
+
 pub added : (shape : Shape) (app : App) (old sub new : Command) → AddsSubcommand old sub new → IsCommand shape sub → app_of old ≡ app → app_of new ≡ with_subcommand app shape
 added shape app old sub new adds is known =
     adds.shape is.1 ∙ ap (λ s. with_subcommand (app_of old) s) is.0 ∙ ap (λ a. with_subcommand a shape) known

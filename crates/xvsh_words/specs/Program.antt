@@ -48,7 +48,7 @@ apart rule = record rule { is_free = false }
 -- the commands; `run` by the most harts and the most turns that it may have
 abbrev pub run_shape : ℕ → ℕ → Shape
 run_shape harts turns = record (new_shape (codes "run")) {
-  rules = number_rule (codes "harts") harts ∷ number_rule (codes "turns") turns ∷ apart (number_rule (codes "seed") most_seed) ∷ apart (path_rule (codes "order")) ∷ flag_rule (codes "schedule") ∷ path_rule (codes "schedule-to") ∷ path_rule (codes "files-to") ∷ path_rule (codes "trace") ∷ apart (flag_rule (codes "lines")) ∷ flag_rule (codes "strict") ∷ flag_rule (codes "append") ∷ flag_rule (codes "files") ∷ flag_rule (codes "json") ∷ input_rule ∷ text_rule ∷ word_rule (codes "script") ∷ files_rule ∷ [];
+  rules = number_rule (codes "harts") harts ∷ number_rule (codes "turns") turns ∷ apart (number_rule (codes "seed") most_seed) ∷ apart (path_rule (codes "order")) ∷ flag_rule (codes "schedule") ∷ path_rule (codes "schedule-to") ∷ path_rule (codes "files-to") ∷ path_rule (codes "trace") ∷ apart (flag_rule (codes "lines")) ∷ flag_rule (codes "strict") ∷ flag_rule (codes "append") ∷ flag_rule (codes "files") ∷ flag_rule (codes "quiet") ∷ flag_rule (codes "json") ∷ input_rule ∷ text_rule ∷ word_rule (codes "script") ∷ files_rule ∷ [];
 }
 
 abbrev pub replay_shape : Shape
@@ -58,7 +58,7 @@ replay_shape = record (new_shape (codes "replay")) {
 
 abbrev pub plain_shape : Shape
 plain_shape = record (new_shape (codes "plain")) {
-  rules = path_rule (codes "files-to") ∷ flag_rule (codes "strict") ∷ flag_rule (codes "append") ∷ flag_rule (codes "files") ∷ flag_rule (codes "json") ∷ input_rule ∷ text_rule ∷ word_rule (codes "script") ∷ files_rule ∷ [];
+  rules = path_rule (codes "files-to") ∷ apart (flag_rule (codes "diagnostics")) ∷ flag_rule (codes "strict") ∷ flag_rule (codes "append") ∷ flag_rule (codes "files") ∷ flag_rule (codes "json") ∷ input_rule ∷ text_rule ∷ word_rule (codes "script") ∷ files_rule ∷ [];
 }
 
 -- files and an input only beside `--turns`
@@ -84,6 +84,17 @@ draw_shape turns = record (new_shape (codes "draw")) {
   rules = number_rule (codes "from") turns ∷ number_rule (codes "to") turns ∷ word_rule (codes "trace") ∷ other_rule (codes "other") ∷ [];
 }
 
+abbrev pub step_shape : Shape
+step_shape = record (new_shape (codes "step")) {
+  rules = path_rule (codes "schedule") ∷ flag_rule (codes "append") ∷ flag_rule (codes "json") ∷ input_rule ∷ text_rule ∷ word_rule (codes "script") ∷ files_rule ∷ [];
+}
+
+-- `grade` by the most threads that it may have, and the most states; one form at most
+abbrev pub grade_shape : ℕ → ℕ → Shape
+grade_shape jobs states = record (new_shape (codes "grade")) {
+  rules = apart (flag_rule (codes "json")) ∷ apart (flag_rule (codes "tap")) ∷ apart (flag_rule (codes "gradescope")) ∷ number_rule (codes "jobs") jobs ∷ number_rule (codes "states") states ∷ word_rule (codes "suite") ∷ files_rule ∷ [];
+}
+
 -- the program, without a command and with all of them
 abbrev pub bare_program : App
 bare_program = record {
@@ -96,10 +107,10 @@ bare_program = record {
   subs = [];
 }
 
-abbrev pub program : ℕ → ℕ → ℕ → App
-program harts turns states = record {
+abbrev pub program : ℕ → ℕ → ℕ → ℕ → App
+program harts turns states jobs = record {
   top = record bare_program.top { is_leaf = false };
-  subs = run_shape harts turns ∷ replay_shape ∷ plain_shape ∷ check_shape ∷ explain_shape ∷ explore_shape states ∷ draw_shape turns ∷ [];
+  subs = run_shape harts turns ∷ replay_shape ∷ plain_shape ∷ check_shape ∷ explain_shape ∷ explore_shape states ∷ draw_shape turns ∷ step_shape ∷ grade_shape jobs states ∷ [];
 }
 
 -- a command of this shape, none of whose arguments are of its subcommands too

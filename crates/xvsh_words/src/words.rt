@@ -3,7 +3,7 @@
 ghost use Rattle.std.specs.Prelude.{◌≡◌, IfOk, codes, false};
 ghost use Rattle.clap.specs.Simple.{app_of};
 ghost use Rattle.clap.specs.Walk.{rule_of};
-ghost use Rattle.xvsh_words.specs.Program.{IsCommand, bare_program, check_shape, draw_shape, explain_shape, explore_shape, files_rule, flag_rule, number_rule, other_rule, plain_shape, program, replay_shape, run_shape, text_rule, word_rule, path_rule};
+ghost use Rattle.xvsh_words.specs.Program.{IsCommand, apart, bare_program, check_shape, draw_shape, explain_shape, explore_shape, files_rule, flag_rule, grade_shape, number_rule, other_rule, plain_shape, program, replay_shape, run_shape, step_shape, text_rule, word_rule, path_rule};
 
 use clap::builder::ValueParser;
 use clap::{Arg, ArgAction, Command};
@@ -56,7 +56,8 @@ which line of the script wrote it.
 After `plain` one line goes to standard error: `settled` where the script was
 shown to print the same in whatever order its processes run, and else `not
 settled`: that it has one answer wasn't shown. With `--strict` one more line
-says why not, of `run` too. `--files` marks as `soft` a file whose bytes may
+says why not, of `run` too. `--diagnostics` writes before it what every order
+tells, where that is known. `--files` marks as `soft` a file whose bytes may
 depend on that order.
 
 `plain --json` writes one object of JSON instead, with the output, all files,
@@ -85,10 +86,19 @@ script can have, with the events of a shortest run to it, and then where two of
 these runs part. With `--witness DIR` it writes the schedule of each run to
 DIR, and with `--draw FILE` a page that draws two of them to FILE.
 
+`xvsh step SCRIPT [FILE]..` reads commands from standard input, a line each, and
+answers each on standard output: a number is a turn of that process, `ps` lists
+the processes, `back 3` takes three turns back, and `help` lists the rest. On a
+terminal it shows a prompt, and the processes after each turn.
+
+`xvsh grade SUITE [SCRIPT]..` runs the tests of a suite on each SCRIPT, and
+tells whether what it leaves is what is expected, whatever the order of its
+processes: `pass`, `wrong`, `race` and others, with points.
+
 Status: 0 done; 1 something can't be read, is refused, or can't be written, or
 is no schedule of a whole run; 2 usage; 3 `check` told of a clash or a `&`,
-`explain` told of anything, `explore` found more than one outcome, or
-`--strict` ran a script that isn't settled; 4 not every order was tried, full,
+`explain` told of anything, `explore` found more than one outcome, `grade` a
+test that isn't passed, or `--strict` ran a script that isn't settled; 4 not every order was tried, full,
 spent, too large, or no memory.";
 
 const VERSION: &str = "0.1.0 (rattle logic dac8208d650f15bf)";
@@ -102,6 +112,21 @@ fn flag<'a>(alloc: Global, name: &'static str, help: &'static str) -> Arg<'a>
         .long(name)
         .help(help)
         .action(ArgAction::SetTrue)
+}
+
+// A flag beside which neither of two others can stand.
+fn lone_flag<'a>(
+    alloc: Global,
+    name: &'static str,
+    help: &'static str,
+    first: &'static str,
+    second: &'static str,
+) -> Result<Arg<'a>, AllocError>
+    ensures { IfOk result (λ arg. (rule_of arg ≡ apart (flag_rule name.now)) × (arg.global ≡ false)) }
+{
+    let flag = flag(alloc, name, help);
+    let alone = flag.conflicts_with(first)?;
+    alone.conflicts_with(second)
 }
 
 // An option that takes a number from 1 to the most.
@@ -178,18 +203,27 @@ fn script_word<'a>(alloc: Global, help: &'static str) -> Arg<'a>
     needed_word(alloc, "script", "SCRIPT", help)
 }
 
+// Any number of paths, at the end.
+fn last_words<'a>(alloc: Global, shown: &'static str, help: &'static str) -> Arg<'a>
+    ensures rule { rule_of result ≡ files_rule }
+    ensures local { result.global ≡ false }
+{
+    Arg::new(alloc, "paths")
+        .value_name(shown)
+        .help(help)
+        .num_args(0..)
+        .action(ArgAction::Append)
+}
+
+const FILES_HELP: &str =
+    "Files for the script, each under the part of its path after the last `/`, or NAME=PATH";
+
 // The files of the script.
 fn file_words<'a>(alloc: Global) -> Arg<'a>
     ensures rule { rule_of result ≡ files_rule }
     ensures local { result.global ≡ false }
 {
-    Arg::new(alloc, "paths")
-        .value_name("FILE")
-        .help(
-            "Files for the script, each under the part of its path after the last `/`, or NAME=PATH",
-        )
-        .num_args(0..)
-        .action(ArgAction::Append)
+    last_words(alloc, "FILE", FILES_HELP)
 }
 
 const SCRIPT_HELP: &str =
@@ -228,6 +262,8 @@ const FILES_TO_HELP: &str = "Make a file in DIR, and DIR, for each that the scri
 const TRACE_HELP: &str =
     "Write what each event did to FILE, an object of JSON a line; for `-` to standard output, and nothing else there";
 
+const QUIET_HELP: &str = "Tell a terminal nothing while the run goes on";
+
 const LINES_HELP: &str =
     "Tell before each line of the diagnostics which line of the script wrote it: `line N: `";
 
@@ -255,6 +291,7 @@ fn run_command<'a>(
         flag(alloc, "strict", STRICT_HELP),
         flag(alloc, "append", APPEND_HELP),
         flag(alloc, "files", RUN_FILES_HELP),
+        flag(alloc, "quiet", QUIET_HELP),
         flag(alloc, "json", JSON_HELP),
         input_option(alloc),
         text_flag(alloc),
@@ -297,11 +334,15 @@ const PLAIN_ABOUT: &str = "Runs a script, each pipe's left side to its end befor
 const PLAIN_FILES_HELP: &str =
     "Write all files after the output: `-- NAME LENGTH`, `soft` if it is soft, the bytes, a line's end";
 
+const DIAGNOSTICS_HELP: &str = "Tell the diagnostics, if every order writes the same";
+
 fn plain_command<'a>(alloc: Global) -> Result<Command<'a>, AllocError>
     ensures { IfOk result (IsCommand plain_shape) }
 {
+    let diagnostics = flag(alloc, "diagnostics", DIAGNOSTICS_HELP).conflicts_with("json")?;
     let args = vec![in alloc;
         path_option(alloc, "files-to", "DIR", FILES_TO_HELP),
+        diagnostics,
         flag(alloc, "strict", STRICT_HELP),
         flag(alloc, "append", APPEND_HELP),
         flag(alloc, "files", PLAIN_FILES_HELP),
@@ -434,6 +475,67 @@ fn draw_command<'a>(alloc: Global, most_turns: u64) -> Result<Command<'a>, Alloc
     Command::new(alloc, "draw").about(DRAW_ABOUT).args(args)
 }
 
+const STEP_ABOUT: &str = "Lets you say which process of a script takes the next turn";
+
+const STEP_SCHEDULE_HELP: &str = "Begin with the turns of this schedule, which `save` wrote";
+
+const STEP_INPUT_HELP: &str =
+    "The script's standard input is FILE's bytes; without it, or with `none`, nothing";
+
+const STEP_JSON_HELP: &str = "Write each answer as one object of JSON on a line";
+
+fn step_command<'a>(alloc: Global) -> Result<Command<'a>, AllocError>
+    ensures { IfOk result (IsCommand step_shape) }
+{
+    let args = vec![in alloc;
+        path_option(alloc, "schedule", "FILE", STEP_SCHEDULE_HELP),
+        flag(alloc, "append", APPEND_HELP),
+        flag(alloc, "json", STEP_JSON_HELP),
+        path_option(alloc, "input", "FILE", STEP_INPUT_HELP),
+        text_flag(alloc),
+        needed_word(alloc, "script", "SCRIPT", "The script's path"),
+        file_words(alloc),
+    ]?;
+    Command::new(alloc, "step").about(STEP_ABOUT).args(args)
+}
+
+const GRADE_ABOUT: &str = "Grades scripts by the tests of a suite";
+
+const GRADE_JSON_HELP: &str = "Write the report as one object of JSON";
+
+const TAP_HELP: &str = "Write it as the Test Anything Protocol, version 13";
+
+const GRADESCOPE_HELP: &str = "Write it as Gradescope's results.json";
+
+const JOBS_HELP: &str =
+    "Grade with so many threads, 1 to 256; as many as there are processors without it";
+
+const GRADE_STATES_HELP: &str =
+    "Try orders of processes through at most so many states, 1 to 10000000, whatever a test says";
+
+const SUITE_HELP: &str = "The suite's path: a file of TOML with its tests";
+
+const SCRIPTS_HELP: &str = "Scripts to grade, by each test that has no script of its own";
+
+fn grade_command<'a>(
+    alloc: Global,
+    most_jobs: u64,
+    most_states: u64,
+) -> Result<Command<'a>, AllocError>
+    ensures { IfOk result (IsCommand (grade_shape most_jobs most_states)) }
+{
+    let args = vec![in alloc;
+        lone_flag(alloc, "json", GRADE_JSON_HELP, "tap", "gradescope")?,
+        lone_flag(alloc, "tap", TAP_HELP, "json", "gradescope")?,
+        lone_flag(alloc, "gradescope", GRADESCOPE_HELP, "json", "tap")?,
+        number_option(alloc, "jobs", JOBS_HELP, most_jobs),
+        number_option(alloc, "states", GRADE_STATES_HELP, most_states),
+        needed_word(alloc, "suite", "SUITE", SUITE_HELP),
+        last_words(alloc, "SCRIPT", SCRIPTS_HELP),
+    ]?;
+    Command::new(alloc, "grade").about(GRADE_ABOUT).args(args)
+}
+
 // The program's name, version and help, without a command.
 fn bare_command<'a>(alloc: Global) -> Result<Command<'a>, AllocError>
     ensures { IfOk result (λ command. app_of command ≡ bare_program) }
@@ -448,15 +550,16 @@ fn bare_command<'a>(alloc: Global) -> Result<Command<'a>, AllocError>
         .bin_name("xvsh")
 }
 
-/// The command line of the program, on which a run may be asked for on so many harts, and in so many turns, and an exploration
-/// of so many states, at most.
+/// The command line of the program, on which a run may be asked for on so many harts, and in so many turns, an exploration
+/// of so many states, and grading by so many threads, at most.
 pub fn command_line<'a>(
     alloc: Global,
     most_harts: u64,
     most_turns: u64,
     most_states: u64,
+    most_jobs: u64,
 ) -> Result<Command<'a>, AllocError>
-    ensures { IfOk result (λ command. app_of command ≡ program most_harts most_turns most_states) }
+    ensures { IfOk result (λ command. app_of command ≡ program most_harts most_turns most_states most_jobs) }
 {
     let command = bare_command(alloc)?;
     let command = command.subcommand(run_command(alloc, most_harts, most_turns)?)?;
@@ -465,5 +568,7 @@ pub fn command_line<'a>(
     let command = command.subcommand(check_command(alloc)?)?;
     let command = command.subcommand(explain_command(alloc)?)?;
     let command = command.subcommand(explore_command(alloc, most_states)?)?;
-    command.subcommand(draw_command(alloc, most_turns)?)
+    let command = command.subcommand(draw_command(alloc, most_turns)?)?;
+    let command = command.subcommand(step_command(alloc)?)?;
+    command.subcommand(grade_command(alloc, most_jobs, most_states)?)
 }

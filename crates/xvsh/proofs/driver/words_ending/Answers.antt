@@ -1,9 +1,8 @@
-use Rattle.std.proofs.Common.{◌≡◌, ◌∙◌, ap, inl, inr, refl}
+use Rattle.std.proofs.Common.{◌≡◌, inl, inr, refl}
 use Rattle.std.specs.Prelude.{map, string_bytes}
 use Rattle.clap.specs.Simple.{app_of}
 use Rattle.xvsh_ends.specs.Ends.{misuse}
 use Rattle.xvsh_ends.proofs.Dues.{due_memory}
-use Rattle.xvsh_words.specs.Program.{program}
 use Rattle.xvsh.specs.Drive.{own_program}
 use Rattle.xvsh.proofs.Parsed.{parsed}
 use Rattle.xvsh.proofs.driver.words_ending.Goals as goal
@@ -19,7 +18,7 @@ returns-in-Ok-try_get_matches_from-clause-due g c =
     let due = c.command_ending.ensures.due in
     let words = map string_bytes c.args.words.now in
     let matches = c.in-Ok-try_get_matches_from.matches in
-    let own : app_of c.in-Ok.command ≡ own_program = c.in-Ok.ensures ∙ ap (λ harts. program harts 1000000000 10000000) c.from.ensures in
+    let own : app_of c.in-Ok.command ≡ own_program = c.in-Ok.ensures in
     (due.0, due.1, inl (matches, parsed (app_of c.in-Ok.command) words matches own c.in-Ok-try_get_matches_from.ensures.matches, due.2), due.3)
 
 pub returns-in-Err-clause-due : goal.returns-in-Err-clause-due

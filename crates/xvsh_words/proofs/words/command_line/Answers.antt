@@ -1,5 +1,5 @@
 use Rattle.clap.specs.Simple.{with_subcommand}
-use Rattle.xvsh_words.specs.Program.{bare_program, check_shape, draw_shape, explain_shape, explore_shape, plain_shape, replay_shape, run_shape}
+use Rattle.xvsh_words.specs.Program.{bare_program, check_shape, draw_shape, explain_shape, explore_shape, grade_shape, plain_shape, replay_shape, run_shape, step_shape}
 use Rattle.xvsh_words.proofs.Adds.{added, added_last}
 use Rattle.xvsh_words.proofs.words.command_line.Goals as goal
 
@@ -18,4 +18,8 @@ returns c =
     let fifth = added explain_shape four c.in_ok-command-5.command c.in_ok-explain_command.field-0 c.in_ok-command-6.command c.in_ok-command-6.ensures c.in_ok-explain_command.ensures fourth in
     let six = with_subcommand five (explore_shape c.args.most_states) in
     let sixth = added (explore_shape c.args.most_states) five c.in_ok-command-6.command c.in_ok-explore_command.field-0 c.in_ok-command-7.command c.in_ok-command-7.ensures c.in_ok-explore_command.ensures fifth in
-    added_last (draw_shape c.args.most_turns) six c.in_ok-command-7.command c.in_ok-draw_command.field-0 c.subcommand-7.result c.subcommand-7.ensures c.in_ok-draw_command.ensures sixth
+    let seven = with_subcommand six (draw_shape c.args.most_turns) in
+    let seventh = added (draw_shape c.args.most_turns) six c.in_ok-command-7.command c.in_ok-draw_command.field-0 c.in_ok-command-8.command c.in_ok-command-8.ensures c.in_ok-draw_command.ensures sixth in
+    let eight = with_subcommand seven step_shape in
+    let eighth = added step_shape seven c.in_ok-command-8.command c.in_ok-step_command.field-0 c.in_ok-command-9.command c.in_ok-command-9.ensures c.in_ok-step_command.ensures seventh in
+    added_last (grade_shape c.args.most_jobs c.args.most_states) eight c.in_ok-command-9.command c.in_ok-grade_command.field-0 c.subcommand-9.result c.subcommand-9.ensures c.in_ok-grade_command.ensures eighth

@@ -22,8 +22,8 @@ returns c =
     let seed_local = ap {A = Arg} (λ a. a.global) seeds.0 ∙ c.number_option.ensures.local in
     let alone_local = ap {A = Arg} (λ a. a.global) alones.0 ∙ c.path_option.ensures.local in
     let order_local = ap {A = Arg} (λ a. a.global) orders.0 ∙ alone_local in
-    command_made c.in_ok-args.args.items (number_rule (codes "harts") c.args.most_harts ∷ number_rule (codes "turns") c.args.most_turns ∷ apart (number_rule (codes "seed") most_seed) ∷ apart (path_rule (codes "order")) ∷ flag_rule (codes "schedule") ∷ path_rule (codes "schedule-to") ∷ path_rule (codes "files-to") ∷ path_rule (codes "trace") ∷ apart (flag_rule (codes "lines")) ∷ flag_rule (codes "strict") ∷ flag_rule (codes "append") ∷ flag_rule (codes "files") ∷ flag_rule (codes "json") ∷ input_rule ∷ text_rule ∷ word_rule (codes "script") ∷ files_rule ∷ []) (codes "run") c.about.result c.args-2.result c.args-2.ensures
-    (subst AreLocal (sym items) (c.number_option-2.ensures.local, (c.number_option-3.ensures.local, (seed_local, (order_local, (c.flag-2.ensures.local, (c.path_option-2.ensures.local, (c.path_option-3.ensures.local, (c.path_option-4.ensures.local, (lines_local, (c.flag-3.ensures.local, (c.flag-4.ensures.local, (c.flag-5.ensures.local, (c.flag-6.ensures.local, (c.input_option.ensures.local, (c.text_flag.ensures.local, (c.script_word.ensures.local, (c.file_words.ensures.local, tt))))))))))))))))))
-    (ap (map rule_of) items ∙ (λ i. c.number_option-2.ensures.rule i ∷ c.number_option-3.ensures.rule i ∷ seed i ∷ order i ∷ c.flag-2.ensures.rule i ∷ c.path_option-2.ensures.rule i ∷ c.path_option-3.ensures.rule i ∷ c.path_option-4.ensures.rule i ∷ lines i ∷ c.flag-3.ensures.rule i ∷ c.flag-4.ensures.rule i ∷ c.flag-5.ensures.rule i ∷ c.flag-6.ensures.rule i ∷ c.input_option.ensures.rule i ∷ c.text_flag.ensures.rule i ∷ c.script_word.ensures.rule i ∷ c.file_words.ensures.rule i ∷ []))
+    command_made c.in_ok-args.args.items (number_rule (codes "harts") c.args.most_harts ∷ number_rule (codes "turns") c.args.most_turns ∷ apart (number_rule (codes "seed") most_seed) ∷ apart (path_rule (codes "order")) ∷ flag_rule (codes "schedule") ∷ path_rule (codes "schedule-to") ∷ path_rule (codes "files-to") ∷ path_rule (codes "trace") ∷ apart (flag_rule (codes "lines")) ∷ flag_rule (codes "strict") ∷ flag_rule (codes "append") ∷ flag_rule (codes "files") ∷ flag_rule (codes "quiet") ∷ flag_rule (codes "json") ∷ input_rule ∷ text_rule ∷ word_rule (codes "script") ∷ files_rule ∷ []) (codes "run") c.about.result c.args-2.result c.args-2.ensures
+    (subst AreLocal (sym items) (c.number_option-2.ensures.local, (c.number_option-3.ensures.local, (seed_local, (order_local, (c.flag-2.ensures.local, (c.path_option-2.ensures.local, (c.path_option-3.ensures.local, (c.path_option-4.ensures.local, (lines_local, (c.flag-3.ensures.local, (c.flag-4.ensures.local, (c.flag-5.ensures.local, (c.flag-6.ensures.local, (c.flag-7.ensures.local, (c.input_option.ensures.local, (c.text_flag.ensures.local, (c.script_word.ensures.local, (c.file_words.ensures.local, tt)))))))))))))))))))
+    (ap (map rule_of) items ∙ (λ i. c.number_option-2.ensures.rule i ∷ c.number_option-3.ensures.rule i ∷ seed i ∷ order i ∷ c.flag-2.ensures.rule i ∷ c.path_option-2.ensures.rule i ∷ c.path_option-3.ensures.rule i ∷ c.path_option-4.ensures.rule i ∷ lines i ∷ c.flag-3.ensures.rule i ∷ c.flag-4.ensures.rule i ∷ c.flag-5.ensures.rule i ∷ c.flag-6.ensures.rule i ∷ c.flag-7.ensures.rule i ∷ c.input_option.ensures.rule i ∷ c.text_flag.ensures.rule i ∷ c.script_word.ensures.rule i ∷ c.file_words.ensures.rule i ∷ []))
     (ap app_of_fields c.about.ensures ∙ c.new.ensures.app)
     (ap (λ f. f.has_globals) c.about.ensures ∙ c.new.ensures.local)

@@ -10,6 +10,8 @@ pub struct Terminal<E> {
     pub err: E,
     /// Whether standard input is a terminal.
     pub reads: bool,
+    /// Whether standard output is one.
+    pub writes: bool,
     /// Whether standard error is one.
     pub shows: bool,
 }
@@ -50,8 +52,8 @@ impl Progress {
         count >= self.next
     }
 
-    // Shows so many states, if it is time to.
-    pub fn show<E: Write>(&mut self, err: &mut E, count: usize, now: Duration) {
+    // Shows so many of something, if it is time to.
+    pub fn show<E: Write>(&mut self, err: &mut E, count: usize, what: &str, now: Duration) {
         self.next = count.saturating_add(STEP);
         let Some(due) = self.due else {
             self.due = next_after(now);
@@ -60,7 +62,7 @@ impl Progress {
         if now >= due {
             self.is_shown = true;
             self.due = next_after(now);
-            let _ = write!(err, "\r{count} states\x1b[K");
+            let _ = write!(err, "\r{count}{what}\x1b[K");
         }
     }
 

@@ -1,13 +1,16 @@
 ghost use Rattle.std.specs.Prelude.{None};
 
-use crate::request::OWN_INPUT;
 use crate::terminal::{Progress, Terminal};
+use crate::ticking::Ticker;
 use std::alloc::Global;
 use std::fs::{File, create_dir_all};
 use std::io::{self, Write};
 use std::rt::Files;
+use std::sync::Wait;
 use std::time::Clock;
+use xvsh::OWN_INPUT;
 use xvsh_explores::Watch;
+use xvsh_grades::Grading;
 use xvsh_read::{Hints, Host, HostFault, STDIN, Unwritten, read_all, write};
 use xvsh_traces::Traces;
 
@@ -21,24 +24,27 @@ enum Sink<F> {
 
 /// The system, whose standard input and files are unknown before they are read.
 #[derive(Drop)]
-pub struct System<R: Files, E> {
+pub struct System<'t, R: Files, E> {
     rt: R,
     sink: Sink<R::File>,
     terminal: Terminal<E>,
     progress: Progress,
+    // What shows that a run goes on, if anything does.
+    ticker: Option<&'t Ticker>,
 }
 
 // What a terminal is told before standard input is read from it.
 const READING: &str =
     "xvsh: reads standard input from this terminal, until Ctrl-D on a line of its own\n";
 
-impl<R: Files, E: Write> System<R, E> {
-    pub fn new(rt: R, terminal: Terminal<E>) -> Self {
+impl<'t, R: Files, E: Write> System<'t, R, E> {
+    pub fn new(rt: R, terminal: Terminal<E>, ticker: Option<&'t Ticker>) -> Self {
         System {
             rt,
             sink: Sink::Nowhere,
             terminal,
             progress: Progress::new(),
+            ticker,
         }
     }
 
@@ -50,28 +56,50 @@ impl<R: Files, E: Write> System<R, E> {
     }
 }
 
-impl<R: Input + Files, E: Write> Host for System<R, E> {
+impl<R: Files + Wait + Clock + Eprint, E: Write> System<'_, R, E> {
+    // Something is read now, which may take as long as it takes.
+    fn begin_reading(&self) {
+        if let Some(ticker) = self.ticker {
+            ticker.rests(&self.rt);
+        }
+    }
+
+    // It was read, and work goes on.
+    fn end_reading(&self) {
+        if let Some(ticker) = self.ticker {
+            ticker.works(&self.rt);
+        }
+    }
+}
+
+impl<R: Input + Files + Wait + Clock + Eprint, E: Write> Host for System<'_, R, E> {
     ghost input = { λ _. None };
 
     ghost file = { λ _ _. None };
 
     fn read_input(&mut self, alloc: Global, limit: usize) -> Result<Vec<u8>, HostFault> {
+        self.begin_reading();
         self.tell_reading();
-        read_all(alloc, self.rt.reader(), limit)
+        let bytes = read_all(alloc, self.rt.reader(), limit);
+        self.end_reading();
+        bytes
     }
 
     fn read_path(&mut self, alloc: Global, path: &str, limit: usize) -> Result<Vec<u8>, HostFault> {
+        self.begin_reading();
         if path == OWN_INPUT {
             self.tell_reading();
         }
-        match File::open(&self.rt, path) {
+        let bytes = match File::open(&self.rt, path) {
             Ok(file) => read_all(alloc, file, limit),
             Err(_) => Err(HostFault::Unreadable),
-        }
+        };
+        self.end_reading();
+        bytes
     }
 }
 
-impl<R: Files + Print, E> Traces for System<R, E> {
+impl<R: Files + Print, E> Traces for System<'_, R, E> {
     fn make_folder(&mut self, path: &str) -> Result<(), Unwritten> {
         if path.is_empty() {
             return Err(Unwritten);
@@ -105,25 +133,43 @@ impl<R: Files + Print, E> Traces for System<R, E> {
     }
 }
 
-impl<R: Files + Clock, E: Write> Watch for System<R, E> {
+impl<R: Files + Clock, E: Write> Watch for System<'_, R, E> {
     fn found(&mut self, count: usize) {
-        if !self.terminal.shows || !self.progress.is_due(count) {
-            return;
-        }
-        if let Ok(now) = self.rt.monotonic() {
-            self.progress.show(&mut self.terminal.err, count, now);
-        }
+        self.show_progress(count, " states");
     }
 
     fn ended(&mut self) {
-        self.progress.clear(&mut self.terminal.err);
+        self.end_progress();
     }
 }
 
-impl<R: Files, E: Write> Hints for System<R, E> {
+impl<R: Files + Clock, E: Write> Grading for System<'_, R, E> {
+    fn graded(&mut self, done: usize, _of: usize) {
+        self.show_progress(done, " verdicts");
+    }
+}
+
+impl<R: Files, E: Write> Hints for System<'_, R, E> {
     fn hint(&mut self, sentence: &str) {
         if self.terminal.shows && !sentence.is_empty() {
             let _ = writeln!(self.terminal.err, "xvsh: {sentence}");
         }
+    }
+}
+
+impl<R: Files + Clock, E: Write> System<'_, R, E> {
+    // Shows how far something is, if it is time to.
+    fn show_progress(&mut self, count: usize, what: &str) {
+        if !self.terminal.shows || !self.progress.is_due(count) {
+            return;
+        }
+        if let Ok(now) = self.rt.monotonic() {
+            self.progress.show(&mut self.terminal.err, count, what, now);
+        }
+    }
+
+    /// Takes what is shown from the terminal's line.
+    pub fn end_progress(&mut self) {
+        self.progress.clear(&mut self.terminal.err);
     }
 }

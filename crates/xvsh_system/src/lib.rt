@@ -1,0 +1,13 @@
+//! Runs scripts of xv6's shell on the system: all of the program but its `main`.
+#![tactic(auto)]
+
+mod grading;
+mod program;
+mod stepping;
+mod system;
+mod terminal;
+mod ticking;
+mod usage;
+
+pub use program::run;
+pub use terminal::Terminal;

@@ -1,0 +1,122 @@
+//! The program, by the words of its command line.
+
+ghost use Rattle.std.specs.Thread.{IsSync};
+
+use crate::grading::grades;
+use crate::stepping::steps;
+use crate::system::System;
+use crate::terminal::Terminal;
+use crate::ticking::{Quieting, Ticker};
+use std::io::{self, ErrorKind, Write};
+use std::process::ExitCode;
+use std::rt::{Env, Files};
+use std::sync::Wait;
+use std::thread::Threads;
+use std::time::Clock;
+use std::{env, thread};
+use xvsh::drive;
+use xvsh_read::Console;
+
+// The words after the program's own name.
+fn words_of(rt: &(impl Env + AllocGlobal)) -> io::Result<Vec<String>> {
+    Ok(env::args(rt)?.skip(1).collect(rt.alloc())?)
+}
+
+// Runs a command whose output is written once it is done.
+fn run_whole<R, E, T>(
+    rt: &R,
+    words: Vec<String>,
+    err: &mut E,
+    terminal: Terminal<T>,
+    ticker: Option<&Ticker>,
+) -> u8
+where
+    R: AllocGlobal + Input + Files + Print + Eprint + Threads + Wait + Clock + Sync,
+    E: Write,
+    T: Write + Drop,
+{
+    let mut console = Console {
+        host: System::new(rt, terminal, ticker),
+        out: Quieting {
+            rt,
+            ticker,
+            writer: io::writer(rt),
+        },
+        err: Quieting {
+            rt,
+            ticker,
+            writer: err,
+        },
+    };
+    drive(rt, rt.alloc(), words, &mut console)
+}
+
+// The same, while a thread shows on the terminal that it goes on.
+fn run_shown<R, E, T>(rt: &R, words: Vec<String>, err: &mut E, terminal: Terminal<T>) -> u8
+where
+    R: AllocGlobal + Input + Files + Print + Eprint + Threads + Wait + Clock + Sync,
+    E: Write,
+    T: Write + Drop,
+{
+    let own = Ticker::new();
+    let ticker = &own;
+    thread::scope(
+        thread::scope_env(),
+        rt,
+        |scope|
+            requires { IsSync R.row }
+        {
+            let _ = scope.spawn(move || ticker.ticks(rt));
+            let status = run_whole(rt, words, err, terminal, Some(ticker));
+            ticker.ends(rt);
+            status
+        },
+    )
+}
+
+// Whether these words are of a run that is shown to go on.
+fn is_shown(words: &[String]) -> bool {
+    match words.first() {
+        Some(name) if name.as_str() == "run" => {
+            !words.iter().any(|word| word.as_str() == "--quiet")
+        }
+        _ => false,
+    }
+}
+
+// Runs the command that the words name.
+fn run_words<R, E, T>(rt: &R, words: Vec<String>, err: &mut E, terminal: Terminal<T>) -> u8
+where
+    R: Env + AllocGlobal + Input + Files + Print + Eprint + Threads + Wait + Clock + Sync,
+    E: Write,
+    T: Write + Drop,
+{
+    match words.first() {
+        Some(name) if name.as_str() == "step" => steps(rt, words.as_slice(), err, terminal),
+        Some(name) if name.as_str() == "grade" => grades(rt, words.as_slice(), err, terminal),
+        _ if terminal.shows && is_shown(words.as_slice()) => run_shown(rt, words, err, terminal),
+        _ => run_whole(rt, words, err, terminal, None),
+    }
+}
+
+/// Runs the program on the words, the input and the files of the system, with this as its standard error, and gives the status
+/// with which it ends. `terminal` is told what the program waits for, and how far it is, where there is one.
+pub fn run<R, E, T>(rt: &R, err: &mut E, terminal: Terminal<T>) -> io::Result<ExitCode>
+where
+    R: Env + AllocGlobal + Input + Files + Print + Eprint + Threads + Wait + Clock + Sync,
+    E: Write,
+    T: Write + Drop,
+{
+    let words = match words_of(rt) {
+        Ok(words) => words,
+        Err(error) if error.kind() == ErrorKind::InvalidData => {
+            writeln!(err, "xvsh: a word of the command line is not text in UTF-8")?;
+            return Ok(ExitCode::from(2));
+        }
+        Err(_) => {
+            writeln!(err, "xvsh: no memory")?;
+            return Ok(ExitCode::from(4));
+        }
+    };
+    Ok(ExitCode::from(run_words(rt, words, err, terminal)))
+}
