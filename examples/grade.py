@@ -1,4 +1,4 @@
-"""Grades students' scripts: what each prints, whether it prints that every time, and what else it can print.
+"""Grades students' scripts: what each prints, whether it prints that every time, what else it can print, and what is odd in it.
 
     bindings/build
     PYTHONPATH=bindings/python python3 examples/grade.py
@@ -20,9 +20,11 @@ for number, script in enumerate(SCRIPTS, 1):
     except xvsh.LineTooLong as fault:
         print(f"  refused: {fault}")
         continue
+    for note in xvsh.explain(script).notes:
+        print(f"  line {note.line}: {note.sentence}")
     print("  right" if answer.out == WANTED else "  wrong", "settled" if answer.settled else "not settled", sep=", ")
     if not answer.settled:
-        outputs = {xvsh.run(script, files=FRUIT, order=xvsh.Order.DRAWN, seed=seed).out for seed in range(200)}
+        outputs = {outcome.out for outcome in xvsh.explore(script, files=FRUIT).outcomes}
         print("  prints", " or ".join(repr(out.decode()) for out in sorted(outputs)))
 
 run = xvsh.run("echo hi | wc")
@@ -31,4 +33,6 @@ print("echo hi | wc:", sum(event.kind == "trap" for event in run), "calls of", l
 session = xvsh.Session("echo a > f; cat f")
 while not session.finished:
     session.choose(max(session.choices()))
-print("turn by turn:", session.finish().out.decode(), end="")
+print("turn by turn:", session.out.decode(), end="")
+session.back(1)
+print("before the last turn:", ", ".join(f"{it.prog} {it.state}" for it in session.processes))

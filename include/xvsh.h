@@ -1,4 +1,4 @@
-/* xvsh.h: xv6's shell, its processes and six programs, as a library. Version 0.1.0.
+/* xvsh.h: xv6's shell, its processes and six programs, as a library. Version 0.2.0.
  *
  * Each call below does what a command of the program `xvsh` does, on bytes in memory; docs/LIBRARY.md says what is proved of each.
  * What is not proved: this header, three functions of the heap under the library (malloc, realloc and free), the compiler, and that
@@ -23,8 +23,9 @@
  *
  * Faults. A call returns 0, or the number of a fault: then the answer has that number as `status`, what it is about as `place`, and
  * nothing else. xvsh_fault_name and xvsh_fault_text have the name and the text of a number. A number is never given to another
- * fault; new ones may come, so have a default. No call aborts, and each returns: xvsh_run takes at most `turns` events, and
- * xvsh_plain asks for at most the task's budget of memory, where it has one.
+ * fault; new ones may come, so have a default. No call aborts, and each returns: xvsh_run and xvsh_trace take at most `turns` events,
+ * xvsh_replay and xvsh_look those of the schedule, xvsh_explore finds at most `states` states, and xvsh_plain asks for at most the
+ * task's budget of memory, where it has one. xvsh_check and xvsh_explain read the script once, and run nothing.
  *
  * Versions. xvsh_version() is 1,000,000 times the first number, 1,000 times the second, and the third. Structs and calls change only
  * with the first number, or, as long as that is 0, with the second: compare xvsh_version() / 1000 with XVSH_VERSION / 1000.
@@ -40,7 +41,7 @@
 extern "C" {
 #endif
 
-#define XVSH_VERSION 1000u             /* 1,000,000 * 0 + 1,000 * 1 + 0 */
+#define XVSH_VERSION 2000u             /* 1,000,000 * 0 + 1,000 * 2 + 0 */
 
 /* Limits. What passes one is a fault. */
 #define XVSH_MAX_SCRIPT 1048576u       /* bytes of a script */
@@ -50,6 +51,7 @@ extern "C" {
 #define XVSH_MAX_FILE 274432u          /* bytes of a file */
 #define XVSH_MAX_NAME 14u              /* bytes of a file's name, which has at least one, and none that is 0 or '/' */
 #define XVSH_MAX_TURNS 1000000000u     /* events of a run */
+#define XVSH_MAX_STATES 10000000u      /* states of the kernel that an exploration keeps */
 
 /* Bytes, which need not end in 0. */
 typedef struct { const uint8_t *at; size_t length; } xvsh_bytes;
@@ -63,7 +65,8 @@ typedef struct {
   xvsh_bytes script, input;
   xvsh_files files;
   uint64_t budget;   /* the most bytes of memory that the run of xvsh_plain may ask for in all, counting none that it gives back;
-                        0: no such bound. The answer comes on top, and is no longer than what the run held */
+                        0: no such bound. The answer comes on top, and is no longer than what the run held. It bounds no other
+                        call: an exploration is bounded by its states, and any other run by its turns */
   uint32_t appends;  /* 0: `>>` writes over a file from its beginning, as xv6's does; else it appends */
 } xvsh_task;
 
@@ -75,7 +78,8 @@ typedef enum {
   XVSH_BYTE_ZERO = 4,         /* a line holds a byte 0; place: the line of the script, from 1 */
   XVSH_BAD_NAME = 5,          /* no file of a script can have that name; place: the file, from 1 */
   XVSH_TOO_MANY_FILES = 6,    /* place: the file, from 1 */
-  XVSH_TOO_LARGE = 7,         /* the script makes a file too large, or one too many */
+  XVSH_TOO_LARGE = 7,         /* the script makes a file too large, or one too many; of xvsh_explore: a run has more turns than can
+                                 be counted */
   XVSH_MEMORY = 8,            /* memory was refused, or the budget is spent */
   XVSH_SPENT = 9,             /* the turns are over, and the run isn't finished */
   XVSH_NO_EVENT = 10,         /* a line of the schedule is no event; place: the line, from 1 */
@@ -87,6 +91,7 @@ typedef enum {
   XVSH_INPUT_TOO_LONG = 65,
   XVSH_BAD_TURNS = 66,        /* 0, or more than XVSH_MAX_TURNS */
   XVSH_BAD_ORDER = 67,        /* no xvsh_order */
+  XVSH_BAD_STATES = 68,       /* 0, or more than XVSH_MAX_STATES */
   XVSH_NULL = 69              /* a null pointer with a length other than 0 */
 } xvsh_status;
 
@@ -111,15 +116,16 @@ typedef struct { const xvsh_sizes *at; size_t length; } xvsh_table;
 typedef struct {
   xvsh_bytes out;      /* the standard output */
   xvsh_bytes diag;     /* the diagnostics of a run */
-  xvsh_bytes events;   /* a line an event: `D HART PROCESS` or `T HART PROCESS` */
-  xvsh_bytes json;     /* no call fills it yet */
+  xvsh_bytes events;   /* a line an event: `D HART PROCESS` or `T HART PROCESS`; of xvsh_trace the lines of the trace */
+  xvsh_bytes json;     /* of xvsh_check, xvsh_explain, xvsh_explore and xvsh_look an object of JSON, and LF */
   xvsh_bytes block;    /* the files at the end, in byte order of their names: of each its name, and behind it its bytes */
   xvsh_table sizes;    /* how long these are: a row a file; xvsh_next_file walks them */
   uint64_t place;      /* what a fault is about, or 0 */
   uint32_t status;     /* XVSH_OK, or the fault */
   uint32_t full;       /* an xvsh_full */
-  uint32_t fine;       /* xvsh_plain: 1 where the script is settled */
-  uint32_t whole;      /* no call fills it yet */
+  uint32_t fine;       /* xvsh_plain: 1 where the script is settled; xvsh_check and xvsh_explain: where there is nothing to tell;
+                          xvsh_explore: where all outcomes have one output and one set of files; xvsh_look: where the run is finished */
+  uint32_t whole;      /* xvsh_explore: 1 where every order was tried, or what it leaves is known without */
 } xvsh_answer;
 
 #define XVSH_NO_BYTES { (const uint8_t *)"", 0 }
@@ -133,6 +139,11 @@ void xvsh_fault_call(uint32_t number, xvsh_bytes *words);
 void xvsh_plain_call(const xvsh_task *task, xvsh_answer *answer);
 void xvsh_run_call(const xvsh_task *task, uint64_t turns, uint32_t order, uint64_t number, xvsh_answer *answer);
 void xvsh_replay_call(const xvsh_task *task, const uint8_t *schedule, size_t length, xvsh_answer *answer);
+void xvsh_check_call(const xvsh_task *task, uint32_t strict, xvsh_answer *answer);
+void xvsh_explain_call(const xvsh_task *task, xvsh_answer *answer);
+void xvsh_explore_call(const xvsh_task *task, uint64_t states, uint32_t thorough, xvsh_answer *answer);
+void xvsh_trace_call(const xvsh_task *task, uint64_t turns, uint32_t order, uint64_t number, xvsh_answer *answer);
+void xvsh_look_call(const xvsh_task *task, const uint8_t *schedule, size_t length, xvsh_answer *answer);
 
 /* The bytes of a C string without its 0; of a null none. */
 static inline xvsh_bytes xvsh_text(const char *text) {
@@ -248,6 +259,51 @@ static inline bool xvsh_begin_events_(const xvsh_task *task, xvsh_bytes *schedul
 static inline uint32_t xvsh_replay(const xvsh_task *task, xvsh_bytes schedule, xvsh_answer *answer) {
   xvsh_safe_task_ safe;
   if (xvsh_begin_events_(task, &schedule, &safe, answer)) xvsh_replay_call(&safe.task, schedule.at, schedule.length, answer);
+  return answer->status;
+}
+
+/* Checks the lines of the script, as `xvsh check --json`. Gives that object (docs/FORMATS.md) as json, and fine where no line holds a
+ * `&` or a clash; with `strict` other than 0 only where each line is a command too. Nothing is run: neither the input nor the files
+ * are looked at. */
+static inline uint32_t xvsh_check(const xvsh_task *task, uint32_t strict, xvsh_answer *answer) {
+  xvsh_safe_task_ safe;
+  if (xvsh_begin_(task, &safe, answer)) xvsh_check_call(&safe.task, strict, answer);
+  return answer->status;
+}
+
+/* Tells in sentences what is wrong or unexpected in the lines of the script, as `xvsh explain --json`. Gives that object as json, and
+ * fine where no line has a note. Nothing is run, as with xvsh_check. */
+static inline uint32_t xvsh_explain(const xvsh_task *task, xvsh_answer *answer) {
+  xvsh_safe_task_ safe;
+  if (xvsh_begin_(task, &safe, answer)) xvsh_explain_call(&safe.task, answer);
+  return answer->status;
+}
+
+/* Tries every order of the script's processes, as `xvsh explore --json`, of at most `states` states of the kernel, from 1 to
+ * XVSH_MAX_STATES, for each of which memory is kept. A settled script none of whose files is soft has one outcome, and is explored
+ * only with `thorough` other than 0. Gives that object as json, fine where all outcomes that were found have one output and one set of
+ * files, and whole where every order was tried, or what it leaves is known without. */
+static inline uint32_t xvsh_explore(const xvsh_task *task, uint64_t states, uint32_t thorough, xvsh_answer *answer) {
+  xvsh_safe_task_ safe;
+  if (xvsh_begin_(task, &safe, answer)) xvsh_explore_call(&safe.task, states, thorough, answer);
+  return answer->status;
+}
+
+/* Runs the script as xvsh_run does, and gives what that gives, but for events the lines of the run's trace, as `xvsh run --trace`
+ * writes them: each an object of JSON and LF (docs/FORMATS.md). A trace has some 200 bytes an event, and more where files are long. */
+static inline uint32_t xvsh_trace(const xvsh_task *task, uint64_t turns, uint32_t order, uint64_t number, xvsh_answer *answer) {
+  xvsh_safe_task_ safe;
+  if (xvsh_begin_(task, &safe, answer)) xvsh_trace_call(&safe.task, turns, order, number, answer);
+  return answer->status;
+}
+
+/* Tells how a run stands after the events of a schedule, which need not be those of a whole run: a session is such a schedule, which
+ * grows. Gives as json an object of `stands`, which is "runnable", "finished", or "stuck" where the run isn't finished and nobody can
+ * take a turn, and of `ps`, `pipes`, `files` and `out`, each the object that `xvsh step --json` answers to that command; and fine where
+ * the run is finished. A process that is running on a hart, which hasn't made its call yet, is told as runnable. */
+static inline uint32_t xvsh_look(const xvsh_task *task, xvsh_bytes schedule, xvsh_answer *answer) {
+  xvsh_safe_task_ safe;
+  if (xvsh_begin_events_(task, &schedule, &safe, answer)) xvsh_look_call(&safe.task, schedule.at, schedule.length, answer);
   return answer->status;
 }
 

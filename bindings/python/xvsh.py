@@ -13,23 +13,27 @@ lets other threads run.
 """
 from __future__ import annotations
 
+import base64
 import ctypes as c
 import ctypes.util
 import dataclasses
 import enum
+import json
 import os
-from collections.abc import Iterator, Mapping
+from collections.abc import Iterable, Iterator, Mapping
 from typing import Any, Union
 
 __all__ = [
-    "Answer", "Bytes", "Event", "Fault", "File", "Files", "Order", "Plain", "Run", "Session", "XvshError", "plain", "replay", "run", "version",
+    "Answer", "Bytes", "Check", "Event", "Explanation", "Exploration", "Fault", "File", "Files", "Finding", "Note", "Order", "Outcome",
+    "Parting", "Pipe", "Plain", "Process", "Run", "Session", "XvshError", "check", "explain", "explore", "plain", "replay", "run", "version",
 ]
 
 Bytes = Union[bytes, bytearray, memoryview, str]
 Files = Mapping[str, Bytes]
 
 MAX_TURNS = 1_000_000_000
-_VERSION = 1_000
+MAX_STATES = 10_000_000
+_VERSION = 2_000
 
 
 class Fault(enum.IntEnum):
@@ -52,6 +56,7 @@ class Fault(enum.IntEnum):
     InputTooLong = 65
     BadTurns = 66
     BadOrder = 67
+    BadStates = 68
 
 
 class XvshError(ValueError):
@@ -133,7 +138,8 @@ _free.argtypes, _free.restype = [c.c_void_p], None
 _lib.xvsh_version.argtypes, _lib.xvsh_version.restype = [], c.c_uint32
 _task, _answer = c.POINTER(_Task), c.POINTER(_Answer)
 for _name, _more in {
-    "plain": [], "run": [c.c_uint64, c.c_uint32, c.c_uint64], "replay": [c.c_char_p, c.c_size_t],
+    "plain": [], "run": [c.c_uint64, c.c_uint32, c.c_uint64], "replay": [c.c_char_p, c.c_size_t], "check": [c.c_uint32], "explain": [],
+    "explore": [c.c_uint64, c.c_uint32], "trace": [c.c_uint64, c.c_uint32, c.c_uint64], "look": [c.c_char_p, c.c_size_t],
 }.items():
     _function = getattr(_lib, f"xvsh_{_name}_call")
     _function.argtypes, _function.restype = [_task, *_more, _answer], None
@@ -197,26 +203,141 @@ class Plain(Answer):
 
 @dataclasses.dataclass(frozen=True)
 class Event:
-    """An event of a run, counted from 1: a `dispatch`, by which the process in slot `pid` begins to run on the hart, or a `trap`, by which its call is carried out."""
+    """An event of a run, counted from 1: a `dispatch`, by which the process in slot `pid` begins to run on the hart, or a `trap`, by
+    which its call is carried out. In a run that is traced `record` is its line of the trace, as json.loads reads it."""
 
     n: int
     kind: str
     hart: int
     pid: int
+    record: dict[str, Any] | None = dataclasses.field(default=None, hash=False)
 
 
 @dataclasses.dataclass(frozen=True)
 class Run(Answer):
-    """A finished run by processes: its diagnostics, its schedule, a line an event, and what was full first, or None. It iterates over its events."""
+    """A finished run by processes: its diagnostics, its schedule, a line an event, what was full first, or None, and the lines of its
+    trace, or None where it isn't traced. It iterates over its events."""
 
     diag: bytes
     schedule: bytes
     full: str | None
+    trace: bytes | None = None
 
     def __iter__(self) -> Iterator[Event]:
+        if self.trace is not None:
+            yield from _traced(self.trace)
+            return
         for n, line in enumerate(self.schedule.splitlines(), 1):
             letter, hart, pid = line.split()
             yield Event(n, "dispatch" if letter == b"D" else "trap", int(hart), int(pid))
+
+
+def _traced(trace: bytes) -> Iterator[Event]:
+    for line in trace.splitlines():
+        record = json.loads(line)
+        if record["kind"] in ("dispatch", "trap"):
+            yield Event(record["n"], record["kind"], record["hart"], record["pid"], record)
+
+
+@dataclasses.dataclass(frozen=True)
+class Finding:
+    """What a check found in a line, counted from 1: a `fault`, by which it is no command, at a place in bytes from 0; that it holds a `&`,
+    a `background`; or its first `clash`, of a kind, on the file `name`."""
+
+    kind: str
+    line: int
+    fault: str | None = None
+    at: int | None = None
+    clash: str | None = None
+    name: str | None = None
+
+
+@dataclasses.dataclass(frozen=True)
+class Check:
+    """What a check found; it is `harmless` where no line holds a `&` or a clash, and strictly each is a command. `json` is the program's object."""
+
+    harmless: bool
+    findings: tuple[Finding, ...]
+    json: bytes
+
+
+@dataclasses.dataclass(frozen=True)
+class Note:
+    """What is wrong or unexpected in a line, counted from 1, in a sentence; the places that it marks, each from a byte of the line's text, counted from 0, up to another."""
+
+    kind: str
+    line: int
+    places: tuple[tuple[int, int], ...]
+    sentence: str
+    text: bytes
+
+
+@dataclasses.dataclass(frozen=True)
+class Explanation:
+    """The notes on a script; it is `fine` where there is none. `json` is the program's object."""
+
+    fine: bool
+    notes: tuple[Note, ...]
+    json: bytes
+
+
+@dataclasses.dataclass(frozen=True)
+class Parting:
+    """The event, counted from 1, up to which a schedule of the first outcome and this one's are alike; what happens there, and here."""
+
+    event: int
+    there: str
+    here: str
+
+
+@dataclasses.dataclass(frozen=True)
+class Outcome(Answer):
+    """What runs of a script can leave; and of a script that was explored the diagnostics, what was full first, or None, a shortest
+    schedule that leads there, and where it parts from that of the first outcome."""
+
+    diag: bytes
+    full: str | None
+    schedule: bytes | None
+    parting: Parting | None
+
+
+@dataclasses.dataclass(frozen=True)
+class Exploration:
+    """What every order of a script's processes leaves. It is `single` where all outcomes have one output and one set of files, and `whole`
+    where every order was tried, or what it leaves is known without; `stuck` is a schedule after which every process sleeps for ever, or
+    None. `json` is the program's object."""
+
+    single: bool
+    whole: bool
+    states: int
+    outcomes: tuple[Outcome, ...]
+    stuck: bytes | None
+    json: bytes
+
+
+@dataclasses.dataclass(frozen=True)
+class Process:
+    """A process: its slot and its parent's, the program it runs, its state, which is `runnable`, `asleep` or `zombie`, the command that it
+    carries out and the line of that, the call that it makes next, and what it sleeps on, where there are such."""
+
+    pid: int
+    parent: int
+    prog: str
+    state: str
+    command: str | None
+    line: int | None
+    next: dict[str, Any] | None = dataclasses.field(hash=False)
+    sleep: dict[str, Any] | None = dataclasses.field(hash=False)
+
+
+@dataclasses.dataclass(frozen=True)
+class Pipe:
+    """A pipe: its number, how many bytes it holds, and the slots of the processes that hold its ends open."""
+
+    number: int
+    held: int
+    readers: tuple[int, ...]
+    writers: tuple[int, ...]
 
 
 _FULL = (None, "procs", "open", "descriptors", "files", "size", "memory")
@@ -274,12 +395,16 @@ def plain(script: Bytes, input: Bytes = b"", files: Files | None = None, *, appe
 
 def run(
     script: Bytes, input: Bytes = b"", files: Files | None = None, *, append: bool = False, turns: int = 10_000_000,
-    order: Order = Order.KERNEL, seed: int = 0,
+    order: Order = Order.KERNEL, seed: int = 0, trace: bool = False,
 ) -> Run:
-    """Runs the script by its processes on one hart, in at most `turns` events, in this order."""
+    """Runs the script by its processes on one hart, in at most `turns` events, in this order; with `trace` each event has its record."""
     if not 0 <= turns < 1 << 64 or not 0 <= seed < 1 << 64:
         raise ValueError("turns and seeds are numbers from 0 to 2**64 - 1")
-    return _run_of(_call("run", script, input, files, append, 0, turns, int(order), seed))
+    call = _call("trace" if trace else "run", script, input, files, append, 0, turns, int(order), seed)
+    if not trace:
+        return _run_of(call)
+    schedule = b"".join(b"%c %d %d\n" % (68 if event.kind == "dispatch" else 84, event.hart, event.pid) for event in _traced(call.events))
+    return Run(call.out, call.files, call.diag, schedule, call.full, call.events)
 
 
 def replay(script: Bytes, schedule: Bytes, input: Bytes = b"", files: Files | None = None, *, append: bool = False) -> Run:
@@ -292,6 +417,81 @@ def _run_of(call: _Call) -> Run:
     return Run(call.out, call.files, call.diag, call.events, call.full)
 
 
+def check(script: Bytes, *, strict: bool = False) -> Check:
+    r"""Tells where commands of a script may clash, and runs nothing.
+
+    >>> import xvsh
+    >>> [(found.kind, found.line) for found in xvsh.check("echo a\necho b &\n").findings]
+    [('background', 2)]
+    """
+    call = _call("check", script, b"", None, False, 0, 1 if strict else 0)
+    made = json.loads(call.json)
+    findings = tuple(
+        Finding(it["kind"], it["line"], it.get("fault"), it.get("first"), it.get("clash"), _name_of(it["name"]) if "name" in it else None)
+        for it in made["findings"]
+    )
+    return Check(call.fine, findings, call.json)
+
+
+def explain(script: Bytes) -> Explanation:
+    """Tells in sentences what is wrong or unexpected in a script.
+
+    >>> import xvsh
+    >>> print(xvsh.explain("lss").notes[0].sentence)
+    no program has this name: there are cat, echo, grep, head, tee and wc
+    """
+    call = _call("explain", script, b"", None, False, 0)
+    made = json.loads(call.json)
+    notes = tuple(
+        Note(it["kind"], it["line"], tuple((place["first"], place["past"]) for place in it["places"]), it["sentence"], _bytes_of(it["text"]))
+        for it in made["notes"]
+    )
+    return Explanation(call.fine, notes, call.json)
+
+
+def explore(
+    script: Bytes, input: Bytes = b"", files: Files | None = None, *, append: bool = False, states: int = 200_000, thorough: bool = False,
+) -> Exploration:
+    """Tries every order of the script's processes, of at most `states` states of the kernel, for each of which memory is kept. A
+    settled script none of whose files is soft has one outcome, and is explored only if it is to be `thorough`.
+
+    >>> import xvsh
+    >>> [outcome.out for outcome in xvsh.explore("echo a &; echo b").outcomes]
+    [b'a\\nb\\n', b'ab\\n\\n', b'b\\na\\n', b'ba\\n\\n']
+    """
+    if not 0 <= states < 1 << 64:
+        raise ValueError("states are a number from 0 to 2**64 - 1")
+    call = _call("explore", script, input, files, append, 0, states, 1 if thorough else 0)
+    made = json.loads(call.json)
+    stuck = None if made["stuck"] is None else _schedule(made["stuck"])
+    return Exploration(call.fine, call.whole, made["states"], tuple(map(_outcome_of, made["outcomes"])), stuck, call.json)
+
+
+def _bytes_of(value: Any) -> bytes:
+    """Bytes in an object of JSON."""
+    return base64.b64decode(value["base64"]) if isinstance(value, dict) else value.encode()
+
+
+def _text_of(value: Any) -> str:
+    return _bytes_of(value).decode("utf-8", "surrogateescape")
+
+
+def _name_of(value: Any) -> str:
+    return os.fsdecode(_bytes_of(value))
+
+
+def _outcome_of(made: dict[str, Any]) -> Outcome:
+    parting = made.get("parting")
+    return Outcome(
+        _bytes_of(made["output"]),
+        {_name_of(it["name"]): File(_bytes_of(it["bytes"])) for it in made["files"]},
+        _bytes_of(made.get("diagnostics", "")),
+        made.get("full"),
+        _schedule(made["schedule"]) if "schedule" in made else None,
+        Parting(parting["event"], _text_of(parting["there"]), _text_of(parting["here"])) if parting else None,
+    )
+
+
 class Session:
     """A run that is made turn by turn: it is its schedule, which grows by each choice, and is made again for each look.
 
@@ -299,22 +499,26 @@ class Session:
         >>> session = xvsh.Session("echo hi")
         >>> while not session.finished:
         ...     session.choose(min(session.choices()))
-        >>> session.finish().out
+        >>> session.out
         b'hi\\n'
+        >>> session.back(3)
+        (1, 1, 0)
+        >>> [(process.pid, process.prog, process.state) for process in session.processes]
+        [(0, 'init', 'asleep'), (1, 'sh', 'runnable'), (2, 'echo', 'zombie')]
     """
 
     def __init__(self, script: Bytes, input: Bytes = b"", files: Files | None = None, *, append: bool = False) -> None:
         self._task = (_raw(script), _raw(input), dict(files or {}), append)
         self._turns: list[int] = []
-        self._run = self._look(())
+        self._look(())
 
-    def _look(self, more: tuple[int, ...]) -> Run | None:
-        """What the turns so far and these lead to: a finished run, or None where it goes on."""
+    def _look(self, turns: tuple[int, ...]) -> None:
+        """Looks at what these turns lead to."""
+        events = _schedule(turns)
         script, input, files, append = self._task
-        try:
-            return replay(script, _schedule([*self._turns, *more]), input, files, append=append)
-        except _ERRORS[Fault.Unfinished]:
-            return None
+        call = _call("look", script, input, files, append, 0, events, len(events))
+        self._finished, self._made, self._json = call.fine, json.loads(call.json), call.json
+        self._turns = list(turns)
 
     @property
     def schedule(self) -> bytes:
@@ -329,29 +533,60 @@ class Session:
     @property
     def finished(self) -> bool:
         """Whether every process but init has ended."""
-        return self._run is not None
+        return self._finished
+
+    @property
+    def json(self) -> bytes:
+        """The library's object: how the run stands, and the answers of `xvsh step --json` to `ps`, `pipes`, `files` and `out`."""
+        return self._json
+
+    @property
+    def processes(self) -> tuple[Process, ...]:
+        """The processes, by their slots."""
+        return tuple(
+            Process(
+                it["pid"], it["parent"], _text_of(it["prog"]), it["state"], _text_of(it["cmd"]) if "cmd" in it else None, it.get("line"),
+                it.get("next"), it.get("sleep"),
+            )
+            for it in self._made["ps"]["processes"]
+        )
+
+    @property
+    def pipes(self) -> tuple[Pipe, ...]:
+        """The pipes that some process holds open."""
+        return tuple(Pipe(it["pipe"], it["held"], tuple(it["readers"]), tuple(it["writers"])) for it in self._made["pipes"]["pipes"])
+
+    @property
+    def files(self) -> dict[str, bytes]:
+        """The files so far."""
+        return {_name_of(it["name"]): _bytes_of(it["data"]) for it in self._made["files"]["files"]}
+
+    @property
+    def out(self) -> bytes:
+        """The output so far."""
+        return _bytes_of(self._made["out"]["out"])
+
+    @property
+    def diag(self) -> bytes:
+        """The diagnostics so far."""
+        return _bytes_of(self._made["out"]["diag"])
 
     def choices(self) -> tuple[int, ...]:
         """The slots of the processes that can take the next turn; none where the run is finished, or stuck."""
-        return tuple(pid for pid in range(0 if self.finished else 64) if self._can(pid))
-
-    def _can(self, pid: int) -> bool:
-        try:
-            self._look((pid,))
-        except _ERRORS[Fault.NotRunnable]:
-            return False
-        return True
+        return () if self.finished else tuple(it["pid"] for it in self._made["ps"]["processes"] if it["state"] == "runnable")
 
     def choose(self, pid: int) -> None:
         """Lets the process in this slot take a turn. NotRunnable where it can't; nothing changes then."""
-        self._run = self._look((pid,))
-        self._turns.append(pid)
+        self._look((*self._turns, pid))
 
-    def back(self) -> int:
-        """Takes back the last turn, and returns whose it was."""
-        pid = self._turns.pop()
-        self._run = self._look(())
-        return pid
+    def back(self, turns: int = 1) -> tuple[int, ...]:
+        """Takes back the last turns, and returns whose they were, in their order. ValueError where there were fewer; nothing changes then."""
+        if not 0 <= turns <= len(self._turns):
+            raise ValueError(f"there are {len(self._turns)} turns")
+        left = len(self._turns) - turns
+        taken = tuple(self._turns[left:])
+        self._look(tuple(self._turns[:left]))
+        return taken
 
     def finish(self) -> Run:
         """What the run leaves. Unfinished where it isn't finished."""
@@ -359,5 +594,5 @@ class Session:
         return replay(script, self.schedule, input, files, append=append)
 
 
-def _schedule(turns: list[int]) -> bytes:
+def _schedule(turns: Iterable[int]) -> bytes:
     return b"".join(b"D 0 %d\nT 0 %d\n" % (pid, pid) for pid in turns)

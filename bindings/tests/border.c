@@ -4,7 +4,7 @@
 #include <pthread.h>
 #include <stdio.h>
 
-_Static_assert(sizeof(xvsh_task) == 64 && sizeof(xvsh_answer) == 120 && sizeof(xvsh_sizes) == 24, "the layout of version 0.1");
+_Static_assert(sizeof(xvsh_task) == 64 && sizeof(xvsh_answer) == 120 && sizeof(xvsh_sizes) == 24, "the layout of version 0.2");
 
 static long failed, tested;
 
@@ -37,8 +37,26 @@ static bool refused(const xvsh_task *task, uint32_t fault, uint64_t place) {
   if (!right) fprintf(stderr, "status %u place %llu\n", answer.status, (unsigned long long)answer.place);
   right = xvsh_run(task, 1000000, XVSH_KERNEL, 0, &answer) == fault && answer.place == place && is_nothing(&answer) && right;
   right = xvsh_replay(task, xvsh_text(""), &answer) == fault && answer.place == place && is_nothing(&answer) && right;
+  right = xvsh_trace(task, 1000000, XVSH_KERNEL, 0, &answer) == fault && answer.place == place && is_nothing(&answer) && right;
+  right = xvsh_look(task, xvsh_text(""), &answer) == fault && answer.place == place && is_nothing(&answer) && right;
+  right = xvsh_explore(task, 1000000, 1, &answer) == fault && answer.place == place && is_nothing(&answer) && right;
+  /* a check and an explanation look at the script alone */
+  bool of_script = fault == XVSH_NULL || fault == XVSH_SCRIPT_TOO_LONG || fault == XVSH_LINE_TOO_LONG || fault == XVSH_BYTE_ZERO;
+  uint32_t wanted = of_script ? fault : XVSH_OK;
+  right = xvsh_check(task, 0, &answer) == wanted && (wanted ? answer.place == place && is_nothing(&answer) : answer.json.length > 0) && right;
+  right = xvsh_explain(task, &answer) == wanted && (wanted ? answer.place == place && is_nothing(&answer) : answer.json.length > 0) && right;
   xvsh_answer_free(&answer);
   return right;
+}
+
+/* Whether the object of an answer holds this text, and is a line with nothing beside it. */
+static bool tells(const xvsh_answer *answer, const char *text) {
+  size_t length = strlen(text), at = 0;
+  const xvsh_bytes json = answer->json;
+  if (answer->out.length || answer->diag.length || answer->events.length || answer->block.length || answer->sizes.length || answer->full) return false;
+  if (json.length < 3 || json.at[0] != '{' || json.at[json.length - 2] != '}' || memchr(json.at, '\n', json.length) != json.at + json.length - 1) return false;
+  while (at + length <= json.length && memcmp(json.at + at, text, length) != 0) at++;
+  return at + length <= json.length;
 }
 
 static void nulls(void) {
@@ -68,9 +86,11 @@ static void nulls(void) {
   TEST(refused(&task, XVSH_BAD_NAME, 2));
   xvsh_bytes schedule = { NULL, 1 };
   TEST(xvsh_replay(&task, schedule, &answer) == XVSH_NULL && is_nothing(&answer));
+  TEST(xvsh_look(&task, schedule, &answer) == XVSH_NULL && is_nothing(&answer));
   schedule.length = 0;
   task = task_of("echo\n", NULL, 0);
   TEST(xvsh_replay(&task, schedule, &answer) == XVSH_UNFINISHED && is_nothing(&answer));
+  TEST(xvsh_look(&task, schedule, &answer) == XVSH_OK && tells(&answer, "\"stands\":\"runnable\"") && !answer.fine);
   xvsh_answer_free(&answer);
 }
 
@@ -166,6 +186,64 @@ static void runs(void) {
   xvsh_answer_free(&again);
 }
 
+static void asks(void) {
+  xvsh_answer answer = XVSH_ANSWER;
+  xvsh_task task = task_of("cat f | wc\n", NULL, 0);
+  TEST(xvsh_check(&task, 0, &answer) == XVSH_OK && tells(&answer, "\"findings\":[]") && answer.fine && !answer.whole);
+  TEST(xvsh_explain(&task, &answer) == XVSH_OK && tells(&answer, "\"status\":\"nothing to tell\"") && answer.fine && !answer.whole);
+  task = task_of("echo a\n\n)\n", NULL, 0);
+  TEST(xvsh_check(&task, 0, &answer) == XVSH_OK && tells(&answer, "\"kind\":\"fault\",\"line\":3") && answer.fine);
+  TEST(xvsh_check(&task, 1, &answer) == XVSH_OK && tells(&answer, "\"code\":3") && !answer.fine);
+  TEST(xvsh_check(&task, UINT32_MAX, &answer) == XVSH_OK && tells(&answer, "\"code\":3") && !answer.fine);
+  task = task_of("echo a\nlss &\n", NULL, 0);
+  TEST(xvsh_check(&task, 0, &answer) == XVSH_OK && tells(&answer, "{\"kind\":\"background\",\"line\":2}") && !answer.fine);
+  TEST(xvsh_explain(&task, &answer) == XVSH_OK && tells(&answer, "\"kind\":\"NoProgram\",\"line\":2") && !answer.fine);
+  task = task_of("echo b > f &; echo a > g\n", NULL, 0);
+  TEST(xvsh_explore(&task, 100000, 0, &answer) == XVSH_OK && tells(&answer, "\"status\":\"one output\"") && answer.fine && answer.whole);
+  task = task_of("echo a &; echo b\n", NULL, 0);
+  TEST(xvsh_explore(&task, 100000, 0, &answer) == XVSH_OK && tells(&answer, "\"number\":4,\"output\":\"ba\\n\\n\"") && !answer.fine && answer.whole);
+  TEST(xvsh_explore(&task, 1, 0, &answer) == XVSH_OK && tells(&answer, "\"every_order_tried\":false") && !answer.fine && !answer.whole);
+  task = task_of("echo a | cat\n", NULL, 0);
+  TEST(xvsh_explore(&task, 1, 0, &answer) == XVSH_OK && tells(&answer, "\"status\":\"settled\"") && answer.fine && answer.whole);
+  TEST(xvsh_explore(&task, XVSH_MAX_STATES, 7, &answer) == XVSH_OK && tells(&answer, "\"status\":\"one output\"") && answer.fine && answer.whole);
+  TEST(xvsh_explore(&task, 0, 0, &answer) == XVSH_BAD_STATES && is_nothing(&answer));
+  TEST(xvsh_explore(&task, XVSH_MAX_STATES + 1u, 0, &answer) == XVSH_BAD_STATES && is_nothing(&answer));
+  TEST(xvsh_explore(&task, UINT64_MAX, 1, &answer) == XVSH_BAD_STATES && is_nothing(&answer));
+  xvsh_answer_free(&answer);
+}
+
+/* The bytes up to the end of the line of this number, from 0, of a schedule. */
+static xvsh_bytes first_lines(xvsh_bytes bytes, size_t count) {
+  xvsh_bytes first = { bytes.at, 0 };
+  while (count > 0 && first.length < bytes.length) count -= bytes.at[first.length++] == '\n';
+  return first;
+}
+
+static void looks(void) {
+  xvsh_answer run = XVSH_ANSWER, answer = XVSH_ANSWER;
+  xvsh_task task = task_of("echo hi | cat > f\n", NULL, 0);
+  TEST(xvsh_run(&task, 100000, XVSH_DRAWN, 3, &run) == XVSH_OK);
+  TEST(xvsh_trace(&task, 100000, XVSH_DRAWN, 3, &answer) == XVSH_OK && answer.out.length == 0 && answer.block.length == 4 && answer.sizes.length == 1);
+  size_t lines = 0, events = 0;
+  for (size_t at = 0; at < answer.events.length; at++) lines += answer.events.at[at] == '\n';
+  for (size_t at = 0; at < run.events.length; at++) events += run.events.at[at] == '\n';
+  TEST(lines == events + 2 && answer.events.length > 13 && memcmp(answer.events.at, "{\"kind\":\"run\"", 13) == 0);
+  TEST(xvsh_trace(&task, 3, XVSH_KERNEL, 0, &answer) == XVSH_SPENT && is_nothing(&answer));
+  TEST(xvsh_trace(&task, 0, XVSH_KERNEL, 0, &answer) == XVSH_BAD_TURNS && is_nothing(&answer));
+  TEST(xvsh_trace(&task, 1000, 6, 0, &answer) == XVSH_BAD_ORDER && is_nothing(&answer));
+  for (size_t count = 0; count <= events; count++) {
+    TEST(xvsh_look(&task, first_lines(run.events, count), &answer) == XVSH_OK);
+    TEST(answer.fine == (count == events) && tells(&answer, answer.fine ? "\"stands\":\"finished\"" : "\"stands\":\"runnable\""));
+  }
+  TEST(tells(&answer, "{\"name\":\"f\",\"data\":\"hi\\n\"}"));
+  TEST(xvsh_look(&task, xvsh_text("D 0 0\nX\n"), &answer) == XVSH_NO_EVENT && answer.place == 2 && is_nothing(&answer));
+  TEST(xvsh_look(&task, xvsh_text("D 0 1\nT 0 1\nD 0 5\n"), &answer) == XVSH_NOT_RUNNABLE && answer.place == 3 && is_nothing(&answer));
+  TEST(xvsh_look(&task, xvsh_text("D 0 1\nT 1 1\n"), &answer) == XVSH_NOT_RUNNING && answer.place == 2 && is_nothing(&answer));
+  TEST(xvsh_look(&task, xvsh_text("D 0 1\nD 7 0\nT 0 1\n"), &answer) == XVSH_OK && !answer.fine);
+  xvsh_answer_free(&run);
+  xvsh_answer_free(&answer);
+}
+
 static void appends(void) {
   xvsh_answer answer = XVSH_ANSWER;
   xvsh_task task = task_of("echo hello > f; echo J >> f; cat f\n", NULL, 0);
@@ -236,6 +314,13 @@ static void *again(void *unused) {
   bool right = true;
   for (long i = 0; i < repeats; i++) {
     right = xvsh_plain(&task, &answer) == XVSH_OK && is(answer.out, "hello\n3 3 10 \n") && right;
+    if (i % 100 == 0) {
+      right = xvsh_check(&task, 1, &answer) == XVSH_OK && answer.fine && right;
+      right = xvsh_explain(&task, &answer) == XVSH_OK && answer.fine && right;
+      right = xvsh_explore(&task, 100000, 0, &answer) == XVSH_OK && answer.fine && right;
+      right = xvsh_look(&task, xvsh_text("D 0 1\nT 0 1\n"), &answer) == XVSH_OK && !answer.fine && right;
+      right = xvsh_trace(&task, 100000, XVSH_DRAWN, (uint64_t)i, &answer) == XVSH_OK && is(answer.out, "hello\n3 3 10 \n") && right;
+    }
     if (i % 20 == 0) {
       right = xvsh_run(&task, 100000, XVSH_DRAWN, (uint64_t)i, &answer) == XVSH_OK && is(answer.out, "hello\n3 3 10 \n") && right;
       right = xvsh_replay(&task, answer.events, &other) == XVSH_OK && is(other.out, "hello\n3 3 10 \n") && right;
@@ -276,6 +361,11 @@ static void *deepest(void *unused) {
     right = task.script.length == XVSH_MAX_LINE && right;
     right = xvsh_plain(&task, &answer) == XVSH_OK && right;
     right = xvsh_run(&task, 100000, XVSH_KERNEL, 0, &answer) == XVSH_OK && right;
+    right = xvsh_check(&task, 0, &answer) == XVSH_OK && right;
+    right = xvsh_explain(&task, &answer) == XVSH_OK && right;
+    right = xvsh_explore(&task, 50, 1, &answer) == XVSH_OK && right;
+    right = xvsh_trace(&task, 100000, XVSH_KERNEL, 0, &answer) == XVSH_OK && right;
+    right = xvsh_look(&task, xvsh_text("D 0 1\nT 0 1\nD 0 2\nT 0 2\n"), &answer) == XVSH_OK && right;
   }
   xvsh_answer_free(&answer);
   (void)unused;
@@ -298,6 +388,8 @@ int main(int count, char **arguments) {
   nulls();
   limits();
   runs();
+  asks();
+  looks();
   appends();
   budgets();
   words();

@@ -85,18 +85,74 @@ class Program:
                 file.write(data)
         self.given, self.append = sorted(given), ["--append"] if append else []
 
-    def json(self, *words, given=True, schedule=()):
-        """The object that a command prints."""
-        line = [self.path, *words, "--json", *schedule, os.path.join(self.room, "script of it")]
+    def prints(self, *words, given=True, schedule=(), stdin=None):
+        """What a command prints."""
+        line = [self.path, *words, *schedule, os.path.join(self.room, "script of it")]
         line += [os.path.join(self.room, name) for name in self.given] if given else []
-        done = subprocess.run(line, input=self.stdin, stdout=subprocess.PIPE, stderr=subprocess.PIPE, check=False)
+        done = subprocess.run(line, input=self.stdin if stdin is None else stdin, stdout=subprocess.PIPE, stderr=subprocess.PIPE, check=False)
         if not done.stdout:
             raise SystemExit(f"{line} printed nothing: {done.stderr!r}")
-        return json.loads(done.stdout)
+        return done.stdout
+
+    def json(self, *words, given=True, schedule=()):
+        """The object that a command prints."""
+        return json.loads(self.prints(*words, "--json", given=given, schedule=schedule))
+
+    def place(self, name, data):
+        """The path of a file beside the script, which has these bytes now."""
+        path = os.path.join(self.room, name)
+        with open(path, "wb") as file:
+            file.write(data)
+        return path
+
+
+def object_differs(what, printed, call):
+    """Why a call's object isn't the one that was printed, or nothing."""
+    try:
+        told = call()
+    except xvsh.XvshError as error:
+        made = json.loads(printed).get("fault") or {}
+        return None if (made.get("name"), made.get("line")) == (error.fault.name, error.place or None) else f"{what}: {error!r} beside {printed!r}"
+    return None if told.json == printed else f"{what}: {told.json!r} beside {printed!r}"
+
+
+def asks_differ(program, text, stdin, given, append, draw):
+    """Compares the bytes of the objects of a check, an explanation and an exploration, and returns why they differ, or nothing."""
+    strict, thorough, states = draw.random() < 0.5, draw.random() < 0.3, draw.choice([1, 50, 400])
+    why = object_differs("check", program.prints("check", "--json", *["--strict"] * strict, given=False), lambda: xvsh.check(text, strict=strict))
+    why = why or object_differs("explain", program.prints("explain", "--json", given=False), lambda: xvsh.explain(text))
+    words = ["explore", "--json", "--states", str(states), *["--all"] * thorough, *program.append]
+    return why or object_differs("explore", program.prints(*words), lambda: xvsh.explore(text, stdin, given, append=append, states=states, thorough=thorough))
+
+
+WORDS_OF = {
+    xvsh.Order.KERNEL: lambda number: ["--harts", "1"], xvsh.Order.DRAWN: lambda number: ["--seed", str(number)],
+    xvsh.Order.LOWEST: lambda number: ["--order", "low"], xvsh.Order.HIGHEST: lambda number: ["--order", "high"],
+    xvsh.Order.STARVING: lambda number: ["--order", f"starve:{number}"], xvsh.Order.EAGER: lambda number: ["--order", "eager"],
+}
+
+
+def look_differs(program, text, stdin, given, append, turns):
+    """Compares what a session shows after these turns with the answers of `step`, and returns why they differ, or nothing."""
+    schedule = b"".join(b"D 0 %d\nT 0 %d\n" % (pid, pid) for pid in turns)
+    paths = ["--schedule", program.place("schedule of it", schedule), "--input", program.place("input of it", stdin)]
+    answers = program.prints("step", "--json", *program.append, schedule=paths, stdin=b"ps\npipes\nfiles\nout\n").splitlines()
+    session = xvsh.Session(text, stdin, given, append=append)
+    for pid in turns:
+        session.choose(pid)
+    stands = "finished" if session.finished else "runnable" if session.choices() else "stuck"
+    ps, pipes, files_, out = map(json.loads, answers)
+    if stands == "finished" and [it["pid"] for it in ps["processes"]] != [0]:
+        return f"look: finished beside {answers}"
+    whole = b'{"format":"xvsh-look","version":1,"stands":"%s","ps":%s,"pipes":%s,"files":%s,"out":%s}\n' % (stands.encode(), *answers)
+    return None if session.json == whole else f"look: {session.json!r} beside {whole!r}"
 
 
 def same(program, text, stdin, given, append, draw):
     """Compares each call with its command, and returns why they differ, or nothing."""
+    why = asks_differ(program, text, stdin, given, append, draw)
+    if why:
+        return why
     made = program.json("plain", *program.append)
     try:
         plain = xvsh.plain(text, stdin, given, append=append)
@@ -106,13 +162,19 @@ def same(program, text, stdin, given, append, draw):
     if "fault" in made or (plain.out, plain.settled, plain.files) != (bytes_of(made["output"]), made["settled"], files_of(made)):
         return f"plain: {plain} beside {made}"
     try:
-        order, seed = draw.choice(list(xvsh.Order)), draw.randrange(64)
+        order, seed = draw.choice(list(xvsh.Order)), draw.randrange(1, 64)
         run = xvsh.run(text, stdin, given, append=append, turns=1_000_000, order=order, seed=seed)
     except xvsh.Spent:
         return None if "&" in text.decode("latin-1") else "run: the turns are spent"
-    path = os.path.join(program.room, "schedule of it")
-    with open(path, "wb") as file:
-        file.write(run.schedule)
+    traced = xvsh.run(text, stdin, given, append=append, turns=1_000_000, order=order, seed=seed, trace=True)
+    printed = program.prints("run", *WORDS_OF[order](seed), "--turns", "1000000", *program.append, "--trace", "-")
+    if traced.trace != printed or (traced.out, traced.files, traced.diag, traced.full, traced.schedule) != (run.out, run.files, run.diag, run.full, run.schedule):
+        return f"trace: {traced} beside {printed!r} and {run}"
+    turns = [event.pid for event in run if event.kind == "trap"]
+    why = look_differs(program, text, stdin, given, append, turns[: draw.randrange(len(turns) + 1)])
+    if why:
+        return why
+    path = program.place("schedule of it", run.schedule)
     made = program.json("replay", *program.append, schedule=[path])
     if "fault" in made or (run.out, run.diag, run.files, run.full) != (bytes_of(made["output"]), bytes_of(made["diagnostics"]), files_of(made), made["full"]):
         return f"run: {run} beside {made}"

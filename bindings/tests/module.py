@@ -59,10 +59,18 @@ def faults():
     refused(Fault.NotRunnable, 1, lambda: xvsh.replay(SCRIPT, "D 0 9\n"))
     refused(Fault.NotRunning, 1, lambda: xvsh.replay(SCRIPT, "T 0 0\n"))
     refused(Fault.Unfinished, 0, lambda: xvsh.replay(SCRIPT, ""))
+    refused(Fault.LineTooLong, 2, lambda: xvsh.check("echo\necho " + "a" * 600))
+    refused(Fault.ByteZero, 1, lambda: xvsh.explain(b"echo \0"))
+    refused(Fault.ScriptTooLong, 0, lambda: xvsh.check("\n" * 1_048_577))
+    refused(Fault.BadStates, 0, lambda: xvsh.explore(SCRIPT, states=0))
+    refused(Fault.BadStates, 0, lambda: xvsh.explore(SCRIPT, states=xvsh.MAX_STATES + 1))
+    refused(Fault.BadName, 1, lambda: xvsh.explore(SCRIPT, files={"a/b": "x"}))
+    refused(Fault.Spent, 0, lambda: xvsh.run(SCRIPT, turns=5, trace=True))
+    refused(Fault.InputTooLong, 0, lambda: xvsh.Session("cat", b"x" * 1_048_577))
     refused(Fault.Memory, 0, lambda: xvsh.plain("cat f", files={"f": "x" * 1000}, budget=10))
     assert issubclass(xvsh.Memory, MemoryError) and issubclass(xvsh.XvshError, ValueError)
     for number in (-1, 1 << 64):
-        for call in (lambda: xvsh.plain("", budget=number), lambda: xvsh.run("", turns=number)):
+        for call in (lambda: xvsh.plain("", budget=number), lambda: xvsh.run("", turns=number), lambda: xvsh.explore("", states=number)):
             try:
                 call()
             except ValueError as error:
@@ -80,6 +88,7 @@ def sessions():
         while not session.finished:
             session.choose(choose(session.choices()))
         assert session.choices() == () and session.finish() == xvsh.replay(script, session.schedule)
+        assert session.out == session.finish().out and [process.pid for process in session.processes] == [0]
         outputs.add(session.finish().out)
     assert outputs == {b"a\nb\n", b"b\na\n"}, outputs
     session = xvsh.Session("cat | wc", b"x\n")
@@ -90,8 +99,76 @@ def sessions():
             refused(xvsh.Fault.NotRunnable, 2 * len(session.turns) + 1, lambda: session.choose(pid))
         session.choose(min(ready))
     assert session.finish().out == b"1 1 2 \n"
-    last = session.turns[-1]
-    assert session.back() == last and not session.finished and last in session.choices()
+    last_turns = session.turns
+    last = last_turns[-1]
+    assert session.back() == (last,) and not session.finished and last in session.choices()
+    before = session.processes
+    for turns in (-1, len(session.turns) + 1):
+        try:
+            session.back(turns)
+        except ValueError:
+            assert session.processes == before
+        else:
+            raise AssertionError(turns)
+    assert len(session.back(len(session.turns))) == (len(last_turns) - 1) and session.turns == () and session.out == b""
+
+
+def views():
+    """What a session shows of `echo ab | cat > f`, worked out by xv6's shell: the pipe is made by the child of the shell, then its left
+    side, echo, writes word and line's end, and the right side, cat, reads until all write ends are closed."""
+    session = xvsh.Session("echo ab | cat > f", files={"g": "x"})
+    assert [(it.pid, it.parent, it.prog, it.state) for it in session.processes] == [(0, 0, "init", "runnable"), (1, 0, "sh", "runnable")]
+    assert session.processes[1].next == {"name": "fork"} and session.pipes == () and session.files == {"g": b"x"}
+    session.choose(1)
+    assert [it.pid for it in session.processes] == [0, 1, 2] and session.processes[2].next == {"name": "pipe"}
+    assert (session.processes[2].command, session.processes[2].line) == ("echo ab | cat > f", 1)
+    session.choose(1)
+    assert session.processes[1].state == "asleep" and session.processes[1].sleep == {"on": "children"} and 1 not in session.choices()
+    session.choose(2)
+    pipe, = session.pipes
+    assert (pipe.held, pipe.readers, pipe.writers) == (0, (2,), (2,))
+    held = set()
+    while not session.finished:
+        session.choose(max(session.choices()))
+        held |= {(pipe.held, pipe.writers == ()) for pipe in session.pipes}
+        for process in session.processes:
+            assert (process.next is not None) == (process.state == "runnable") and (process.sleep is not None) == (process.state == "asleep")
+    assert {count for count, _ in held} >= {0, 2} and session.pipes == () and session.files == {"f": b"ab\n", "g": b"x"} and session.diag == b""
+
+
+def asks():
+    """What a check, an explanation and an exploration find, by the rules of the manual."""
+    told = xvsh.check("echo a > f | cat f\necho b &\necho (\ncat f > f\n")
+    assert not told.harmless and [(found.kind, found.line) for found in told.findings][:3] == [("clash", 1), ("background", 2), ("fault", 3)], told
+    assert (told.findings[0].clash, told.findings[0].name) == ("PipeSides", "f") and told.findings[2].at is not None
+    assert xvsh.check(")").harmless and not xvsh.check(")", strict=True).harmless
+    assert xvsh.check("echo a").findings == () and xvsh.check("echo a", strict=True).harmless
+    fine = xvsh.explain("echo a")
+    assert fine.fine and fine.notes == ()
+    note, = xvsh.explain(b"echo a\nlss \xff").notes
+    assert (note.kind, note.line, note.places, note.text) == ("NoProgram", 2, ((0, 3),), b"lss \xff")
+    race = xvsh.explore("echo a > f &; echo b > f; wc < f", append=True)
+    assert race.whole and not race.single and race.stuck is None and len(race.outcomes) > 1
+    for outcome in race.outcomes:
+        run = xvsh.replay("echo a > f &; echo b > f; wc < f", outcome.schedule, append=True)
+        assert (run.out, run.files, run.diag, run.full) == (outcome.out, outcome.files, outcome.diag, outcome.full)
+    assert race.outcomes[0].parting is None and all(outcome.parting.event <= len(outcome.schedule.splitlines()) for outcome in race.outcomes[1:])
+    settled, tried = xvsh.explore("cat f | wc", files={"f": "x"}), xvsh.explore("cat f | wc", files={"f": "x"}, thorough=True)
+    assert settled.whole and settled.single and settled.states == 0 and settled.outcomes[0].schedule is None
+    assert tried.whole and tried.single and tried.states > 10 and [it.out for it in tried.outcomes] == [it.out for it in settled.outcomes] == [b"0 1 1 \n"]
+    cut = xvsh.explore("echo a &; echo b", states=3)
+    assert not cut.whole and cut.outcomes == ()
+
+
+def traces():
+    """A trace has the run's events, each with its record, and leaves what the run leaves."""
+    for order in xvsh.Order:
+        run = xvsh.run("echo hi | cat > f; lss", order=order, seed=3)
+        traced = xvsh.run("echo hi | cat > f; lss", order=order, seed=3, trace=True)
+        assert (traced.out, traced.files, traced.diag, traced.full, traced.schedule) == (run.out, run.files, run.diag, run.full, run.schedule)
+        assert [(it.n, it.kind, it.hart, it.pid) for it in traced] == [(it.n, it.kind, it.hart, it.pid) for it in run]
+        assert all(it.record["n"] == it.n and (it.kind == "dispatch") != ("call" in it.record) for it in traced) and len(traced.trace.splitlines()) == len(list(run)) + 2
+        assert [it.record["call"]["name"] for it in traced if it.kind == "trap"].count("pipe") == 1
 
 
 def forms():
@@ -109,9 +186,11 @@ def threads():
     wrong = []
 
     def many():
-        for _ in range(200):
+        for number in range(200):
             if xvsh.plain(SCRIPT, files=FILES).out != b"hello\n3 3 10 \n" or xvsh.run(SCRIPT, files=FILES).out != b"hello\n3 3 10 \n":
                 wrong.append(1)
+            if number % 20 == 0 and not (xvsh.check(SCRIPT).harmless and xvsh.explore(SCRIPT, files=FILES).single and xvsh.Session(SCRIPT, files=FILES).choices() == (0, 1)):
+                wrong.append(2)
 
     made = [threading.Thread(target=many) for _ in range(4)]
     for thread in made:
@@ -125,6 +204,7 @@ def growth(count):
     """So many calls leave nothing behind: the process grows by less than a megabyte."""
     def calls():
         xvsh.plain(SCRIPT, files=FILES)
+        xvsh.check(SCRIPT)
         try:
             xvsh.plain("echo \0", files=FILES)
         except xvsh.ByteZero:
@@ -143,10 +223,13 @@ def main():
     numbers()
     faults()
     sessions()
+    views()
+    asks()
+    traces()
     forms()
     threads()
     growth(int(sys.argv[1]))
-    print(f"the Python module: faults, sessions, threads, and {sys.argv[1]} calls that leave nothing")
+    print(f"the Python module: faults, sessions, checks, explorations, traces, threads, and {sys.argv[1]} calls that leave nothing")
 
 
 if __name__ == "__main__":

@@ -2,6 +2,8 @@
 #![tactic(auto)]
 
 mod exploring;
+mod going_on;
 
 pub use exploring::{Setting, explore, explore_watched};
-pub use order_search::{Exploration, ExploreFault, Outcome, Watch};
+pub use going_on::explore_after;
+pub use order_search::{Exploration, ExploreFault, Origin, Outcome, Unwatched, Watch};

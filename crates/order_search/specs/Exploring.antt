@@ -1,22 +1,30 @@
 -- What an exploration shows.
-use Rattle.std.specs.Prelude.{◌≡◌, List, true, None, All, length}
+use Rattle.std.specs.Prelude.{◌≡◌, ℕ, List, true, Some, None, All, length}
 use Rattle.user_calls.specs.declared.calls.Call.{Call}
 use Rattle.user_calls.specs.declared.calls.Reply.{Reply}
 use Rattle.proc_table.specs.declared.pid.TheConstants.{PROCS}
 use Rattle.kernel_model.specs.KernelState.{KernelState}
 use Rattle.closed_search.specs.Searched.{IsReached, IsClosedUnder}
 use Rattle.order_model.specs.Key.{SameKey}
-use Rattle.order_model.specs.Turns.{after_turn}
+use Rattle.order_model.specs.Turns.{after_turn, after_turns}
 use Rattle.order_model.specs.Explored.{IsFinishedOrReady}
 use Rattle.order_search.specs.declared.ordering.Exploration.{Exploration}
 use Rattle.order_search.specs.Told.{Tells}
 
--- kernels that turns lead to were seen, and their outcomes are told; where all orders were tried, they have the keys of all their
--- turns; and where nobody is said to be stuck, each is finished or has a Runnable process
-pub record Explores {S : Type 0} (call : S → Reply → Call) (next : S → Reply → S) (start : KernelState S) (e : Exploration) : Type 0 where
-  pub seen : List (KernelState S)
-  pub reached : All (IsReached (after_turn call next) start) seen
-  pub closed : e.whole ≡ true → IsClosedUnder (after_turn call next) SameKey PROCS start seen
-  pub tells : Tells call next start seen e.outcomes.items
-  pub ready : e.stuck ≡ None → All IsFinishedOrReady seen
-  pub states : e.states ≡ length seen
+module _ {S : Type 0} (call : S → Reply → Call) (next : S → Reply → S) where
+  -- kernels that turns lead to from the start were seen, and their outcomes are told, each with turns that lead to it from the boot;
+  -- where all orders were tried, they have the keys of all their turns; and where nobody is said to be stuck, each is finished or
+  -- has a Runnable process
+  pub record Explores (boot start : KernelState S) (e : Exploration) : Type 0 where
+    pub seen : List (KernelState S)
+    pub reached : All (IsReached (after_turn call next) start) seen
+    pub closed : e.whole ≡ true → IsClosedUnder (after_turn call next) SameKey PROCS start seen
+    pub tells : Tells call next boot seen e.outcomes.items
+    pub ready : e.stuck ≡ None → All IsFinishedOrReady seen
+    pub states : e.states ≡ length seen
+
+  -- the same, where turns of these processes led from the boot to the start
+  pub record ExploresAfter (boot : KernelState S) (pids : List ℕ) (e : Exploration) : Type 0 where
+    pub start : KernelState S
+    pub turns : after_turns call next boot pids ≡ Some start
+    pub explores : Explores boot start e

@@ -19,6 +19,6 @@ mod unchanged;
 
 pub use closed_search::{Unwatched, Watch};
 pub use fault::ExploreFault;
-pub use ordering::{Exploration, explore_from};
+pub use ordering::{Exploration, explore_after, explore_from};
 pub use origin::Origin;
 pub use outcomes::Outcome;

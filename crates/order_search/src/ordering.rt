@@ -5,7 +5,7 @@ ghost use Rattle.order_search.specs.Led.{start_kernel};
 ghost use Rattle.order_model.specs.Explored.{IsFinishedOrReady};
 ghost use Rattle.order_search.specs.Led.{kernel_of};
 ghost use Rattle.order_search.specs.Told.{Tells};
-ghost use Rattle.order_search.specs.Exploring.{Explores};
+ghost use Rattle.order_search.specs.Exploring.{Explores, ExploresAfter};
 
 use crate::fault::ExploreFault;
 use crate::origin::Origin;
@@ -38,10 +38,26 @@ pub fn explore_from<M: Machine, C: Allocator, W: Watch>(
     states: usize,
     watch: &mut W,
 ) -> Result<Exploration, ExploreFault>
-    ensures { IfOk result (Explores M.call_of M.next_of (start_kernel (M.view origin.now.init) (M.view origin.now.shell) origin.now.stdin.now origin.now.files.now)) }
+    ensures { IfOk result (Explores M.call_of M.next_of (start_kernel (M.view origin.now.init) (M.view origin.now.shell) origin.now.stdin.now origin.now.files.now) (start_kernel (M.view origin.now.init) (M.view origin.now.shell) origin.now.stdin.now origin.now.files.now)) }
+{
+    explore_after(alloc, origin, &[], states, watch)
+}
+
+/// Tries the orders in which the processes of a kernel can go on after turns of these processes, whose numbers are those of their
+/// slots: `explore_from` there. What is told of an outcome begins with these turns.
+///
+/// The fault is `TooLong` where one of the turns can't be taken.
+pub fn explore_after<M: Machine, C: Allocator, W: Watch>(
+    alloc: Global,
+    origin: &Origin<'_, M, C>,
+    pids: &[u8],
+    states: usize,
+    watch: &mut W,
+) -> Result<Exploration, ExploreFault>
+    ensures { IfOk result (ExploresAfter M.call_of M.next_of (start_kernel (M.view origin.now.init) (M.view origin.now.shell) origin.now.stdin.now origin.now.files.now) pids.now) }
 {
     let mut tools = Tools::new(alloc, origin)?;
-    let start = Standing::start(&mut tools, origin)?;
+    let start = Standing::begin(&mut tools, origin, pids)?;
     let bounds = Bounds {
         moves: PROCS,
         limit: states,

@@ -66,22 +66,25 @@ impl<'t, M: Machine, C: Allocator> Model for Standing<'t, M, C> {
 }
 
 impl<'t, M: Machine, C: Allocator> Standing<'t, M, C> {
-    ghost use Rattle.std.specs.Prelude.{◌≡◌, IfOk};
+    ghost use Rattle.std.specs.Prelude.{◌≡◌, Some, IfOk};
     ghost use Rattle.order_search.specs.Led.{start_kernel};
+    ghost use Rattle.order_model.specs.Turns.{after_turns};
 
-    // The kernel at its start.
-    pub fn start(
+    // The kernel after turns of these processes.
+    pub fn begin(
         tools: &mut Tools<'t, M, C>,
         origin: &'t Origin<'t, M, C>,
+        pids: &[u8],
     ) -> Result<Self, ExploreFault>
-        ensures { IfOk result (λ node. node.now ≡ start_kernel (M.view origin.now.init) (M.view origin.now.shell) origin.now.stdin.now origin.now.files.now) }
+        ensures { IfOk result (λ node. after_turns M.call_of M.next_of (start_kernel (M.view origin.now.init) (M.view origin.now.shell) origin.now.stdin.now origin.now.files.now) pids.now ≡ Some node.now) }
     {
-        let state = remake(tools.alloc, origin, &[])?;
+        let state = remake(tools.alloc, origin, pids)?;
         let blank = Look::blank(tools.alloc)?;
         let look = tools.reader.read(&state, &blank)?;
+        let taken = Vec::from_slice(tools.alloc, pids)?;
         Ok(Standing {
             origin,
-            pids: Vec::new(tools.alloc),
+            pids: taken,
             look,
             kernel: Snapshot::of(&state),
         })

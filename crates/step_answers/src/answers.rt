@@ -2,11 +2,14 @@
 
 use crate::objects::{write_fds, write_files, write_pipes, write_ps, write_state};
 use crate::play::{Pace, Play, PlayFault, Told, pid_of};
+use crate::rest::{add_rest, states_after, write_rest};
 use crate::sleeps::add_why;
 use crate::views::{add_fds, add_files, add_out, add_pipes, add_ps};
 use crate::words::{add, add_count, add_number, add_quoted};
 use proc_table::{Pid, State};
+use result_json::full_word;
 use schedule_lines::schedule_text;
+use session_outcomes::RestFault;
 use std::alloc::{AllocError, Global};
 use step_commands::{Command, Mistake, NAMES, Name, nearest};
 use trace_lines::Line;
@@ -76,6 +79,18 @@ fn mistake_of(alloc: Global, mistake: &Mistake<'_>) -> Result<Vec<u8>, AllocErro
     Ok(sentence)
 }
 
+// That the teller's kernel had memory which was refused to the session's.
+const APART: &str = "memory was refused to a process: what it did may differ from what is told\n";
+
+// Why it isn't told what can still come out.
+fn no_rest(fault: RestFault) -> &'static str {
+    match fault {
+        RestFault::Full => "something was full, so it isn't told what can still come out",
+        RestFault::TooLong => "a run from here is too long",
+        RestFault::Memory => "there is not enough memory to try the orders",
+    }
+}
+
 // The commands with what they do.
 fn add_help(text: &mut Vec<u8>) -> Result<(), AllocError> {
     add(text, "N: a turn of process N\n")?;
@@ -136,6 +151,7 @@ impl<M: Machine> Play<'_, M> {
             Command::Back(turns) => self.answer_back(*turns, text),
             Command::Fds(number) => self.answer_fds(*number, text),
             Command::Why(number) => self.answer_why(*number, text),
+            Command::Answers(states) => self.answer_rest(*states, text),
             other => self.answer_view(other, text),
         }
     }
@@ -174,10 +190,15 @@ impl<M: Machine> Play<'_, M> {
             add_number(self.alloc, &mut text, told.turns as u64)?;
             add(&mut text, ",\"stands\":\"")?;
             add(&mut text, self.standing())?;
-            add(&mut text, "\"}\n")?;
+            add(&mut text, "\"")?;
+            self.add_marks(told.is_cut, &mut text)?;
+            add(&mut text, "}\n")?;
             return Ok(text);
         }
         text.extend_from_slice(told.text.as_slice())?;
+        if self.is_apart() {
+            add(&mut text, APART)?;
+        }
         if told.is_cut {
             add_count(self.alloc, &mut text, told.turns, "turn")?;
             add(&mut text, " are the most of one command\n")?;
@@ -191,6 +212,19 @@ impl<M: Machine> Play<'_, M> {
             _ => {}
         }
         Ok(text)
+    }
+
+    // The fields that say that turns ended because there were too many, and what was full.
+    fn add_marks(&self, is_cut: bool, text: &mut Vec<u8>) -> Result<(), AllocError> {
+        if is_cut {
+            add(text, ",\"cut\":true")?;
+        }
+        if let Some(full) = self.kernel().full() {
+            add(text, ",\"full\":\"")?;
+            add(text, full_word(full))?;
+            text.push(b'"')?;
+        }
+        Ok(())
     }
 
     // How the run stands: it is finished, somebody is Runnable, or nobody is.
@@ -268,6 +302,23 @@ impl<M: Machine> Play<'_, M> {
         self.fault(text, sentence.as_slice())
     }
 
+    // What can still come out, by every order of turns from here.
+    fn answer_rest(&self, states: Option<u64>, text: Vec<u8>) -> Result<Vec<u8>, PlayFault> {
+        let taken = self.turns();
+        let found = match self.rest(states_after(taken, states)) {
+            Ok(found) => found,
+            Err(fault) => return self.fault(text, no_rest(fault).as_bytes()),
+        };
+        if self.is_json {
+            let mut line = begin(self.alloc, Name::Answers.word(), text)?;
+            write_rest(&mut line, &found, taken)?;
+            return Ok(line.end()?);
+        }
+        let mut text = text;
+        add_rest(self.alloc, &mut text, &found, taken)?;
+        Ok(text)
+    }
+
     // What is looked at, and nothing is done.
     fn answer_view(&self, command: &Command<'_>, text: Vec<u8>) -> Result<Vec<u8>, PlayFault> {
         if self.is_json {
@@ -297,7 +348,7 @@ impl<M: Machine> Play<'_, M> {
         match command {
             Command::Ps => write_ps(&mut line, alloc, &self.teller)?,
             Command::Pipes => write_pipes(&mut line, alloc, self.kernel())?,
-            Command::Files => write_files(&mut line, self.kernel())?,
+            Command::Files => write_files(&mut line, self.kernel().files())?,
             Command::Out => {
                 line.bytes("out", self.kernel().out())?;
                 line.bytes("diag", self.kernel().diag())?;

@@ -2,7 +2,7 @@
 
 use crate::teller::Teller;
 use crate::words::{
-    add, add_count, add_data, add_number, add_process, add_short, purpose, thing_of,
+    add, add_count, add_data, add_name, add_number, add_process, add_short, purpose, thing_of,
 };
 use proc_table::{PROCS, Pid};
 use std::alloc::{AllocError, Global};
@@ -109,7 +109,9 @@ fn add_open<M: Machine>(
     plan: &Plan,
     mode: Mode,
 ) -> Result<(), AllocError> {
-    let name = plan.call.bytes();
+    let mut name = Vec::new(alloc);
+    add_name(&mut name, plan.call.bytes())?;
+    let name = name.as_slice();
     if !teller.is_done(pid) {
         return around(text, "couldn't open ", name, "");
     }

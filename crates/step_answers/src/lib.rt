@@ -10,6 +10,7 @@ mod ends;
 mod objects;
 mod plans;
 mod play;
+mod rest;
 mod scene;
 mod sleeps;
 mod teller;

@@ -4,6 +4,7 @@ use crate::ends::{all_pids, holders, names_of};
 use crate::teller::Teller;
 use fd_table::{DESCRIPTORS, Mode, Object};
 use kernel_events::Kernel;
+use mem_files::Files;
 use proc_table::{Channel, Pid, State};
 use run_trace::End;
 use std::alloc::{AllocError, Global};
@@ -137,7 +138,7 @@ pub(crate) fn write_ps<M: Machine>(
     line.end_list()
 }
 
-fn write_pids(line: &mut Line, key: &str, pids: &[Pid]) -> Result<(), AllocError> {
+fn write_slots(line: &mut Line, key: &str, pids: &[Pid]) -> Result<(), AllocError> {
     line.begin_list(key)?;
     for pid in pids {
         line.raw_count(pid.index() as u64)?;
@@ -161,9 +162,9 @@ pub(crate) fn write_pipes<M: Machine>(
         };
         line.count("held", held as u64)?;
         let readers = holders(alloc, kernel, *name, End::Read)?;
-        write_pids(line, "readers", readers.as_slice())?;
+        write_slots(line, "readers", readers.as_slice())?;
         let writers = holders(alloc, kernel, *name, End::Write)?;
-        write_pids(line, "writers", writers.as_slice())?;
+        write_slots(line, "writers", writers.as_slice())?;
         line.end_object()?;
     }
     line.end_list()
@@ -215,11 +216,7 @@ pub(crate) fn write_fds<M: Machine>(
 }
 
 // The files, whole.
-pub(crate) fn write_files<M: Machine>(
-    line: &mut Line,
-    kernel: &Kernel<M, Global>,
-) -> Result<(), AllocError> {
-    let files = kernel.files();
+pub(crate) fn write_files(line: &mut Line, files: &Files<Global>) -> Result<(), AllocError> {
     line.begin_list("files")?;
     for at in 0..files.count() {
         if let Some(name) = files.name_at(at) {

@@ -6,6 +6,7 @@ use crate::teller::Teller;
 use crate::words::{add, add_number, add_process};
 use kernel_events::{Event, Kernel};
 use proc_table::{Pid, State};
+use session_outcomes::{Exploration, RestFault, Unwatched, outcomes_from};
 use std::alloc::{AllocError, Global};
 use step_commands::Goal;
 use step_session::{BackFault, ChooseFault, Session};
@@ -105,6 +106,16 @@ impl<'t, M: Machine> Play<'t, M> {
     // How many turns were taken.
     pub(crate) fn turns(&self) -> usize {
         self.session.turns()
+    }
+
+    // What can still come out, through so many states.
+    pub(crate) fn rest(&self, states: usize) -> Result<Exploration, RestFault> {
+        outcomes_from(self.alloc, &self.session, states, &mut Unwatched)
+    }
+
+    // Whether memory was refused to a process of the session, which the teller's was given.
+    pub(crate) fn is_apart(&self) -> bool {
+        self.session.kernel().full() != self.teller.kernel().full()
     }
 
     // Makes the teller anew, and lets the session's events happen in it.

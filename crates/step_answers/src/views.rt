@@ -4,9 +4,10 @@ use crate::ends::{all_pids, holders, names_of};
 use crate::plans::add_plan;
 use crate::sleeps::{add_pids, add_sleep};
 use crate::teller::Teller;
-use crate::words::{add, add_column, add_count, add_number, add_object, add_quoted};
+use crate::words::{add, add_column, add_count, add_name, add_number, add_object, add_quoted};
 use fd_table::{DESCRIPTORS, Object};
 use kernel_events::Kernel;
+use mem_files::Files;
 use proc_table::{Pid, State};
 use run_trace::End;
 use std::alloc::{AllocError, Global};
@@ -151,14 +152,24 @@ pub(crate) fn add_files<M: Machine>(
     text: &mut Vec<u8>,
     kernel: &Kernel<M, Global>,
 ) -> Result<(), AllocError> {
-    let files = kernel.files();
-    if files.count() == 0 {
+    if kernel.files().count() == 0 {
         return add(text, "there is no file\n");
     }
+    add_all_files(alloc, text, kernel.files(), "")
+}
+
+// The files, a line each, behind these blanks.
+pub(crate) fn add_all_files(
+    alloc: Global,
+    text: &mut Vec<u8>,
+    files: &Files<Global>,
+    blanks: &str,
+) -> Result<(), AllocError> {
     for at in 0..files.count() {
         if let Some(name) = files.name_at(at) {
             let bytes = files.get(name).unwrap_or(&[]);
-            text.extend_from_slice(name)?;
+            add(text, blanks)?;
+            add_name(text, name)?;
             add(text, ": ")?;
             add_count(alloc, text, bytes.len(), "byte")?;
             add(text, ", ")?;

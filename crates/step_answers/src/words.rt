@@ -44,13 +44,27 @@ pub(crate) fn add_column(
     Ok(())
 }
 
-// Adds the bytes, of more than 60 the first 60 and `..`.
+// Adds the bytes on one line, of more than 60 the first 60 and `..`.
 pub(crate) fn add_short(text: &mut Vec<u8>, bytes: &[u8]) -> Result<(), AllocError> {
-    text.extend_from_slice(&bytes[..bytes.len().min(SHOWN)])?;
+    for byte in &bytes[..bytes.len().min(SHOWN)] {
+        if *byte == b'"' {
+            text.push(*byte)?;
+        } else {
+            add_byte(text, *byte)?;
+        }
+    }
     if SHOWN < bytes.len() {
         add(text, "..")?;
     }
     Ok(())
+}
+
+// Adds the name of a file: as it is where each byte is a printable one and no space, else between quotes.
+pub(crate) fn add_name(text: &mut Vec<u8>, name: &[u8]) -> Result<(), AllocError> {
+    if !name.is_empty() && name.iter().all(|byte| matches!(*byte, b'!'..=b'~')) {
+        return text.extend_from_slice(name);
+    }
+    add_quoted(text, name, usize::MAX)
 }
 
 // The digit of a number below 16.
@@ -148,7 +162,7 @@ pub(crate) fn add_object(
         Object::Input => add(text, "the standard input"),
         Object::Out => add(text, "the output"),
         Object::Diag => add(text, "the diagnostics"),
-        Object::File(name, _) => text.extend_from_slice(name.as_slice()),
+        Object::File(name, _) => add_name(text, name.as_slice()),
         Object::PipeRead(name) => {
             add_pipe(alloc, text, *name)?;
             add(text, "'s read end")

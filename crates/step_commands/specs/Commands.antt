@@ -1,5 +1,5 @@
 -- The words of commands.
-use Rattle.std.specs.Prelude.{◌≡◌, ◌≢◌, ℕ, ◌<◌, ◌^◌, List, [], codes}
+use Rattle.std.specs.Prelude.{◌≡◌, ◌≢◌, ℕ, ◌<◌, ◌^◌, List, [], None, Some, codes}
 use Rattle.std.specs.Fmt.{decimal}
 use Rattle.step_commands.specs.Lines.{IsCut}
 use Rattle.step_commands.specs.declared.name.Name.{Name}
@@ -7,7 +7,7 @@ use Rattle.step_commands.specs.declared.name.Name.TheVariants as names
 use Rattle.step_commands.specs.declared.command.Goal.{Goal}
 use Rattle.step_commands.specs.declared.command.Goal.TheVariants as goals
 use Rattle.step_commands.specs.declared.command.Command.{Command}
-use Rattle.step_commands.specs.declared.command.Command.TheVariants.{Nothing, Turn, Go, Back, Until, Ps, Pipes, Fds, Files, Out, Why, Schedule, Save, Help, Quit}
+use Rattle.step_commands.specs.declared.command.Command.TheVariants.{Nothing, Turn, Go, Back, Until, Ps, Pipes, Fds, Files, Out, Why, Answers, Schedule, Save, Help, Quit}
 use Rattle.step_commands.specs.declared.command.Mistake.{Mistake}
 use Rattle.step_commands.specs.declared.command.Mistake.TheVariants.{Unknown, Misused, MoreThanNumber}
 
@@ -22,6 +22,7 @@ word_of names.Fds = codes "fds"
 word_of names.Files = codes "files"
 word_of names.Out = codes "out"
 word_of names.Why = codes "why"
+word_of names.Answers = codes "answers"
 word_of names.Schedule = codes "schedule"
 word_of names.Save = codes "save"
 word_of names.Help = codes "help"
@@ -47,6 +48,8 @@ spelled (Fds pid) = (codes "fds", decimal pid, [])
 spelled Files = (codes "files", [], [])
 spelled Out = (codes "out", [], [])
 spelled (Why pid) = (codes "why", decimal pid, [])
+spelled (Answers None) = (codes "answers", [], [])
+spelled (Answers (Some states)) = (codes "answers", decimal states, [])
 spelled Schedule = (codes "schedule", [], [])
 spelled (Save path) = (codes "save", path.now, [])
 spelled Help = (codes "help", [], [])

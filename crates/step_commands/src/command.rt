@@ -40,6 +40,8 @@ pub enum Command<'a> {
     Out,
     /// Why this process doesn't take turns.
     Why(u64),
+    /// The outcomes to which the run can still come, tried through so many states, if a number is given.
+    Answers(Option<u64>),
     /// The schedule so far.
     Schedule,
     /// To write the schedule so far to the file at this path.

@@ -15,6 +15,7 @@ pub enum Name {
     Files,
     Out,
     Why,
+    Answers,
     Schedule,
     Save,
     Help,
@@ -22,7 +23,7 @@ pub enum Name {
 }
 
 /// All names.
-pub const NAMES: [Name; 13] = [
+pub const NAMES: [Name; 14] = [
     Name::Go,
     Name::Back,
     Name::Until,
@@ -32,6 +33,7 @@ pub const NAMES: [Name; 13] = [
     Name::Files,
     Name::Out,
     Name::Why,
+    Name::Answers,
     Name::Schedule,
     Name::Save,
     Name::Help,
@@ -53,6 +55,7 @@ impl Name {
             Name::Files => "files",
             Name::Out => "out",
             Name::Why => "why",
+            Name::Answers => "answers",
             Name::Schedule => "schedule",
             Name::Save => "save",
             Name::Help => "help",
@@ -68,6 +71,7 @@ impl Name {
             Name::Until => "until out, until sleep N, until exit N, until end",
             Name::Fds => "fds N",
             Name::Why => "why N",
+            Name::Answers => "answers, answers N",
             Name::Save => "save FILE",
             other => other.word(),
         }
@@ -86,6 +90,8 @@ impl Name {
             Name::Files => "the files",
             Name::Out => "the output and the diagnostics so far",
             Name::Why => "why process N can't go on",
+            Name::Answers =>
+                "what can still come out from here, by every order, through N states at most",
             Name::Schedule => "what happened so far, as `xvsh replay` takes it",
             Name::Save => "writes that to FILE",
             Name::Help => "the commands",

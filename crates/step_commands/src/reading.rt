@@ -71,6 +71,16 @@ fn path_alone<'a>(second: &'a [u8], third: &[u8]) -> Option<&'a [u8]>
     Some(second)
 }
 
+// The command for what can still come out, behind whose name a number may stand.
+fn answers_of<'a>(second: &[u8], third: &[u8]) -> Option<Command<'a>>
+    ensures { IfSome result (λ command. spelled command ≡ (word_of Name.Answers, second.now, third.now)) }
+{
+    if second.is_empty() {
+        return alone(Command::Answers(None), second, third);
+    }
+    Some(Command::Answers(Some(number_alone(second, third)?)))
+}
+
 // The command of this name, with what stands behind it.
 fn named<'a>(name: Name, second: &'a [u8], third: &[u8]) -> Option<Command<'a>>
     ensures { IfSome result (λ command. spelled command ≡ (word_of name, second.now, third.now)) }
@@ -85,6 +95,7 @@ fn named<'a>(name: Name, second: &'a [u8], third: &[u8]) -> Option<Command<'a>>
         Name::Files => alone(Command::Files, second, third),
         Name::Out => alone(Command::Out, second, third),
         Name::Why => Some(Command::Why(number_alone(second, third)?)),
+        Name::Answers => answers_of(second, third),
         Name::Schedule => alone(Command::Schedule, second, third),
         Name::Save => Some(Command::Save(path_alone(second, third)?)),
         Name::Help => alone(Command::Help, second, third),

@@ -1,1 +1,1 @@
-mod Adding
+pub mod Adding

@@ -9,4 +9,4 @@ mod session;
 mod turning;
 
 pub use fault::{BackFault, ChooseFault};
-pub use session::Session;
+pub use session::{Beginning, Session};

@@ -16,6 +16,17 @@ use std::alloc::{AllocError, Allocator, Global};
 use std::marker::Model;
 use user_calls::Machine;
 
+/// What a kernel is booted with.
+#[derive(Drop)]
+pub struct Beginning<'t, M: Machine, C: Allocator> {
+    pub init: M,
+    /// The top shell.
+    pub shell: M,
+    /// The standard input.
+    pub stdin: &'t [u8],
+    pub files: &'t Files<C>,
+}
+
 /// A kernel, of which whoever holds the session says who takes the next turn.
 ///
 /// Contracts see the kernel at its start, the kernel as it is, and the schedule between the two, with a note beside each
@@ -94,6 +105,18 @@ impl<'t, M: Machine, C: Allocator> Session<'t, M, C> {
         ensures { result.now ≡ self.now }
     {
         &self.kernel
+    }
+
+    /// What the session began with.
+    pub fn beginning(&self) -> Beginning<'t, M, C>
+        ensures { self.now.boot ≡ first_kernel (M.view result.init) (M.view result.shell) result.stdin.now result.files.now }
+    {
+        Beginning {
+            init: self.init.twin(),
+            shell: self.shell.twin(),
+            stdin: self.stdin,
+            files: self.files,
+        }
     }
 
     /// How many turns were taken.

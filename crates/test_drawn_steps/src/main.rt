@@ -1,5 +1,6 @@
 //! Draws sessions with the scripts of rows: turns of drawn processes, turns that are taken back, and turns in the kernel's own order.
-//! When a session is over, its schedule is replayed, and the report is compared with the session's kernel.
+//! When a session is over, its schedule is replayed, and the report is compared with the session's kernel; and so are the outcomes that
+//! were told before its last turns, where every order could be tried.
 #![tactic(auto)]
 
 mod case;
@@ -52,7 +53,9 @@ fn main(rt: HostRuntime) -> Result<()> {
     let sessions = count.parse::<usize>()?;
     let wrong = wrong_of(rt.alloc(), cases.as_slice(), sessions, &mut tally)?;
     if !tally.is_varied() {
-        println!(rt; "no turn was refused, or none was taken back, or never too many")?;
+        println!(rt;
+            "no turn was refused, none was taken back, never too many, or no order was tried"
+        )?;
     }
     println!(rt;
         "{} scripts, {sessions} drawn sessions, {wrong} wrong",

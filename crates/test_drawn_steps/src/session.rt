@@ -6,9 +6,10 @@ ghost use Rattle.script_load.specs.Line.{lines_of};
 use crate::case::Case;
 use crate::draw::draw;
 use anyhow::{Result, bail};
-use kernel_events::Kernel;
+use kernel_events::{Event, Kernel};
 use kernel_runs::replay;
 use proc_table::{Pid, State};
+use session_outcomes::{Exploration, Outcome, RestFault, Unwatched, outcomes_from};
 use sh_machine::{Naming, User};
 use std::alloc::Global;
 use std::marker::Brand;
@@ -25,12 +26,16 @@ const SLOTS: usize = 7;
 
 const MOST_BACK: usize = 8;
 
-/// How often a turn was refused, turns were taken back, and there were fewer than that.
+// Through how many states orders are tried.
+const STATES: usize = 1_000;
+
+/// How often a turn was refused, turns were taken back, there were fewer than that, and every order was tried of what was left.
 #[derive(Clone, Copy)]
 pub(crate) struct Tally {
     refused: usize,
     back: usize,
     too_far: usize,
+    whole: usize,
 }
 
 impl Tally {
@@ -39,12 +44,13 @@ impl Tally {
             refused: 0,
             back: 0,
             too_far: 0,
+            whole: 0,
         }
     }
 
     /// Whether each happened.
     pub(crate) fn is_varied(self) -> bool {
-        self.refused > 0 && self.back > 0 && self.too_far > 0
+        self.refused > 0 && self.back > 0 && self.too_far > 0 && self.whole > 0
     }
 }
 
@@ -133,6 +139,58 @@ fn is_replayed<M: Machine>(alloc: Global, case: &Case, kernel: &Kernel<M, Global
     )
 }
 
+// What can still come out, where every order could be tried.
+fn rest_of<M: Machine>(
+    alloc: Global,
+    session: &Session<'_, M, Global>,
+    tally: &mut Tally,
+) -> Result<Option<Exploration>> {
+    match outcomes_from(alloc, session, STATES, &mut Unwatched) {
+        Ok(found) if found.whole => {
+            tally.whole = tally.whole.saturating_add(1);
+            Ok(Some(found))
+        }
+        Ok(_) | Err(RestFault::Full) => Ok(None),
+        Err(RestFault::TooLong) => bail!("a run is too long"),
+        Err(RestFault::Memory) => bail!("no memory to try orders"),
+    }
+}
+
+// Whether an outcome is what the kernel has.
+fn is_left<M: Machine>(outcome: &Outcome, kernel: &Kernel<M, Global>) -> bool {
+    outcome.out.as_slice() == kernel.out()
+        && outcome.diag.as_slice() == kernel.diag()
+        && outcome.files.same(kernel.files())
+        && outcome.full == kernel.full()
+}
+
+// Whether an outcome's schedule begins with the calls of these events.
+fn begins_with(outcome: &Outcome, events: &[Event]) -> bool {
+    let pids = outcome.pids.as_slice();
+    for (place, event) in events.iter().enumerate() {
+        if let Event::Trap(_, pid) = event {
+            if pids.get(place / 2).copied().map(u32::from) != Some(*pid) {
+                return false;
+            }
+        }
+    }
+    true
+}
+
+// Whether what the kernel has is one of the outcomes, each of which goes on from the first events, so many.
+fn is_told<M: Machine>(found: &Exploration, kernel: &Kernel<M, Global>, taken: usize) -> bool {
+    let events = kernel.schedule();
+    let first = &events[..events.len().min(taken)];
+    found
+        .outcomes
+        .iter()
+        .all(|outcome| begins_with(outcome, first))
+        && found
+            .outcomes
+            .iter()
+            .any(|outcome| is_left(outcome, kernel))
+}
+
 // A session with the script that `N` names; and whether it is right.
 fn is_right_named<N: Naming>(
     alloc: Global,
@@ -151,7 +209,14 @@ fn is_right_named<N: Naming>(
             return Ok(false);
         }
     }
+    let rest = rest_of(alloc, &session, tally)?;
+    let taken = session.kernel().schedule().len();
     go_on(&mut session, TURNS)?;
+    if let Some(found) = rest {
+        if !is_told(&found, session.kernel(), taken) {
+            return Ok(false);
+        }
+    }
     is_replayed(alloc, case, session.kernel())
 }
 

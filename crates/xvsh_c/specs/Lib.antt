@@ -1,3 +1,6 @@
 pub mod Answers
+pub mod AskCalls
+pub mod ExploreCalls
+pub mod LookCalls
 pub mod PlainCalls
 pub mod RunCalls

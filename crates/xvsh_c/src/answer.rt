@@ -27,7 +27,7 @@ pub struct Answer {
     /// What was full first, from 1 on, or 0.
     pub full: u32,
     /// Of a run by meaning 1 where the script is settled, of a check or an explanation where there is nothing to tell, of an
-    /// exploration where all outcomes have one output and one set of files; else 0.
+    /// exploration where all outcomes have one output and one set of files, of a look where the run is finished; else 0.
     pub fine: u32,
     /// Of an exploration 1 where every order was tried or is known without; else 0.
     pub whole: u32,

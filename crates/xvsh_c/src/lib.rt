@@ -2,7 +2,10 @@
 #![tactic(auto)]
 
 mod answer;
+mod asks;
+mod explores;
 mod handing;
+mod looks;
 mod plain;
 mod runs;
 mod version;

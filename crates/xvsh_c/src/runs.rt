@@ -8,8 +8,8 @@ use embed_runs::{Full, RunAnswer, order_by, replay_of, run_of};
 use embed_task::{EmbedFault, Task};
 use std::alloc::Global;
 
-// What was full, from 1 on, or 0.
-fn full_number(full: Option<Full>) -> u32
+/// What was full, from 1 on, or 0.
+pub(crate) fn full_number(full: Option<Full>) -> u32
     ensures { result ≡ full_number full }
 {
     match full {

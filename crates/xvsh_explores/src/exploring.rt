@@ -174,8 +174,9 @@ fn explore_settled<'a>(
     }))
 }
 
-// What is told of a script from what it begins with.
-fn explore_start<'a, W: Watch>(
+/// What is told of a script from what its runs begin with: as `run_explore`, of a request whose source was read. `watch` is told how
+/// many states were found.
+pub fn explore_start<'a, W: Watch>(
     alloc: Global,
     start: &Start,
     request: &ExploreRequest<'a>,

@@ -12,5 +12,5 @@ mod sorting;
 mod telling;
 
 pub use every_order::Watch;
-pub use exploring::{Explored, run_explore};
+pub use exploring::{Explored, explore_start, run_explore};
 pub use request::{ExploreRequest, MAX_STATES};

@@ -7,6 +7,7 @@ use crate::stepping::steps;
 use crate::system::System;
 use crate::terminal::Terminal;
 use crate::ticking::{Quieting, Ticker};
+use std::fs::File;
 use std::io::{self, ErrorKind, Write};
 use std::process::ExitCode;
 use std::rt::{Env, Files};
@@ -107,6 +108,11 @@ where
     E: Write,
     T: Write + Drop,
 {
+    // Where a standard descriptor is closed, the next file that is opened takes its number, and would get what is meant for it. So a
+    // folder takes it, as long as the program runs: that can be neither read nor written.
+    let _input = File::open(rt, "/");
+    let _output = File::open(rt, "/");
+    let _error = File::open(rt, "/");
     let words = match words_of(rt) {
         Ok(words) => words,
         Err(error) if error.kind() == ErrorKind::InvalidData => {

@@ -98,8 +98,8 @@ processes: `pass`, `wrong`, `race` and others, with points.
 Status: 0 done; 1 something can't be read, is refused, or can't be written, or
 is no schedule of a whole run; 2 usage; 3 `check` told of a clash or a `&`,
 `explain` told of anything, `explore` found more than one outcome, `grade` a
-test that isn't passed, or `--strict` ran a script that isn't settled; 4 not every order was tried, full,
-spent, too large, or no memory.";
+test that isn't passed, or `--strict` ran a script that isn't settled; 4 not
+every order was tried, full, spent, too large, or no memory.";
 
 const VERSION: &str = "0.1.0 (rattle logic dac8208d650f15bf)";
 

@@ -37,7 +37,7 @@ returns-clause-complete g c =
     let law = c.every_outcome_of_a_script_is_told.ensures in
     passes c.explore_from.result _ _
     (λ found e whole.
-    let x : Explores call_of next_of start found = subst (λ (k : KernelState User). Explores call_of next_of k found) same e in
+    let x : Explores call_of next_of start start found = subst (λ (k : KernelState User). Explores call_of next_of k k found) same e in
     let still = law.still profile lines input list c.are_files.ensures in
     law.keys profile lines input list x.seen (map outcome_by found.outcomes.items) c.are_files.ensures (search_law.reached start x.seen x.reached) (search_law.closed PROCS start x.seen still enough x.reached (x.closed whole)) x.tells.of)
     c.explore_from.ensures
@@ -54,7 +54,7 @@ returns-clause-awake g c =
     let law = c.every_outcome_of_a_script_is_told.ensures in
     passes c.explore_from.result _ _
     (λ found e whole none.
-    let x : Explores call_of next_of start found = subst (λ (k : KernelState User). Explores call_of next_of k found) same e in
+    let x : Explores call_of next_of start start found = subst (λ (k : KernelState User). Explores call_of next_of k k found) same e in
     let still = law.still profile lines input list c.are_files.ensures in
     c.no_run_of_a_script_is_stuck_if_no_kernel_of_the_list_is.ensures profile lines input list x.seen c.are_files.ensures (search_law.reached start x.seen x.reached) (search_law.closed PROCS start x.seen still enough x.reached (x.closed whole)) (x.ready none))
     c.explore_from.ensures

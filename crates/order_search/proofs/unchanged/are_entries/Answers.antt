@@ -1,5 +1,5 @@
 -- One entry more is the one that was kept.
-use Rattle.std.proofs.Common.{◌≡◌, ℕ, ◌<◌, ◌+◌, ◌∷◌, [], ◌++◌, Ok, None, true, length, get_or, take, sym, ap, subst, ◌∙◌, arith, rules}
+use Rattle.std.proofs.Common.{◌≡◌, ℕ, ◌<◌, ◌∷◌, [], ◌++◌, Ok, None, true, length, get_or, sym, ap, subst, ◌∙◌, arith, rules}
 use Rattle.std.proofs.lemmas.List.{get_or_default, map_more, take_more}
 use Rattle.fd_table.specs.Entries.{Entries, entry_at}
 use Rattle.order_model.specs.Idle.{renamed_entry}

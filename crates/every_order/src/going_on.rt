@@ -1,0 +1,39 @@
+//! Explorations of what can follow turns that were taken.
+
+ghost use Rattle.std.specs.Prelude.{IfOk};
+ghost use Rattle.kernel_model.specs.Boot.{boot_kernel};
+ghost use Rattle.every_order.specs.Rest.{TellsAfter};
+
+use law_every_outcome::laws::{
+    a_list_with_the_keys_of_its_turns_is_closed, no_run_is_stuck_if_no_kernel_of_the_list_is,
+    what_a_search_found_is_explored, what_was_explored_is_every_outcome,
+};
+use law_orders::laws::a_kernel_is_still_between_turns;
+use mem_files::laws::are_files;
+use order_search::{Exploration, ExploreFault, Origin, Watch};
+use std::alloc::{Allocator, Global};
+use user_calls::Machine;
+
+/// Tries the orders in which the processes of a kernel, whose programs are any machines, can go on after turns of these processes:
+/// all orders, unless they lead to more than `states` states. Processes are named by their slots. `watch` is told as by
+/// `explore_watched`.
+///
+/// The schedule of each outcome is one from the kernel's boot. The fault is `TooLong` where one of the turns can't be taken, and
+/// `Memory` where memory is refused, to a call of a process too.
+pub fn explore_after<M: Machine, C: Allocator, W: Watch>(
+    alloc: Global,
+    origin: &Origin<'_, M, C>,
+    pids: &[u8],
+    states: usize,
+    watch: &mut W,
+) -> Result<Exploration, ExploreFault>
+    ensures { IfOk result (TellsAfter M.call_of M.next_of (boot_kernel (M.view origin.now.init) (M.view origin.now.shell) origin.now.stdin.now origin.now.files.now) pids.now) }
+{
+    are_files(origin.files);
+    a_kernel_is_still_between_turns::<M>();
+    what_a_search_found_is_explored::<M>();
+    what_was_explored_is_every_outcome::<M>();
+    a_list_with_the_keys_of_its_turns_is_closed::<M>();
+    no_run_is_stuck_if_no_kernel_of_the_list_is::<M>();
+    order_search::explore_after(alloc, origin, pids, states, watch)
+}

@@ -1,0 +1,21 @@
+use Rattle.std.proofs.Common.{List, map, sym, ◌∙◌}
+use Rattle.std.proofs.lemmas.List.{length-map}
+use Rattle.kernel_model.specs.KernelState.{KernelState}
+use Rattle.order_search.specs.Led.{kernel_of}
+use Rattle.order_search.proofs.ordering.explore_after.Goals as goal
+
+pub returns : goal.returns
+returns g c =
+    let seen : List (KernelState g.row.M-State.Denot) = map kernel_of c.in_ok-found.found.nodes.items in
+    record {
+      start = c.in_ok-start.start.now;
+      turns = c.in_ok-start.ensures;
+      explores = record {
+        seen = seen;
+        reached = c.in_ok-found.ensures.reached;
+        closed = λ whole. c.in_ok-found.ensures.whole (sym c.in_ok-told.ensures.whole ∙ whole);
+        tells = c.in_ok-told.ensures.tells;
+        ready = c.in_ok-told.ensures.ready;
+        states = c.in_ok-told.ensures.states ∙ sym (length-map c.in_ok-found.found.nodes.items kernel_of);
+      };
+    }

@@ -1,0 +1,168 @@
+//! What can still come out, in every order of the processes.
+
+use crate::objects::write_files;
+use crate::views::add_all_files;
+use crate::words::{add, add_count, add_number, add_quoted};
+use result_json::full_word;
+use session_outcomes::{Exploration, Outcome};
+use std::alloc::{AllocError, Global};
+use trace_lines::Line;
+
+// How many states are tried where no number is given (own).
+const FIRST_STATES: u64 = 20_000;
+
+// How many bytes states may take in all, and about how many each takes beside the turns that lead to it (own).
+const MOST_BYTES: usize = 400_000_000;
+
+const STATE_SIZE: usize = 1_000;
+
+// How many outcomes text has, and how many turns of each.
+const SHOWN_OUTCOMES: usize = 20;
+
+const SHOWN_TURNS: usize = 60;
+
+// How many states are tried after so many turns: as many as are asked for, if there is room for them.
+pub(crate) fn states_after(turns: usize, asked: Option<u64>) -> usize {
+    let asked = usize::try_from(asked.unwrap_or(FIRST_STATES)).unwrap_or(usize::MAX);
+    asked.min(MOST_BYTES / turns.saturating_add(STATE_SIZE))
+}
+
+// The turns behind so many that were taken.
+fn behind(pids: &[u8], taken: usize) -> &[u8] {
+    if taken < pids.len() {
+        &pids[taken..]
+    } else {
+        &[]
+    }
+}
+
+// How many outcomes there are, and whether every order was tried.
+fn add_head(alloc: Global, text: &mut Vec<u8>, found: &Exploration) -> Result<(), AllocError> {
+    add_count(alloc, text, found.outcomes.len(), "outcome")?;
+    let tried = if found.whole {
+        ", every order from here was tried ("
+    } else {
+        " so far, not every order from here was tried ("
+    };
+    add(text, tried)?;
+    add_count(alloc, text, found.states, "state")?;
+    add(text, ")\n")
+}
+
+// The turns of these processes, of more than 60 the first 60 and how many there are.
+fn add_turns(alloc: Global, text: &mut Vec<u8>, pids: &[u8]) -> Result<(), AllocError> {
+    if pids.is_empty() {
+        return add(text, "without a turn");
+    }
+    add(text, "by turns of")?;
+    for pid in &pids[..pids.len().min(SHOWN_TURNS)] {
+        text.push(b' ')?;
+        add_number(alloc, text, u64::from(*pid))?;
+    }
+    if SHOWN_TURNS < pids.len() {
+        add(text, " .. (")?;
+        add_count(alloc, text, pids.len(), "turn")?;
+        text.push(b')')?;
+    }
+    Ok(())
+}
+
+// The lines of an outcome: its output and the turns to it; what was told and what was full, if anything; and its files.
+fn add_outcome(
+    alloc: Global,
+    text: &mut Vec<u8>,
+    number: usize,
+    outcome: &Outcome,
+    taken: usize,
+) -> Result<(), AllocError> {
+    add_number(alloc, text, number as u64)?;
+    add(text, ": output ")?;
+    add_quoted(text, outcome.out.as_slice(), usize::MAX)?;
+    add(text, ", ")?;
+    add_turns(alloc, text, behind(outcome.pids.as_slice(), taken))?;
+    if !outcome.diag.is_empty() {
+        add(text, "\n   diagnostics ")?;
+        add_quoted(text, outcome.diag.as_slice(), usize::MAX)?;
+    }
+    if let Some(full) = outcome.full {
+        add(text, "\n   something was full: ")?;
+        add(text, full_word(full))?;
+    }
+    text.push(b'\n')?;
+    add_all_files(alloc, text, &outcome.files, "   ")
+}
+
+// The outcomes, of more than 20 the first 20.
+fn add_outcomes(
+    alloc: Global,
+    text: &mut Vec<u8>,
+    outcomes: &[Outcome],
+    taken: usize,
+) -> Result<(), AllocError> {
+    let shown = outcomes.len().min(SHOWN_OUTCOMES);
+    for (place, outcome) in outcomes[..shown].iter().enumerate() {
+        add_outcome(alloc, text, place.saturating_add(1), outcome, taken)?;
+    }
+    if shown < outcomes.len() {
+        add(text, "and ")?;
+        add_number(alloc, text, (outcomes.len() - shown) as u64)?;
+        add(text, " more\n")?;
+    }
+    Ok(())
+}
+
+// Adds what can still come out, after so many turns that were taken.
+pub(crate) fn add_rest(
+    alloc: Global,
+    text: &mut Vec<u8>,
+    found: &Exploration,
+    taken: usize,
+) -> Result<(), AllocError> {
+    add_head(alloc, text, found)?;
+    add_outcomes(alloc, text, found.outcomes.as_slice(), taken)?;
+    if let Some(pids) = &found.stuck {
+        add(text, "every process sleeps for ever ")?;
+        add_turns(alloc, text, behind(pids.as_slice(), taken))?;
+        text.push(b'\n')?;
+    }
+    Ok(())
+}
+
+fn write_turns(line: &mut Line, key: &str, pids: &[u8]) -> Result<(), AllocError> {
+    line.begin_list(key)?;
+    for pid in pids {
+        line.raw_count(u64::from(*pid))?;
+    }
+    line.end_list()
+}
+
+fn write_outcome(line: &mut Line, outcome: &Outcome, taken: usize) -> Result<(), AllocError> {
+    line.begin_raw_object()?;
+    line.bytes("out", outcome.out.as_slice())?;
+    line.bytes("diag", outcome.diag.as_slice())?;
+    write_files(line, &outcome.files)?;
+    if let Some(full) = outcome.full {
+        line.word("full", full_word(full))?;
+    }
+    write_turns(line, "turns", behind(outcome.pids.as_slice(), taken))?;
+    line.end_object()
+}
+
+// The same as fields of an object.
+pub(crate) fn write_rest(
+    line: &mut Line,
+    found: &Exploration,
+    taken: usize,
+) -> Result<(), AllocError> {
+    line.truth("every_order_tried", found.whole)?;
+    line.count("states", found.states as u64)?;
+    match &found.stuck {
+        Some(pids) => write_turns(line, "stuck", behind(pids.as_slice(), taken))?,
+        None => line.nothing("stuck")?,
+    }
+    line.begin_list("outcomes")?;
+    for outcome in &found.outcomes {
+        write_outcome(line, outcome, taken)?;
+    }
+    line.end_list()
+}

@@ -1,0 +1,6 @@
+use Rattle.std.proofs.Common.{Bool, inl, subst}
+use Rattle.embed_explores.specs.Explores.{IsExploreAnswer}
+use Rattle.xvsh_c.proofs.explores.xvsh_explore_call.Goals as goal
+
+pub returns-in-Ok : goal.returns-in-Ok
+returns-in-Ok c = inl (c.in-Ok.told, subst (λ (on : Bool). IsExploreAnswer c.args.task.now on c.in-Ok.told) c.is_on.ensures c.in-Ok.ensures.told, c.put_explored.ensures)

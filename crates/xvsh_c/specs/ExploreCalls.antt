@@ -1,0 +1,22 @@
+-- What a call of an exploration leaves: what the library below tells of the task, or a fault that is due.
+use Rattle.std.specs.Prelude.{◌≡◌, ◌⊎◌, ℕ}
+use Rattle.embed_task.specs.declared.task.Task.{Task}
+use Rattle.embed_task.specs.declared.fault.EmbedFault.{EmbedFault}
+use Rattle.embed_task.specs.Packing.{mark_of}
+use Rattle.embed_explores.specs.declared.exploring.ExploreAnswer.{ExploreAnswer}
+use Rattle.embed_explores.specs.Explores.{IsExploreAnswer, IsExploreRefusal}
+use Rattle.xvsh_c.specs.declared.answer.Answer.{Answer}
+use Rattle.xvsh_c.specs.Answers.{TellsFault}
+use Rattle.xvsh_c.specs.AskCalls.{is_on}
+
+-- the answer tells what every order of a script leaves
+pub record TellsExplored (answer : Answer) (told : ExploreAnswer) : Type 0 where
+  pub status : answer.status ≡ 0
+  pub json : answer.json.now ≡ told.json.items
+  pub fine : answer.fine ≡ mark_of told.is_single
+  pub whole : answer.whole ≡ mark_of told.is_whole
+
+-- a call of `xvsh_explore_call` left this answer
+abbrev pub ExploreCall : Task → ℕ → ℕ → Answer → Type 0
+ExploreCall task states thorough answer =
+    ((told : ExploreAnswer) × IsExploreAnswer task (is_on thorough) told × TellsExplored answer told) ⊎ ((fault : EmbedFault) × IsExploreRefusal task states fault × TellsFault answer fault)

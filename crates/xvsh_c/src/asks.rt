@@ -1,0 +1,47 @@
+//! Checks and explanations.
+ghost use Rattle.std.specs.Prelude.{◌≡◌};
+ghost use Rattle.xvsh_c.specs.AskCalls.{CheckCall, ExplainCall, TellsAsked, is_on};
+
+use crate::answer::{Answer, put_fault};
+use crate::handing::given_out;
+use embed_asks::{AskAnswer, check_of, explain_of};
+use embed_task::Task;
+use std::alloc::Global;
+
+/// Whether a number asks for something: 0 doesn't, any other does.
+pub(crate) fn is_on(flag: u32) -> bool
+    ensures { result ≡ is_on flag }
+{
+    if flag == 0 { false } else { true }
+}
+
+// Puts what is told of a script before any run into an answer.
+fn put_asked(told: AskAnswer, answer: &mut Answer)
+    ensures { TellsAsked answer.new told }
+{
+    answer.clear();
+    answer.fine = told.is_fine as u32;
+    answer.json = given_out(told.json);
+}
+
+/// `xvsh_check_call`: checks a script, strictly unless `strict` is 0.
+#[unsafe(no_mangle)]
+pub extern "C" fn xvsh_check_call(alloc: Global, task: &Task<'_>, strict: u32, answer: &mut Answer)
+    ensures { CheckCall task.now strict answer.new }
+{
+    match check_of(alloc, task, is_on(strict)) {
+        Ok(told) => put_asked(told, answer),
+        Err(fault) => put_fault(fault, answer),
+    }
+}
+
+/// `xvsh_explain_call`: explains a script.
+#[unsafe(no_mangle)]
+pub extern "C" fn xvsh_explain_call(alloc: Global, task: &Task<'_>, answer: &mut Answer)
+    ensures { ExplainCall task.now answer.new }
+{
+    match explain_of(alloc, task) {
+        Ok(told) => put_asked(told, answer),
+        Err(fault) => put_fault(fault, answer),
+    }
+}
