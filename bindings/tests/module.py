@@ -2,6 +2,7 @@
 
 usage: module.py COUNT
 """
+import json
 import os
 import re
 import resource
@@ -171,6 +172,23 @@ def traces():
         assert [it.record["call"]["name"] for it in traced if it.kind == "trap"].count("pipe") == 1
 
 
+def schemas():
+    """Each look of a run is as the schema of looks says, where python3-jsonschema is installed."""
+    try:
+        import jsonschema
+    except ImportError:
+        print("looks aren't compared with their schema, since python3-jsonschema isn't installed")
+        return
+    schema = json.loads(read("docs/schema/look.schema.json").replace("urn:xvsh-step:1#", "#"))
+    looks = jsonschema.Draft202012Validator({**schema, "$defs": json.loads(read("docs/schema/step.schema.json"))["$defs"]})
+    session = xvsh.Session("cat f | (wc; lss) > g &; echo a", files={"f": b"\xff\n" * 300})
+    while not session.finished:
+        looks.validate(json.loads(session.json))
+        session.choose(max(session.choices()))
+    looks.validate(json.loads(session.json))
+    assert not looks.is_valid({**json.loads(session.json), "stands": "asleep"})
+
+
 def forms():
     """What is handed in may be of any bytes-like form."""
     assert xvsh.plain(bytearray(b"cat"), memoryview(b"x\n"), {"f": bytearray(b"y")}).files["f"].bytes == b"y"
@@ -226,6 +244,7 @@ def main():
     views()
     asks()
     traces()
+    schemas()
     forms()
     threads()
     growth(int(sys.argv[1]))
