@@ -68,18 +68,6 @@ build() {
     keep "$1" "$2" build
 }
 
-# Why out/bin/NAME, which was made of sources of this digest, may not be run; nothing where it may.
-outdated() {
-    if [ -n "${XVSH_BUILD:-}" ] && [ "$(cat "$bin/$1.origin")" != build ]; then
-        echo "XVSH_BUILD is set"
-        return
-    fi
-    read -r folders <"$bin/$1.folders"
-    # shellcheck disable=SC2086
-    file=$(cd "$here" && find $folders -type f \( -name '*.rt' -o -name '*.antt' \) -newer "out/bin/$1" -print -quit)
-    [ -z "$file" ] || echo "$file was written after the program (rm -r out/bin goes back to that of dist/)"
-}
-
 # Makes out/bin/NAME the program of this checkout. Of two calls at once the second waits for the first.
 prepare() {
     if command -v flock >/dev/null; then
@@ -88,9 +76,9 @@ prepare() {
         may_run "$1" && { exec 9>&-; return; }
     fi
     digest=$("$here/dist/digest" "$1") || exit 125
-    if [ -x "$bin/$1" ] && [ "$(cat "$bin/$1.sources")" = "$digest" ]; then
-        reason=$(outdated "$1")
-        if [ -n "$reason" ]; then build "$1" "$digest" "$reason"; else touch "$bin/$1"; fi
+    if [ -x "$bin/$1" ] && [ "$(cat "$bin/$1.sources")" = "$digest" ] && { [ -z "${XVSH_BUILD:-}" ] || [ "$(cat "$bin/$1.origin")" = build ]; }; then
+        # files that were written anew, as by a checkout of another commit and back, and hold the same
+        touch "$bin/$1"
     elif [ -n "${XVSH_BUILD:-}" ]; then
         build "$1" "$digest" "XVSH_BUILD is set"
     elif is_packed "$1" "$digest"; then
