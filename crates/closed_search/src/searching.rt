@@ -1,6 +1,6 @@
 //! The search.
 
-ghost use Rattle.std.specs.Prelude.{◌≡◌, ℕ, ◌<◌, ◌≤◌, Some, None, Ok, IfOk, OnOk, All, length, map, slice_index_or, true, [], ◌∷◌, ◌++◌};
+ghost use Rattle.std.specs.Prelude.{◌≡◌, ℕ, ◌<◌, ◌≤◌, Some, None, Ok, IfOk, OnOk, All, length, map, slice_index_or, true, false, [], ◌∷◌, ◌++◌};
 ghost use Rattle.closed_search.specs.Searched.{HasLike, IsExpanded, IsReached, IsLonger, IsClosedUnder};
 
 use crate::indexes::Index;
@@ -114,6 +114,7 @@ fn search_from<T: Node, W: Watch>(
 ) -> Result<Found<T>, T::Fault>
     ensures reached { IfOk result (λ found. All (IsReached T.step (T.state start)) (map T.state found.nodes.items)) }
     ensures whole { IfOk result (λ found. found.whole ≡ true → IsClosedUnder T.step T.stands bounds.moves (T.state start) (map T.state found.nodes.items)) }
+    ensures part { IfOk result (λ found. found.whole ≡ false → bounds.limit < length found.nodes.items) }
 {
     let mut nodes = Vec::new(alloc);
     let mut index = Index::new(alloc);
@@ -138,7 +139,8 @@ fn search_from<T: Node, W: Watch>(
 /// it found more than `bounds.limit` nodes. `watch` is told how many it found, and when it ends.
 ///
 /// Each state that it found is one that moves lead to (`reached`). Where it went to its end, the states are closed under
-/// moves but for states that others stand for (`whole`). The fault is one of the nodes', or that of refused memory.
+/// moves but for states that others stand for (`whole`); where it didn't, it found more nodes than that (`part`). The fault is one
+/// of the nodes', or that of refused memory.
 pub fn search<T: Node, W: Watch>(
     alloc: Global,
     tools: &mut T::Tools,
@@ -148,6 +150,7 @@ pub fn search<T: Node, W: Watch>(
 ) -> Result<Found<T>, T::Fault>
     ensures reached { IfOk result (λ found. All (IsReached T.step (T.state start)) (map T.state found.nodes.items)) }
     ensures whole { IfOk result (λ found. found.whole ≡ true → IsClosedUnder T.step T.stands bounds.moves (T.state start) (map T.state found.nodes.items)) }
+    ensures part { IfOk result (λ found. found.whole ≡ false → bounds.limit < length found.nodes.items) }
 {
     let found = search_from(alloc, tools, start, bounds, watch);
     watch.ended();

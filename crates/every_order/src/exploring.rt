@@ -1,11 +1,11 @@
 //! Explorations of scripts.
 
-ghost use Rattle.std.specs.Prelude.{◌≡◌, IfOk, None, All, map, true};
+ghost use Rattle.std.specs.Prelude.{◌≡◌, ◌<◌, IfOk, IfSome, None, All, map, true, false};
 ghost use Rattle.script_load.specs.Line.{lines_of};
 ghost use Rattle.sh_machine.specs.Turn.{call_of, next_of};
 ghost use Rattle.run_model.specs.ScriptRun.{script_kernel};
 ghost use Rattle.order_model.specs.Explored.{AreAllOutcomes, IsNeverStuck};
-ghost use Rattle.order_search.specs.Told.{outcome_by, IsReplayed, AreApart};
+ghost use Rattle.order_search.specs.Told.{outcome_by, IsReplayed, AreApart, LeadsToSleep};
 
 use law_every_outcome::laws::{
     every_outcome_of_a_script_is_told, no_run_of_a_script_is_stuck_if_no_kernel_of_the_list_is,
@@ -34,7 +34,8 @@ pub struct Setting<'a, B: Allocator, C: Allocator> {
 /// Each outcome that is told is that of a finished run of the script by its own schedule, at which no memory was refused
 /// (`sound`); no two are equal (`apart`). Where every order was tried, the outcomes are those of all finished runs of the
 /// script, in any order and on any harts, at which memory was never refused or nothing was full (`complete`), and where nobody
-/// was stuck no such run comes to where all processes sleep (`awake`). The fault is `Memory` where memory is refused, to a call of a process too.
+/// was stuck no such run comes to where all processes sleep (`awake`); where somebody was, these turns lead there (`asleep`). Where not
+/// every order was tried, more than `states` states were found (`part`). The fault is `Memory` where memory is refused, to a call of a process too.
 pub fn explore<B: Allocator, C: Allocator>(
     alloc: Global,
     script: &Script<B>,
@@ -46,6 +47,8 @@ pub fn explore<B: Allocator, C: Allocator>(
     ensures apart { IfOk result (λ found. AreApart found.outcomes.items) }
     ensures complete { IfOk result (λ found. found.whole ≡ true → AreAllOutcomes call_of next_of (script_kernel script.now.profile (lines_of script.now.lines) stdin.now files.now) (map outcome_by found.outcomes.items)) }
     ensures awake { IfOk result (λ found. found.whole ≡ true → found.stuck ≡ None → IsNeverStuck call_of next_of (script_kernel script.now.profile (lines_of script.now.lines) stdin.now files.now)) }
+    ensures asleep { IfOk result (λ found. IfSome found.stuck (λ pids. LeadsToSleep call_of next_of (script_kernel script.now.profile (lines_of script.now.lines) stdin.now files.now) pids.items)) }
+    ensures part { IfOk result (λ found. found.whole ≡ false → states < found.states) }
 {
     let setting = Setting {
         script,
@@ -66,6 +69,8 @@ pub fn explore_watched<B: Allocator, C: Allocator, W: Watch>(
     ensures apart { IfOk result (λ found. AreApart found.outcomes.items) }
     ensures complete { IfOk result (λ found. found.whole ≡ true → AreAllOutcomes call_of next_of (script_kernel setting.now.script.now.profile (lines_of setting.now.script.now.lines) setting.now.stdin.now setting.now.files.now) (map outcome_by found.outcomes.items)) }
     ensures awake { IfOk result (λ found. found.whole ≡ true → found.stuck ≡ None → IsNeverStuck call_of next_of (script_kernel setting.now.script.now.profile (lines_of setting.now.script.now.lines) setting.now.stdin.now setting.now.files.now)) }
+    ensures asleep { IfOk result (λ found. IfSome found.stuck (λ pids. LeadsToSleep call_of next_of (script_kernel setting.now.script.now.profile (lines_of setting.now.script.now.lines) setting.now.stdin.now setting.now.files.now) pids.items)) }
+    ensures part { IfOk result (λ found. found.whole ≡ false → states < found.states) }
 {
     explore_named::<Brand, B, C, W>(alloc, setting, states, watch)
 }
@@ -82,6 +87,8 @@ fn explore_named<N: Naming, B: Allocator, C: Allocator, W: Watch>(
     ensures apart { IfOk result (λ found. AreApart found.outcomes.items) }
     ensures complete { IfOk result (λ found. found.whole ≡ true → AreAllOutcomes call_of next_of (script_kernel setting.now.script.now.profile (lines_of setting.now.script.now.lines) setting.now.stdin.now setting.now.files.now) (map outcome_by found.outcomes.items)) }
     ensures awake { IfOk result (λ found. found.whole ≡ true → found.stuck ≡ None → IsNeverStuck call_of next_of (script_kernel setting.now.script.now.profile (lines_of setting.now.script.now.lines) setting.now.stdin.now setting.now.files.now)) }
+    ensures asleep { IfOk result (λ found. IfSome found.stuck (λ pids. LeadsToSleep call_of next_of (script_kernel setting.now.script.now.profile (lines_of setting.now.script.now.lines) setting.now.stdin.now setting.now.files.now) pids.items)) }
+    ensures part { IfOk result (λ found. found.whole ≡ false → states < found.states) }
 {
     are_files(setting.files);
     what_a_search_found_is_explored::<User<B, N>>();

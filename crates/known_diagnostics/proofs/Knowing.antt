@@ -6,10 +6,11 @@ use Rattle.sh_machine.specs.State.{User}
 use Rattle.sh_machine.specs.Turn.{call_of, next_of}
 use Rattle.kernel_model.specs.KernelState.{KernelState}
 use Rattle.order_model.specs.Outcome.{RunOutcome, outcome_of}
-use Rattle.order_search.specs.Told.{outcome_by, IsReplayed}
+use Rattle.order_search.specs.Told.{outcome_by, IsReplayed, LeadsToSleep}
+use Rattle.order_search.proofs.Telling.{some_of}
 use Rattle.order_search.specs.declared.ordering.Exploration.{Exploration}
 use Rattle.order_search.specs.declared.outcomes.Outcome.{Outcome}
-use Rattle.known_diagnostics.specs.Known.{AreFoundFrom, AreDifferent, AreFull, AreSame, HasRun}
+use Rattle.known_diagnostics.specs.Known.{AreFoundFrom, AreDifferent, AreFull, AreSame, CanSleep, HasRun}
 
 module _ (start : KernelState User) (found : Exploration) (from : AreFoundFrom start found) where
   -- an outcome that was found in which nothing was full is that of a run
@@ -18,6 +19,11 @@ module _ (start : KernelState User) (found : Exploration) (from : AreFoundFrom s
 
   pub different : (one other : Outcome) → Contains found.outcomes.items one → one.full ≡ None → Contains found.outcomes.items other → other.full ≡ None → other.diag.items ≢ one.diag.items → AreDifferent start
   different one other among roomy within empty differ = record { one = one; other = other; has_one = has_run one among roomy; has_other = has_run other within empty; differ = differ }
+
+  pub sleeps : (found.stuck ≡ None → ⊥) → CanSleep start
+  sleeps some =
+      let there = some_of (λ pids. LeadsToSleep call_of next_of start pids.items) found.stuck some from.asleep in
+      (there.0.items, there.1)
 
   module _ (whole : found.whole ≡ true) (none : found.stuck ≡ None) where
     pub same : (one : Outcome) → Contains found.outcomes.items one → one.full ≡ None → All (λ outcome. outcome.full ≡ None → outcome.diag.items ≡ one.diag.items) found.outcomes.items → AreSame start one.diag.items

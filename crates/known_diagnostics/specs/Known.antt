@@ -1,5 +1,5 @@
 -- What is known of the diagnostics of a script, in whatever order its processes take their turns.
-use Rattle.std.specs.Prelude.{◌≡◌, ◌≢◌, ⊤, Bool, true, List, Some, None, All, map}
+use Rattle.std.specs.Prelude.{◌≡◌, ◌≢◌, ⊤, ℕ, Bool, true, List, Some, None, IfSome, All, map}
 use Rattle.mem_files.specs.Name.{Name, Bytes}
 use Rattle.script_load.specs.declared.profile.Profile.{Profile}
 use Rattle.script_load.specs.Line.{ScriptLine}
@@ -10,18 +10,19 @@ use Rattle.kernel_model.specs.KernelState.{KernelState}
 use Rattle.kernel_model.specs.Events.{run, IsFinished}
 use Rattle.run_model.specs.ScriptRun.{script_kernel}
 use Rattle.order_model.specs.Explored.{AreAllOutcomes, IsNeverStuck}
-use Rattle.order_search.specs.Told.{outcome_by, IsReplayed}
+use Rattle.order_search.specs.Told.{outcome_by, IsReplayed, LeadsToSleep}
 use Rattle.order_search.specs.declared.ordering.Exploration.{Exploration}
 use Rattle.order_search.specs.declared.outcomes.Outcome.{Outcome}
 use Rattle.known_diagnostics.specs.declared.known.Diagnostics.{Diagnostics}
 use Rattle.known_diagnostics.specs.declared.known.Diagnostics.TheVariants.{Same, Differ, Untried, Full, Asleep}
 
 -- what an exploration from the start found: finished runs have its outcomes, and where every order was tried, all of them, and
--- where then nobody is stuck, no run is
+-- where then nobody is stuck, no run is; where somebody is, these turns lead there
 pub record AreFoundFrom (start : KernelState User) (found : Exploration) : Type 0 where
   pub sound : All (IsReplayed call_of next_of start) found.outcomes.items
   pub complete : found.whole ≡ true → AreAllOutcomes call_of next_of start (map outcome_by found.outcomes.items)
   pub awake : found.whole ≡ true → found.stuck ≡ None → IsNeverStuck call_of next_of start
+  pub asleep : IfSome found.stuck (λ pids. LeadsToSleep call_of next_of start pids.items)
 
 -- every finished run in which nothing was full, on any harts, in any order and whenever memory was refused, has these diagnostics
 abbrev pub WritesInEveryRun : KernelState User → Bytes → Type 0
@@ -59,13 +60,17 @@ pub record AreFull (start : KernelState User) : Type 0 where
   pub runs : FillsInEveryRun start
   pub awake : IsNeverStuck call_of next_of start
 
+-- turns lead to where all processes sleep
+abbrev pub CanSleep : KernelState User → Type 0
+CanSleep start = (pids : List ℕ) × LeadsToSleep call_of next_of start pids
+
 -- this is known of the runs from the start
 abbrev pub IsKnownFrom : KernelState User → Diagnostics → Type 0
 IsKnownFrom start (Same text) = AreSame start text.items
 IsKnownFrom start Differ = AreDifferent start
 IsKnownFrom start Untried = ⊤
 IsKnownFrom start Full = AreFull start
-IsKnownFrom start Asleep = ⊤
+IsKnownFrom start Asleep = CanSleep start
 
 -- this is known of the runs of a script of these lines under a profile, with this standard input and these files
 abbrev pub IsKnown : Profile → List ScriptLine → Bytes → List (Name × Bytes) → Diagnostics → Type 0

@@ -73,7 +73,7 @@ fn known_by(alloc: Global, found: &Exploration) -> Result<Diagnostics, AllocErro
 ///
 /// `Same` is told only where each finished run in which nothing was full writes these, there is one, and none comes to where all
 /// processes sleep; `Differ` only where two finished runs in which nothing was full write others; `Full` only where in each
-/// finished run something was full, and none comes to where all sleep. `AllocError` where memory is refused.
+/// finished run something was full, and none comes to where all sleep; `Asleep` only where one does. `AllocError` where memory is refused.
 pub fn diagnostics_of<B: Allocator, C: Allocator>(
     alloc: Global,
     script: &Script<B>,

@@ -98,15 +98,16 @@ pub finished_key : {S : Type 0} (k look : KernelState S) → look ≡ key k → 
 finished_key k look is over pid other =
     ap (λ (j : KernelState _). at j.table pid) is ∙ at_idle (place_in k.pipes) k.table pid ∙ finished_key_slot (place_in k.pipes) (at k.table pid) (over pid other)
 
-none_by : {S : Type 0} (x : Slot S) (t : Table S) (b : Bool) → is_running x ≡ b → count_by is_running (x ∷ t) ≡ 0 → (is_running x ≡ false) × (count_by is_running t ≡ 0)
-none_by x t true is none =
-    absurd (omega (arith, none, sum_by-cons (λ (y : Slot _). cond {A = ℕ} (is_running y) 1 0) x t, ap (λ (b : Bool). cond {A = ℕ} b 1 0) is))
-none_by x t false is none = (is, omega (arith, none, sum_by-cons (λ (y : Slot _). cond {A = ℕ} (is_running y) 1 0) x t))
+-- nobody is what no slot is, as a free one isn't
+none_by : {S : Type 0} (test : Slot S → Bool) (x : Slot S) (t : Table S) (b : Bool) → test x ≡ b → count_by test (x ∷ t) ≡ 0 → (test x ≡ false) × (count_by test t ≡ 0)
+none_by test x t true is none =
+    absurd (omega (arith, none, sum_by-cons (λ (y : Slot _). cond {A = ℕ} (test y) 1 0) x t, ap (λ (b : Bool). cond {A = ℕ} b 1 0) is))
+none_by test x t false is none = (is, omega (arith, none, sum_by-cons (λ (y : Slot _). cond {A = ℕ} (test y) 1 0) x t))
 
-none_runs : {S : Type 0} (t : Table S) (k : ℕ) → count_by is_running t ≡ 0 → is_running (at t k) ≡ false
-none_runs [] k none = refl
-none_runs (x ∷ t) zero none = (none_by x t (is_running x) refl none).0
-none_runs (x ∷ t) (suc k) none = none_runs t k (none_by x t (is_running x) refl none).1
+pub none_of : {S : Type 0} (test : Slot S → Bool) (t : Table S) (k : ℕ) → test None ≡ false → count_by test t ≡ 0 → test (at t k) ≡ false
+none_of test [] k free none = free
+none_of test (x ∷ t) zero free none = (none_by test x t (test x) refl none).0
+none_of test (x ∷ t) (suc k) free none = none_of test t k free (none_by test x t (test x) refl none).1
 
 ready_status : (name : ℕ → ℕ) (s : Status) → is_runnable_status (idle_status name s) ≡ true → is_running_status s ≡ false → is_runnable_status s ≡ true
 ready_status name Runnable ready idle = refl
@@ -120,7 +121,7 @@ ready_slot name (Some p) ready idle = ready_status name p.status ready idle
 
 pub key_ready : {S : Type 0} (k look : KernelState S) (pid : ℕ) → look ≡ key k → count_by is_running k.table ≡ 0 → is_runnable (at look.table pid) ≡ true → is_runnable (at k.table pid) ≡ true
 key_ready k look pid is none ready =
-    ready_slot (place_in k.pipes) (at k.table pid) (ap is_runnable (sym (at_idle (place_in k.pipes) k.table pid)) ∙ ap (λ (j : KernelState _). is_runnable (at j.table pid)) (sym is) ∙ ready) (none_runs k.table pid none)
+    ready_slot (place_in k.pipes) (at k.table pid) (ap is_runnable (sym (at_idle (place_in k.pipes) k.table pid)) ∙ ap (λ (j : KernelState _). is_runnable (at j.table pid)) (sym is) ∙ ready) (none_of is_running k.table pid refl none)
 
 pub key_outcome : {S : Type 0} (k look : KernelState S) → look ≡ key k → outcome_of look ≡ outcome_of k
 key_outcome k look is = ap outcome_of is

@@ -1,6 +1,6 @@
 -- Outcomes are told as kernel after kernel is looked at.
 use Rattle.std.proofs.Common.{◌≡◌, ◌≢◌, ℕ, zero, suc, ◌<◌, ◌≤◌, List, [], ◌∷◌, ◌++◌, length, get_or, take, inl, inr, refl, sym, ap, subst, ◌∙◌, arith, map}
-use Rattle.std.specs.Prelude.{All, Any, Contains, slice_index_or}
+use Rattle.std.specs.Prelude.{All, Any, Contains, IfSome, Option, None, Some, slice_index_or}
 use Rattle.std.proofs.lemmas.List.{map-append, length-map}
 use Rattle.std.proofs.lemmas.List.Elements.{All-append, All-nil}
 use Rattle.std.proofs.lemmas.List.Quantifiers.{Any-push, all_pairs_push}
@@ -12,6 +12,13 @@ use Rattle.order_model.specs.Outcome.{RunOutcome, outcome_of}
 use Rattle.order_model.specs.Explored.{FinishesWith}
 use Rattle.order_search.specs.declared.outcomes.Outcome.{Outcome}
 use Rattle.order_search.specs.Told.{outcome_by, IsReplayed, AreApart, IsAddedTo, Tells}
+
+-- ---- what is there
+
+-- of what isn't missing, a value that has what is said of it
+pub some_of : {X : Type 0} (P : X → Type 0) (o : Option X) → (o ≡ None → ⊥) → IfSome o P → (x : X) × P x
+some_of P None some holds = absurd (some refl)
+some_of P (Some x) some holds = (x, holds)
 
 -- ---- lists that grow
 

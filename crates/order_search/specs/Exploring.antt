@@ -1,5 +1,5 @@
 -- What an exploration shows.
-use Rattle.std.specs.Prelude.{◌≡◌, ℕ, List, true, Some, None, All, length}
+use Rattle.std.specs.Prelude.{◌≡◌, ℕ, List, true, Some, None, IfSome, All, length}
 use Rattle.user_calls.specs.declared.calls.Call.{Call}
 use Rattle.user_calls.specs.declared.calls.Reply.{Reply}
 use Rattle.proc_table.specs.declared.pid.TheConstants.{PROCS}
@@ -9,18 +9,19 @@ use Rattle.order_model.specs.Key.{SameKey}
 use Rattle.order_model.specs.Turns.{after_turn, after_turns}
 use Rattle.order_model.specs.Explored.{IsFinishedOrReady}
 use Rattle.order_search.specs.declared.ordering.Exploration.{Exploration}
-use Rattle.order_search.specs.Told.{Tells}
+use Rattle.order_search.specs.Told.{Tells, LeadsToSleep}
 
 module _ {S : Type 0} (call : S → Reply → Call) (next : S → Reply → S) where
   -- kernels that turns lead to from the start were seen, and their outcomes are told, each with turns that lead to it from the boot;
   -- where all orders were tried, they have the keys of all their turns; and where nobody is said to be stuck, each is finished or
-  -- has a Runnable process
+  -- has a Runnable process, and else these turns lead to where nobody is
   pub record Explores (boot start : KernelState S) (e : Exploration) : Type 0 where
     pub seen : List (KernelState S)
     pub reached : All (IsReached (after_turn call next) start) seen
     pub closed : e.whole ≡ true → IsClosedUnder (after_turn call next) SameKey PROCS start seen
     pub tells : Tells call next boot seen e.outcomes.items
     pub ready : e.stuck ≡ None → All IsFinishedOrReady seen
+    pub asleep : IfSome e.stuck (λ pids. LeadsToSleep call next boot pids.items)
     pub states : e.states ≡ length seen
 
   -- the same, where turns of these processes led from the boot to the start

@@ -1,11 +1,11 @@
 -- What is told of an exploration.
-use Rattle.std.specs.Prelude.{◌≡◌, ◌≢◌, ◌⊎◌, List, [], ◌∷◌, ◌++◌, Some, All, AllPairs, Contains, map}
+use Rattle.std.specs.Prelude.{◌≡◌, ◌≢◌, ◌⊎◌, ℕ, List, [], ◌∷◌, ◌++◌, Some, All, AllPairs, Contains, map}
 use Rattle.user_calls.specs.declared.calls.Call.{Call}
 use Rattle.user_calls.specs.declared.calls.Reply.{Reply}
 use Rattle.kernel_model.specs.KernelState.{KernelState}
 use Rattle.order_model.specs.Turns.{after_turns}
 use Rattle.order_model.specs.Outcome.{RunOutcome}
-use Rattle.order_model.specs.Explored.{FinishesWith, AreOutcomesOf}
+use Rattle.order_model.specs.Explored.{FinishesWith, AreOutcomesOf, IsFinishedOrReady}
 use Rattle.order_search.specs.declared.outcomes.Outcome.{Outcome}
 
 -- what is told, without its schedule
@@ -17,6 +17,12 @@ pub record IsReplayed {S : Type 0} (call : S → Reply → Call) (next : S → R
   pub last : KernelState S
   pub turns : after_turns call next start o.pids.items ≡ Some last
   pub finishes : FinishesWith (outcome_by o) last
+
+-- turns of these processes, at which memory isn't refused, lead from the start to where nobody is Runnable, and the run isn't finished
+pub record LeadsToSleep {S : Type 0} (call : S → Reply → Call) (next : S → Reply → S) (start : KernelState S) (pids : List ℕ) : Type 0 where
+  pub last : KernelState S
+  pub turns : after_turns call next start pids ≡ Some last
+  pub asleep : IsFinishedOrReady last → ⊥
 
 -- no two outcomes are equal
 abbrev pub AreApart : List Outcome → Type 0

@@ -1,10 +1,10 @@
 //! Explorations of kernels.
 
-ghost use Rattle.std.specs.Prelude.{◌≡◌, IfOk, None, All, length, map};
+ghost use Rattle.std.specs.Prelude.{◌≡◌, ◌<◌, IfOk, IfSome, None, All, length, map, false};
 ghost use Rattle.order_search.specs.Led.{start_kernel};
 ghost use Rattle.order_model.specs.Explored.{IsFinishedOrReady};
 ghost use Rattle.order_search.specs.Led.{kernel_of};
-ghost use Rattle.order_search.specs.Told.{Tells};
+ghost use Rattle.order_search.specs.Told.{LeadsToSleep, Tells};
 ghost use Rattle.order_search.specs.Exploring.{Explores, ExploresAfter};
 
 use crate::fault::ExploreFault;
@@ -31,14 +31,15 @@ pub struct Exploration {
 }
 
 /// Tries the orders in which the processes of a kernel can take their turns: all orders, unless they lead to more than
-/// `states` states. `watch` is told how many were found.
+/// `states` states (`part`: where not every order was tried, more were found). `watch` is told how many were found.
 pub fn explore_from<M: Machine, C: Allocator, W: Watch>(
     alloc: Global,
     origin: &Origin<'_, M, C>,
     states: usize,
     watch: &mut W,
 ) -> Result<Exploration, ExploreFault>
-    ensures { IfOk result (Explores M.call_of M.next_of (start_kernel (M.view origin.now.init) (M.view origin.now.shell) origin.now.stdin.now origin.now.files.now) (start_kernel (M.view origin.now.init) (M.view origin.now.shell) origin.now.stdin.now origin.now.files.now)) }
+    ensures explores { IfOk result (Explores M.call_of M.next_of (start_kernel (M.view origin.now.init) (M.view origin.now.shell) origin.now.stdin.now origin.now.files.now) (start_kernel (M.view origin.now.init) (M.view origin.now.shell) origin.now.stdin.now origin.now.files.now)) }
+    ensures part { IfOk result (λ e. e.whole ≡ false → states < e.states) }
 {
     explore_after(alloc, origin, &[], states, watch)
 }
@@ -54,7 +55,8 @@ pub fn explore_after<M: Machine, C: Allocator, W: Watch>(
     states: usize,
     watch: &mut W,
 ) -> Result<Exploration, ExploreFault>
-    ensures { IfOk result (ExploresAfter M.call_of M.next_of (start_kernel (M.view origin.now.init) (M.view origin.now.shell) origin.now.stdin.now origin.now.files.now) pids.now) }
+    ensures explores { IfOk result (ExploresAfter M.call_of M.next_of (start_kernel (M.view origin.now.init) (M.view origin.now.shell) origin.now.stdin.now origin.now.files.now) pids.now) }
+    ensures part { IfOk result (λ e. e.whole ≡ false → states < e.states) }
 {
     let mut tools = Tools::new(alloc, origin)?;
     let start = Standing::begin(&mut tools, origin, pids)?;
@@ -76,10 +78,11 @@ fn tell<M: Machine, C: Allocator>(
     ensures whole { IfOk result (λ e. e.whole ≡ found.now.whole) }
     ensures tells { IfOk result (λ e. Tells M.call_of M.next_of (start_kernel (M.view origin.now.init) (M.view origin.now.shell) origin.now.stdin.now origin.now.files.now) (map kernel_of found.now.nodes.items) e.outcomes.items) }
     ensures ready { IfOk result (λ e. e.stuck ≡ None → All IsFinishedOrReady (map kernel_of found.now.nodes.items)) }
+    ensures asleep { IfOk result (λ e. IfSome e.stuck (λ pids. LeadsToSleep M.call_of M.next_of (start_kernel (M.view origin.now.init) (M.view origin.now.shell) origin.now.stdin.now origin.now.files.now) pids.items)) }
     ensures states { IfOk result (λ e. e.states ≡ length found.now.nodes.items) }
 {
     let outcomes = outcomes_of(alloc, origin, &found.nodes)?;
-    let stuck = stuck_of(alloc, &found.nodes)?;
+    let stuck = stuck_of(alloc, origin, &found.nodes)?;
     Ok(Exploration {
         whole: found.whole,
         states: found.nodes.len(),

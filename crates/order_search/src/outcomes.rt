@@ -1,11 +1,11 @@
 //! Outcomes of finished kernels.
 
-ghost use Rattle.std.specs.Prelude.{◌≡◌, ◌↔◌, ◌++◌, ◌∷◌, [], IsTrue, IfOk, OnOk, Ok, None, All, Contains, map};
+ghost use Rattle.std.specs.Prelude.{◌≡◌, ◌↔◌, ◌++◌, ◌∷◌, [], IsTrue, IfOk, IfSome, OnOk, Ok, None, All, Contains, map};
 ghost use Rattle.order_search.specs.Led.{start_kernel};
 ghost use Rattle.kernel_model.specs.Events.{IsFinished};
 ghost use Rattle.order_model.specs.Outcome.{outcome_of};
 ghost use Rattle.order_model.specs.Explored.{IsFinishedOrReady};
-ghost use Rattle.order_search.specs.Told.{outcome_by, IsReplayed, IsAddedTo, Tells};
+ghost use Rattle.order_search.specs.Told.{outcome_by, IsReplayed, IsAddedTo, LeadsToSleep, Tells};
 ghost use Rattle.order_search.specs.Led.{kernel_of};
 
 use crate::fault::ExploreFault;
@@ -124,16 +124,38 @@ pub fn outcomes_of<M: Machine, C: Allocator>(
     Ok(outcomes)
 }
 
+// The schedule, which leads to a kernel that isn't finished and where nobody is Runnable.
+fn asleep_by<M: Machine, C: Allocator>(
+    alloc: Global,
+    origin: &Origin<'_, M, C>,
+    pids: &[u8],
+) -> Result<Vec<u8>, ExploreFault>
+    ensures { IfOk result (λ way. LeadsToSleep M.call_of M.next_of (start_kernel (M.view origin.now.init) (M.view origin.now.shell) origin.now.stdin.now origin.now.files.now) way.items) }
+{
+    let state = remake(alloc, origin, pids)?;
+    if state.is_finished() {
+        return Err(ExploreFault::TooLong);
+    }
+    if state.runnable() > 0 {
+        return Err(ExploreFault::TooLong);
+    }
+    let way = Vec::from_slice(alloc, pids)?;
+    Ok(way)
+}
+
 // A schedule that leads to a kernel that isn't finished and where nobody is Runnable, if one of these is such a kernel.
 pub fn stuck_of<M: Machine, C: Allocator>(
     alloc: Global,
+    origin: &Origin<'_, M, C>,
     nodes: &[Standing<'_, M, C>],
-) -> Result<Option<Vec<u8>>, AllocError>
-    ensures { result ≡ Ok None → All IsFinishedOrReady (map kernel_of nodes.now) }
+) -> Result<Option<Vec<u8>>, ExploreFault>
+    ensures ready { result ≡ Ok None → All IsFinishedOrReady (map kernel_of nodes.now) }
+    ensures asleep { IfOk result (λ stuck. IfSome stuck (λ pids. LeadsToSleep M.call_of M.next_of (start_kernel (M.view origin.now.init) (M.view origin.now.shell) origin.now.stdin.now origin.now.files.now) pids.items)) }
 {
     for node in nodes {
         if node.is_stuck() {
-            return Ok(Some(Vec::from_slice(alloc, &node.pids)?));
+            let way = asleep_by(alloc, origin, &node.pids)?;
+            return Ok(Some(way));
         }
     }
     Ok(None)

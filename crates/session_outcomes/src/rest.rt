@@ -1,6 +1,6 @@
 //! From a session to the outcomes of the runs that go on from it.
 
-ghost use Rattle.std.specs.Prelude.{◌≡◌, ◌≢◌, ◌↔◌, ◌++◌, ◌∷◌, [], IfOk, OnOk, Err, None};
+ghost use Rattle.std.specs.Prelude.{◌≡◌, ◌≢◌, ◌↔◌, ◌<◌, ◌++◌, ◌∷◌, [], IfOk, OnOk, Err, None, false};
 ghost use Rattle.order_model.specs.Turns.{callers};
 ghost use Rattle.session_outcomes.specs.Outcomes.{TellsRest};
 
@@ -46,7 +46,8 @@ fn callers_of(alloc: Global, events: &[Event]) -> Result<Vec<u8>, RestFault>
 ///
 /// Each outcome that is told is that of a finished run by its own schedule, which begins at the kernel's boot, and no two are equal. Where
 /// every order was tried, they are those of all finished runs that go on from the kernel as it is, on any harts, at which memory is
-/// never refused or nothing is full (`told`). `Full` exactly where something was full in the session (`full`).
+/// never refused or nothing is full (`told`); where not every one was, more than `states` states were found (`part`). `Full` exactly
+/// where something was full in the session (`full`).
 pub fn outcomes_from<M: Machine, C: Allocator, W: Watch>(
     alloc: Global,
     session: &Session<'_, M, C>,
@@ -54,6 +55,7 @@ pub fn outcomes_from<M: Machine, C: Allocator, W: Watch>(
     watch: &mut W,
 ) -> Result<Exploration, RestFault>
     ensures told { IfOk result (TellsRest M.call_of M.next_of session.now) }
+    ensures part { IfOk result (λ found. found.whole ≡ false → states < found.states) }
     ensures full { (result ≡ Err RestFault.Full) ↔ (session.now.now.full ≢ None) }
 {
     session.replays();

@@ -1,13 +1,13 @@
 use Rattle.std.proofs.Common.{◌≤◌, subst, map, arith}
 use Rattle.proc_table.specs.declared.pid.TheConstants.{PROCS}
-use Rattle.std.specs.Prelude.{All}
+use Rattle.std.specs.Prelude.{All, IfSome}
 use Rattle.kernel_model.specs.KernelState.{KernelState}
 use Rattle.script_load.specs.Line.{lines_of}
 use Rattle.sh_machine.specs.State.{User}
 use Rattle.sh_machine.specs.Turn.{call_of, next_of}
 use Rattle.sh_machine.specs.View.{user_of}
 use Rattle.run_model.specs.ScriptRun.{script_kernel}
-use Rattle.order_search.specs.Told.{outcome_by, IsReplayed}
+use Rattle.order_search.specs.Told.{outcome_by, IsReplayed, LeadsToSleep}
 use Rattle.order_search.specs.Exploring.{Explores}
 use Rattle.every_order.proofs.Passing.{passes, script_starts}
 use Rattle.every_order.proofs.exploring.explore_named.Goals as goal
@@ -20,10 +20,10 @@ returns-clause-sound g c =
     let profile = c.args.setting.now.script.now.profile in
     let lines = lines_of c.args.setting.now.script.now.lines in
     let same = script_starts profile lines (user_of c.init.result) (user_of c.shell.result) c.args.setting.now.stdin.now c.args.setting.now.files.now c.init.ensures c.shell.ensures in
-    passes c.explore_from.result _ _ (λ found e. subst (λ (start : KernelState User). All (IsReplayed call_of next_of start) found.outcomes.items) same e.tells.replayed) c.explore_from.ensures
+    passes c.explore_from.result _ _ (λ found e. subst (λ (start : KernelState User). All (IsReplayed call_of next_of start) found.outcomes.items) same e.tells.replayed) c.explore_from.ensures.explores
 
 pub returns-clause-apart : goal.returns-clause-apart
-returns-clause-apart g c = passes c.explore_from.result _ _ (λ found e. e.tells.apart) c.explore_from.ensures
+returns-clause-apart g c = passes c.explore_from.result _ _ (λ found e. e.tells.apart) c.explore_from.ensures.explores
 
 pub returns-clause-complete : goal.returns-clause-complete
 returns-clause-complete g c =
@@ -40,7 +40,7 @@ returns-clause-complete g c =
     let x : Explores call_of next_of start start found = subst (λ (k : KernelState User). Explores call_of next_of k k found) same e in
     let still = law.still profile lines input list c.are_files.ensures in
     law.keys profile lines input list x.seen (map outcome_by found.outcomes.items) c.are_files.ensures (search_law.reached start x.seen x.reached) (search_law.closed PROCS start x.seen still enough x.reached (x.closed whole)) x.tells.of)
-    c.explore_from.ensures
+    c.explore_from.ensures.explores
 
 pub returns-clause-awake : goal.returns-clause-awake
 returns-clause-awake g c =
@@ -57,4 +57,11 @@ returns-clause-awake g c =
     let x : Explores call_of next_of start start found = subst (λ (k : KernelState User). Explores call_of next_of k k found) same e in
     let still = law.still profile lines input list c.are_files.ensures in
     c.no_run_of_a_script_is_stuck_if_no_kernel_of_the_list_is.ensures profile lines input list x.seen c.are_files.ensures (search_law.reached start x.seen x.reached) (search_law.closed PROCS start x.seen still enough x.reached (x.closed whole)) (x.ready none))
-    c.explore_from.ensures
+    c.explore_from.ensures.explores
+
+pub returns-clause-asleep : goal.returns-clause-asleep
+returns-clause-asleep g c =
+    let profile = c.args.setting.now.script.now.profile in
+    let lines = lines_of c.args.setting.now.script.now.lines in
+    let same = script_starts profile lines (user_of c.init.result) (user_of c.shell.result) c.args.setting.now.stdin.now c.args.setting.now.files.now c.init.ensures c.shell.ensures in
+    passes c.explore_from.result _ _ (λ found e. subst (λ (start : KernelState User). IfSome found.stuck (λ pids. LeadsToSleep call_of next_of start pids.items)) same e.asleep) c.explore_from.ensures.explores

@@ -13,8 +13,8 @@ use Rattle.every_order.proofs.going_on.explore_after.Goals as goal
 enough : PROCS ≤ PROCS
 enough = omega arith
 
-pub returns : goal.returns
-returns g c =
+pub returns-clause-told : goal.returns-clause-told
+returns-clause-told g c =
     let S = g.row.M-State.Denot in
     let call = g.M.Machine.call_of in
     let next = g.M.Machine.next_of in
@@ -38,7 +38,8 @@ returns g c =
         sound = x.explores.tells.replayed;
         apart = x.explores.tells.apart;
         complete = λ whole. c.what_was_explored_is_every_outcome.ensures now (map outcome_by found.outcomes.items) is_still (search.explored PROCS now seen (map outcome_by found.outcomes.items) is_still enough x.explores.reached (x.explores.closed whole) x.explores.tells.of);
+        asleep = x.explores.asleep;
         awake = λ whole none. c.no_run_is_stuck_if_no_kernel_of_the_list_is.ensures.never now seen is_still (c.a_list_with_the_keys_of_its_turns_is_closed.ensures.reached now seen is_still reached (search.closed PROCS now seen is_still enough x.explores.reached (x.explores.closed whole))) (x.explores.ready none);
       };
     })
-    c.explore_after.ensures
+    c.explore_after.ensures.explores

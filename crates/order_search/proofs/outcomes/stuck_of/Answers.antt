@@ -16,8 +16,8 @@ loop-node-preserved g c =
     let each : IsFinishedOrReady (kernel_of (get_or nodes n item)) = subst (λ (m : Led S). IsFinishedOrReady (kernel_of m)) c.node-item.is (c.is_stuck.ensures c.if-is_stuck.false) in
     subst (All IsFinishedOrReady) (sym (map_more kernel_of nodes n item within)) (one_more IsFinishedOrReady (map kernel_of (take n nodes)) (kernel_of (get_or nodes n item)) c.loop-node.invariant each)
 
-pub returns : goal.returns
-returns g c = λ is.
+pub returns-clause-ready : goal.returns-clause-ready
+returns-clause-ready g c = λ is.
     let S = g.row.M-State.Denot in
     let over : length c.args.nodes.now ≤ c.loop-node.node-index = omega arith in
     subst (λ (nodes : List (Led S)). All IsFinishedOrReady (map kernel_of nodes)) (whole_take c.loop-node.node-index c.args.nodes.now over) c.loop-node.invariant

@@ -20,6 +20,6 @@ returns-clause-told g c =
     let events : c.schedule.result.now ≡ h.schedule = search rules in
     let pids : c.as_slice.result.now ≡ callers h.schedule = c.as_slice.ensures.value ∙ c.in_ok-pids.ensures.callers ∙ ap callers events in
     let boots : boot_kernel (v b.init) (v b.shell) b.stdin.now b.files.now ≡ h.boot = sym (c.beginning-begun.ensures ∙ first_is (v b.init) (v b.shell) b.stdin.now b.files.now) in
-    let tells : TellsAfter call next h.boot (callers h.schedule) found = subst (λ (ps : List ℕ). TellsAfter call next h.boot ps found) pids (subst (λ (k : KernelState g.row.M-State.Denot). TellsAfter call next k c.as_slice.result.now found) boots c.in_ok-found.ensures) in
+    let tells : TellsAfter call next h.boot (callers h.schedule) found = subst (λ (ps : List ℕ). TellsAfter call next h.boot ps found) pids (subst (λ (k : KernelState g.row.M-State.Denot). TellsAfter call next k c.as_slice.result.now found) boots c.in_ok-found.ensures.told) in
     let same = same_kernel call next h.boot h.now tells.now (callers h.schedule) h.schedule h.notes c.is_by_turns.ensures c.replays.ensures roomy tells.turns in
     subst (λ (k : KernelState g.row.M-State.Denot). TellsFrom call next h.boot k found) same tells.tells
