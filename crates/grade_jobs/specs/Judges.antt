@@ -1,8 +1,11 @@
 -- The verdict of a job.
+use Rattle.std.specs.Prelude.{◌≡◌, true}
 use Rattle.grade_verdicts.specs.Judged.{IsJudged}
 use Rattle.grade_verdicts.specs.declared.verdict.Verdict.{Verdict}
+use Rattle.grade_ways.specs.Ways.{RunsRightInEveryWay}
 use Rattle.grade_jobs.specs.declared.judging.Job.{Job}
 
--- the verdict is due of the job's test on its script
-abbrev pub IsVerdictOn : Job → Verdict → Type 0
-IsVerdictOn job verdict = IsJudged job.task job.bytes.now verdict
+-- the verdict is due of the job's test on its script, and where the job asks for it, a pass is one in every way
+pub record IsVerdictOn (job : Job) (verdict : Verdict) : Type 0 where
+  pub due : IsJudged job.task job.bytes.now verdict
+  pub ways : job.every_way ≡ true → RunsRightInEveryWay job.task job.bytes.now verdict

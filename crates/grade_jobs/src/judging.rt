@@ -5,30 +5,43 @@ ghost use Rattle.std.specs.List.{AllZip};
 ghost use Rattle.grade_jobs.specs.Judges.{IsVerdictOn};
 
 use grade_verdicts::{Task, Verdict, judge};
+use grade_ways::judge_every_way;
 use rayon::prelude::*;
 use std::alloc::{AllocError, Global};
+use std::sync::Wait;
 use std::thread::Threads;
+use std::time::Clock;
 
 /// A test and a script (own).
 #[derive(Clone, Copy)]
 pub struct Job<'j> {
     pub task: Task<'j>,
+    /// Whether a script that passes is run in every way, too.
+    pub every_way: bool,
     /// The script.
     pub bytes: &'j [u8],
 }
 
 // The verdict of a test on a script.
-fn judge_one(alloc: Global, job: &Job<'_>) -> Result<Verdict, AllocError>
+fn judge_one<R: Threads + Wait + Clock + Sync>(
+    rt: &R,
+    alloc: Global,
+    job: &Job<'_>,
+) -> Result<Verdict, AllocError>
     ensures { IfOk result (IsVerdictOn job.now) }
 {
-    judge(alloc, &job.task, job.bytes)
+    if job.every_way {
+        judge_every_way(rt, alloc, &job.task, job.bytes)
+    } else {
+        judge(alloc, &job.task, job.bytes)
+    }
 }
 
 /// The verdicts of tests on scripts, in their order, by at most so many threads (own): each job has one, and it is due.
 ///
 /// `AllocError` where memory is refused.
-pub fn judge_all(
-    rt: &(impl Threads + Sync),
+pub fn judge_all<R: Threads + Wait + Clock + Sync>(
+    rt: &R,
     alloc: Global,
     jobs: &[Job<'_>],
     threads: usize,
@@ -40,7 +53,7 @@ pub fn judge_all(
         .map(
             |job: &Job<'_>| -> Result<Verdict, AllocError>
                 ensures { IfOk result (IsVerdictOn job.now) }
-            { judge_one(alloc, job) },
+            { judge_one(rt, alloc, job) },
         )
         .with_min_len(least)
         .collect::<Result<Vec<Verdict>, AllocError>>(rt, alloc)?

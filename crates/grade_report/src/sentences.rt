@@ -108,4 +108,5 @@ const UNSURE: &str =
 const TOO_LARGE: &str =
     "the script is too long, or one of its files would be too large, or one too many";
 
-const SPENT: &str = "in some order of its processes it never comes to its end";
+const SPENT: &str =
+    "a run has more events than the test allows, or in some order all its processes sleep for ever";

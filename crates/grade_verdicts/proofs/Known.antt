@@ -1,6 +1,6 @@
 -- What verdicts follow from what the meaning and an exploration say.
-use Rattle.std.proofs.Common.{◌≡◌, Bool, true, false, List, [], ◌∷◌, length, map, Option, Some, None, All, refl, sym, ap, subst, ◌∙◌, arith}
-use Rattle.std.specs.Prelude.{◌↔◌, Contains, slice_index_or}
+use Rattle.std.proofs.Common.{◌≡◌, ℕ, Bool, true, false, List, [], ◌∷◌, length, map, Option, Some, None, All, refl, sym, ap, subst, ◌∙◌, arith}
+use Rattle.std.specs.Prelude.{◌↔◌, Contains, IfSome, slice_index_or}
 use Rattle.std.proofs.lemmas.Bool.{false≢true}
 use Rattle.std.proofs.lemmas.List.Elements.{All-cons, All-contains, All-map}
 use Rattle.mem_files.specs.Name.{Name, Bytes}
@@ -12,16 +12,17 @@ use Rattle.script_load.specs.Line.{ScriptLine}
 use Rattle.script_load.specs.declared.profile.Profile.{Profile}
 use Rattle.meaning_model.specs.Meaning.{script_meaning}
 use Rattle.meaning_model.specs.Settled.{IsSettledScript}
-use Rattle.plain_run.proofs.NameSets.{contained}
+use Rattle.plain_run.proofs.NameSets.{contained, contains}
 use Rattle.sh_machine.specs.Turn.{call_of, next_of}
 use Rattle.order_model.specs.Outcome.{outcome_of}
 use Rattle.order_model.specs.Explored.{AreAllOutcomes, IsNeverStuck}
-use Rattle.order_search.specs.Told.{outcome_by}
+use Rattle.order_search.specs.Told.{outcome_by, LeadsToSleep}
 use Rattle.order_search.specs.declared.outcomes.Outcome.{Outcome}
+use Rattle.order_search.proofs.Telling.{some_of}
 use Rattle.law_standing.proofs.RunsEnd.{finished_means}
 use Rattle.law_trees.proofs.Short.{small_short}
 use Rattle.grade_verdicts.specs.Agrees.{Agrees, AgreesIn, AgreesWith, AreRight, HasFile}
-use Rattle.grade_verdicts.specs.Judged.{InEveryRun, IsPassed, IsPassedInEveryOrder, IsSettledOn, IsWrong, by_meaning, meaning_of, start_of}
+use Rattle.grade_verdicts.specs.Judged.{InEveryRun, IsKnown, IsPassed, IsPassedInEveryOrder, IsSettledOn, IsSpent, IsWrong, asleep, by_meaning, meaning_of, start_of}
 use Rattle.grade_verdicts.specs.declared.expected.Expected.{Expected}
 use Rattle.grade_verdicts.specs.declared.expected.ExpectedFile.{ExpectedFile}
 use Rattle.grade_verdicts.specs.declared.expected.Task.{Task}
@@ -43,6 +44,23 @@ not_true false not = refl
 
 is_firm : (soft : List Name) (is_soft : Names) (name : Name) → (Contains soft name ↔ (is_soft name ≡ true)) → among soft name ≡ false → is_soft name ≡ false
 is_firm soft is_soft name each not = not_true (is_soft name) (λ is. false≢true (sym not ∙ contained soft name (each.1 is)))
+
+not_false : (soft : List Name) (is_soft : Names) (name : Name) → (Contains soft name ↔ (is_soft name ≡ true)) → is_soft name ≡ false → among soft name ≡ false
+not_false soft is_soft name each not = not_true (among soft name) (λ is. false≢true (sym not ∙ each.0 (contains soft name is)))
+
+-- where the meaning says what every run leaves, no file that is expected is among the soft ones
+pub firm_of : (t : Task) (lines : List ScriptLine) (p : Profile) (soft : List Name) → p ≡ t.profile
+    → ((name : Name) → Contains soft name ↔ ((script_meaning p lines t.stdin.now (files t.files.now)).soft name ≡ true))
+    → IsKnown t lines → All (λ file. among soft file.name.items ≡ false) t.expected.now.files.items
+firm_of t lines p soft same each known = λ k d less.
+    let name = (slice_index_or t.expected.now.files.items k d).name.items in
+    not_false soft (meaning_of t lines).soft name (subst (λ q. Contains soft name ↔ ((script_meaning q lines t.stdin.now (files t.files.now)).soft name ≡ true)) same (each name)) (known.firm k d less)
+
+-- turns that lead to where all sleep
+pub spent_asleep : {X : Type 0} (t : Task) (lines : List ScriptLine) (items : X → List ℕ) (stuck : Option X) → (stuck ≡ None → ⊥) → IfSome stuck (λ pids. LeadsToSleep call_of next_of (start_of t lines) (items pids)) → IsSpent t lines
+spent_asleep t lines items stuck some leads =
+    let there = some_of (λ pids. LeadsToSleep call_of next_of (start_of t lines) (items pids)) stuck some leads in
+    asleep (items there.0) there.1
 
 -- what was found by the meaning: of a settled script, no expected file of which is soft
 pub record Found (t : Task) (lines : List ScriptLine) (soft : List Name) (printed : Bytes) (F : FileMap) : Type 0 where

@@ -1,8 +1,9 @@
 -- What each verdict of a test on a script means.
-use Rattle.std.specs.Prelude.{◌≡◌, ◌<◌, ⊤, Bool, List, [], Some, None, All, length}
+use Rattle.std.specs.Prelude.{◌≡◌, ◌<◌, ◌≤◌, ◌⊎◌, ℕ, Bool, false, List, [], Some, None, All, length}
 use Rattle.mem_files.specs.Name.{Bytes}
 use Rattle.mem_files.specs.Files.{files}
 use Rattle.script_load.specs.declared.fault.LoadFault.{LoadFault}
+use Rattle.script_load.specs.declared.limits.TheConstants.{MAX_TURNS}
 use Rattle.script_load.specs.Line.{ScriptLine}
 use Rattle.script_load.specs.Script.{IsScript, HasLoadFault}
 use Rattle.meaning_model.specs.Limits.{Outgrows}
@@ -14,10 +15,10 @@ use Rattle.sh_machine.specs.Turn.{call_of, next_of}
 use Rattle.kernel_model.specs.declared.events.Event.{Event}
 use Rattle.kernel_model.specs.KernelState.{KernelState}
 use Rattle.kernel_model.specs.Events.{run, IsFinished}
-use Rattle.run_model.specs.ScriptRun.{script_kernel}
+use Rattle.run_model.specs.ScriptRun.{script_kernel, IsSpentFrom}
 use Rattle.order_model.specs.Outcome.{RunOutcome, outcome_of}
 use Rattle.order_model.specs.Explored.{AreAllOutcomes, IsNeverStuck}
-use Rattle.order_search.specs.Told.{IsReplayed}
+use Rattle.order_search.specs.Told.{IsReplayed, LeadsToSleep}
 use Rattle.order_search.specs.declared.outcomes.Outcome.{Outcome}
 use Rattle.grade_verdicts.specs.Agrees.{Agrees, AgreesIn, AgreesWith}
 use Rattle.grade_verdicts.specs.declared.expected.Task.{Task}
@@ -35,6 +36,23 @@ meaning_of t lines = script_meaning t.profile lines t.stdin.now (files t.files.n
 
 abbrev pub IsSettledOn : Task → List ScriptLine → Type 0
 IsSettledOn t lines = IsSettledScript t.profile lines t.stdin.now (files t.files.now)
+
+-- its meaning says what every run leaves in the files that are expected: it is settled, and none of these is soft
+pub record IsKnown (t : Task) (lines : List ScriptLine) : Type 0 where
+  pub settled : IsSettledOn t lines
+  pub firm : All (λ file. (meaning_of t lines).soft file.name.items ≡ false) t.expected.now.files.items
+
+-- a run of the script by this schedule ended
+pub record Ends (t : Task) (lines : List ScriptLine) (schedule : List Event) : Type 0 where
+  pub notes : List Bool
+  pub last : KernelState User
+  pub runs : run call_of next_of (Some (start_of t lines)) schedule notes ≡ Some last
+  pub finished : IsFinished last
+
+-- the test sets no limit on the events of a run, or a run ended that had no more
+pub data EndsInTime (t : Task) (lines : List ScriptLine) : Type 0 where
+  unlimited : (t.turns ≡ 0) ⊎ (MAX_TURNS < t.turns) → EndsInTime t lines
+  ended : (schedule : List Event) → Ends t lines schedule → length schedule ≤ t.turns → EndsInTime t lines
 
 -- what every finished run of the script leaves in which nothing was full, on any harts, in any order and whenever memory was refused
 abbrev pub InEveryRun : Task → List ScriptLine → (RunOutcome → Type 0) → Type 0
@@ -61,11 +79,12 @@ pub record HasWrongRun (t : Task) (lines : List ScriptLine) (outcome : Outcome) 
   pub replayed : IsReplayed call_of next_of (start_of t lines) outcome
   pub differs : AgreesWith t.expected.now outcome → ⊥
 
--- the script is settled, and what its meaning leaves, and every run, isn't what is expected; or some run's isn't
+-- the script is settled, and what its meaning leaves, and every run, isn't what is expected; or what some finished run leaves isn't
 pub data IsWrong (t : Task) (lines : List ScriptLine) : Type 0 where
   by_meaning : IsSettledOn t lines → (Agrees t.expected.now (meaning_of t lines).out (meaning_of t lines).files → ⊥)
       → InEveryRun t lines (λ outcome. AgreesIn t.expected.now outcome → ⊥) → IsWrong t lines
   by_run : (outcome : Outcome) → HasWrongRun t lines outcome → IsWrong t lines
+  by_events : {schedule : List Event} (ends : Ends t lines schedule) → (AgreesIn t.expected.now (outcome_of ends.last) → ⊥) → IsWrong t lines
 
 -- one finished run leaves what is expected, another doesn't, and these are their schedules
 pub record IsRace (t : Task) (lines : List ScriptLine) (race : Race) : Type 0 where
@@ -77,20 +96,30 @@ pub record IsRace (t : Task) (lines : List ScriptLine) (race : Race) : Type 0 wh
   pub agrees : AgreesWith t.expected.now right
   pub other : HasWrongRun t lines wrong
 
+-- a run takes as many events as the test allows, or as many as any may have, and isn't finished; or these turns lead to where all sleep
+pub data IsSpent (t : Task) (lines : List ScriptLine) : Type 0 where
+  by_turns : IsSpentFrom (start_of t lines) t.turns → IsSpent t lines
+  by_most : IsSpentFrom (start_of t lines) MAX_TURNS → IsSpent t lines
+  asleep : (pids : List ℕ) → LeadsToSleep call_of next_of (start_of t lines) pids → IsSpent t lines
+
 -- what the verdict says of a script of these lines
 abbrev pub IsVerdict : Task → List ScriptLine → Verdict → Type 0
 IsVerdict t lines Pass = IsPassed t lines
 IsVerdict t lines PassEveryOrder = IsPassedInEveryOrder t lines
 IsVerdict t lines (Wrong difference) = IsWrong t lines
 IsVerdict t lines (IsRacing race) = IsRace t lines race
-IsVerdict t lines Unsure = ⊤
+IsVerdict t lines Unsure = IsKnown t lines → ⊥
 IsVerdict t lines (Refused (Script fault)) = ⊥
 IsVerdict t lines (Refused (Line number kind)) = IsWrong t lines
 IsVerdict t lines TooLarge = Outgrows t.profile (script_tree lines) t.stdin.now (files t.files.now)
-IsVerdict t lines Spent = ⊤
+IsVerdict t lines Spent = IsSpent t lines
+
+-- where it says that the script comes to an end, a run does within the test's limit on events
+abbrev pub IsInTime : Task → List ScriptLine → Verdict → Type 0
+IsInTime t lines verdict = (verdict ≡ Spent) ⊎ EndsInTime t lines
 
 -- what it says of some bytes: that they are no script, or too many, or a script of these lines
 pub data IsJudged (t : Task) (bytes : Bytes) : Verdict → Type 0 where
   no_script : {fault : LoadFault} → HasLoadFault bytes fault → IsJudged t bytes (Refused (Script fault))
   too_long : t.bytes < length bytes → IsJudged t bytes TooLarge
-  judged : {verdict : Verdict} (lines : List ScriptLine) → IsScript bytes lines → IsVerdict t lines verdict → IsJudged t bytes verdict
+  judged : {verdict : Verdict} (lines : List ScriptLine) → IsScript bytes lines → IsInTime t lines verdict → IsVerdict t lines verdict → IsJudged t bytes verdict

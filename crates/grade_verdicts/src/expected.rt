@@ -33,4 +33,6 @@ pub struct Task<'a> {
     pub bytes: usize,
     /// The most states through which orders are tried.
     pub states: usize,
+    /// The most events that a run on one hart may have; 0, or more than 1,000,000,000: as many as it takes.
+    pub turns: u64,
 }

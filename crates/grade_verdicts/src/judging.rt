@@ -1,17 +1,19 @@
 //! Verdicts of tests on scripts.
 
-ghost use Rattle.std.specs.Prelude.{◌≡◌, ◌↔◌, IsTrue, IfOk, IfSome, All, map, true, None};
+ghost use Rattle.std.specs.Prelude.{◌≡◌, ◌↔◌, IsTrue, IfOk, IfSome, Ok, All, map, true, false, None};
 ghost use Rattle.script_load.specs.Line.{lines_of};
 ghost use Rattle.sh_machine.specs.Turn.{call_of, next_of};
 ghost use Rattle.order_model.specs.Explored.{AreAllOutcomes, IsNeverStuck};
-ghost use Rattle.order_search.specs.Told.{outcome_by, IsReplayed};
-ghost use Rattle.grade_verdicts.specs.Judged.{HasWrongRun, IsJudged, IsVerdict, IsWrong, start_of};
+ghost use Rattle.order_search.specs.Told.{outcome_by, IsReplayed, LeadsToSleep};
+ghost use Rattle.run_model.specs.ScriptRun.{IsSpentFrom};
+ghost use Rattle.grade_verdicts.specs.Judged.{EndsInTime, HasWrongRun, IsInTime, IsJudged, IsKnown, IsVerdict, IsWrong, start_of};
 
 use crate::agreeing::{are_firm, are_right, first_right, first_wrong};
 use crate::differing::{difference_of, first_difference};
 use crate::expected::Task;
 use crate::verdict::{Difference, Race, Refusal, Verdict};
 use every_order::{Exploration, ExploreFault, Outcome, explore};
+use kernel_runs::{RunOneFault, run_one};
 use mem_files::laws::are_files;
 use plain_run::{Plain, PlainFault, plain};
 use script_load::{Line, LoadFault, Script, load_with};
@@ -61,7 +63,8 @@ fn judge_by_meaning(
     script: &Script<Global>,
 ) -> Result<Option<Verdict>, AllocError>
     requires { script.now.profile ≡ task.now.profile }
-    ensures { IfOk result (λ known. IfSome known (IsVerdict task.now (lines_of script.now.lines))) }
+    ensures verdict { IfOk result (λ known. IfSome known (IsVerdict task.now (lines_of script.now.lines))) }
+    ensures unknown { result ≡ Ok None → IsKnown task.now (lines_of script.now.lines) → ⊥ }
 {
     are_files(task.files);
     let value = match plain(alloc, script, task.stdin, task.files) {
@@ -69,7 +72,10 @@ fn judge_by_meaning(
         Err(PlainFault::TooLarge) => return Ok(Some(Verdict::TooLarge)),
         Err(PlainFault::Memory) => return Err(AllocError),
     };
-    if !value.settled || !are_firm(&value.soft, task.expected) {
+    if !value.settled {
+        return Ok(None);
+    }
+    if !are_firm(&value.soft, task.expected) {
         return Ok(None);
     }
     let difference = first_difference(alloc, task.expected, value.out.as_slice(), &value.files)?;
@@ -130,6 +136,8 @@ fn judge_found(
     requires sound { All (IsReplayed call_of next_of (start_of task.now (lines_of script.now.lines))) found.now.outcomes.items }
     requires complete { found.now.whole ≡ true → AreAllOutcomes call_of next_of (start_of task.now (lines_of script.now.lines)) (map outcome_by found.now.outcomes.items) }
     requires awake { found.now.whole ≡ true → found.now.stuck ≡ None → IsNeverStuck call_of next_of (start_of task.now (lines_of script.now.lines)) }
+    requires asleep { IfSome found.now.stuck (λ pids. LeadsToSleep call_of next_of (start_of task.now (lines_of script.now.lines)) pids.items) }
+    requires unknown { IsKnown task.now (lines_of script.now.lines) → ⊥ }
     ensures { IfOk result (IsVerdict task.now (lines_of script.now.lines)) }
 {
     let outcomes = found.outcomes.as_slice();
@@ -145,19 +153,34 @@ fn judge_found(
     Ok(Verdict::Unsure)
 }
 
-// The verdict on a script, by every order of its processes.
+// The verdict on a script whose meaning doesn't say what every run leaves, by every order of its processes.
 fn judge_by_orders(
     alloc: Global,
     task: &Task<'_>,
     script: &Script<Global>,
 ) -> Result<Verdict, AllocError>
-    requires { script.now.profile ≡ task.now.profile }
+    requires profile { script.now.profile ≡ task.now.profile }
+    requires unknown { IsKnown task.now (lines_of script.now.lines) → ⊥ }
     ensures { IfOk result (IsVerdict task.now (lines_of script.now.lines)) }
 {
     match explore(alloc, script, task.stdin, task.files, task.states) {
         Ok(found) => judge_found(alloc, task, script, &found),
         Err(ExploreFault::Memory) => Err(AllocError),
-        Err(ExploreFault::TooLong) => Ok(Verdict::Spent),
+        Err(ExploreFault::TooLong) => Ok(Verdict::Unsure),
+    }
+}
+
+// Whether a run of the script, on one hart and in the kernel's order, ends within the events that the test allows.
+fn ends_in_time(alloc: Global, task: &Task<'_>, script: &Script<Global>) -> Result<bool, AllocError>
+    requires { script.now.profile ≡ task.now.profile }
+    ensures ends { result ≡ Ok true → EndsInTime task.now (lines_of script.now.lines) }
+    ensures spent { result ≡ Ok false → IsSpentFrom (start_of task.now (lines_of script.now.lines)) task.now.turns }
+{
+    match run_one(alloc, script, task.stdin, task.files, task.turns) {
+        Ok(_report) => Ok(true),
+        Err(RunOneFault::BadTurns) => Ok(true),
+        Err(RunOneFault::Spent) => Ok(false),
+        Err(RunOneFault::Memory) => Err(AllocError),
     }
 }
 
@@ -168,8 +191,12 @@ fn judge_script(
     script: &Script<Global>,
 ) -> Result<Verdict, AllocError>
     requires { script.now.profile ≡ task.now.profile }
-    ensures { IfOk result (IsVerdict task.now (lines_of script.now.lines)) }
+    ensures verdict { IfOk result (IsVerdict task.now (lines_of script.now.lines)) }
+    ensures time { IfOk result (IsInTime task.now (lines_of script.now.lines)) }
 {
+    if !ends_in_time(alloc, task, script)? {
+        return Ok(Verdict::Spent);
+    }
     if let Some(verdict) = judge_by_meaning(alloc, task, script)? {
         return Ok(verdict);
     }
@@ -179,7 +206,9 @@ fn judge_script(
 /// What the test says of these bytes as a script (own): its verdict is due (`IsJudged`). `Pass` is told only where the script
 /// is settled on this input and these files, and its meaning's output and files, and those of every finished run in which nothing
 /// was full, are what is expected; `PassEveryOrder` only where all outcomes are; `Wrong` and `Race` only where a finished run's
-/// isn't or, of a settled script, its meaning's, which is that of each run. Files that aren't expected may be there too.
+/// isn't or, of a settled script, its meaning's, which is that of each run; `Unsure` never of a settled script, unless a file that is
+/// expected is soft; `Spent` only where a run isn't finished after as many events as the test allows, or comes to where all its
+/// processes sleep, and any other verdict on a script only where a run ends within them. Files that aren't expected may be there too.
 ///
 /// `AllocError` where memory is refused.
 pub fn judge(alloc: Global, task: &Task<'_>, bytes: &[u8]) -> Result<Verdict, AllocError>

@@ -65,13 +65,13 @@ pub enum Verdict {
     Wrong(Difference),
     /// In some order it leaves what is expected, and in some other it doesn't.
     Race(Race),
-    /// It isn't settled, what was tried leaves what is expected, and not every order was tried.
+    /// It isn't settled, or a file that is expected is soft; what was tried leaves what is expected, and not every order was tried.
     Unsure,
     /// It is no script, or leaves something else and has a line that is no command.
     Refused(Refusal),
     /// It is too long, or one of its files would be too large, or one too many.
     TooLarge,
-    /// In some order it doesn't come to its end.
+    /// A run took as many events as the test allows, and wasn't finished; or in some order all its processes sleep, and it never is.
     Spent,
 }
 

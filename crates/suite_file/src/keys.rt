@@ -3,16 +3,27 @@
 use toml::Table;
 
 /// The keys of a suite.
-pub const OF_SUITE: [&str; 5] = ["append", "bytes", "states", "test", "title"];
-
-/// The keys of a test.
-pub const OF_TEST: [&str; 13] = [
+pub const OF_SUITE: [&str; 8] = [
     "append",
     "bytes",
+    "every_way",
+    "metadata",
+    "states",
+    "test",
+    "title",
+    "turns",
+];
+
+/// The keys of a test.
+pub const OF_TEST: [&str; 16] = [
+    "append",
+    "bytes",
+    "every_way",
     "expect",
     "files",
     "input",
     "input_file",
+    "metadata",
     "name",
     "output",
     "output_file",
@@ -20,6 +31,7 @@ pub const OF_TEST: [&str; 13] = [
     "script",
     "script_file",
     "states",
+    "turns",
 ];
 
 /// The first key of the table, in byte order, that is none of these.

@@ -11,4 +11,6 @@ mod values;
 pub use fault::SuiteFault;
 pub use places::{Key, line_of};
 pub use reading::read_suite;
-pub use suite::{MOST_BYTES, MOST_POINTS, MOST_STATES, NamedSource, Source, Suite, SuiteTest};
+pub use suite::{
+    MOST_BYTES, MOST_POINTS, MOST_STATES, MOST_TURNS, NamedSource, Source, Suite, SuiteTest,
+};

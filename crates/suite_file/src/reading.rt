@@ -5,7 +5,9 @@ ghost use Rattle.suite_file.specs.Suites.{HaveOwnNames};
 
 use crate::fault::SuiteFault;
 use crate::keys::{OF_SUITE, OF_TEST, unknown};
-use crate::suite::{MOST_BYTES, MOST_POINTS, MOST_STATES, STATES, Source, Suite, SuiteTest};
+use crate::suite::{
+    MOST_BYTES, MOST_POINTS, MOST_STATES, MOST_TURNS, STATES, Source, Suite, SuiteTest,
+};
 use crate::values::Part;
 use std::alloc::Global;
 use toml::de::Error;
@@ -17,21 +19,27 @@ struct Defaults {
     appends: bool,
     bytes: u64,
     states: u64,
+    turns: u64,
+    every_way: bool,
 }
 
 fn size_of(number: u64) -> usize {
     usize::try_from(number).unwrap_or(usize::MAX)
 }
 
-// The limits and the profile of the part, or the defaults.
+// The profile, the limits and the ways of the part, or the defaults.
 fn limits_of(part: &Part<'_>, defaults: Defaults) -> Result<Defaults, SuiteFault> {
     let appends = part.truth_at("append")?;
     let bytes = part.number_at("bytes", 1, MOST_BYTES as u64)?;
     let states = part.number_at("states", 1, MOST_STATES as u64)?;
+    let turns = part.number_at("turns", 1, MOST_TURNS)?;
+    let every_way = part.truth_at("every_way")?;
     Ok(Defaults {
         appends: appends.unwrap_or(defaults.appends),
         bytes: bytes.unwrap_or(defaults.bytes),
         states: states.unwrap_or(defaults.states),
+        turns: turns.unwrap_or(defaults.turns),
+        every_way: every_way.unwrap_or(defaults.every_way),
     })
 }
 
@@ -62,6 +70,7 @@ fn output_of(part: &Part<'_>) -> Result<Source, SuiteFault> {
 
 fn test_of(part: &Part<'_>, defaults: Defaults) -> Result<SuiteTest, SuiteFault> {
     refuse_unknown(part, OF_TEST.as_slice())?;
+    part.skip_table("metadata")?;
     let name = name_of(part)?;
     let limits = limits_of(part, defaults)?;
     let points = part.number_at("points", 0, MOST_POINTS)?;
@@ -81,6 +90,8 @@ fn test_of(part: &Part<'_>, defaults: Defaults) -> Result<SuiteTest, SuiteFault>
         appends: limits.appends,
         bytes: size_of(limits.bytes),
         states: size_of(limits.states),
+        turns: limits.turns,
+        every_way: limits.every_way,
     })
 }
 
@@ -203,12 +214,15 @@ pub fn read_suite(alloc: Global, text: &[u8]) -> Result<Suite, SuiteFault>
     };
     refuse_unknown(&suite, OF_SUITE.as_slice())?;
     suite.text_at("title")?;
+    suite.skip_table("metadata")?;
     let defaults = limits_of(
         &suite,
         Defaults {
             appends: false,
             bytes: MOST_BYTES as u64,
             states: STATES as u64,
+            turns: 0,
+            every_way: false,
         },
     )?;
     let tests = tests_of(&suite, defaults)?;

@@ -9,6 +9,9 @@ pub const MOST_STATES: usize = 10_000_000;
 /// Through how many orders are tried where neither the test nor the suite says (own).
 pub const STATES: usize = 200_000;
 
+/// The most events that a test may allow a run (own).
+pub const MOST_TURNS: u64 = 1_000_000_000;
+
 /// The most points of a test (own).
 pub const MOST_POINTS: u64 = 1_000_000;
 
@@ -49,6 +52,10 @@ pub struct SuiteTest {
     pub bytes: usize,
     /// The most states through which orders are tried.
     pub states: usize,
+    /// The most events that a run on one hart may have; 0: as many as it takes.
+    pub turns: u64,
+    /// Whether a script that passes is run in every way, too.
+    pub every_way: bool,
 }
 
 /// A suite: tests, of which no two have one name (own).

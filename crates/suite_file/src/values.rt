@@ -81,6 +81,14 @@ impl<'t> Part<'t> {
         }
     }
 
+    /// The table at a key is for other readers: nothing in it is looked at.
+    pub fn skip_table(&self, key: &str) -> Result<(), SuiteFault> {
+        match self.table.get(key) {
+            None | Some(Value::Table(_)) => Ok(()),
+            Some(_) => Err(self.key_fault("", key, "is no table")),
+        }
+    }
+
     // The bytes of a file beside the suite.
     fn beside(&self, table: &str, key: &str, path: &str) -> Result<Source, SuiteFault> {
         if path.is_empty() {

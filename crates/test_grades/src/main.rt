@@ -9,7 +9,9 @@ use crate::host::Told;
 use crate::texts::{expected, suite_of};
 use anyhow::{Result, bail};
 use std::alloc::Global;
+use std::sync::Wait;
 use std::thread::Threads;
+use std::time::Clock;
 use std::{env, fs};
 use test_rows::{field, named, rows, value};
 use xvsh_grades::{Form, GradeFault, GradeRequest, Report, grade};
@@ -66,7 +68,11 @@ fn told(alloc: Global, graded: Result<Report, GradeFault<'_>>) -> Result<(u8, Ve
 }
 
 // Grades the row by so many threads.
-fn grade_by(rt: &(impl Threads + Sync + AllocGlobal), row: &str, threads: usize) -> Result<Graded> {
+fn grade_by(
+    rt: &(impl Threads + Wait + Clock + Sync + AllocGlobal),
+    row: &str,
+    threads: usize,
+) -> Result<Graded> {
     let alloc = rt.alloc();
     let paths = scripts_of(alloc, row)?;
     let scripts = paths
@@ -105,7 +111,10 @@ fn is_right(alloc: Global, row: &str, graded: &Graded) -> Result<bool> {
 }
 
 // Grades a row, and prints what it is graded to where that isn't what it says. It returns whether it is.
-fn run_row<R: Threads + Sync + AllocGlobal + Print>(rt: &R, row: &str) -> Result<bool> {
+fn run_row<R: Threads + Wait + Clock + Sync + AllocGlobal + Print>(
+    rt: &R,
+    row: &str,
+) -> Result<bool> {
     let mut is_good = true;
     for threads in [1, 4] {
         let graded = grade_by(rt, row, threads)?;

@@ -6,7 +6,9 @@ use crate::marks::{Mark, Piece, mark_all};
 use crate::request::Grading;
 use grade_verdicts::Verdict;
 use std::alloc::{AllocError, Global};
+use std::sync::Wait;
 use std::thread::Threads;
+use std::time::Clock;
 use xvsh_read::{Fault, Host, MAX_INPUT, read};
 
 // How many verdicts are found between two reads.
@@ -82,7 +84,7 @@ fn pieces_of<'t, 'a, 'b>(
 }
 
 // Judges the scripts, and adds what was found.
-fn judge_scripts<'t, 'a, R: Threads + Sync>(
+fn judge_scripts<'t, 'a, R: Threads + Wait + Clock + Sync>(
     rt: &R,
     plan: &Plan<'t, '_>,
     scripts: &[Script<'a>],
@@ -108,7 +110,7 @@ impl<'t, 'a> Book<'t, 'a> {
     }
 
     // Judges the scripts that wait, and tells the host how far it is.
-    fn judge_waiting<R: Threads + Sync, H: Host + Grading>(
+    fn judge_waiting<R: Threads + Wait + Clock + Sync, H: Host + Grading>(
         &mut self,
         rt: &R,
         plan: &Plan<'t, '_>,
@@ -137,7 +139,7 @@ impl<'t, 'a> Book<'t, 'a> {
     }
 
     // Reads the script at the path, and judges those that wait if they are enough.
-    fn take<R: Threads + Sync, H: Host + Grading>(
+    fn take<R: Threads + Wait + Clock + Sync, H: Host + Grading>(
         &mut self,
         rt: &R,
         plan: &Plan<'t, '_>,
@@ -159,7 +161,7 @@ impl<'t, 'a> Book<'t, 'a> {
     }
 
     /// Judges the scripts at the paths, in order.
-    pub(crate) fn take_all<R: Threads + Sync, H: Host + Grading>(
+    pub(crate) fn take_all<R: Threads + Wait + Clock + Sync, H: Host + Grading>(
         &mut self,
         rt: &R,
         plan: &Plan<'t, '_>,
@@ -175,7 +177,7 @@ impl<'t, 'a> Book<'t, 'a> {
 }
 
 /// Judges the scripts that tests have of their own, in order.
-pub(crate) fn judge_own<'t, 'a, R: Threads + Sync, H: Host + Grading>(
+pub(crate) fn judge_own<'t, 'a, R: Threads + Wait + Clock + Sync, H: Host + Grading>(
     rt: &R,
     plan: &Plan<'t, '_>,
     host: &mut H,

@@ -9,7 +9,9 @@ use crate::request::{GradeRequest, Grading, Report};
 use crate::sources::Spot;
 use std::alloc::{AllocError, Global};
 use std::collections::BTreeSet;
+use std::sync::Wait;
 use std::thread::Threads;
+use std::time::Clock;
 use suite_file::{Suite, SuiteFault, read_suite};
 use xvsh_read::{Fault, Host, MAX_INPUT, STDIN, read};
 
@@ -104,7 +106,7 @@ fn tests_for_scripts(alloc: Global, tests: &[Loaded]) -> Result<Vec<&Loaded>, Al
 }
 
 // What was found: first of the scripts that tests have of their own, then of each script.
-fn judge_suite<'t, 'a, R: Threads + Sync, H: Host + Grading>(
+fn judge_suite<'t, 'a, R: Threads + Wait + Clock + Sync, H: Host + Grading>(
     rt: &R,
     alloc: Global,
     request: &GradeRequest<'a>,
@@ -131,7 +133,7 @@ fn judge_suite<'t, 'a, R: Threads + Sync, H: Host + Grading>(
 ///
 /// Nothing is graded where the suite is wrong, names what can't be read, or has no test for the scripts, where a path is given
 /// twice, or where a script can't be read. A script of more than 1,048,576 bytes has the verdict `TooLarge`.
-pub fn grade<'a, R: Threads + Sync, H: Host + Grading>(
+pub fn grade<'a, R: Threads + Wait + Clock + Sync, H: Host + Grading>(
     rt: &R,
     alloc: Global,
     request: &GradeRequest<'a>,

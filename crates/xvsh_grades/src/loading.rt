@@ -27,6 +27,10 @@ pub struct Loaded {
     pub bytes: usize,
     /// The most states through which orders are tried.
     pub states: usize,
+    /// The most events that a run on one hart may have; 0: as many as it takes.
+    pub turns: u64,
+    /// Whether a script that passes is run in every way, too.
+    pub every_way: bool,
 }
 
 impl Loaded {
@@ -41,6 +45,7 @@ impl Loaded {
             expected: &self.expected,
             bytes: self.bytes,
             states: self.states,
+            turns: self.turns,
         }
     }
 }
@@ -145,6 +150,8 @@ fn load<'a, H: Host>(
         appends,
         bytes,
         states,
+        turns,
+        every_way,
     } = test;
     let script = match script {
         Some(source) => Some(spot.bytes_of(host, &Place::script(), source)?),
@@ -167,6 +174,8 @@ fn load<'a, H: Host>(
         profile: profile_of(appends),
         bytes,
         states: states.min(most),
+        turns,
+        every_way,
     })
 }
 

@@ -8,7 +8,9 @@ use crate::loading::Loaded;
 use grade_jobs::{Job, judge_all};
 use grade_verdicts::Verdict;
 use std::alloc::{AllocError, Global};
+use std::sync::Wait;
 use std::thread::Threads;
+use std::time::Clock;
 
 /// What a test says of a script (own).
 #[derive(Drop)]
@@ -34,6 +36,7 @@ fn job_of<'j>(piece: &'j Piece<'_, '_, '_>) -> Job<'j>
 {
     Job {
         task: piece.test.task(),
+        every_way: piece.test.every_way,
         bytes: piece.bytes,
     }
 }
@@ -50,7 +53,7 @@ fn jobs_of<'j>(alloc: Global, pieces: &'j [Piece<'_, '_, '_>]) -> Result<Vec<Job
 }
 
 // The verdicts of the pieces, in their order: each has one, and it is due.
-fn judge_pieces<R: Threads + Sync>(
+fn judge_pieces<R: Threads + Wait + Clock + Sync>(
     rt: &R,
     alloc: Global,
     pieces: &[Piece<'_, '_, '_>],
@@ -80,7 +83,7 @@ fn add_marks<'t, 'a>(
 }
 
 /// Judges the pieces by at most so many threads, and adds their verdicts, in order.
-pub(crate) fn mark_all<'t, 'a, R: Threads + Sync>(
+pub(crate) fn mark_all<'t, 'a, R: Threads + Wait + Clock + Sync>(
     rt: &R,
     alloc: Global,
     pieces: &[Piece<'t, 'a, '_>],

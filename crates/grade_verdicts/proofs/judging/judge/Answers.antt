@@ -9,4 +9,4 @@ pub returns-in-Err : goal.returns-in-Err
 returns-in-Err c = no_script c.in-Err.ensures.fault
 
 pub returns : goal.returns
-returns c = judged (lines_of c.in-Ok.script.lines) c.in-Ok.ensures.script c.in_ok-verdict.ensures
+returns c = judged (lines_of c.in-Ok.script.lines) c.in-Ok.ensures.script c.in_ok-verdict.ensures.time c.in_ok-verdict.ensures.verdict

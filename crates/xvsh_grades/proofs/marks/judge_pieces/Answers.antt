@@ -1,7 +1,8 @@
-use Rattle.std.proofs.Common.{subst, sym}
+use Rattle.std.proofs.Common.{subst, sym, ◌∙◌}
 use Rattle.std.specs.List.{AllZip}
 use Rattle.grade_verdicts.specs.Judged.{IsJudged}
 use Rattle.grade_verdicts.specs.declared.verdict.Verdict.{Verdict}
+use Rattle.grade_ways.specs.Ways.{RunsRightInEveryWay}
 use Rattle.grade_jobs.specs.Judges.{IsVerdictOn}
 use Rattle.grade_jobs.specs.declared.judging.Job.{Job}
 use Rattle.xvsh_grades.specs.Due.{IsJobOf, IsVerdictOf}
@@ -11,7 +12,13 @@ use Rattle.xvsh_grades.proofs.marks.judge_pieces.Goals as goal
 
 -- what is due of its job is due of the piece
 of_job : (piece : Piece) (job : Job) (verdict : Verdict) → IsJobOf piece job → IsVerdictOn job verdict → IsVerdictOf piece verdict
-of_job piece job verdict h k = record { t = job.task; task = h.task; due = subst (λ bytes. IsJudged job.task bytes verdict) h.bytes k }
+of_job piece job verdict h k =
+    record {
+      t = job.task;
+      task = h.task;
+      due = subst (λ bytes. IsJudged job.task bytes verdict) h.bytes k.due;
+      ways = λ asked. subst (λ bytes. RunsRightInEveryWay job.task bytes verdict) h.bytes (k.ways (h.every_way ∙ asked));
+    }
 
 pub returns : goal.returns
 returns g c =
