@@ -1,8 +1,9 @@
-//! Runs worked scripts and command lines, which are rows of files, in every way that there is to run them.
+//! Runs worked scripts and command lines, which are rows of files and tests of suites, in every way that there is to run them.
 //!
-//! A word is a file of rows: of each file a line tells how many rows there are, and how many runs they had; and before it each row
-//! that isn't right is told, in a line with the file and the row's first line. `--drawn COUNT` draws as many settled scripts and
-//! compares their runs with what they mean. The status is 1 where anything was told to be wrong, and else 0.
+//! A word is a file of rows, or, where it ends in `.toml`, a suite of `xvsh grade`: of each file a line tells how many rows or tests there
+//! are, and how many runs they had; and before it each one that isn't right is told, in a line with the file, its first line and the
+//! test's name. `--drawn COUNT` draws as many settled scripts and compares their runs with what they mean. The status is 1 where anything
+//! was told to be wrong, and else 0.
 #![tactic(auto)]
 
 mod agreeing;
@@ -15,82 +16,29 @@ mod drivers;
 mod driving;
 mod host;
 mod means;
+mod metadata;
 mod programs;
 mod rows;
 mod runs;
 mod scripts;
+mod sources;
+mod suites;
+mod tally;
 mod waits;
 mod ways;
 
 use crate::bytes::Texts;
 use crate::rows::{Field, Row, Sheet, read};
+use crate::suites::run_suite;
+use crate::tally::Tally;
 use anyhow::{Result, bail};
 use std::alloc::AllocError;
-use std::fmt::Display;
 use std::process::ExitCode;
 use std::rt::{Env, Files};
 use std::sync::Wait;
 use std::thread::Threads;
 use std::time::Clock;
 use std::{env, fs, io};
-
-// A file of rows, and how many rows, runs and failures it had so far.
-#[derive(Drop)]
-struct Tally<'a> {
-    path: &'a str,
-    rows: usize,
-    runs: usize,
-    failures: usize,
-}
-
-impl<'a> Tally<'a> {
-    fn new(path: &'a str) -> Tally<'a> {
-        Tally {
-            path,
-            rows: 0,
-            runs: 0,
-            failures: 0,
-        }
-    }
-
-    // Tells of what is wrong at a line.
-    fn fail(&mut self, rt: &impl Print, line: usize, why: impl Display + Drop) -> io::Result<()> {
-        self.failures = self.failures.saturating_add(1);
-        let path = self.path;
-        println!(rt; "{path}:{line}: {why}")
-    }
-
-    // Counts a row and its runs, or tells why it failed.
-    fn take(&mut self, rt: &impl Print, line: usize, ran: Result<usize>) -> io::Result<()> {
-        self.rows = self.rows.saturating_add(1);
-        match ran {
-            Ok(runs) => {
-                self.runs = self.runs.saturating_add(runs);
-                Ok(())
-            }
-            Err(error) => self.fail(rt, line, format_args!("{error:#}")),
-        }
-    }
-
-    // Tells how many rows and runs there were, and whether all is right.
-    fn end(&mut self, rt: &impl Print) -> io::Result<bool> {
-        if self.rows == 0 && self.failures == 0 {
-            self.fail(rt, 1, "there are no rows")?;
-        }
-        let Tally {
-            path,
-            rows,
-            runs,
-            failures,
-        } = self;
-        if *failures == 0 {
-            println!(rt; "{path}: {rows} rows, {runs} runs")?;
-            return Ok(true);
-        }
-        println!(rt; "{path}: {rows} rows, {failures} failures")?;
-        Ok(false)
-    }
-}
 
 // Runs a row, and tells how often.
 fn run_row(
@@ -175,16 +123,29 @@ fn run_sheet(
     tell_untaken(rt, &texts, sheet, tally)
 }
 
-// Runs the rows of a file, and tells whether all is right.
+// Runs the rows of a file.
+fn run_sheet_at(
+    rt: &(impl AllocGlobal + Print + Files + Threads + Wait + Clock + Sync),
+    tally: &mut Tally<'_>,
+) -> io::Result<()> {
+    match fs::read_to_string(rt, tally.path) {
+        Ok(text) => run_sheet(rt, &read(rt.alloc(), text.as_str())?, tally),
+        Err(_) => tally.fail(rt, 1, "the file can't be read"),
+    }
+}
+
+// Runs the rows or the tests of a file, and tells whether all is right.
 fn run_file(
     rt: &(impl AllocGlobal + Print + Files + Threads + Wait + Clock + Sync),
     path: &str,
 ) -> io::Result<bool> {
-    let mut tally = Tally::new(path);
-    match fs::read_to_string(rt, path) {
-        Ok(text) => run_sheet(rt, &read(rt.alloc(), text.as_str())?, &mut tally)?,
-        Err(_) => tally.fail(rt, 1, "the file can't be read")?,
+    if path.ends_with(".toml") {
+        let mut tally = Tally::new(path, "tests");
+        run_suite(rt, &mut tally)?;
+        return tally.end(rt);
     }
+    let mut tally = Tally::new(path, "rows");
+    run_sheet_at(rt, &mut tally)?;
     tally.end(rt)
 }
 

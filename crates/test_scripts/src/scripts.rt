@@ -1,4 +1,4 @@
-//! Rows of worked scripts: what a row gives to a run, and what it wants of it.
+//! Worked scripts: what is given to a run and what is wanted of it, and how a row says both.
 
 use crate::bytes::Texts;
 use crate::means::{expect_meaning, expect_size, meaning};
@@ -12,6 +12,9 @@ use std::sync::Wait;
 use std::thread::Threads;
 use std::time::Clock;
 use test_rows::{named, value};
+
+/// In how many drawn orders a script is run where nothing says it.
+pub(crate) const DRAWN: u64 = 3;
 
 // The fields that every row may have.
 const COMMON: &str = "script only append input file all_files";
@@ -136,7 +139,6 @@ fn bytes_of(texts: &Texts<'_>, row: &Row<'_>, name: &str) -> Result<Vec<u8>> {
 fn marks_of<'a>(row: &Row<'a>) -> Result<Marks<'a>> {
     let held = Held::named(row.value("only"))?;
     check_names(row, &[COMMON, held.fields()])?;
-    let drawn = row.value("drawn").unwrap_or("3");
     Ok(Marks {
         held,
         appends: has(row, "append")?,
@@ -145,10 +147,20 @@ fn marks_of<'a>(row: &Row<'a>) -> Result<Marks<'a>> {
         is_too_large: has(row, "too_large")?,
         full: words_of(row, "full")?,
         has_last_slot: has(row, "last_slot")?,
-        drawn: drawn
-            .parse::<u64>()
-            .context(format_args!("drawn {drawn:?}"))?,
+        drawn: drawn_of(row)?,
     })
+}
+
+// In how many drawn orders a row is run.
+fn drawn_of(row: &Row<'_>) -> Result<u64> {
+    match row.value("drawn") {
+        None => Ok(DRAWN),
+        Some(drawn) => Ok(
+            drawn
+                .parse::<u64>()
+                .context(format_args!("drawn {drawn:?}"))?,
+        ),
+    }
 }
 
 // What a row gives to a run.
@@ -165,7 +177,8 @@ fn given_of(alloc: Global, texts: &Texts<'_>, row: &Row<'_>) -> Result<Given> {
     })
 }
 
-fn script_of(alloc: Global, text: &[u8], appends: bool) -> Result<Script<Global>> {
+/// The script of a text.
+pub(crate) fn script_of(alloc: Global, text: &[u8], appends: bool) -> Result<Script<Global>> {
     let profile = if appends {
         Profile::Append
     } else {
@@ -294,8 +307,17 @@ pub(crate) fn run_row(
     for field in row.fields() {
         sheet.take(field);
     }
-    let runs = run_by_calls(rt, &given, &wanted)?;
-    Ok(runs.saturating_add(programs::run_all(rt, &given, &wanted)?))
+    run_given(rt, &given, &wanted)
+}
+
+/// Runs a script in every way that it is held to, and tells how often.
+pub(crate) fn run_given(
+    rt: &(impl AllocGlobal + Threads + Wait + Clock + Sync),
+    given: &Given,
+    wanted: &Wanted<'_>,
+) -> Result<usize> {
+    let runs = run_by_calls(rt, given, wanted)?;
+    Ok(runs.saturating_add(programs::run_all(rt, given, wanted)?))
 }
 
 // By calls of the libraries: its meaning, and its runs by processes.
