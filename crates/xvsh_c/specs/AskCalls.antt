@@ -1,5 +1,5 @@
 -- What a call of a check or an explanation leaves: what the library below tells of the task, or a fault that is due.
-use Rattle.std.specs.Prelude.{◌≡◌, ◌⊎◌, ℕ, Bool, true, false, ◌==◌, if◌then◌else◌}
+use Rattle.std.specs.Prelude.{◌≡◌, ◌⊎◌, ℕ, Bool, not, ◌==◌}
 use Rattle.embed_task.specs.declared.task.Task.{Task}
 use Rattle.embed_task.specs.declared.fault.EmbedFault.{EmbedFault}
 use Rattle.embed_task.specs.Packing.{mark_of}
@@ -10,7 +10,7 @@ use Rattle.xvsh_c.specs.Answers.{TellsFault}
 
 -- 0 asks for nothing, any other number does
 abbrev pub is_on : ℕ → Bool
-is_on flag = if flag == 0 then false else true
+is_on flag = not (flag == 0)
 
 -- the answer tells what is told of a script before any run
 pub record TellsAsked (answer : Answer) (told : AskAnswer) : Type 0 where

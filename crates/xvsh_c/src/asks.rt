@@ -12,7 +12,7 @@ use std::alloc::Global;
 pub(crate) fn is_on(flag: u32) -> bool
     ensures { result ≡ is_on flag }
 {
-    if flag == 0 { false } else { true }
+    flag != 0
 }
 
 // Puts what is told of a script before any run into an answer.
