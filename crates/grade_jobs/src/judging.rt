@@ -2,7 +2,7 @@
 
 ghost use Rattle.std.specs.Prelude.{◌≡◌, IfOk};
 ghost use Rattle.std.specs.List.{AllZip};
-ghost use Rattle.grade_jobs.specs.Judges.{IsVerdictOn};
+ghost use Rattle.grade_jobs.specs.Judges.{IsFoundOn};
 
 use grade_verdicts::{Task, Verdict, judge};
 use grade_ways::judge_every_way;
@@ -22,39 +22,44 @@ pub struct Job<'j> {
     pub bytes: &'j [u8],
 }
 
-// The verdict of a test on a script.
+// The verdict of a test on a script; `None` where memory is refused.
 fn judge_one<R: Threads + Wait + Clock + Sync>(
     rt: &R,
     alloc: Global,
     job: &Job<'_>,
-) -> Result<Verdict, AllocError>
-    ensures { IfOk result (IsVerdictOn job.now) }
+) -> Option<Verdict>
+    ensures { IsFoundOn job.now result }
 {
-    if job.every_way {
+    let judged = if job.every_way {
         judge_every_way(rt, alloc, &job.task, job.bytes)
     } else {
         judge(alloc, &job.task, job.bytes)
+    };
+    match judged {
+        Ok(verdict) => Some(verdict),
+        Err(_) => None,
     }
 }
 
-/// The verdicts of tests on scripts, in their order, by at most so many threads (own): each job has one, and it is due.
+/// The verdicts of tests on scripts, in their order, by at most so many threads (own): each job has one, and it is due, or `None`
+/// where memory was refused to it.
 ///
-/// `AllocError` where memory is refused.
+/// `AllocError` where memory for the list of them is refused.
 pub fn judge_all<R: Threads + Wait + Clock + Sync>(
     rt: &R,
     alloc: Global,
     jobs: &[Job<'_>],
     threads: usize,
-) -> Result<Vec<Verdict>, AllocError>
-    ensures { IfOk result (λ verdicts. AllZip IsVerdictOn jobs.now verdicts.items) }
+) -> Result<Vec<Option<Verdict>>, AllocError>
+    ensures { IfOk result (λ verdicts. AllZip IsFoundOn jobs.now verdicts.items) }
 {
     let least = jobs.len().div_ceil(threads.max(1));
     jobs.par_iter()
         .map(
-            |job: &Job<'_>| -> Result<Verdict, AllocError>
-                ensures { IfOk result (IsVerdictOn job.now) }
+            |job: &Job<'_>| -> Option<Verdict>
+                ensures { IsFoundOn job.now result }
             { judge_one(rt, alloc, job) },
         )
         .with_min_len(least)
-        .collect::<Result<Vec<Verdict>, AllocError>>(rt, alloc)?
+        .collect::<Vec<Option<Verdict>>>(rt, alloc)
 }

@@ -3,7 +3,6 @@
 use crate::escaping::add_name;
 use crate::rows::{Row, scripts_of};
 use crate::sentences::{sentence_of, word_of};
-use grade_verdicts::passes;
 use std::alloc::{AllocError, Global};
 use trace_lines::Line;
 
@@ -37,7 +36,7 @@ fn write_row(
     row: &Row<'_>,
     has_several: bool,
 ) -> Result<(), AllocError> {
-    let status = if passes(row.verdict) {
+    let status = if row.is_passed() {
         "passed"
     } else {
         "failed"

@@ -3,7 +3,7 @@
 use crate::rows::{Row, Sum, script_end, sum_of};
 use crate::sentences::{sentence_of, word_of};
 use grade_verdicts::{Difference, Place, Race, Refusal, Verdict};
-use result_json::begin_result;
+use result_json::{begin_result, full_word};
 use std::alloc::{AllocError, Global};
 use trace_lines::Line;
 
@@ -45,7 +45,11 @@ fn write_race(line: &mut Line, race: &Race) -> Result<(), AllocError> {
 
 fn write_why(line: &mut Line, verdict: &Verdict) -> Result<(), AllocError> {
     match verdict {
-        Verdict::Wrong(difference) => write_difference(line, difference),
+        Verdict::Wrong(difference) | Verdict::WrongSoFar(difference) => {
+            write_difference(line, difference)
+        }
+        Verdict::Unsure(found) => line.count("found", *found as u64),
+        Verdict::NoRoom(full) => line.word("full", full_word(*full)),
         Verdict::Race(race) => write_race(line, race),
         Verdict::Refused(Refusal::Line(number, _)) => line.count("line", *number as u64),
         _ => Ok(()),
@@ -62,7 +66,9 @@ fn write_row(alloc: Global, line: &mut Line, row: &Row<'_>) -> Result<(), AllocE
     if !sentence.is_empty() {
         line.bytes("message", sentence.as_slice())?;
     }
-    write_why(line, row.verdict)?;
+    if let Some(verdict) = row.verdict {
+        write_why(line, verdict)?;
+    }
     line.end_object()
 }
 
@@ -98,7 +104,9 @@ fn write_script(alloc: Global, line: &mut Line, rows: &[Row<'_>]) -> Result<(), 
 /// `AllocError` where memory is refused.
 pub fn object_text(alloc: Global, rows: &[Row<'_>]) -> Result<Vec<u8>, AllocError> {
     let sum = sum_of(rows);
-    let (status, code) = if sum.passed == sum.tests {
+    let (status, code) = if sum.unjudged > 0 {
+        ("not all judged", 4)
+    } else if sum.passed == sum.tests {
         ("all passed", 0)
     } else {
         ("not all passed", 3)

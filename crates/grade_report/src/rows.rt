@@ -10,7 +10,8 @@ pub struct Row<'r> {
     pub test: &'r str,
     /// The points that the test gives where it is passed.
     pub points: u64,
-    pub verdict: &'r Verdict,
+    /// `None` where memory was refused to it, so that it isn't judged.
+    pub verdict: Option<&'r Verdict>,
 }
 
 /// Points and tests, counted (own).
@@ -21,12 +22,22 @@ pub struct Sum {
     pub of: u64,
     pub passed: usize,
     pub tests: usize,
+    /// How many aren't judged.
+    pub unjudged: usize,
 }
 
 impl<'r> Row<'r> {
+    /// Whether its test is passed.
+    pub fn is_passed(&self) -> bool {
+        match self.verdict {
+            Some(verdict) => passes(verdict),
+            None => false,
+        }
+    }
+
     /// The points that it gives.
     pub fn earned(&self) -> u64 {
-        if passes(self.verdict) { self.points } else { 0 }
+        if self.is_passed() { self.points } else { 0 }
     }
 }
 
@@ -37,12 +48,14 @@ pub fn sum_of(rows: &[Row<'_>]) -> Sum {
         of: 0,
         passed: 0,
         tests: 0,
+        unjudged: 0,
     };
     for row in rows {
         sum.points = sum.points.saturating_add(row.earned());
         sum.of = sum.of.saturating_add(row.points);
-        sum.passed = sum.passed.saturating_add(usize::from(passes(row.verdict)));
+        sum.passed = sum.passed.saturating_add(usize::from(row.is_passed()));
         sum.tests = sum.tests.saturating_add(1);
+        sum.unjudged = sum.unjudged.saturating_add(usize::from(row.verdict.is_none()));
     }
     sum
 }

@@ -2,18 +2,25 @@
 
 use crate::escaping::add_escaped;
 use grade_verdicts::{Difference, Place, Race, Refusal, Verdict};
+use kernel_model::Full;
+use result_json::full_word;
 use std::alloc::{AllocError, Global};
 
 /// The verdict in a word or a few (own).
-pub fn word_of(verdict: &Verdict) -> &'static str {
+pub fn word_of(verdict: Option<&Verdict>) -> &'static str {
+    let Some(verdict) = verdict else {
+        return "not judged";
+    };
     match verdict {
         Verdict::Pass => "pass",
         Verdict::PassEveryOrder => "pass, every order tried",
         Verdict::Wrong(_) => "wrong",
+        Verdict::WrongSoFar(_) => "wrong so far",
         Verdict::Race(_) => "race",
-        Verdict::Unsure => "unsure",
+        Verdict::Unsure(_) => "unsure",
         Verdict::Refused(_) => "refused",
         Verdict::TooLarge => "too large",
+        Verdict::NoRoom(_) => "no room",
         Verdict::Spent => "spent",
     }
 }
@@ -85,28 +92,61 @@ fn add_refusal(alloc: Global, text: &mut Vec<u8>, refusal: &Refusal) -> Result<(
     }
 }
 
+// Adds how many ends of runs were found, of which each is right.
+fn add_unsure(alloc: Global, text: &mut Vec<u8>, found: usize) -> Result<(), AllocError> {
+    if found == 0 {
+        return add(text, UNFINISHED);
+    }
+    let ends = if found == 1 { "end" } else { "ends" };
+    let told = format!(in alloc;
+        "right in each order of its processes that was tried to its end ({found} different {ends}), but not every order was tried"
+    )?;
+    add(text, told.as_str())
+}
+
+// Adds what was full.
+fn add_full(text: &mut Vec<u8>, full: Full) -> Result<(), AllocError> {
+    add(text, NO_ROOM)?;
+    add(text, full_word(full))
+}
+
+// Adds why this is the verdict.
+fn add_verdict(alloc: Global, text: &mut Vec<u8>, verdict: &Verdict) -> Result<(), AllocError> {
+    match verdict {
+        Verdict::Pass | Verdict::PassEveryOrder => Ok(()),
+        Verdict::Wrong(difference) | Verdict::WrongSoFar(difference) => {
+            add_difference(alloc, text, difference)
+        }
+        Verdict::Race(race) => add_race(alloc, text, race),
+        Verdict::Unsure(found) => add_unsure(alloc, text, *found),
+        Verdict::Refused(refusal) => add_refusal(alloc, text, refusal),
+        Verdict::TooLarge => add(text, TOO_LARGE),
+        Verdict::NoRoom(full) => add_full(text, *full),
+        Verdict::Spent => add(text, SPENT),
+    }
+}
+
 /// Why this is the verdict, on one line in printable ASCII (own); empty of a test that is passed.
 ///
 /// `AllocError` where memory is refused.
-pub fn sentence_of(alloc: Global, verdict: &Verdict) -> Result<Vec<u8>, AllocError> {
+pub fn sentence_of(alloc: Global, verdict: Option<&Verdict>) -> Result<Vec<u8>, AllocError> {
     let mut text = Vec::new(alloc);
     match verdict {
-        Verdict::Pass | Verdict::PassEveryOrder => {}
-        Verdict::Wrong(difference) => add_difference(alloc, &mut text, difference)?,
-        Verdict::Race(race) => add_race(alloc, &mut text, race)?,
-        Verdict::Unsure => add(&mut text, UNSURE)?,
-        Verdict::Refused(refusal) => add_refusal(alloc, &mut text, refusal)?,
-        Verdict::TooLarge => add(&mut text, TOO_LARGE)?,
-        Verdict::Spent => add(&mut text, SPENT)?,
+        Some(verdict) => add_verdict(alloc, &mut text, verdict)?,
+        None => add(&mut text, NOT_JUDGED)?,
     }
     Ok(text)
 }
 
-const UNSURE: &str =
-    "right in each order of its processes that was tried, but not every order was tried";
+const UNFINISHED: &str =
+    "not every order of its processes was tried, and no run by those that were came to an end";
 
 const TOO_LARGE: &str =
     "the script is too long, or one of its files would be too large, or one too many";
 
+const NO_ROOM: &str = "it would leave what is expected, but a run of it has no room: full ";
+
 const SPENT: &str =
     "a run has more events than the test allows, or in some order all its processes sleep for ever";
+
+const NOT_JUDGED: &str = "memory was refused";

@@ -3,7 +3,6 @@
 use crate::escaping::add_name;
 use crate::rows::{Row, Sum, script_end, scripts_of, sum_of};
 use crate::sentences::{sentence_of, word_of};
-use grade_verdicts::passes;
 use std::alloc::{AllocError, Global};
 
 const GREEN: &str = "\x1b[32m";
@@ -23,7 +22,7 @@ fn add(text: &mut Vec<u8>, words: &str) -> Result<(), AllocError> {
 fn add_word(text: &mut Vec<u8>, row: &Row<'_>, is_coloured: bool) -> Result<(), AllocError> {
     let word = word_of(row.verdict);
     if is_coloured {
-        add(text, if passes(row.verdict) { GREEN } else { RED })?;
+        add(text, if row.is_passed() { GREEN } else { RED })?;
     }
     add(text, word)?;
     if is_coloured {
@@ -68,6 +67,7 @@ fn add_sum(alloc: Global, text: &mut Vec<u8>, sum: Sum) -> Result<(), AllocError
         of,
         passed,
         tests,
+        ..
     } = sum;
     let line = format!(in alloc; "{passed} of {tests} tests passed, {points} of {of} points\n")?;
     add(text, line.as_str())

@@ -3,7 +3,6 @@
 use crate::escaping::add_name;
 use crate::rows::Row;
 use crate::sentences::{sentence_of, word_of};
-use grade_verdicts::passes;
 use std::alloc::{AllocError, Global};
 
 fn add(text: &mut Vec<u8>, words: &str) -> Result<(), AllocError> {
@@ -51,7 +50,7 @@ fn add_row(
     number: usize,
     row: &Row<'_>,
 ) -> Result<(), AllocError> {
-    let is_passed = passes(row.verdict);
+    let is_passed = row.is_passed();
     let word = if is_passed { "ok" } else { "not ok" };
     let begin = format!(in alloc; "{word} {number} - ")?;
     add(text, begin.as_str())?;

@@ -1,8 +1,9 @@
 -- What verdicts follow from what the meaning and an exploration say.
 use Rattle.std.proofs.Common.{◌≡◌, ℕ, Bool, true, false, List, [], ◌∷◌, length, map, Option, Some, None, All, refl, sym, ap, subst, ◌∙◌, arith}
-use Rattle.std.specs.Prelude.{◌↔◌, Contains, IfSome, slice_index_or}
+use Rattle.std.specs.Prelude.{◌↔◌, ◌≢◌, Any, Contains, IfSome, slice_index_or}
 use Rattle.std.proofs.lemmas.Bool.{false≢true}
-use Rattle.std.proofs.lemmas.List.Elements.{All-cons, All-contains, All-map}
+use Rattle.std.proofs.lemmas.List.{length-map}
+use Rattle.std.proofs.lemmas.List.Elements.{All-contains, All-map}
 use Rattle.mem_files.specs.Name.{Name, Bytes}
 use Rattle.mem_files.specs.Files.{FileMap, files}
 use Rattle.mem_files.specs.Listing.{AreFiles}
@@ -14,15 +15,19 @@ use Rattle.meaning_model.specs.Meaning.{script_meaning}
 use Rattle.meaning_model.specs.Settled.{IsSettledScript}
 use Rattle.plain_run.proofs.NameSets.{contained, contains}
 use Rattle.sh_machine.specs.Turn.{call_of, next_of}
+use Rattle.kernel_model.specs.declared.events.Full.{Full}
+use Rattle.kernel_model.specs.declared.events.Full.TheVariants.{Memory}
+use Rattle.order_model.specs.Turns.{quiet_turns, turn_events, turn_notes}
 use Rattle.order_model.specs.Outcome.{outcome_of}
 use Rattle.order_model.specs.Explored.{AreAllOutcomes, IsNeverStuck}
-use Rattle.order_search.specs.Told.{outcome_by, LeadsToSleep}
+use Rattle.order_search.specs.Told.{outcome_by, IsReplayed, LeadsToSleep}
 use Rattle.order_search.specs.declared.outcomes.Outcome.{Outcome}
 use Rattle.order_search.proofs.Telling.{some_of}
+use Rattle.run_room.specs.Room.{HasRoom}
 use Rattle.law_standing.proofs.RunsEnd.{finished_means}
 use Rattle.law_trees.proofs.Short.{small_short}
-use Rattle.grade_verdicts.specs.Agrees.{Agrees, AgreesIn, AgreesWith, AreRight, HasFile}
-use Rattle.grade_verdicts.specs.Judged.{InEveryRun, IsKnown, IsPassed, IsPassedInEveryOrder, IsSettledOn, IsSpent, IsWrong, asleep, by_meaning, meaning_of, start_of}
+use Rattle.grade_verdicts.specs.Agrees.{Agrees, AgreesIn, AgreesWith, HasFile}
+use Rattle.grade_verdicts.specs.Judged.{Ends, HasNoRoom, InEveryRun, IsKnown, IsMeant, IsPassedInEveryOrder, IsSettledOn, IsSpent, IsWrong, IsWrongSoFar, asleep, by_meaning, in_every_order, meaning_of, start_of}
 use Rattle.grade_verdicts.specs.declared.expected.Expected.{Expected}
 use Rattle.grade_verdicts.specs.declared.expected.ExpectedFile.{ExpectedFile}
 use Rattle.grade_verdicts.specs.declared.expected.Task.{Task}
@@ -109,8 +114,8 @@ same_in_runs t lines soft out F f schedule notes last ran quiet finished =
           f.files name ∙ sym (m.files name (is_firm soft value.soft name (f.each name) (f.firm k d less))),
     )
 
-pub passed : (t : Task) (lines : List ScriptLine) (soft : List Name) (out : Bytes) (F : FileMap) → Found t lines soft out F → Agrees t.expected.now out F → IsPassed t lines
-passed t lines soft out F f a =
+pub meant : (t : Task) (lines : List ScriptLine) (soft : List Name) (out : Bytes) (F : FileMap) → Found t lines soft out F → Agrees t.expected.now out F → IsMeant t lines
+meant t lines soft out F f a =
     let e = t.expected.now in
     let value = meaning_of t lines in
     record {
@@ -131,24 +136,57 @@ wrong t lines soft out F f not =
     let same = same_in_runs t lines soft out F f schedule notes last ran quiet finished in
     not (carried e last.out out (files last.files) F (sym same.0) (λ k d less. sym (same.1 k d less)) a))
 
-all_right : (e : Expected) (outcomes : List Outcome) → AreRight e outcomes → All (AgreesWith e) outcomes
-all_right e [] are = absurd are
-all_right e (first ∷ rest) are = All-cons (AgreesWith e) first rest are.0 are.1
+-- the run of an outcome's own schedule
+pub ends_of : (t : Task) (lines : List ScriptLine) (o : Outcome) → IsReplayed call_of next_of (start_of t lines) o → Ends t lines (turn_events (quiet_turns o.pids.items))
+ends_of t lines o r = record { notes = turn_notes (quiet_turns o.pids.items); last = r.last; runs = r.turns; finished = r.finishes.0 }
 
-some_right : (e : Expected) (outcomes : List Outcome) → AreRight e outcomes → map outcome_by outcomes ≡ [] → ⊥
-some_right e [] are none = are
-some_right e (first ∷ rest) are none = let z : ⊥ = omega (arith, ap length none) in z
+full_of : (t : Task) (lines : List ScriptLine) (o : Outcome) (r : IsReplayed call_of next_of (start_of t lines) o) → r.last.full ≡ o.full
+full_of t lines o r = ap (λ outcome. outcome.full) r.finishes.1
 
-pub passed_in_every_order : (t : Task) (lines : List ScriptLine) (outcomes : List Outcome) → AreAllOutcomes call_of next_of (start_of t lines) (map outcome_by outcomes) → AreRight t.expected.now outcomes
-    → IsNeverStuck call_of next_of (start_of t lines) → IsPassedInEveryOrder t lines
-passed_in_every_order t lines outcomes all are awake =
+pub roomy_of : (t : Task) (lines : List ScriptLine) (o : Outcome) → IsReplayed call_of next_of (start_of t lines) o → o.full ≡ None → HasRoom (start_of t lines)
+roomy_of t lines o r none = record { schedule = turn_events (quiet_turns o.pids.items); ends = ends_of t lines o r; roomy = full_of t lines o r ∙ none }
+
+filled_by : (t : Task) (lines : List ScriptLine) (full : Full) (o : Outcome) → IsReplayed call_of next_of (start_of t lines) o → o.full ≡ Some full → full ≢ Memory → HasNoRoom t lines full
+filled_by t lines full o r is space = record { filled = record { schedule = turn_events (quiet_turns o.pids.items); ends = ends_of t lines o r; filled = full_of t lines o r ∙ is }; space = space }
+
+pub filled_of : (t : Task) (lines : List ScriptLine) (full : Full) (outcomes : List Outcome) → All (IsReplayed call_of next_of (start_of t lines)) outcomes → Any (λ outcome. outcome.full ≡ Some full) outcomes
+    → full ≢ Memory → HasNoRoom t lines full
+filled_of t lines full outcomes each any space =
+    filled_by t lines full any.1 (All-contains (IsReplayed call_of next_of (start_of t lines)) outcomes any.1 each (any.0, any.2, any.3)) any.4 space
+
+none_in : (outcomes : List Outcome) (one : Outcome) → Contains outcomes one → outcomes ≡ [] → ⊥
+none_in outcomes one among none = let z : ⊥ = omega (arith, among.1, ap length none) in z
+
+some_in : (outcomes : List Outcome) (one : Outcome) → Contains outcomes one → map outcome_by outcomes ≡ [] → ⊥
+some_in outcomes one among none = let z : ⊥ = omega (arith, among.1, length-map outcome_by outcomes, ap length none) in z
+
+pub passed_in_every_order : (t : Task) (lines : List ScriptLine) (outcomes : List Outcome) (roomy : Outcome) → AreAllOutcomes call_of next_of (start_of t lines) (map outcome_by outcomes) → All (AgreesWith t.expected.now) outcomes
+    → IsNeverStuck call_of next_of (start_of t lines) → All (IsReplayed call_of next_of (start_of t lines)) outcomes → Contains outcomes roomy → roomy.full ≡ None → IsPassedInEveryOrder t lines
+passed_in_every_order t lines outcomes roomy all are awake each among none =
     let e = t.expected.now in
-    let agree : All (AgreesIn e) (map outcome_by outcomes) = All-map (AgreesIn e) outcome_by outcomes (all_right e outcomes are) in
+    let agree : All (AgreesIn e) (map outcome_by outcomes) = All-map (AgreesIn e) outcome_by outcomes are in
     record {
       outcomes = map outcome_by outcomes;
       all = all;
-      some = some_right e outcomes are;
+      some = some_in outcomes roomy among;
       agree = agree;
       runs = λ schedule notes last ran quiet finished. All-contains (AgreesIn e) (map outcome_by outcomes) (outcome_of last) agree (all.roomy schedule notes last ran quiet finished);
+      room = roomy_of t lines roomy (All-contains (IsReplayed call_of next_of (start_of t lines)) outcomes roomy each among) none;
       awake = awake;
+    }
+
+-- of all outcomes, of which this is one, none agrees
+pub wrong_in_every_order : (t : Task) (lines : List ScriptLine) (outcomes : List Outcome) (other : Outcome) → AreAllOutcomes call_of next_of (start_of t lines) (map outcome_by outcomes) → Contains outcomes other
+    → All (λ outcome. AgreesWith t.expected.now outcome → ⊥) outcomes → IsWrong t lines
+wrong_in_every_order t lines outcomes other all among none =
+    in_every_order (map outcome_by outcomes) all (some_in outcomes other among) (All-map (λ outcome. AgreesIn t.expected.now outcome → ⊥) outcome_by outcomes none)
+
+-- the same of those that were found
+pub wrong_so_far : (t : Task) (lines : List ScriptLine) (outcomes : List Outcome) (other : Outcome) → All (IsReplayed call_of next_of (start_of t lines)) outcomes → Contains outcomes other
+    → All (λ outcome. AgreesWith t.expected.now outcome → ⊥) outcomes → IsWrongSoFar t lines
+wrong_so_far t lines outcomes other each among none =
+    record {
+      outcomes = outcomes;
+      some = none_in outcomes other among;
+      each = λ k d less. record { replayed = each k d less; differs = none k d less };
     }

@@ -1,5 +1,5 @@
 -- What is expected of a script, and when what a run left agrees with it.
-use Rattle.std.specs.Prelude.{◌≡◌, Some, List, [], ◌∷◌, All}
+use Rattle.std.specs.Prelude.{◌≡◌, Some, All}
 use Rattle.mem_files.specs.Name.{Bytes}
 use Rattle.mem_files.specs.Files.{FileMap, files}
 use Rattle.order_model.specs.Outcome.{RunOutcome}
@@ -22,8 +22,3 @@ AgreesWith expected outcome = Agrees expected outcome.out.items (files outcome.f
 
 abbrev pub AgreesIn : Expected → RunOutcome → Type 0
 AgreesIn expected outcome = Agrees expected outcome.out (files outcome.files)
-
--- there is an outcome, and each agrees
-abbrev pub AreRight : Expected → List Outcome → Type 0
-AreRight expected [] = ⊥
-AreRight expected (first ∷ rest) = AgreesWith expected first × All (AgreesWith expected) rest

@@ -1,9 +1,9 @@
 //! Whether what a run left is what is expected.
 
-ghost use Rattle.std.specs.Prelude.{◌≡◌, ◌↔◌, false, IsTrue, IfSome, All, Contains};
+ghost use Rattle.std.specs.Prelude.{◌≡◌, ◌↔◌, false, None, IsTrue, IfSome, All, Contains};
 ghost use Rattle.mem_files.specs.Files.{files};
 ghost use Rattle.prog_parts.specs.NameSets.{among};
-ghost use Rattle.grade_verdicts.specs.Agrees.{Agrees, AgreesWith, AreRight, HasFile};
+ghost use Rattle.grade_verdicts.specs.Agrees.{Agrees, AgreesWith, HasFile};
 
 use crate::expected::{Expected, ExpectedFile};
 use every_order::Outcome;
@@ -61,6 +61,7 @@ fn is_agreed(expected: &Expected, outcome: &Outcome) -> bool
 pub fn first_right<'o>(expected: &Expected, outcomes: &'o [Outcome]) -> Option<&'o Outcome>
     ensures among { IfSome result (λ outcome. Contains outcomes.now outcome.now) }
     ensures agrees { IfSome result (λ outcome. AgreesWith expected.now outcome.now) }
+    ensures none { result ≡ None → All (λ outcome. AgreesWith expected.now outcome → ⊥) outcomes.now }
 {
     for outcome in outcomes {
         if is_agreed(expected, outcome) {
@@ -74,6 +75,7 @@ pub fn first_right<'o>(expected: &Expected, outcomes: &'o [Outcome]) -> Option<&
 pub fn first_wrong<'o>(expected: &Expected, outcomes: &'o [Outcome]) -> Option<&'o Outcome>
     ensures among { IfSome result (λ outcome. Contains outcomes.now outcome.now) }
     ensures differs { IfSome result (λ outcome. AgreesWith expected.now outcome.now → ⊥) }
+    ensures none { result ≡ None → All (AgreesWith expected.now) outcomes.now }
 {
     for outcome in outcomes {
         if !is_agreed(expected, outcome) {
@@ -83,14 +85,10 @@ pub fn first_wrong<'o>(expected: &Expected, outcomes: &'o [Outcome]) -> Option<&
     None
 }
 
-/// Whether there is one of these outcomes, and each is what is expected.
-pub fn are_right(expected: &Expected, outcomes: &[Outcome]) -> bool
-    ensures { IsTrue result ↔ AreRight expected.now outcomes.now }
+/// The first of these outcomes in whose run nothing was full.
+pub fn first_roomy(outcomes: &[Outcome]) -> Option<&Outcome>
+    ensures among { IfSome result (λ outcome. Contains outcomes.now outcome.now) }
+    ensures roomy { IfSome result (λ outcome. outcome.now.full ≡ None) }
 {
-    match outcomes.split_first() {
-        Some((first, rest)) => {
-            is_agreed(expected, first) && rest.iter().all(|outcome| is_agreed(expected, outcome))
-        }
-        None => false,
-    }
+    outcomes.iter().find(|outcome| outcome.full.is_none())
 }

@@ -1,22 +1,28 @@
 //! Verdicts of tests on scripts.
 
-ghost use Rattle.std.specs.Prelude.{◌≡◌, ◌↔◌, IsTrue, IfOk, IfSome, Ok, All, map, true, false, None};
+ghost use Rattle.std.specs.Prelude.{◌≡◌, ◌≢◌, ◌<◌, ◌≤◌, ◌↔◌, IsTrue, IfOk, IfErr, IfSome, Ok, Some, All, Any, Contains, map, true, false, None};
 ghost use Rattle.script_load.specs.Line.{lines_of};
+ghost use Rattle.script_load.specs.Script.{IsScript};
+ghost use Rattle.script_load.specs.declared.limits.TheConstants.{MAX_TURNS};
 ghost use Rattle.sh_machine.specs.Turn.{call_of, next_of};
 ghost use Rattle.order_model.specs.Explored.{AreAllOutcomes, IsNeverStuck};
 ghost use Rattle.order_search.specs.Told.{outcome_by, IsReplayed, LeadsToSleep};
+ghost use Rattle.kernel_model.specs.declared.events.Full.TheVariants.{Memory};
 ghost use Rattle.run_model.specs.ScriptRun.{IsSpentFrom};
-ghost use Rattle.grade_verdicts.specs.Judged.{EndsInTime, HasWrongRun, IsInTime, IsJudged, IsKnown, IsVerdict, IsWrong, start_of};
+ghost use Rattle.grade_verdicts.specs.Agrees.{AgreesWith};
+ghost use Rattle.grade_verdicts.specs.Judged.{AreMost, EndsInTime, IsInTime, IsJudged, IsKnown, IsMeant, IsOfRace, IsPass, IsVerdict, IsWrong, IsWrongSoFar, start_of};
 
-use crate::agreeing::{are_firm, are_right, first_right, first_wrong};
+use crate::agreeing::{are_firm, first_right, first_roomy, first_wrong};
 use crate::differing::{difference_of, first_difference};
 use crate::expected::Task;
 use crate::verdict::{Difference, Race, Refusal, Verdict};
 use every_order::{Exploration, ExploreFault, Outcome, explore};
+use kernel_model::Full;
 use kernel_runs::{RunOneFault, run_one};
 use mem_files::laws::are_files;
 use plain_run::{Plain, PlainFault, plain};
-use script_load::{Line, LoadFault, Script, load_with};
+use run_room::full_in_run;
+use script_load::{Line, LoadFault, MAX_TURNS, Script, load_with};
 use script_notes::NoteKind;
 use sh_tree::ParseFault;
 use std::alloc::{AllocError, Global};
@@ -44,14 +50,54 @@ fn bad_line(script: &Script<Global>) -> Option<(usize, NoteKind)> {
     None
 }
 
-// The verdict on a script that is wrong.
-fn wrong(task: &Task<'_>, script: &Script<Global>, difference: Difference) -> Verdict
-    requires { IsWrong task.now (lines_of script.now.lines) }
-    ensures { IsVerdict task.now (lines_of script.now.lines) result }
+// The verdict on a script that leaves something else: in every order, or in each that was tried.
+fn wrong(
+    task: &Task<'_>,
+    script: &Script<Global>,
+    is_whole: bool,
+    difference: Difference,
+) -> Verdict
+    requires whole { is_whole ≡ true → IsWrong task.now (lines_of script.now.lines) }
+    requires part { is_whole ≡ false → IsWrongSoFar task.now (lines_of script.now.lines) }
+    ensures due { IsVerdict task.now (lines_of script.now.lines) result }
+    ensures no_race { IsOfRace result → ⊥ }
 {
     match bad_line(script) {
         Some((line, kind)) => Verdict::Refused(Refusal::Line(line, kind)),
-        None => Verdict::Wrong(difference),
+        None if is_whole => Verdict::Wrong(difference),
+        None => Verdict::WrongSoFar(difference),
+    }
+}
+
+// The most events of a run: as many as the test allows, or as many as any run may have.
+pub fn turns_of(task: &Task<'_>) -> u64
+    ensures are { AreMost task.now result }
+    ensures some { 0 < result }
+    ensures most { result ≤ MAX_TURNS }
+{
+    if task.turns == 0 || MAX_TURNS < task.turns {
+        return MAX_TURNS;
+    }
+    task.turns
+}
+
+// The verdict on a settled script whose meaning is what is expected: a pass where a run of it on one hart, in the kernel's order, has
+// room.
+fn judge_room(
+    alloc: Global,
+    task: &Task<'_>,
+    script: &Script<Global>,
+) -> Result<Verdict, AllocError>
+    requires profile { script.now.profile ≡ task.now.profile }
+    requires meant { IsMeant task.now (lines_of script.now.lines) }
+    ensures { IfOk result (IsVerdict task.now (lines_of script.now.lines)) }
+{
+    match full_in_run(alloc, script, task.stdin, task.files, turns_of(task)) {
+        Ok(None) => Ok(Verdict::Pass),
+        Ok(Some(Full::Memory)) => Err(AllocError),
+        Ok(Some(full)) => Ok(Verdict::NoRoom(full)),
+        Err(RunOneFault::Spent) => Ok(Verdict::Spent),
+        Err(RunOneFault::BadTurns | RunOneFault::Memory) => Err(AllocError),
     }
 }
 
@@ -79,10 +125,11 @@ fn judge_by_meaning(
         return Ok(None);
     }
     let difference = first_difference(alloc, task.expected, value.out.as_slice(), &value.files)?;
-    match difference {
-        Some(difference) => Ok(Some(wrong(task, script, difference))),
-        None => Ok(Some(Verdict::Pass)),
+    if let Some(difference) = difference {
+        return Ok(Some(wrong(task, script, true, difference)));
     }
+    let verdict = judge_room(alloc, task, script)?;
+    Ok(Some(verdict))
 }
 
 // The schedule of the outcome.
@@ -92,21 +139,24 @@ fn way_to(alloc: Global, outcome: &Outcome) -> Result<Vec<u8>, AllocError>
     Vec::from_slice(alloc, outcome.pids.as_slice())
 }
 
-// The verdict on what was found, where this outcome isn't what is expected.
+// The verdict on what was found, where this outcome isn't what is expected: a race exactly where another one is.
 fn judge_wrong(
     alloc: Global,
     task: &Task<'_>,
     script: &Script<Global>,
-    outcomes: &[Outcome],
+    found: &Exploration,
     other: &Outcome,
 ) -> Result<Verdict, AllocError>
-    requires sound { All (IsReplayed call_of next_of (start_of task.now (lines_of script.now.lines))) outcomes.now }
-    requires differs { HasWrongRun task.now (lines_of script.now.lines) other.now }
-    ensures { IfOk result (IsVerdict task.now (lines_of script.now.lines)) }
+    requires sound { All (IsReplayed call_of next_of (start_of task.now (lines_of script.now.lines))) found.now.outcomes.items }
+    requires complete { found.now.whole ≡ true → AreAllOutcomes call_of next_of (start_of task.now (lines_of script.now.lines)) (map outcome_by found.now.outcomes.items) }
+    requires among { Contains found.now.outcomes.items other.now }
+    requires differs { AgreesWith task.now.expected.now other.now → ⊥ }
+    ensures due { IfOk result (IsVerdict task.now (lines_of script.now.lines)) }
+    ensures race { IfOk result (λ verdict. IsOfRace verdict ↔ Any (AgreesWith task.now.expected.now) found.now.outcomes.items) }
 {
     let difference = difference_of(alloc, task.expected, other.out.as_slice(), &other.files)?;
-    match first_right(task.expected, outcomes) {
-        None => Ok(wrong(task, script, difference)),
+    match first_right(task.expected, found.outcomes.as_slice()) {
+        None => Ok(wrong(task, script, found.whole, difference)),
         Some(outcome) => {
             let right = way_to(alloc, outcome)?;
             let wrong = way_to(alloc, other)?;
@@ -116,6 +166,34 @@ fn judge_wrong(
                 difference,
             }))
         }
+    }
+}
+
+// What was full first in the first of these outcomes, where that is anything but memory.
+fn full_first(outcomes: &[Outcome]) -> Option<Full>
+    ensures { IfSome result (λ full. Any (λ outcome. outcome.full ≡ Some full) outcomes.now × (full ≢ Memory)) }
+{
+    match outcomes.first()?.full {
+        Some(Full::Memory) => None,
+        full => full,
+    }
+}
+
+// The verdict where these are all outcomes, and each is what is expected.
+fn judge_right(task: &Task<'_>, script: &Script<Global>, outcomes: &[Outcome]) -> Verdict
+    requires sound { All (IsReplayed call_of next_of (start_of task.now (lines_of script.now.lines))) outcomes.now }
+    requires complete { AreAllOutcomes call_of next_of (start_of task.now (lines_of script.now.lines)) (map outcome_by outcomes.now) }
+    requires right { All (AgreesWith task.now.expected.now) outcomes.now }
+    requires awake { IsNeverStuck call_of next_of (start_of task.now (lines_of script.now.lines)) }
+    requires unknown { IsKnown task.now (lines_of script.now.lines) → ⊥ }
+    ensures { IsVerdict task.now (lines_of script.now.lines) result }
+{
+    if first_roomy(outcomes).is_some() {
+        return Verdict::PassEveryOrder;
+    }
+    match full_first(outcomes) {
+        Some(full) => Verdict::NoRoom(full),
+        None => Verdict::Unsure(outcomes.len()),
     }
 }
 
@@ -142,15 +220,15 @@ fn judge_found(
 {
     let outcomes = found.outcomes.as_slice();
     if let Some(other) = first_wrong(task.expected, outcomes) {
-        return judge_wrong(alloc, task, script, outcomes, other);
+        return judge_wrong(alloc, task, script, found, other);
     }
     if !is_awake(found) {
         return Ok(Verdict::Spent);
     }
-    if found.whole && are_right(task.expected, outcomes) {
-        return Ok(Verdict::PassEveryOrder);
+    if !found.whole {
+        return Ok(Verdict::Unsure(outcomes.len()));
     }
-    Ok(Verdict::Unsure)
+    Ok(judge_right(task, script, outcomes))
 }
 
 // The verdict on a script whose meaning doesn't say what every run leaves, by every order of its processes.
@@ -166,7 +244,7 @@ fn judge_by_orders(
     match explore(alloc, script, task.stdin, task.files, task.states) {
         Ok(found) => judge_found(alloc, task, script, &found),
         Err(ExploreFault::Memory) => Err(AllocError),
-        Err(ExploreFault::TooLong) => Ok(Verdict::Unsure),
+        Err(ExploreFault::TooLong) => Ok(Verdict::Unsure(0)),
     }
 }
 
@@ -184,8 +262,10 @@ fn ends_in_time(alloc: Global, task: &Task<'_>, script: &Script<Global>) -> Resu
     }
 }
 
-// The verdict on a script.
-fn judge_script(
+/// What the test says of a script (own): `judge` of the bytes that it was read from.
+///
+/// `AllocError` where memory is refused.
+pub fn judge_script(
     alloc: Global,
     task: &Task<'_>,
     script: &Script<Global>,
@@ -203,25 +283,44 @@ fn judge_script(
     judge_by_orders(alloc, task, script)
 }
 
+/// The script of these bytes under the test's meaning of `>>`; or the verdict on them, where they are too many or no script (own).
+///
+/// `AllocError` where memory is refused.
+pub fn read_script(
+    alloc: Global,
+    task: &Task<'_>,
+    bytes: &[u8],
+) -> Result<Result<Script<Global>, Verdict>, AllocError>
+    ensures script { IfOk result (λ read. IfOk read (λ script. IsScript bytes.now (lines_of script.lines))) }
+    ensures profile { IfOk result (λ read. IfOk read (λ script. script.profile ≡ task.now.profile)) }
+    ensures refused { IfOk result (λ read. IfErr read (IsJudged task.now bytes.now)) }
+    ensures no_pass { IfOk result (λ read. IfErr read (λ verdict. IsPass verdict → ⊥)) }
+{
+    if task.bytes < bytes.len() {
+        return Ok(Err(Verdict::TooLarge));
+    }
+    match load_with(alloc, bytes, task.profile) {
+        Ok(script) => Ok(Ok(script)),
+        Err(LoadFault::Memory) => Err(AllocError),
+        Err(fault) => Ok(Err(Verdict::Refused(Refusal::Script(fault)))),
+    }
+}
+
 /// What the test says of these bytes as a script (own): its verdict is due (`IsJudged`). `Pass` is told only where the script
-/// is settled on this input and these files, and its meaning's output and files, and those of every finished run in which nothing
-/// was full, are what is expected; `PassEveryOrder` only where all outcomes are; `Wrong` and `Race` only where a finished run's
-/// isn't or, of a settled script, its meaning's, which is that of each run; `Unsure` never of a settled script, unless a file that is
-/// expected is soft; `Spent` only where a run isn't finished after as many events as the test allows, or comes to where all its
-/// processes sleep, and any other verdict on a script only where a run ends within them. Files that aren't expected may be there too.
+/// is settled on this input and these files, its meaning's output and files, and those of every finished run in which nothing
+/// was full, are what is expected, and there is such a run; `PassEveryOrder` only where all outcomes are, and there is such a run;
+/// `Wrong` only where no finished run in which nothing was full leaves what is expected, `WrongSoFar` only where those that were found
+/// don't, and `Race` only where one does and one doesn't; `NoRoom` only where something other than memory was full in a finished run;
+/// `Unsure` never of a settled script, unless a file that is expected is soft; `Spent` only where a run isn't finished after as many
+/// events as the test allows, or comes to where all its processes sleep, and any other verdict on a script only where a run ends
+/// within them. Files that aren't expected may be there too.
 ///
 /// `AllocError` where memory is refused.
 pub fn judge(alloc: Global, task: &Task<'_>, bytes: &[u8]) -> Result<Verdict, AllocError>
     ensures { IfOk result (IsJudged task.now bytes.now) }
 {
-    if task.bytes < bytes.len() {
-        return Ok(Verdict::TooLarge);
+    match read_script(alloc, task, bytes)? {
+        Ok(script) => judge_script(alloc, task, &script),
+        Err(verdict) => Ok(verdict),
     }
-    let script = match load_with(alloc, bytes, task.profile) {
-        Ok(script) => script,
-        Err(LoadFault::Memory) => return Err(AllocError),
-        Err(fault) => return Ok(Verdict::Refused(Refusal::Script(fault))),
-    };
-    let verdict = judge_script(alloc, task, &script)?;
-    Ok(verdict)
 }

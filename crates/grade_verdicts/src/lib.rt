@@ -9,5 +9,5 @@ mod verdict;
 
 pub use differing::first_difference;
 pub use expected::{Expected, ExpectedFile, Task};
-pub use judging::judge;
+pub use judging::{judge, judge_script, read_script, turns_of};
 pub use verdict::{Difference, Place, Race, Refusal, Verdict, passes};

@@ -1,8 +1,9 @@
 //! Verdicts.
 
-ghost use Rattle.std.specs.Prelude.{◌≡◌, ◌⊎◌, ◌↔◌, IsTrue};
-ghost use Rattle.grade_verdicts.specs.declared.verdict.Verdict.TheVariants.{Pass, PassEveryOrder};
+ghost use Rattle.std.specs.Prelude.{◌↔◌, IsTrue};
+ghost use Rattle.grade_verdicts.specs.Judged.{IsPass};
 
+use kernel_model::Full;
 use script_load::LoadFault;
 use script_notes::NoteKind;
 
@@ -57,27 +58,32 @@ pub enum Refusal {
 /// What a test says of a script (own).
 #[derive(Debug, Drop)]
 pub enum Verdict {
-    /// The script is settled, and its meaning is what is expected.
+    /// The script is settled, its meaning is what is expected, and a run of it has room.
     Pass,
-    /// Every order of its processes was tried, and what each leaves is what is expected.
+    /// Every order of its processes was tried, what each leaves is what is expected, and one has room.
     PassEveryOrder,
-    /// It leaves something else: in every order if it is settled, and in each that was tried if it isn't.
+    /// It leaves something else, in every order.
     Wrong(Difference),
+    /// It leaves something else in each order that was tried, and not every order was tried.
+    WrongSoFar(Difference),
     /// In some order it leaves what is expected, and in some other it doesn't.
     Race(Race),
-    /// It isn't settled, or a file that is expected is soft; what was tried leaves what is expected, and not every order was tried.
-    Unsure,
+    /// It isn't settled, or a file that is expected is soft, and not every order was tried; so many different ends of runs were found,
+    /// each of which leaves what is expected.
+    Unsure(usize),
     /// It is no script, or leaves something else and has a line that is no command.
     Refused(Refusal),
     /// It is too long, or one of its files would be too large, or one too many.
     TooLarge,
+    /// It would leave what is expected, but has no room: this was full in a run on one hart, in the kernel's order.
+    NoRoom(Full),
     /// A run took as many events as the test allows, and wasn't finished; or in some order all its processes sleep, and it never is.
     Spent,
 }
 
 /// Whether the verdict gives the test's points (own).
 pub fn passes(verdict: &Verdict) -> bool
-    ensures { IsTrue result ↔ ((verdict.now ≡ Pass) ⊎ (verdict.now ≡ PassEveryOrder)) }
+    ensures { IsTrue result ↔ IsPass verdict.now }
 {
     matches!(verdict, Verdict::Pass | Verdict::PassEveryOrder)
 }

@@ -1,7 +1,6 @@
 -- What runs of a script in every way leave.
-use Rattle.std.specs.Prelude.{◌≡◌, ◌<◌, ◌≤◌, ◌⊎◌, ℕ, true, List, All, length}
+use Rattle.std.specs.Prelude.{◌≡◌, ◌≤◌, ℕ, true, List, None, All, length}
 use Rattle.mem_files.specs.Name.{Bytes}
-use Rattle.script_load.specs.declared.limits.TheConstants.{MAX_TURNS}
 use Rattle.script_load.specs.Line.{ScriptLine}
 use Rattle.script_load.specs.Script.{IsScript}
 use Rattle.kernel_model.specs.declared.events.Event.{Event}
@@ -12,18 +11,12 @@ use Rattle.kernel_events.specs.Harts.{is_of_hart}
 use Rattle.kernel_events.specs.Reports.{IsRunFrom}
 use Rattle.kernel_threads.specs.Events.{AreOfHarts}
 use Rattle.grade_verdicts.specs.Agrees.{AgreesIn}
-use Rattle.grade_verdicts.specs.Judged.{Ends, IsInTime, IsJudged, IsVerdict, start_of}
+use Rattle.grade_verdicts.specs.Judged.{AreMost, Ends, IsInTime, IsPass, IsVerdict, start_of}
 use Rattle.grade_verdicts.specs.declared.expected.Task.{Task}
 use Rattle.grade_verdicts.specs.declared.verdict.Verdict.{Verdict}
-use Rattle.grade_verdicts.specs.declared.verdict.Verdict.TheVariants.{Pass, PassEveryOrder}
 use Rattle.grade_ways.specs.declared.ways.Way.{Way}
 use Rattle.grade_ways.specs.declared.ways.Way.TheVariants.{InOrder, OnHarts}
 use Rattle.grade_ways.specs.declared.ways.TheConstants.{WAYS}
-
--- a run has at most so many events: as many as the test allows, or where it sets no limit as many as any run may have
-pub data AreMost (t : Task) (turns : ℕ) : Type 0 where
-  limited : turns ≡ t.turns → AreMost t turns
-  unlimited : (t.turns ≡ 0) ⊎ (MAX_TURNS < t.turns) → turns ≡ MAX_TURNS → AreMost t turns
 
 -- the report is that of a finished run of the script, of no more events
 pub record IsRunOf {A : _} (t : Task) (lines : List ScriptLine) (report : Report A) : Type 0 where
@@ -43,9 +36,10 @@ abbrev pub IsOnHarts : Way → List Event → Type 0
 IsOnHarts (InOrder order) events = All (λ event. is_of_hart 0 event ≡ true) events
 IsOnHarts (OnHarts harts) events = AreOfHarts harts events
 
--- a finished run by this schedule leaves what is expected
+-- in a finished run by this schedule nothing was full, and it leaves what is expected
 pub record LeavesRight (t : Task) (lines : List ScriptLine) (schedule : List Event) : Type 0 where
   pub ends : Ends t lines schedule
+  pub roomy : ends.last.full ≡ None
   pub agrees : AgreesIn t.expected.now (outcome_of ends.last)
 
 -- so does one in this way
@@ -54,18 +48,10 @@ pub record RunsRight (t : Task) (lines : List ScriptLine) (way : Way) : Type 0 w
   pub harts : IsOnHarts way schedule
   pub right : LeavesRight t lines schedule
 
-abbrev pub IsPass : Verdict → Type 0
-IsPass verdict = (verdict ≡ Pass) ⊎ (verdict ≡ PassEveryOrder)
-
 -- the verdict is due, and it is no pass
 pub record IsNoPass (t : Task) (lines : List ScriptLine) (verdict : Verdict) : Type 0 where
   pub due : IsVerdict t lines verdict
   pub time : IsInTime t lines verdict
-  pub fails : IsPass verdict → ⊥
-
--- the same of some bytes
-pub record IsOther (t : Task) (bytes : Bytes) (verdict : Verdict) : Type 0 where
-  pub due : IsJudged t bytes verdict
   pub fails : IsPass verdict → ⊥
 
 -- the bytes are a script, and runs of it in each way leave what is expected

@@ -2,30 +2,39 @@
 
 ghost use Rattle.std.specs.Prelude.{◌≡◌, IfOk, IfSome, None, Ok, All};
 ghost use Rattle.script_load.specs.Line.{lines_of};
-ghost use Rattle.grade_verdicts.specs.Judged.{IsJudged};
-ghost use Rattle.grade_ways.specs.Ways.{IsNoPass, IsOther, IsRunOf, LeavesRight, RunsInEveryWay, RunsRight, RunsRightInEveryWay};
+ghost use Rattle.grade_verdicts.specs.Agrees.{AgreesIn};
+ghost use Rattle.grade_verdicts.specs.Judged.{InEveryRun, IsInTime, IsJudged, IsPass, IsVerdict};
+ghost use Rattle.grade_ways.specs.Ways.{IsNoPass, IsRunOf, LeavesRight, RunsRight, RunsRightInEveryWay};
+ghost use Rattle.grade_ways.specs.declared.ways.TheConstants.{WAYS};
 
 use crate::runs::{WayFault, run_again, run_way};
 use crate::ways::{WAYS, Way};
-use grade_verdicts::{Refusal, Task, Verdict, first_difference, judge, passes};
+use grade_verdicts::{Task, Verdict, first_difference, judge_script, passes, read_script};
 use kernel_events::Report;
-use script_load::{LoadFault, Script, load_with};
+use kernel_model::Full;
+use script_load::Script;
 use std::alloc::{AllocError, Global};
 use std::sync::Wait;
 use std::thread::Threads;
 use std::time::Clock;
 
-// The verdict on a script one run of which left this; `None` where it is what is expected.
+// The verdict on a script one run of which left this; `None` where nothing was full in it and it left what is expected.
 fn judge_run(
     alloc: Global,
     task: &Task<'_>,
     script: &Script<Global>,
     report: &Report<Global>,
 ) -> Result<Option<Verdict>, AllocError>
-    requires { IsRunOf task.now (lines_of script.now.lines) report.now }
+    requires run { IsRunOf task.now (lines_of script.now.lines) report.now }
+    requires agree { InEveryRun task.now (lines_of script.now.lines) (AgreesIn task.now.expected.now) }
     ensures verdict { IfOk result (λ found. IfSome found (IsNoPass task.now (lines_of script.now.lines))) }
     ensures right { result ≡ Ok None → LeavesRight task.now (lines_of script.now.lines) report.now.schedule }
 {
+    match report.full {
+        Some(Full::Memory) => return Err(AllocError),
+        Some(full) => return Ok(Some(Verdict::NoRoom(full))),
+        None => {}
+    }
     let difference = first_difference(alloc, task.expected, report.out.as_slice(), &report.files)?;
     match difference {
         Some(difference) => Ok(Some(Verdict::Wrong(difference))),
@@ -41,7 +50,8 @@ fn judge_way<R: Threads + Wait + Clock + Sync>(
     script: &Script<Global>,
     way: Way,
 ) -> Result<Option<Verdict>, AllocError>
-    requires { script.now.profile ≡ task.now.profile }
+    requires profile { script.now.profile ≡ task.now.profile }
+    requires agree { InEveryRun task.now (lines_of script.now.lines) (AgreesIn task.now.expected.now) }
     ensures verdict { IfOk result (λ found. IfSome found (IsNoPass task.now (lines_of script.now.lines))) }
     ensures right { result ≡ Ok None → RunsRight task.now (lines_of script.now.lines) way }
 {
@@ -65,7 +75,8 @@ fn judge_ways<R: Threads + Wait + Clock + Sync>(
     script: &Script<Global>,
     ways: &[Way],
 ) -> Result<Option<Verdict>, AllocError>
-    requires { script.now.profile ≡ task.now.profile }
+    requires profile { script.now.profile ≡ task.now.profile }
+    requires agree { InEveryRun task.now (lines_of script.now.lines) (AgreesIn task.now.expected.now) }
     ensures verdict { IfOk result (λ found. IfSome found (IsNoPass task.now (lines_of script.now.lines))) }
     ensures right { result ≡ Ok None → All (RunsRight task.now (lines_of script.now.lines)) ways.now }
 {
@@ -77,32 +88,36 @@ fn judge_ways<R: Threads + Wait + Clock + Sync>(
     Ok(None)
 }
 
-// The verdict on these bytes as a script that is run in each of `WAYS`; `None` where each run leaves what is expected.
-fn judge_runs<R: Threads + Wait + Clock + Sync>(
+// What the test says of the script, as `judge_script`; where that is a pass, the script is run in each of `WAYS`, too.
+fn judge_all_ways<R: Threads + Wait + Clock + Sync>(
     rt: &R,
     alloc: Global,
     task: &Task<'_>,
-    bytes: &[u8],
-) -> Result<Option<Verdict>, AllocError>
-    ensures verdict { IfOk result (λ found. IfSome found (IsOther task.now bytes.now)) }
-    ensures right { result ≡ Ok None → RunsInEveryWay task.now bytes.now }
+    script: &Script<Global>,
+) -> Result<Verdict, AllocError>
+    requires { script.now.profile ≡ task.now.profile }
+    ensures verdict { IfOk result (IsVerdict task.now (lines_of script.now.lines)) }
+    ensures time { IfOk result (IsInTime task.now (lines_of script.now.lines)) }
+    ensures ways { IfOk result (λ verdict. IsPass verdict → All (RunsRight task.now (lines_of script.now.lines)) WAYS) }
 {
-    let script = match load_with(alloc, bytes, task.profile) {
-        Ok(script) => script,
-        Err(LoadFault::Memory) => return Err(AllocError),
-        Err(fault) => return Ok(Some(Verdict::Refused(Refusal::Script(fault)))),
-    };
-    let found = judge_ways(rt, alloc, task, &script, WAYS.as_slice())?;
-    Ok(found)
+    let verdict = judge_script(alloc, task, script)?;
+    if !passes(&verdict) {
+        return Ok(verdict);
+    }
+    let found = judge_ways(rt, alloc, task, script, WAYS.as_slice())?;
+    match found {
+        Some(other) => Ok(other),
+        None => Ok(verdict),
+    }
 }
 
 /// What the test says of these bytes as a script, as `judge`; where that is a pass, the script is run in each of `WAYS`, and again by
 /// the schedule of each of these runs (own).
 ///
-/// The verdict is due, as of `judge` (`due`), and it is a pass only where each of these runs left what is expected (`ways`). That
-/// each run of a script that passes does is proved of `judge`, unless something was full in the run.
+/// The verdict is due, as of `judge` (`due`), and it is a pass only where a finished run on the harts of each way left what is expected,
+/// and nothing was full in it (`ways`). Where something was full in one of these runs, the verdict is `NoRoom`.
 ///
-/// `AllocError` where memory is refused.
+/// `AllocError` where memory is refused, to a process of one of these runs too.
 pub fn judge_every_way<R: Threads + Wait + Clock + Sync>(
     rt: &R,
     alloc: Global,
@@ -112,13 +127,8 @@ pub fn judge_every_way<R: Threads + Wait + Clock + Sync>(
     ensures due { IfOk result (IsJudged task.now bytes.now) }
     ensures ways { IfOk result (RunsRightInEveryWay task.now bytes.now) }
 {
-    let verdict = judge(alloc, task, bytes)?;
-    if !passes(&verdict) {
-        return Ok(verdict);
-    }
-    let found = judge_runs(rt, alloc, task, bytes)?;
-    match found {
-        Some(other) => Ok(other),
-        None => Ok(verdict),
+    match read_script(alloc, task, bytes)? {
+        Ok(script) => judge_all_ways(rt, alloc, task, &script),
+        Err(verdict) => Ok(verdict),
     }
 }

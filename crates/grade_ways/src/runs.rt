@@ -1,20 +1,18 @@
 //! Runs of a script in some way.
 
-ghost use Rattle.std.specs.Prelude.{◌≡◌, ◌≤◌, ◌<◌, ◌⊎◌, Err, IfOk, length};
+ghost use Rattle.std.specs.Prelude.{◌≡◌, Err, IfOk};
 ghost use Rattle.script_load.specs.Line.{lines_of};
-ghost use Rattle.script_load.specs.declared.limits.TheConstants.{MAX_TURNS};
-ghost use Rattle.run_model.specs.ScriptRun.{IsSpentFrom};
 ghost use Rattle.kernel_events.specs.Reports.{IsRunFrom};
 ghost use Rattle.grade_verdicts.specs.Judged.{start_of};
-ghost use Rattle.grade_ways.specs.Ways.{AreMost, IsOnHarts, IsRunOf, IsSpentIn};
+ghost use Rattle.grade_ways.specs.Ways.{IsOnHarts, IsRunOf, IsSpentIn};
 ghost use Rattle.grade_ways.specs.declared.runs.WayFault.TheVariants.{Spent};
 
 use crate::ways::Way;
-use grade_verdicts::Task;
+use grade_verdicts::{Task, turns_of};
 use hart_run::{OpenGate, RunFault, run_harts};
 use kernel_events::Report;
 use kernel_runs::{Order, RunOneFault, replay, run_in_order};
-use script_load::{MAX_TURNS, Script};
+use script_load::Script;
 use std::alloc::{AllocError, Global};
 use std::sync::Wait;
 use std::thread::Threads;
@@ -27,21 +25,6 @@ pub enum WayFault {
     Spent,
     // Memory was refused.
     Memory,
-}
-
-// The most events of a run: as many as the test allows, or as many as any run may have.
-fn turns_of(task: &Task<'_>) -> u64
-    ensures are { AreMost task.now result }
-    ensures some { 0 < result }
-    ensures most { result ≤ MAX_TURNS }
-{
-    if task.turns == 0 {
-        return MAX_TURNS;
-    }
-    if MAX_TURNS < task.turns {
-        return MAX_TURNS;
-    }
-    task.turns
 }
 
 // Runs the script on one hart in this order.

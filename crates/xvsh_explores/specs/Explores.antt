@@ -9,6 +9,7 @@ use Rattle.meaning_model.specs.Meaning.{script_meaning}
 use Rattle.meaning_model.specs.Settled.{IsSettledScript}
 use Rattle.sh_machine.specs.Turn.{call_of, next_of}
 use Rattle.run_model.specs.ScriptRun.{script_kernel}
+use Rattle.run_room.specs.Room.{HasRoom}
 use Rattle.order_model.specs.Explored.{AreAllOutcomes}
 use Rattle.order_search.specs.Told.{outcome_by, IsReplayed}
 use Rattle.order_search.specs.declared.outcomes.Outcome.{Outcome}
@@ -26,11 +27,12 @@ abbrev pub AreSingle : List Outcome → Type 0
 AreSingle [] = ⊥
 AreSingle (first ∷ rest) = All (LeftTheSame first) rest
 
--- what is told, by whether all orders are to be tried of a settled script too: that the script is settled and no file of it is
--- soft; or outcomes, each of which is that of a finished run by its own schedule, and which are those of all runs where every
+-- what is told, by whether all orders are to be tried of a settled script too: that the script is settled, no file of it is soft,
+-- and a run of it ended in which nothing was full; or outcomes, each of which is that of a finished run by its own schedule, and which are those of all runs where every
 -- order was tried
 pub data Told (profile : Profile) (lines : List ScriptLine) (stdin : Bytes) (given : List (Name × Bytes)) : Bool → Bool → Bool → Type 0 where
-  known : IsSettledScript profile lines stdin (files given) → ((name : Name) → (script_meaning profile lines stdin (files given)).soft name ≡ false) → Told profile lines stdin given false true true
+  known : IsSettledScript profile lines stdin (files given) → ((name : Name) → (script_meaning profile lines stdin (files given)).soft name ≡ false)
+      → HasRoom (script_kernel profile lines stdin given) → Told profile lines stdin given false true true
   tried : {all is_whole is_single : Bool} (outcomes : List Outcome) → All (IsReplayed call_of next_of (script_kernel profile lines stdin given)) outcomes
       → (is_whole ≡ true → AreAllOutcomes call_of next_of (script_kernel profile lines stdin given) (map outcome_by outcomes)) → (IsTrue is_single ↔ AreSingle outcomes) → Told profile lines stdin given all is_whole is_single
 

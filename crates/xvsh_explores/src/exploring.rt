@@ -1,6 +1,8 @@
 //! What `explore` does: it reads a script, its files and its input, tries every order, and returns what is told.
-ghost use Rattle.std.specs.Prelude.{◌≡◌, ◌↔◌, ◌⊎◌, Bool, IfOk, IfErr, IfSome, IsTrue};
+ghost use Rattle.std.specs.Prelude.{◌≡◌, ◌↔◌, ◌⊎◌, Bool, true, Ok, IfOk, IfErr, IfSome, IsTrue};
 ghost use Rattle.script_load.specs.Line.{lines_of};
+ghost use Rattle.run_model.specs.ScriptRun.{script_kernel};
+ghost use Rattle.run_room.specs.Room.{HasRoom};
 ghost use Rattle.xvsh_explores.specs.Explores.{AreSingle, IsExploreFault, LeftTheSame, RanExplore, Told};
 ghost use Rattle.xvsh_read.specs.declared.fault.Fault.TheVariants.{Memory, TooLarge};
 
@@ -10,8 +12,12 @@ use crate::objects::{object_of, object_of_settled};
 use crate::request::ExploreRequest;
 use crate::telling::{told, told_settled};
 use every_order::{Exploration, ExploreFault, Outcome, Setting, Watch, explore_watched};
+use kernel_model::Full;
+use kernel_runs::RunOneFault;
 use order_partings::Scene;
 use plain_run::{Plain, PlainFault, plain};
+use run_room::full_in_run;
+use script_load::MAX_TURNS;
 use std::alloc::{AllocError, Global};
 use xvsh_read::{Fault, Host, Start, prepare};
 
@@ -139,8 +145,23 @@ fn wants_ways(request: &ExploreRequest<'_>) -> bool {
     request.witness.is_some() || request.draw.is_some()
 }
 
-// What is known without an order: of a settled script in which no file is soft, unless the request is thorough or asks for
-// schedules or a page.
+// Whether a run of the script ends in which nothing is full.
+fn has_room<'a>(alloc: Global, start: &Start) -> Result<bool, Fault<'a>>
+    ensures room { result ≡ Ok true → HasRoom (script_kernel start.now.script.profile (lines_of start.now.script.lines) start.now.stdin.items start.now.files) }
+    ensures fault { IfErr result (λ fault. fault ≡ Memory) }
+{
+    let stdin = start.stdin.as_slice();
+    match full_in_run(alloc, &start.script, stdin, &start.files, MAX_TURNS) {
+        Ok(None) => Ok(true),
+        Ok(Some(Full::Memory)) => Err(Fault::Memory),
+        Ok(Some(_)) => Ok(false),
+        Err(RunOneFault::Memory) => Err(Fault::Memory),
+        Err(RunOneFault::BadTurns | RunOneFault::Spent) => Ok(false),
+    }
+}
+
+// What is known without an order: of a settled script in which no file is soft and which has room, unless the request is thorough
+// or asks for schedules or a page.
 fn explore_settled<'a>(
     alloc: Global,
     start: &Start,
@@ -162,6 +183,9 @@ fn explore_settled<'a>(
         Err(PlainFault::Memory) => return Err(Fault::Memory),
     };
     if !value.settled || !value.soft.as_slice().is_empty() {
+        return Ok(None);
+    }
+    if !has_room(alloc, start)? {
         return Ok(None);
     }
     let text = text_of_settled(alloc, request, &value)?;
@@ -193,8 +217,8 @@ pub fn explore_start<'a, W: Watch>(
 }
 
 /// `explore`: reads the script, the files in order, and standard input unless that is the script, tries every order of its
-/// processes' turns, and returns what is told of the outcomes (own). A settled script has one, which is told without, unless
-/// the request is thorough or asks for schedules or a page, or some file is soft. The host is told how many states were found. Nothing is
+/// processes' turns, and returns what is told of the outcomes (own). A settled script that has room has one, which is told without,
+/// unless the request is thorough or asks for schedules or a page, or some file is soft. The host is told how many states were found. Nothing is
 /// written.
 ///
 /// A run with more turns than can be counted is the fault `TooLarge`.

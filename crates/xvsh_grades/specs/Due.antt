@@ -1,5 +1,5 @@
 -- When a verdict is due of a test on the bytes of a script.
-use Rattle.std.specs.Prelude.{◌≡◌, true}
+use Rattle.std.specs.Prelude.{◌≡◌, true, Option, IfSome}
 use Rattle.grade_verdicts.specs.Judged.{IsJudged}
 use Rattle.grade_verdicts.specs.declared.expected.Task.{Task}
 use Rattle.grade_verdicts.specs.declared.verdict.Verdict.{Verdict}
@@ -30,3 +30,7 @@ pub record IsVerdictOf (piece : Piece) (verdict : Verdict) : Type 0 where
   pub task : IsTaskOf piece.test.now t
   pub due : IsJudged t piece.bytes.now verdict
   pub ways : piece.test.now.every_way ≡ true → RunsRightInEveryWay t piece.bytes.now verdict
+
+-- the same of what was found of the piece, which is nothing where memory was refused to it
+abbrev pub IsFoundOf : Piece → Option Verdict → Type 0
+IsFoundOf piece found = IfSome found (IsVerdictOf piece)

@@ -132,7 +132,7 @@ impl<'t, 'a> Book<'t, 'a> {
             self.marks.push(Mark {
                 script: Some(path),
                 test: *test,
-                verdict: Verdict::TooLarge,
+                verdict: Some(Verdict::TooLarge),
             })?;
         }
         Ok(())

@@ -2,7 +2,7 @@
 
 ghost use Rattle.std.specs.Prelude.{IfOk};
 ghost use Rattle.std.specs.List.{AllZip};
-ghost use Rattle.xvsh_grades.specs.Due.{IsJobOf, IsVerdictOf};
+ghost use Rattle.xvsh_grades.specs.Due.{IsFoundOf, IsJobOf};
 
 use crate::loading::Loaded;
 use grade_jobs::{Job, judge_all};
@@ -18,7 +18,8 @@ pub struct Mark<'t, 'a> {
     /// The script's path; `None` where the test has its own.
     pub script: Option<&'a str>,
     pub test: &'t Loaded,
-    pub verdict: Verdict,
+    /// `None` where memory was refused to it.
+    pub verdict: Option<Verdict>,
 }
 
 /// A test and the bytes of a script that are judged by it.
@@ -52,14 +53,14 @@ fn jobs_of<'j>(alloc: Global, pieces: &'j [Piece<'_, '_, '_>]) -> Result<Vec<Job
     Ok(jobs)
 }
 
-// The verdicts of the pieces, in their order: each has one, and it is due.
+// The verdicts of the pieces, in their order: each has one, and it is due, or `None` where memory was refused to it.
 fn judge_pieces<R: Threads + Wait + Clock + Sync>(
     rt: &R,
     alloc: Global,
     pieces: &[Piece<'_, '_, '_>],
     threads: usize,
-) -> Result<Vec<Verdict>, AllocError>
-    ensures { IfOk result (λ verdicts. AllZip IsVerdictOf pieces.now verdicts.items) }
+) -> Result<Vec<Option<Verdict>>, AllocError>
+    ensures { IfOk result (λ verdicts. AllZip IsFoundOf pieces.now verdicts.items) }
 {
     let jobs = jobs_of(alloc, pieces)?;
     let verdicts = judge_all(rt, alloc, jobs.as_slice(), threads)?;
@@ -69,7 +70,7 @@ fn judge_pieces<R: Threads + Wait + Clock + Sync>(
 // Adds the verdicts of the pieces, in their order.
 fn add_marks<'t, 'a>(
     pieces: &[Piece<'t, 'a, '_>],
-    verdicts: Vec<Verdict>,
+    verdicts: Vec<Option<Verdict>>,
     marks: &mut Vec<Mark<'t, 'a>>,
 ) -> Result<(), AllocError> {
     for (piece, verdict) in pieces.iter().zip(verdicts) {

@@ -1,7 +1,7 @@
 //! The report of what was found.
 
 ghost use Rattle.std.specs.Prelude.{◌↔◌, All, IfOk, IsTrue};
-ghost use Rattle.xvsh_grades.specs.Passed.{IsPassed};
+ghost use Rattle.xvsh_grades.specs.Passed.{HasVerdict, IsPassed};
 
 use crate::marks::Mark;
 use crate::request::{Form, Report};
@@ -17,7 +17,7 @@ fn rows_of<'r>(alloc: Global, marks: &'r [Mark<'_, '_>]) -> Result<Vec<Row<'r>>,
             script: mark.script,
             test: mark.test.name.as_str(),
             points: mark.test.points,
-            verdict: &mark.verdict,
+            verdict: mark.verdict.as_ref(),
         })?;
     }
     Ok(rows)
@@ -27,17 +27,28 @@ fn rows_of<'r>(alloc: Global, marks: &'r [Mark<'_, '_>]) -> Result<Vec<Row<'r>>,
 fn is_passed(mark: &Mark<'_, '_>) -> bool
     ensures { IsTrue result ↔ IsPassed mark.now }
 {
-    passes(&mark.verdict)
+    match &mark.verdict {
+        Some(verdict) => passes(verdict),
+        None => false,
+    }
 }
 
-/// The report of these verdicts, and whether each is a pass.
+// Whether the mark is a verdict at all.
+fn is_judged(mark: &Mark<'_, '_>) -> bool
+    ensures { IsTrue result ↔ HasVerdict mark.now }
+{
+    mark.verdict.is_some()
+}
+
+/// The report of these verdicts, whether each is a pass, and whether there is one of each.
 pub(crate) fn report_of(
     alloc: Global,
     marks: &[Mark<'_, '_>],
     form: Form,
     is_coloured: bool,
 ) -> Result<Report, AllocError>
-    ensures { IfOk result (λ report. IsTrue report.has_passed ↔ All IsPassed marks.now) }
+    ensures passed { IfOk result (λ report. IsTrue report.has_passed ↔ All IsPassed marks.now) }
+    ensures judged { IfOk result (λ report. IsTrue report.is_judged ↔ All HasVerdict marks.now) }
 {
     let rows = rows_of(alloc, marks)?;
     let rows = rows.as_slice();
@@ -48,5 +59,10 @@ pub(crate) fn report_of(
         Form::Gradescope => gradescope_text(alloc, rows)?,
     };
     let has_passed = marks.iter().all(|mark| is_passed(mark));
-    Ok(Report { text, has_passed })
+    let is_judged = marks.iter().all(|mark| is_judged(mark));
+    Ok(Report {
+        text,
+        has_passed,
+        is_judged,
+    })
 }

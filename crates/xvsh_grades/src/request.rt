@@ -29,11 +29,12 @@ pub struct GradeRequest<'a> {
     pub is_coloured: bool,
 }
 
-/// What is printed, and whether every test was passed.
+/// What is printed, whether every test was passed, and whether each was judged, which one isn't where memory is refused to it.
 #[derive(Debug, Drop)]
 pub struct Report {
     pub text: Vec<u8>,
     pub has_passed: bool,
+    pub is_judged: bool,
 }
 
 /// Who is told how far the grading is.

@@ -11,7 +11,7 @@ use std::sync::Wait;
 use std::thread;
 use std::thread::Threads;
 use std::time::Clock;
-use xvsh_grades::{Form, GradeRequest, grade};
+use xvsh_grades::{Form, GradeRequest, Report, grade};
 use xvsh_read::{STDIN, write};
 
 // The form of the report that the words name.
@@ -76,10 +76,11 @@ fn request_of<'m>(
     }
 }
 
-// Writes the report, and returns the status: 3 where a test wasn't passed, and 1 where it can't be written.
-fn write_report<W: Write>(out: &mut W, text: &[u8], has_passed: bool) -> u8 {
-    match write(out, text) {
-        Ok(()) if has_passed => 0,
+// Writes the report, and returns the status: 4 where a test wasn't judged, 3 where one wasn't passed, and 1 where it can't be written.
+fn write_report<W: Write>(out: &mut W, report: &Report) -> u8 {
+    match write(out, report.text.as_slice()) {
+        Ok(()) if !report.is_judged => 4,
+        Ok(()) if report.has_passed => 0,
         Ok(()) => 3,
         Err(_) => 1,
     }
@@ -98,11 +99,7 @@ where
     let graded = grade(rt, rt.alloc(), &request, &mut host);
     host.end_progress();
     match graded {
-        Ok(report) => write_report(
-            &mut io::writer(rt),
-            report.text.as_slice(),
-            report.has_passed,
-        ),
+        Ok(report) => write_report(&mut io::writer(rt), &report),
         Err(fault) => {
             let _ = writeln!(err, "xvsh: {fault}");
             fault.status()

@@ -2,7 +2,7 @@ use Rattle.std.proofs.Common.{◌≡◌, false, rules}
 use Rattle.mem_files.specs.Files.{files}
 use Rattle.script_load.specs.Line.{lines_of}
 use Rattle.order_search.proofs.Looking.{never}
-use Rattle.grade_verdicts.proofs.Known.{firm_of, found, not_both, passed, wrong}
+use Rattle.grade_verdicts.proofs.Known.{firm_of, found, meant, not_both, wrong}
 use Rattle.grade_verdicts.proofs.judging.judge_by_meaning.Goals as goal
 
 pub wrong-requires : goal.wrong-requires

@@ -1,4 +1,4 @@
-use Rattle.std.proofs.Common.{◌≡◌, sym, ◌∙◌, subst}
+use Rattle.std.proofs.Common.{◌≡◌, Ok, ap, sym, ◌∙◌, subst}
 use Rattle.std.proofs.lemmas.Bool.{eqb-true}
 use Rattle.std.proofs.lemmas.List.{nil_from_length}
 use Rattle.mem_files.specs.Name.{Name}
@@ -22,5 +22,6 @@ returns-clause-told c =
     let found =
     known
     (subst (λ s. IsSettledScript profile lines s (files start.files)) c.as_slice-stdin.ensures.value (plain.settled.0 c.if-not-value.false))
-    (subst (λ s. (name : Name) → (script_meaning profile lines s (files start.files)).soft name ≡ false) c.as_slice-stdin.ensures.value soft) in
+    (subst (λ s. (name : Name) → (script_meaning profile lines s (files start.files)).soft name ≡ false) c.as_slice-stdin.ensures.value soft)
+    (c.in_ok-has_room.ensures.room (ap Ok c.if-not-branch.false)) in
     subst (λ all. Told profile lines start.stdin.items start.files all true true) (sym c.if-request.false) found
