@@ -1,6 +1,6 @@
 -- What verdicts follow from what the meaning and an exploration say.
-use Rattle.std.proofs.Common.{◌≡◌, ℕ, Bool, true, false, List, [], ◌∷◌, length, map, Option, Some, None, All, refl, sym, ap, subst, ◌∙◌, arith}
-use Rattle.std.specs.Prelude.{◌↔◌, ◌≢◌, Any, Contains, IfSome, slice_index_or}
+use Rattle.std.proofs.Common.{◌≡◌, ℕ, Bool, true, false, List, [], ◌∷◌, length, map, Option, Some, None, Result, Ok, Err, All, inl, inr, refl, sym, ap, subst, ◌∙◌, arith}
+use Rattle.std.specs.Prelude.{◌↔◌, ◌≢◌, Any, Contains, IfOk, IfSome, slice_index_or}
 use Rattle.std.proofs.lemmas.Bool.{false≢true}
 use Rattle.std.proofs.lemmas.List.{length-map}
 use Rattle.std.proofs.lemmas.List.Elements.{All-contains, All-map}
@@ -9,6 +9,7 @@ use Rattle.mem_files.specs.Files.{FileMap, files}
 use Rattle.mem_files.specs.Listing.{AreFiles}
 use Rattle.prog_parts.specs.NameSets.{Names, among}
 use Rattle.script_load.specs.Limits.{are_small}
+use Rattle.script_load.specs.Script.{IsScript}
 use Rattle.script_load.specs.Line.{ScriptLine}
 use Rattle.script_load.specs.declared.profile.Profile.{Profile}
 use Rattle.meaning_model.specs.Meaning.{script_meaning}
@@ -27,10 +28,13 @@ use Rattle.run_room.specs.Room.{HasRoom}
 use Rattle.law_standing.proofs.RunsEnd.{finished_means}
 use Rattle.law_trees.proofs.Short.{small_short}
 use Rattle.grade_verdicts.specs.Agrees.{Agrees, AgreesIn, AgreesWith, HasFile}
-use Rattle.grade_verdicts.specs.Judged.{Ends, HasNoRoom, InEveryRun, IsKnown, IsMeant, IsPassedInEveryOrder, IsSettledOn, IsSpent, IsWrong, IsWrongSoFar, asleep, by_meaning, in_every_order, meaning_of, start_of}
+use Rattle.grade_verdicts.specs.Judged.{Ends, HasNoRoom, InEveryRun, IsKnown, IsMeant, IsPassedInEveryOrder, IsSettledOn, IsInTime, IsJudged, IsNotRight, IsPass, IsSpent, IsVerdict, IsWrong, IsWrongSoFar, asleep, by_meaning, in_every_order, judged, meaning_of, start_of}
 use Rattle.grade_verdicts.specs.declared.expected.Expected.{Expected}
 use Rattle.grade_verdicts.specs.declared.expected.ExpectedFile.{ExpectedFile}
 use Rattle.grade_verdicts.specs.declared.expected.Task.{Task}
+use Rattle.grade_verdicts.specs.declared.verdict.Refusal.{Refusal}
+use Rattle.grade_verdicts.specs.declared.verdict.Verdict.{Verdict}
+use Rattle.grade_verdicts.specs.declared.verdict.Verdict.TheVariants.{Refused}
 
 moved : (F G : FileMap) (file : ExpectedFile) → F file.name.items ≡ G file.name.items → HasFile F file → HasFile G file
 moved F G file same is = sym same ∙ is
@@ -137,7 +141,7 @@ wrong t lines soft out F f not =
     not (carried e last.out out (files last.files) F (sym same.0) (λ k d less. sym (same.1 k d less)) a))
 
 -- the run of an outcome's own schedule
-pub ends_of : (t : Task) (lines : List ScriptLine) (o : Outcome) → IsReplayed call_of next_of (start_of t lines) o → Ends t lines (turn_events (quiet_turns o.pids.items))
+abbrev ends_of : (t : Task) (lines : List ScriptLine) (o : Outcome) → IsReplayed call_of next_of (start_of t lines) o → Ends t lines (turn_events (quiet_turns o.pids.items))
 ends_of t lines o r = record { notes = turn_notes (quiet_turns o.pids.items); last = r.last; runs = r.turns; finished = r.finishes.0 }
 
 full_of : (t : Task) (lines : List ScriptLine) (o : Outcome) (r : IsReplayed call_of next_of (start_of t lines) o) → r.last.full ≡ o.full
@@ -149,44 +153,61 @@ roomy_of t lines o r none = record { schedule = turn_events (quiet_turns o.pids.
 filled_by : (t : Task) (lines : List ScriptLine) (full : Full) (o : Outcome) → IsReplayed call_of next_of (start_of t lines) o → o.full ≡ Some full → full ≢ Memory → HasNoRoom t lines full
 filled_by t lines full o r is space = record { filled = record { schedule = turn_events (quiet_turns o.pids.items); ends = ends_of t lines o r; filled = full_of t lines o r ∙ is }; space = space }
 
-pub filled_of : (t : Task) (lines : List ScriptLine) (full : Full) (outcomes : List Outcome) → All (IsReplayed call_of next_of (start_of t lines)) outcomes → Any (λ outcome. outcome.full ≡ Some full) outcomes
+pub filled_of : (t : Task) (lines : List ScriptLine) (full : Full) (outcomes : List Outcome) (o : Outcome) → All (IsReplayed call_of next_of (start_of t lines)) outcomes → Contains outcomes o → o.full ≡ Some full
     → full ≢ Memory → HasNoRoom t lines full
-filled_of t lines full outcomes each any space =
-    filled_by t lines full any.1 (All-contains (IsReplayed call_of next_of (start_of t lines)) outcomes any.1 each (any.0, any.2, any.3)) any.4 space
+filled_of t lines full outcomes o each has is space = filled_by t lines full o (All-contains (IsReplayed call_of next_of (start_of t lines)) outcomes o each has) is space
 
 none_in : (outcomes : List Outcome) (one : Outcome) → Contains outcomes one → outcomes ≡ [] → ⊥
-none_in outcomes one among none = let z : ⊥ = omega (arith, among.1, ap length none) in z
+none_in outcomes one has none = let z : ⊥ = omega (arith, has.1, ap length none) in z
 
 some_in : (outcomes : List Outcome) (one : Outcome) → Contains outcomes one → map outcome_by outcomes ≡ [] → ⊥
-some_in outcomes one among none = let z : ⊥ = omega (arith, among.1, length-map outcome_by outcomes, ap length none) in z
+some_in outcomes one has none = let z : ⊥ = omega (arith, has.1, length-map outcomes outcome_by, ap length none) in z
 
 pub passed_in_every_order : (t : Task) (lines : List ScriptLine) (outcomes : List Outcome) (roomy : Outcome) → AreAllOutcomes call_of next_of (start_of t lines) (map outcome_by outcomes) → All (AgreesWith t.expected.now) outcomes
     → IsNeverStuck call_of next_of (start_of t lines) → All (IsReplayed call_of next_of (start_of t lines)) outcomes → Contains outcomes roomy → roomy.full ≡ None → IsPassedInEveryOrder t lines
-passed_in_every_order t lines outcomes roomy all are awake each among none =
+passed_in_every_order t lines outcomes roomy all are awake each has none =
     let e = t.expected.now in
     let agree : All (AgreesIn e) (map outcome_by outcomes) = All-map (AgreesIn e) outcome_by outcomes are in
     record {
       outcomes = map outcome_by outcomes;
       all = all;
-      some = some_in outcomes roomy among;
+      some = some_in outcomes roomy has;
       agree = agree;
       runs = λ schedule notes last ran quiet finished. All-contains (AgreesIn e) (map outcome_by outcomes) (outcome_of last) agree (all.roomy schedule notes last ran quiet finished);
-      room = roomy_of t lines roomy (All-contains (IsReplayed call_of next_of (start_of t lines)) outcomes roomy each among) none;
+      room = roomy_of t lines roomy (All-contains (IsReplayed call_of next_of (start_of t lines)) outcomes roomy each has) none;
       awake = awake;
     }
 
 -- of all outcomes, of which this is one, none agrees
 pub wrong_in_every_order : (t : Task) (lines : List ScriptLine) (outcomes : List Outcome) (other : Outcome) → AreAllOutcomes call_of next_of (start_of t lines) (map outcome_by outcomes) → Contains outcomes other
     → All (λ outcome. AgreesWith t.expected.now outcome → ⊥) outcomes → IsWrong t lines
-wrong_in_every_order t lines outcomes other all among none =
-    in_every_order (map outcome_by outcomes) all (some_in outcomes other among) (All-map (λ outcome. AgreesIn t.expected.now outcome → ⊥) outcome_by outcomes none)
+wrong_in_every_order t lines outcomes other all has none =
+    in_every_order (map outcome_by outcomes) all (some_in outcomes other has) (All-map (λ outcome. AgreesIn t.expected.now outcome → ⊥) outcome_by outcomes none)
 
 -- the same of those that were found
 pub wrong_so_far : (t : Task) (lines : List ScriptLine) (outcomes : List Outcome) (other : Outcome) → All (IsReplayed call_of next_of (start_of t lines)) outcomes → Contains outcomes other
     → All (λ outcome. AgreesWith t.expected.now outcome → ⊥) outcomes → IsWrongSoFar t lines
-wrong_so_far t lines outcomes other each among none =
+wrong_so_far t lines outcomes other each has none =
     record {
       outcomes = outcomes;
-      some = none_in outcomes other among;
+      some = none_in outcomes other has;
       each = λ k d less. record { replayed = each k d less; differs = none k d less };
     }
+
+-- one that is among them and has P
+pub any_of : {X : Type 0} (P : X → Type 0) (xs : List X) (x : X) → Contains xs x → P x → Any P xs
+any_of P xs x has holds = (has.0, x, has.1, has.2, holds)
+
+-- one of both ways of being wrong
+pub not_right : (t : Task) (lines : List ScriptLine) (whole : Bool) → (whole ≡ true → IsWrong t lines) → (whole ≡ false → IsWrongSoFar t lines) → IsNotRight t lines
+not_right t lines true wrong part = inl (wrong refl)
+not_right t lines false wrong part = inr (part refl)
+
+pub refused_fails : (refusal : Refusal) → IsPass (Refused refusal) → ⊥
+refused_fails refusal (inl is) = let z : ⊥ = cc in z
+refused_fails refusal (inr is) = let z : ⊥ = cc in z
+
+-- what is due of a script's lines is of its bytes
+pub judged_lines : {E : Type 0} (t : Task) (bytes : Bytes) (lines : List ScriptLine) (result : Result Verdict E) → IsScript bytes lines → IfOk result (IsInTime t lines) → IfOk result (IsVerdict t lines) → IfOk result (IsJudged t bytes)
+judged_lines t bytes lines (Ok verdict) script time due = judged lines script time due
+judged_lines t bytes lines (Err fault) script time due = tt

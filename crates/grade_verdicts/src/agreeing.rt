@@ -63,12 +63,9 @@ pub fn first_right<'o>(expected: &Expected, outcomes: &'o [Outcome]) -> Option<&
     ensures agrees { IfSome result (λ outcome. AgreesWith expected.now outcome.now) }
     ensures none { result ≡ None → All (λ outcome. AgreesWith expected.now outcome → ⊥) outcomes.now }
 {
-    for outcome in outcomes {
-        if is_agreed(expected, outcome) {
-            return Some(outcome);
-        }
-    }
-    None
+    outcomes
+        .iter()
+        .find(|outcome| is_agreed(expected, *outcome))
 }
 
 /// The first of these outcomes that isn't.
@@ -77,12 +74,9 @@ pub fn first_wrong<'o>(expected: &Expected, outcomes: &'o [Outcome]) -> Option<&
     ensures differs { IfSome result (λ outcome. AgreesWith expected.now outcome.now → ⊥) }
     ensures none { result ≡ None → All (AgreesWith expected.now) outcomes.now }
 {
-    for outcome in outcomes {
-        if !is_agreed(expected, outcome) {
-            return Some(outcome);
-        }
-    }
-    None
+    outcomes
+        .iter()
+        .find(|outcome| !is_agreed(expected, *outcome))
 }
 
 /// The first of these outcomes in whose run nothing was full.
@@ -91,4 +85,11 @@ pub fn first_roomy(outcomes: &[Outcome]) -> Option<&Outcome>
     ensures roomy { IfSome result (λ outcome. outcome.now.full ≡ None) }
 {
     outcomes.iter().find(|outcome| outcome.full.is_none())
+}
+
+/// The first of these outcomes in whose run something was full.
+pub fn first_filled(outcomes: &[Outcome]) -> Option<&Outcome>
+    ensures { IfSome result (λ outcome. Contains outcomes.now outcome.now) }
+{
+    outcomes.iter().find(|outcome| outcome.full.is_some())
 }

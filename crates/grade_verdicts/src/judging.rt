@@ -12,7 +12,7 @@ ghost use Rattle.run_model.specs.ScriptRun.{IsSpentFrom};
 ghost use Rattle.grade_verdicts.specs.Agrees.{AgreesWith};
 ghost use Rattle.grade_verdicts.specs.Judged.{AreMost, EndsInTime, IsInTime, IsJudged, IsKnown, IsMeant, IsOfRace, IsPass, IsVerdict, IsWrong, IsWrongSoFar, start_of};
 
-use crate::agreeing::{are_firm, first_right, first_roomy, first_wrong};
+use crate::agreeing::{are_firm, first_filled, first_right, first_roomy, first_wrong};
 use crate::differing::{difference_of, first_difference};
 use crate::expected::Task;
 use crate::verdict::{Difference, Race, Refusal, Verdict};
@@ -125,11 +125,13 @@ fn judge_by_meaning(
         return Ok(None);
     }
     let difference = first_difference(alloc, task.expected, value.out.as_slice(), &value.files)?;
-    if let Some(difference) = difference {
-        return Ok(Some(wrong(task, script, true, difference)));
+    match difference {
+        Some(difference) => Ok(Some(wrong(task, script, true, difference))),
+        None => {
+            let verdict = judge_room(alloc, task, script)?;
+            Ok(Some(verdict))
+        }
     }
-    let verdict = judge_room(alloc, task, script)?;
-    Ok(Some(verdict))
 }
 
 // The schedule of the outcome.
@@ -169,14 +171,29 @@ fn judge_wrong(
     }
 }
 
-// What was full first in the first of these outcomes, where that is anything but memory.
-fn full_first(outcomes: &[Outcome]) -> Option<Full>
-    ensures { IfSome result (λ full. Any (λ outcome. outcome.full ≡ Some full) outcomes.now × (full ≢ Memory)) }
+// What was full first in the run to the outcome, where that is anything but memory.
+fn filling(outcome: &Outcome) -> Option<Full>
+    ensures { IfSome result (λ full. (outcome.now.full ≡ Some full) × (full ≢ Memory)) }
 {
-    match outcomes.first()?.full {
-        Some(Full::Memory) => None,
-        full => full,
+    match outcome.full {
+        None | Some(Full::Memory) => None,
+        Some(full) => Some(full),
     }
+}
+
+// The verdict where these are all outcomes, each is what is expected, and something was full in each.
+fn judge_filled(task: &Task<'_>, script: &Script<Global>, outcomes: &[Outcome]) -> Verdict
+    requires sound { All (IsReplayed call_of next_of (start_of task.now (lines_of script.now.lines))) outcomes.now }
+    requires right { All (AgreesWith task.now.expected.now) outcomes.now }
+    requires unknown { IsKnown task.now (lines_of script.now.lines) → ⊥ }
+    ensures { IsVerdict task.now (lines_of script.now.lines) result }
+{
+    if let Some(outcome) = first_filled(outcomes) {
+        if let Some(full) = filling(outcome) {
+            return Verdict::NoRoom(full);
+        }
+    }
+    Verdict::Unsure(outcomes.len())
 }
 
 // The verdict where these are all outcomes, and each is what is expected.
@@ -188,12 +205,9 @@ fn judge_right(task: &Task<'_>, script: &Script<Global>, outcomes: &[Outcome]) -
     requires unknown { IsKnown task.now (lines_of script.now.lines) → ⊥ }
     ensures { IsVerdict task.now (lines_of script.now.lines) result }
 {
-    if first_roomy(outcomes).is_some() {
-        return Verdict::PassEveryOrder;
-    }
-    match full_first(outcomes) {
-        Some(full) => Verdict::NoRoom(full),
-        None => Verdict::Unsure(outcomes.len()),
+    match first_roomy(outcomes) {
+        Some(_roomy) => Verdict::PassEveryOrder,
+        None => judge_filled(task, script, outcomes),
     }
 }
 
@@ -319,7 +333,8 @@ pub fn read_script(
 pub fn judge(alloc: Global, task: &Task<'_>, bytes: &[u8]) -> Result<Verdict, AllocError>
     ensures { IfOk result (IsJudged task.now bytes.now) }
 {
-    match read_script(alloc, task, bytes)? {
+    let read = read_script(alloc, task, bytes)?;
+    match read {
         Ok(script) => judge_script(alloc, task, &script),
         Err(verdict) => Ok(verdict),
     }

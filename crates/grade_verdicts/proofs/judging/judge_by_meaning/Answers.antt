@@ -13,17 +13,18 @@ wrong-requires c =
     let says = c.in-Ok.ensures in
     let lines = lines_of script.lines in
     let known = found task lines script.profile value.soft c.as_slice.result.now value.out (files value.files) c.requires script.small c.are_files.ensures (says.settled.0 c.if-not-value.false) c.as_slice.ensures says.out says.files says.soft (c.are_firm.ensures.0 c.if-not-are_firm.false) in
-    wrong task lines value.soft c.as_slice.result.now (files value.files) known (λ agrees. not_both c.in_ok-difference.difference c.in-Some.difference c.in-Some.is (c.in_ok-difference.ensures.1 agrees))
+    let is = wrong task lines value.soft c.as_slice.result.now (files value.files) known (λ agrees. not_both c.in_ok-difference.difference c.in-Some.difference c.in-Some.is (c.in_ok-difference.ensures.1 agrees)) in
+    record { whole = λ _. is; part = λ no. absurd (let z : ⊥ = cc in z) }
 
-pub returns-clause-verdict : goal.returns-clause-verdict
-returns-clause-verdict c =
+pub judge_room-requires-clause-meant : goal.judge_room-requires-clause-meant
+judge_room-requires-clause-meant c =
     let task = c.args.task.now in
     let script = c.args.script.now in
     let value = c.in-Ok.value in
     let says = c.in-Ok.ensures in
     let lines = lines_of script.lines in
     let known = found task lines script.profile value.soft c.as_slice.result.now value.out (files value.files) c.requires script.small c.are_files.ensures (says.settled.0 c.if-not-value.false) c.as_slice.ensures says.out says.files says.soft (c.are_firm.ensures.0 c.if-not-are_firm.false) in
-    passed task lines value.soft c.as_slice.result.now (files value.files) known (c.in_ok-difference.ensures.0 c.in-None.is)
+    meant task lines value.soft c.as_slice.result.now (files value.files) known (c.in_ok-difference.ensures.0 c.in-None.is)
 
 pub returns-then-not-are_firm-clause-unknown : goal.returns-then-not-are_firm-clause-unknown
 returns-then-not-are_firm-clause-unknown c = λ none known.
