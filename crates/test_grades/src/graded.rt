@@ -72,9 +72,9 @@ output = \"it's\\n\"
 
 #[test]
 fn a_table_is_in_colour(rt: HostRuntime) -> Result<(), Fail> {
-    let graded = grade_on(&rt, TWO, "", &["x.sh"])?;
+    let graded = grade_on(&rt, TWO, "", &["\x1b[31m x.sh"])?;
     let table =
-        "x.sh: 1 of 2 tests passed, 2 of 6 points\n  \x1b[32mpass\x1b[0m                     2/2      good\n  \x1b[31mwrong\x1b[0m                    0/4      bad\n      output, line 1: expected `it's\\n`, found `a\\n`\n";
+        "\\x1b[31m x.sh: 1 of 2 tests passed, 2 of 6 points\n  \x1b[32mpass\x1b[0m                     2/2      good\n  \x1b[31mwrong\x1b[0m                    0/4      bad\n      output, line 1: expected `it's\\n`, found `a\\n`\n";
     assert!(&rt; graded.status == 3 && graded.text.as_slice() == table.as_bytes());
     Ok(())
 }
@@ -96,12 +96,12 @@ fn memory_that_is_refused_ends_it(rt: HostRuntime) -> Result<(), Fail> {
     Ok(())
 }
 
-// How far a grading of so many scripts by a suite is told to be.
-fn steps_of(
+// Grades so many scripts by a suite.
+fn grade_many(
     rt: &(impl Threads + Wait + Clock + Sync + AllocGlobal),
     suite: &str,
     count: usize,
-) -> Result<String, AllocError> {
+) -> Result<Graded, AllocError> {
     let alloc = rt.alloc();
     let mut paths = Vec::new(alloc);
     for i in 0..count {
@@ -111,7 +111,7 @@ fn steps_of(
         .iter()
         .map(|path| path.as_str())
         .collect::<Vec<&str>>(alloc)?;
-    Ok(grade_on(rt, suite, "", scripts.as_slice())?.steps)
+    grade_on(rt, suite, "", scripts.as_slice())
 }
 
 // A suite of which one test has a script of its own.
@@ -143,18 +143,25 @@ fn each_batch_is_told(rt: HostRuntime) -> Result<(), Fail> {
         (OWN, 1, "1/2 2/2 "),
         (ONE, 200, "200/200 "),
         (ONE, 300, "256/300 300/300 "),
-        (ONE, 600, "256/600 512/600 600/600 "),
     ];
     for (suite, count, steps) in rows {
-        let told = steps_of(&rt, suite, count)?;
-        assert_eq!(&rt; told.as_str(), steps);
+        let told = grade_many(&rt, suite, count)?;
+        assert_eq!(&rt; told.steps.as_str(), steps);
     }
     let own = own_tests(rt.alloc(), 300)?;
-    assert_eq!(&rt;
-        steps_of(&rt, own.as_str(), 0)?.as_str(),
-        "256/300 300/300 "
-    );
+    let told = grade_many(&rt, own.as_str(), 0)?;
+    assert_eq!(&rt; told.steps.as_str(), "256/300 300/300 ");
     let cut = grade_on(&rt, ONE, "", &["x.sh", LONG, "z.sh"])?;
     assert_eq!(&rt; cut.steps.as_str(), "1/3 2/3 3/3 ");
+    Ok(())
+}
+
+#[test]
+fn scripts_of_three_batches_are_graded(rt: HostRuntime) -> Result<(), Fail> {
+    let told = grade_many(&rt, ONE, 600)?;
+    assert_eq!(&rt; told.steps.as_str(), "256/600 512/600 600/600 ");
+    let text = told.text.as_slice();
+    assert!(&rt; text.split(|byte| *byte == b'\n').count() == 1202);
+    assert!(&rt; text.ends_with(b"\n600 scripts: 600 of 600 tests passed, 600 of 600 points\n"));
     Ok(())
 }
