@@ -1,6 +1,6 @@
 //! A report beside the recursive meaning.
 
-use kernel_core::Report;
+use kernel_events::Report;
 use mem_files::Files;
 use plain_run::Plain;
 use prog_parts::is_among;
