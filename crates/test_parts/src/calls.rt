@@ -7,7 +7,7 @@ use crate::told::{Stepped, Words, go};
 use std::alloc::{AllocError, Global};
 use std::test::Fail;
 use test_rows::rows;
-use user_calls::{Machine, Reply};
+use user_calls::Machine;
 use user_progs::{Prog, lookup};
 
 impl Stepped for Prog<'_, Global> {
@@ -291,24 +291,5 @@ fn programs_make_calls(rt: HostRuntime) -> Result<(), Fail> {
             row_holds(rt.alloc(), row)?;
         }
     }
-    Ok(())
-}
-
-// Whether a twin is the same, until the program goes on alone.
-fn is_told_apart(program: &mut Prog<'_, Global>) -> bool {
-    let mut twin = program.twin();
-    let is_same = twin.same(program);
-    let _call = program.run(&Reply::Done);
-    let is_apart = !twin.same(program);
-    let _call = twin.run(&Reply::Done);
-    is_same && is_apart && twin.same(program)
-}
-
-#[test]
-fn a_twin_goes_its_own_way(rt: HostRuntime) -> Result<(), Fail> {
-    let words = words_of(rt.alloc(), "echo a bc")?;
-    let mut echo = lookup(words.as_slice()).ok_or("echo is known")?;
-    assert!(rt; is_told_apart(&mut echo));
-    assert!(rt; lookup::<Global>(&[]).is_none());
     Ok(())
 }

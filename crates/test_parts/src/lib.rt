@@ -1,5 +1,5 @@
-//! Tests alone: the parts below the kernel: lines of scripts, the programs' and the shell's calls, files in memory, pipes, lists of
-//! slots, and the table of processes.
+//! Tests alone: the parts below the kernel: lines of scripts, the programs' and the shell's calls, files in memory, pipes, and
+//! the table of processes.
 #![tactic(auto)]
 
 #[cfg(test)]
@@ -8,8 +8,6 @@ mod calls;
 mod files;
 #[cfg(test)]
 mod lines;
-#[cfg(test)]
-mod lists;
 #[cfg(test)]
 mod machines;
 #[cfg(test)]

@@ -1,4 +1,4 @@
-//! The table of processes, whose processes are numbers of slots:
+//! The order in which processes are dispatched, which no contract says, with processes as numbers of slots:
 //!
 //!     dispatch HART                   which process the hart, if it is idle, dispatches
 //!     pick HART SLOT                  whether this process is dispatched on the hart
@@ -13,35 +13,24 @@
 //!     sleep-apart                     the process that hart 0 dispatches next falls asleep on the bytes of pipe 0, the one after it on
 //!                                     those of pipe 64, and so on, up to those of pipe 4032: how many do
 //!     wake-apart                      all that sleep on these are woken, up to the first channel on which no single one does: how many are
-//!     install SLOT                    the lowest descriptor of it that isn't open is opened: which one that is
-//!     close-all SLOT                  it gets no open descriptors for those that it has: whether descriptor 0 was one
 //!     is SLOT                         the state of the slot
 //!     parent SLOT
 //!     put SLOT                        how many bytes it has put
-//!     with SLOT                       its machine's number, its reply, and whether its descriptor 0 is open
-//!     on HART                         the process that runs there, and whether the hart is idle
-//!     runs HART SLOT                  whether the process runs there
 //!     counts                          how many processes are Runnable, and how many run
-//!     alone                           whether init is the only process
-//!     lowest-free
 //!
 //! A call that asks for a process that runs, or for one that there is, gives `?` where there is none. A CHANNEL is `bytes-of PIPE`, `room-of PIPE` or `child-of SLOT`, which is that a child of it exits.
 
-ghost use Rattle.std.specs.Prelude.{◌≡◌, IfSome, IsSome};
-ghost use Rattle.fd_table.specs.Descriptors.{installed};
+ghost use Rattle.std.specs.Prelude.{◌≡◌};
 ghost use Rattle.proc_table.specs.Slots.{at, is_running};
-ghost use Rattle.proc_table.specs.Calls.{fds_set};
 
 use crate::told::{Stepped, Words, go, tell};
 use crate::waiter::{Waiter, machine};
-use fd_table::{Entry, FdFault, Fds, Object, OpenFiles};
+use fd_table::Fds;
 use linked_list_allocator::LocalHeap;
 use proc_table::{Answer, Channel, FullProcs, HARTS, Pid, Procs};
-use std::alloc::{AllocError, Allocator, Global};
-use std::mem;
+use std::alloc::{AllocError, Allocator};
 use std::test::Fail;
 use test_rows::rows;
-use user_calls::Machine;
 
 fn pid_of(words: &mut Words<'_>) -> Pid {
     let pid = Pid::new(words.number());
@@ -95,28 +84,6 @@ fn wake_apart<A: Allocator>(procs: &mut Procs<Waiter, A>) -> usize {
         }
     }
     64
-}
-
-// Opens the lowest descriptor of a process that isn't open.
-fn install<M: Machine, A: Allocator>(
-    procs: &mut Procs<M, A>,
-    pid: Pid,
-    entry: Entry,
-) -> Result<usize, FdFault>
-    requires { IsSome (at procs.old pid) }
-    ensures { IfSome (at procs.old pid) (λ process. procs.new ≡ fds_set procs.old pid (installed process.fds entry)) }
-{
-    procs.fds_mut(pid).install(entry)
-}
-
-// Gives a process these descriptors, and gives back those that it had: what is written through `fds_mut` is what the
-// process has, by its contract.
-fn swap_fds<M: Machine, A: Allocator>(procs: &mut Procs<M, A>, pid: Pid, fds: Fds) -> Fds
-    requires { IsSome (at procs.old pid) }
-    ensures before { IfSome (at procs.old pid) (λ process. result ≡ process.fds) }
-    ensures after { procs.new ≡ fds_set procs.old pid fds }
-{
-    mem::replace(procs.fds_mut(pid), fds)
 }
 
 // Whether the process runs; where it is Runnable, the lowest idle hart takes it first.
@@ -179,23 +146,8 @@ fn used_step<A: Allocator>(
     match call {
         "fork" if runs(procs, pid) => tell(told, procs.fork(pid, Fds::new())),
         "forks" => tell(told, forks(procs, pid)),
-        "install" => match OpenFiles::new().add(Object::Out) {
-            Ok(entry) => tell(told, install(procs, pid, entry)),
-            Err(_) => told.push('?'),
-        },
-        "close-all" => tell(told, swap_fds(procs, pid, Fds::new()).get(0).is_ok()),
         "parent" => tell(told, procs.parent(pid)),
         "put" => tell(told, procs.put(pid)),
-        "with" => {
-            let opened = procs.fds(pid).get(0).is_ok();
-            write!(
-                told,
-                "{} {:?} {}",
-                procs.machine(pid).number,
-                procs.reply(pid).to_reply(),
-                opened
-            )
-        }
         _ => told.push('?'),
     }
 }
@@ -210,14 +162,7 @@ impl<A: Allocator> Stepped for Procs<Waiter, A> {
             "sleep-apart" => tell(told, sleep_apart(self)),
             "wake-apart" => tell(told, wake_apart(self)),
             "is" => tell(told, self.state(pid_of(words))),
-            "on" => {
-                let hart = words.small();
-                tell(told, (self.running_on(hart), self.is_idle(hart)))
-            }
-            "runs" => tell(told, self.runs_on(words.small(), pid_of(words))),
             "counts" => tell(told, (self.runnable(), self.running())),
-            "alone" => tell(told, self.is_alone()),
-            "lowest-free" => tell(told, self.lowest_free()),
             call => match call {
                 "ready" | "exit" | "wait" | "sleep" => run_step(self, call, words, told),
                 _ => used_step(self, call, words, told),
@@ -226,208 +171,7 @@ impl<A: Allocator> Stepped for Procs<Waiter, A> {
     }
 }
 
-// Each row is of a new table, in which init's machine has number 100 and the shell's 101.
-const CALLS: &str = "
-# a new table, and one whose slots are all used
-with 0: 100 Start false
-with 1: 101 Start false
-is 0: Runnable
-is 1: Runnable
-parent 0: Pid { index: 0 }
-parent 1: Pid { index: 0 }
-put 0: 0
-put 1: 0
-lowest-free: Some(Pid { index: 2 })
-forks 1: (62, Some(FullProcs))
-lowest-free: None
-with 0: 100 Start false
-with 1: 101 Done false
-with 2: 101 Child false
-with 63: 101 Child false
-is 2: Runnable
-is 63: Runnable
-parent 2: Pid { index: 1 }
-parent 63: Pid { index: 1 }
-put 63: 0
-counts: (63, 1)
-pick 7 63: true
-
-# harts show whom they run
-on 3: (None, true)
-run-all: 2
-on 0: (Some(Pid { index: 0 }), false)
-on 1: (Some(Pid { index: 1 }), false)
-on 2: (None, true)
-runs 0 0: true
-runs 0 1: false
-runs 1 1: true
-runs 2 1: false
-
-# of 2 to 6 the first runs, 3 sleeps, 4 is a zombie, 5 is Runnable, and 6 is free
-fork 1: Ok(Pid { index: 2 })
-fork 1: Ok(Pid { index: 3 })
-fork 1: Ok(Pid { index: 4 })
-fork 1: Ok(Pid { index: 5 })
-run-all: 6
-sleep 3 bytes-of 1 0: Asleep(PipeBytes(1))
-exit 4: ()
-ready 5: ()
-counts: (1, 3)
-wait 2: NoChildren
-wait 3: ?
-wait 4: ?
-wait 5: ?
-wait 6: ?
-put 3: 0
-put 4: 0
-put 5: 0
-put 6: ?
-
-# descriptors change in their slot
-fork 1: Ok(Pid { index: 2 })
-install 1: Ok(0)
-install 1: Ok(1)
-with 0: 100 Start false
-with 1: 101 Done true
-with 2: 101 Child false
-is 1: Runnable
-parent 1: Pid { index: 0 }
-put 1: 0
-close-all 1: true
-with 1: 101 Done false
-close-all 2: false
-
-# dispatch tells that none is runnable
-run-all: 2
-sleep 0 child-of 0 0: Asleep(Children(Pid { index: 0 }))
-on 7: (None, true)
-dispatch 7: None
-counts: (0, 1)
-wakeup child-of 0: 1
-on 7: (None, true)
-dispatch 7: Some(0)
-
-# dispatch pid takes runnable processes alone
-fork 1: Ok(Pid { index: 2 })
-counts: (3, 0)
-# there are harts 0 to 7 and slots 0 to 63, and slot 3 is free
-pick 8 1: false
-pick 0 64: false
-pick 0 18446744073709551615: false
-pick 0 3: false
-counts: (3, 0)
-pick 7 2: true
-is 2: Running(7)
-# hart 7 runs process 2
-pick 7 1: false
-pick 0 2: false
-pick 0 1: true
-counts: (1, 2)
-sleep 2 child-of 2 0: Asleep(Children(Pid { index: 2 }))
-# process 2 sleeps
-pick 7 2: false
-exit 1: ()
-# process 1 has exited
-pick 7 1: false
-pick 7 0: true
-counts: (0, 1)
-
-# init is alone when all others are gone
-fork 1: Ok(Pid { index: 2 })
-run-all: 3
-alone: false
-exit 1: ()
-wait 0: Reaped(Pid { index: 1 })
-# process 2 runs
-alone: false
-exit 2: ()
-# process 2 is a zombie
-alone: false
-wait 0: Reaped(Pid { index: 2 })
-alone: true
-
-# exit gives the children to init
-fork 1: Ok(Pid { index: 2 })
-fork 1: Ok(Pid { index: 3 })
-fork 2: Ok(Pid { index: 4 })
-fork 2: Ok(Pid { index: 5 })
-fork 4: Ok(Pid { index: 6 })
-run-all: 7
-sleep 0 child-of 0 0: Asleep(Children(Pid { index: 0 }))
-sleep 1 child-of 1 0: Asleep(Children(Pid { index: 1 }))
-sleep 3 bytes-of 1 0: Asleep(PipeBytes(1))
-# No child of it is a zombie, and its parent is no sleeper.
-exit 4: ()
-is 4: Zombie
-parent 4: Pid { index: 2 }
-parent 6: Pid { index: 0 }
-is 0: Asleep(Children(Pid { index: 0 }))
-is 1: Asleep(Children(Pid { index: 1 }))
-# One child of it is a zombie, and its parent sleeps.
-counts: (0, 3)
-exit 2: ()
-counts: (2, 2)
-is 2: Zombie
-parent 2: Pid { index: 1 }
-parent 3: Pid { index: 1 }
-parent 4: Pid { index: 0 }
-parent 5: Pid { index: 0 }
-is 0: Runnable
-is 1: Runnable
-is 3: Asleep(PipeBytes(1))
-is 4: Zombie
-
-# wait reaps the lowest zombie
-fork 1: Ok(Pid { index: 2 })
-fork 1: Ok(Pid { index: 3 })
-fork 1: Ok(Pid { index: 4 })
-run-all: 5
-wait 2: NoChildren
-wait 0: MustSleep
-wait 1: MustSleep
-exit 4: ()
-exit 3: ()
-wait 0: MustSleep
-wait 1: Reaped(Pid { index: 3 })
-is 3: Free
-is 4: Zombie
-fork 2: Ok(Pid { index: 3 })
-wait 1: Reaped(Pid { index: 4 })
-wait 1: MustSleep
-lowest-free: Some(Pid { index: 4 })
-
-# wakeup wakes all of one channel
-fork 1: Ok(Pid { index: 2 })
-fork 1: Ok(Pid { index: 3 })
-fork 1: Ok(Pid { index: 4 })
-fork 1: Ok(Pid { index: 5 })
-fork 1: Ok(Pid { index: 6 })
-run-all: 7
-sleep 2 room-of 9 100: Asleep(PipeRoom(9))
-sleep 3 bytes-of 9 0: Asleep(PipeBytes(9))
-sleep 4 room-of 9 0: Asleep(PipeRoom(9))
-sleep 5 room-of 8 5: Asleep(PipeRoom(8))
-sleep 6 room-of 9 512: Asleep(PipeRoom(9))
-sleep 1 child-of 1 0: Asleep(Children(Pid { index: 1 }))
-wakeup room-of 9: 3
-is 1: Asleep(Children(Pid { index: 1 }))
-is 2: Runnable
-is 3: Asleep(PipeBytes(9))
-is 4: Runnable
-is 5: Asleep(PipeRoom(8))
-is 6: Runnable
-put 6: 512
-wakeup room-of 9: 0
-# It runs again, and is done with its write.
-run-all: 4
-ready 6: ()
-is 6: Runnable
-put 6: 0
-parent 6: Pid { index: 1 }
-with 6: 101 Done false
-";
-
-// Who is dispatched when: no clause says it, since any Runnable process may be.
+// Each row is of a new table. Who is dispatched when no clause says, since any Runnable process may be.
 const ORDERS: &str = "
 # init stands first and the shell behind it
 dispatch 5: Some(0)
@@ -553,22 +297,13 @@ parent 3: Pid { index: 0 }
 put 3: 0
 ";
 
-fn rows_hold(alloc: Global, table: &str) -> Result<(), Fail> {
-    for row in rows(table) {
-        let mut procs = Procs::new(alloc, machine(100), machine(101))?;
-        go(alloc, &mut procs, row)?;
-    }
-    Ok(())
-}
-
-#[test]
-fn calls_change_the_table(rt: HostRuntime) -> Result<(), Fail> {
-    rows_hold(rt.alloc(), CALLS)
-}
-
 #[test]
 fn processes_are_dispatched_in_their_order(rt: HostRuntime) -> Result<(), Fail> {
-    rows_hold(rt.alloc(), ORDERS)
+    for row in rows(ORDERS) {
+        let mut procs = Procs::new(rt.alloc(), machine(100), machine(101))?;
+        go(rt.alloc(), &mut procs, row)?;
+    }
+    Ok(())
 }
 
 const WITHOUT_MEMORY: &str = "

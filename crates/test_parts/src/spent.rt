@@ -66,6 +66,7 @@ fn heaps_that_do(alloc: Global, whole: &Files<Global>) -> Result<usize, Fail> {
 #[test]
 fn some_calls_take_no_memory(rt: HostRuntime) -> Result<(), Fail> {
     let whole = four_files(rt.alloc())?;
+    assert!(rt; whole.count() == 4 && whole.name_at(3) == Some(b"p".as_slice()));
     let heaps = heaps_that_do(rt.alloc(), &whole)?;
     assert!(rt; heaps > 5, "{heaps} heaps");
     Ok(())

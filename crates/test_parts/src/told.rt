@@ -20,15 +20,6 @@ pub(crate) struct Words<'a> {
 }
 
 impl<'a> Words<'a> {
-    /// The words of a text, none of them a row of an `x`.
-    pub(crate) fn of(text: &'a str) -> Self {
-        Words {
-            left: text,
-            xs: &[],
-            are_good: true,
-        }
-    }
-
     /// Whether all words were read, and each was of its kind.
     fn are_read(&self) -> bool {
         self.are_good && self.left.is_empty()

@@ -1,15 +1,5 @@
-//! Tests of results: objects are read back as JSON, and compared with what the run was.
+//! Tests of what no command line shows of results: what no script can make full has its word too.
 #![tactic(auto)]
 
 #[cfg(test)]
-mod check;
-#[cfg(test)]
-mod explain;
-#[cfg(test)]
-mod faults;
-#[cfg(test)]
-mod plain;
-#[cfg(test)]
-mod read_back;
-#[cfg(test)]
-mod run;
+mod full;
