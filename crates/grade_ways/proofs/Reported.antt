@@ -1,6 +1,6 @@
 -- What the report of a run says of the verdict on its script.
 use Rattle.std.proofs.Common.{◌≡◌, ◌≤◌, ◌∙◌, ℕ, List, inl, inr, length, sym, subst, arith}
-use Rattle.std.specs.Prelude.{◌≢◌, Some, None}
+use Rattle.std.specs.Prelude.{◌≢◌, IfSome, Option, Some, None}
 use Rattle.script_load.specs.Line.{ScriptLine}
 use Rattle.mem_files.specs.Files.{files}
 use Rattle.order_model.specs.Outcome.{outcome_of}
@@ -14,7 +14,7 @@ use Rattle.grade_verdicts.specs.Judged.{AreMost, Ends, EndsInTime, HasNoRoom, In
 use Rattle.grade_verdicts.specs.declared.expected.Task.{Task}
 use Rattle.grade_verdicts.specs.declared.verdict.Verdict.{Verdict}
 use Rattle.grade_verdicts.specs.declared.verdict.Verdict.TheVariants.{NoRoom, Pass, PassEveryOrder, Spent}
-use Rattle.grade_ways.specs.Ways.{LeavesRight}
+use Rattle.grade_ways.specs.Ways.{IsNoPass, LeavesRight}
 
 pub no_room_fails : (full : Full) → IsPass (NoRoom full) → ⊥
 no_room_fails full (inl is) = let z : ⊥ = cc in z
@@ -29,7 +29,11 @@ pub agrees_in_runs : (t : Task) (lines : List ScriptLine) (verdict : Verdict) �
 agrees_in_runs t lines verdict (inl is) due = let passed = subst (IsVerdict t lines) is due in passed.meant.runs
 agrees_in_runs t lines verdict (inr is) due = let passed = subst (IsVerdict t lines) is due in passed.runs
 
-pub in_time : (t : Task) (lines : List ScriptLine) (turns : ℕ) (schedule : List Event) → AreMost t turns → Ends t lines schedule → length schedule ≤ turns → EndsInTime t lines
+-- the verdict that was found
+pub the_one : (t : Task) (lines : List ScriptLine) (found : Option Verdict) (verdict : Verdict) → found ≡ Some verdict → IfSome found (IsNoPass t lines) → IsNoPass t lines verdict
+the_one t lines found verdict is holds = subst (λ (o : Option Verdict). IfSome o (IsNoPass t lines)) is holds
+
+in_time : (t : Task) (lines : List ScriptLine) (turns : ℕ) (schedule : List Event) → AreMost t turns → Ends t lines schedule → length schedule ≤ turns → EndsInTime t lines
 in_time t lines turns schedule (limited is) ends few = ended schedule ends (omega (arith, is, few))
 in_time t lines turns schedule (unlimited none is) ends few = without_limit none
 
@@ -51,5 +55,11 @@ module _ {A : _} (t : Task) (lines : List ScriptLine) (report : Report A) (from 
   pub agrees : InEveryRun t lines (AgreesIn t.expected.now) → report.full ≡ None → Agrees t.expected.now report.out.items (files report.files)
   agrees each none = told (each report.schedule from.notes from.last from.runs (sym from.tells.full ∙ none) from.finished)
 
-  pub filled : (full : Full) → report.full ≡ Some full → full ≢ Memory → HasNoRoom t lines full
+  filled : (full : Full) → report.full ≡ Some full → full ≢ Memory → HasNoRoom t lines full
   filled full is space = record { filled = record { schedule = report.schedule; ends = ends; filled = sym from.tells.full ∙ is }; space = space }
+
+  -- a run in which something other than memory was full, of no more events than it may have
+  pub without_room : (turns : ℕ) (verdict : Verdict) (full : Full) → AreMost t turns → length report.schedule ≤ turns → report.full ≡ Some full → (verdict ≡ NoRoom full) × (full ≢ Memory) → IsNoPass t lines verdict
+  without_room turns verdict full most few is says =
+      subst (IsNoPass t lines) (sym says.0)
+      (record { due = filled full is says.1; time = inr (in_time t lines turns report.schedule most ends few); fails = no_room_fails full })

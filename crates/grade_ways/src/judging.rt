@@ -1,6 +1,6 @@
 //! Verdicts by runs of every kind.
 
-ghost use Rattle.std.specs.Prelude.{◌≡◌, IfOk, IfSome, None, Ok, All};
+ghost use Rattle.std.specs.Prelude.{◌≡◌, ◌≢◌, IfOk, IfSome, None, Ok, All};
 ghost use Rattle.script_load.specs.Line.{lines_of};
 ghost use Rattle.grade_verdicts.specs.Agrees.{AgreesIn};
 ghost use Rattle.grade_verdicts.specs.Judged.{InEveryRun, IsInTime, IsJudged, IsPass, IsVerdict};
@@ -18,6 +18,18 @@ use std::sync::Wait;
 use std::thread::Threads;
 use std::time::Clock;
 
+// The verdict on a script in a run of which this was full.
+fn no_room(full: Full) -> Result<Verdict, AllocError>
+    ensures { IfOk result (λ verdict. (verdict ≡ Verdict.NoRoom full) × (full ≢ Full.Memory)) }
+{
+    match full {
+        Full::Memory => Err(AllocError),
+        Full::Procs | Full::Open | Full::Fds | Full::Files | Full::Size => {
+            Ok(Verdict::NoRoom(full))
+        }
+    }
+}
+
 // The verdict on a script one run of which left this; `None` where nothing was full in it and it left what is expected.
 fn judge_run(
     alloc: Global,
@@ -31,8 +43,10 @@ fn judge_run(
     ensures right { result ≡ Ok None → LeavesRight task.now (lines_of script.now.lines) report.now.schedule }
 {
     match report.full {
-        Some(Full::Memory) => return Err(AllocError),
-        Some(full) => return Ok(Some(Verdict::NoRoom(full))),
+        Some(full) => {
+            let verdict = no_room(full)?;
+            return Ok(Some(verdict));
+        }
         None => {}
     }
     let difference = first_difference(alloc, task.expected, report.out.as_slice(), &report.files)?;
