@@ -1,7 +1,7 @@
 //! The words that the program takes.
 
 ghost use Rattle.std.specs.Prelude.{◌≡◌, IfOk, codes, false};
-ghost use Rattle.clap.specs.Simple.{app_of};
+ghost use Rattle.clap.specs.Simple.{App, Shape, app_of, with_subcommand};
 ghost use Rattle.clap.specs.Walk.{rule_of};
 ghost use Rattle.xvsh_words.specs.Program.{IsCommand, apart, bare_program, check_shape, draw_shape, explain_shape, explore_shape, files_rule, flag_rule, grade_shape, number_rule, other_rule, plain_shape, program, replay_shape, run_shape, step_shape, text_rule, word_rule, path_rule};
 
@@ -550,6 +550,18 @@ fn bare_command<'a>(alloc: Global) -> Result<Command<'a>, AllocError>
         .bin_name("xvsh")
 }
 
+// The program with one more command.
+fn with_command<'a>(
+    program: Result<Command<'a>, AllocError>,
+    command: Result<Command<'a>, AllocError>,
+) -> Result<Command<'a>, AllocError>
+    ensures { (app : App) (shape : Shape) → IfOk program.entry (λ old. app_of old ≡ app) → IfOk command.entry (IsCommand shape) → IfOk result (λ new. app_of new ≡ with_subcommand app shape) }
+{
+    let program = program?;
+    let command = command?;
+    program.subcommand(command)
+}
+
 /// The command line of the program, on which a run may be asked for on so many harts, and in so many turns, an exploration
 /// of so many states, and grading by so many threads, at most.
 pub fn command_line<'a>(
@@ -561,14 +573,14 @@ pub fn command_line<'a>(
 ) -> Result<Command<'a>, AllocError>
     ensures { IfOk result (λ command. app_of command ≡ program most_harts most_turns most_states most_jobs) }
 {
-    let command = bare_command(alloc)?;
-    let command = command.subcommand(run_command(alloc, most_harts, most_turns)?)?;
-    let command = command.subcommand(replay_command(alloc)?)?;
-    let command = command.subcommand(plain_command(alloc)?)?;
-    let command = command.subcommand(check_command(alloc)?)?;
-    let command = command.subcommand(explain_command(alloc)?)?;
-    let command = command.subcommand(explore_command(alloc, most_states)?)?;
-    let command = command.subcommand(draw_command(alloc, most_turns)?)?;
-    let command = command.subcommand(step_command(alloc)?)?;
-    command.subcommand(grade_command(alloc, most_jobs, most_states)?)
+    let bare = bare_command(alloc);
+    let one = with_command(bare, run_command(alloc, most_harts, most_turns));
+    let two = with_command(one, replay_command(alloc));
+    let three = with_command(two, plain_command(alloc));
+    let four = with_command(three, check_command(alloc));
+    let five = with_command(four, explain_command(alloc));
+    let six = with_command(five, explore_command(alloc, most_states));
+    let seven = with_command(six, draw_command(alloc, most_turns));
+    let eight = with_command(seven, step_command(alloc));
+    with_command(eight, grade_command(alloc, most_jobs, most_states))
 }
