@@ -36,11 +36,7 @@ fn write_row(
     row: &Row<'_>,
     has_several: bool,
 ) -> Result<(), AllocError> {
-    let status = if row.is_passed() {
-        "passed"
-    } else {
-        "failed"
-    };
+    let status = if row.is_passed() { "passed" } else { "failed" };
     line.begin_raw_object()?;
     line.bytes("name", name_of(alloc, row, has_several)?.as_slice())?;
     line.count("score", row.earned())?;

@@ -55,7 +55,9 @@ pub fn sum_of(rows: &[Row<'_>]) -> Sum {
         sum.of = sum.of.saturating_add(row.points);
         sum.passed = sum.passed.saturating_add(usize::from(row.is_passed()));
         sum.tests = sum.tests.saturating_add(1);
-        sum.unjudged = sum.unjudged.saturating_add(usize::from(row.verdict.is_none()));
+        sum.unjudged = sum
+            .unjudged
+            .saturating_add(usize::from(row.verdict.is_none()));
     }
     sum
 }

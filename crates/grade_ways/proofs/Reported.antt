@@ -10,11 +10,11 @@ use Rattle.kernel_model.specs.declared.events.Full.TheVariants.{Memory}
 use Rattle.kernel_events.specs.declared.report.Report.{Report}
 use Rattle.kernel_events.specs.Reports.{IsRunFrom}
 use Rattle.grade_verdicts.specs.Agrees.{Agrees, AgreesIn}
-use Rattle.grade_verdicts.specs.Judged.{AreMost, Ends, EndsInTime, HasNoRoom, InEveryRun, IsPass, IsVerdict, ended, limited, start_of, unlimited, without_limit}
+use Rattle.grade_verdicts.specs.Judged.{AreMost, Ends, EndsInTime, HasNoRoom, IsPass, IsVerdict, ended, limited, start_of, unlimited, without_limit}
 use Rattle.grade_verdicts.specs.declared.expected.Task.{Task}
 use Rattle.grade_verdicts.specs.declared.verdict.Verdict.{Verdict}
 use Rattle.grade_verdicts.specs.declared.verdict.Verdict.TheVariants.{NoRoom, Pass, PassEveryOrder, Spent}
-use Rattle.grade_ways.specs.Ways.{IsNoPass, LeavesRight}
+use Rattle.grade_ways.specs.Ways.{AllRunsAgree, IsNoPass, LeavesRight}
 
 pub no_room_fails : (full : Full) → IsPass (NoRoom full) → ⊥
 no_room_fails full (inl is) = let z : ⊥ = cc in z
@@ -25,9 +25,9 @@ spent_fails (inl is) = let z : ⊥ = cc in z
 spent_fails (inr is) = let z : ⊥ = cc in z
 
 -- of a pass every run in which nothing was full leaves what is expected
-pub agrees_in_runs : (t : Task) (lines : List ScriptLine) (verdict : Verdict) → IsPass verdict → IsVerdict t lines verdict → InEveryRun t lines (AgreesIn t.expected.now)
-agrees_in_runs t lines verdict (inl is) due = let passed = subst (IsVerdict t lines) is due in passed.meant.runs
-agrees_in_runs t lines verdict (inr is) due = let passed = subst (IsVerdict t lines) is due in passed.runs
+pub agrees_in_runs : (t : Task) (lines : List ScriptLine) (verdict : Verdict) → IsPass verdict → IsVerdict t lines verdict → AllRunsAgree t lines
+agrees_in_runs t lines verdict (inl is) due = let passed = subst (IsVerdict t lines) is due in record { each = passed.meant.runs }
+agrees_in_runs t lines verdict (inr is) due = let passed = subst (IsVerdict t lines) is due in record { each = passed.runs }
 
 -- the verdict that was found
 pub the_one : (t : Task) (lines : List ScriptLine) (found : Option Verdict) (verdict : Verdict) → found ≡ Some verdict → IfSome found (IsNoPass t lines) → IsNoPass t lines verdict
@@ -52,8 +52,8 @@ module _ {A : _} (t : Task) (lines : List ScriptLine) (report : Report A) (from 
   right none a = record { ends = ends; roomy = sym from.tells.full ∙ none; agrees = left a }
 
   -- where nothing was full, the run left what is expected
-  pub agrees : InEveryRun t lines (AgreesIn t.expected.now) → report.full ≡ None → Agrees t.expected.now report.out.items (files report.files)
-  agrees each none = told (each report.schedule from.notes from.last from.runs (sym from.tells.full ∙ none) from.finished)
+  pub agrees : AllRunsAgree t lines → report.full ≡ None → Agrees t.expected.now report.out.items (files report.files)
+  agrees all none = told (all.each report.schedule from.notes from.last from.runs (sym from.tells.full ∙ none) from.finished)
 
   filled : (full : Full) → report.full ≡ Some full → full ≢ Memory → HasNoRoom t lines full
   filled full is space = record { filled = record { schedule = report.schedule; ends = ends; filled = sym from.tells.full ∙ is }; space = space }

@@ -11,7 +11,7 @@ use Rattle.kernel_events.specs.Harts.{is_of_hart}
 use Rattle.kernel_events.specs.Reports.{IsRunFrom}
 use Rattle.kernel_threads.specs.Events.{AreOfHarts}
 use Rattle.grade_verdicts.specs.Agrees.{AgreesIn}
-use Rattle.grade_verdicts.specs.Judged.{AreMost, Ends, IsInTime, IsPass, IsVerdict, start_of}
+use Rattle.grade_verdicts.specs.Judged.{AreMost, Ends, InEveryRun, IsInTime, IsPass, IsVerdict, start_of}
 use Rattle.grade_verdicts.specs.declared.expected.Task.{Task}
 use Rattle.grade_verdicts.specs.declared.verdict.Verdict.{Verdict}
 use Rattle.grade_ways.specs.declared.ways.Way.{Way}
@@ -35,6 +35,10 @@ pub record IsSpentIn (t : Task) (lines : List ScriptLine) : Type 0 where
 abbrev pub IsOnHarts : Way → List Event → Type 0
 IsOnHarts (InOrder order) events = All (λ event. is_of_hart 0 event ≡ true) events
 IsOnHarts (OnHarts harts) events = AreOfHarts harts events
+
+-- every finished run in which nothing was full leaves what is expected
+pub record AllRunsAgree (t : Task) (lines : List ScriptLine) : Type 0 where
+  pub each : InEveryRun t lines (AgreesIn t.expected.now)
 
 -- in a finished run by this schedule nothing was full, and it leaves what is expected
 pub record LeavesRight (t : Task) (lines : List ScriptLine) (schedule : List Event) : Type 0 where

@@ -2,9 +2,8 @@
 
 ghost use Rattle.std.specs.Prelude.{◌≡◌, ◌≢◌, IfOk, IfSome, None, Ok, All};
 ghost use Rattle.script_load.specs.Line.{lines_of};
-ghost use Rattle.grade_verdicts.specs.Agrees.{AgreesIn};
-ghost use Rattle.grade_verdicts.specs.Judged.{InEveryRun, IsInTime, IsJudged, IsPass, IsVerdict};
-ghost use Rattle.grade_ways.specs.Ways.{IsNoPass, IsRunOf, LeavesRight, RunsRight, RunsRightInEveryWay};
+ghost use Rattle.grade_verdicts.specs.Judged.{IsInTime, IsJudged, IsPass, IsVerdict};
+ghost use Rattle.grade_ways.specs.Ways.{AllRunsAgree, IsNoPass, IsRunOf, LeavesRight, RunsRight, RunsRightInEveryWay};
 ghost use Rattle.grade_ways.specs.declared.ways.TheConstants.{WAYS};
 
 use crate::runs::{WayFault, run_again, run_way};
@@ -38,7 +37,7 @@ fn judge_run(
     report: &Report<Global>,
 ) -> Result<Option<Verdict>, AllocError>
     requires run { IsRunOf task.now (lines_of script.now.lines) report.now }
-    requires agree { InEveryRun task.now (lines_of script.now.lines) (AgreesIn task.now.expected.now) }
+    requires agree { AllRunsAgree task.now (lines_of script.now.lines) }
     ensures verdict { IfOk result (λ found. IfSome found (IsNoPass task.now (lines_of script.now.lines))) }
     ensures right { result ≡ Ok None → LeavesRight task.now (lines_of script.now.lines) report.now.schedule }
 {
@@ -65,7 +64,7 @@ fn judge_way<R: Threads + Wait + Clock + Sync>(
     way: Way,
 ) -> Result<Option<Verdict>, AllocError>
     requires profile { script.now.profile ≡ task.now.profile }
-    requires agree { InEveryRun task.now (lines_of script.now.lines) (AgreesIn task.now.expected.now) }
+    requires agree { AllRunsAgree task.now (lines_of script.now.lines) }
     ensures verdict { IfOk result (λ found. IfSome found (IsNoPass task.now (lines_of script.now.lines))) }
     ensures right { result ≡ Ok None → RunsRight task.now (lines_of script.now.lines) way }
 {
@@ -90,7 +89,7 @@ fn judge_ways<R: Threads + Wait + Clock + Sync>(
     ways: &[Way],
 ) -> Result<Option<Verdict>, AllocError>
     requires profile { script.now.profile ≡ task.now.profile }
-    requires agree { InEveryRun task.now (lines_of script.now.lines) (AgreesIn task.now.expected.now) }
+    requires agree { AllRunsAgree task.now (lines_of script.now.lines) }
     ensures verdict { IfOk result (λ found. IfSome found (IsNoPass task.now (lines_of script.now.lines))) }
     ensures right { result ≡ Ok None → All (RunsRight task.now (lines_of script.now.lines)) ways.now }
 {

@@ -6,7 +6,7 @@ use Rattle.grade_ways.proofs.Reported.{agrees_in_runs, the_one}
 use Rattle.grade_ways.proofs.judging.judge_all_ways.Goals as goal
 
 pub judge_ways-requires-clause-agree : goal.judge_ways-requires-clause-agree
-judge_ways-requires-clause-agree g c =
+judge_ways-requires-clause-agree g c = λ lives below.
     agrees_in_runs c.args.task.now (lines_of c.args.script.now.lines) c.in_ok-verdict.verdict (c.passes.ensures.0 c.if-not-passes.false) c.in_ok-verdict.ensures.verdict
 
 pub returns-in-Some-clause-time : goal.returns-in-Some-clause-time

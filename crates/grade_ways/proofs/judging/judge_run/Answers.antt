@@ -5,10 +5,10 @@ use Rattle.grade_verdicts.specs.Agrees.{Agrees}
 use Rattle.grade_ways.proofs.Reported.{right, without_room}
 use Rattle.grade_ways.proofs.judging.judge_run.Goals as goal
 
-pub returns-in_ok-verdict-clause-verdict : goal.returns-in_ok-verdict-clause-verdict
-returns-in_ok-verdict-clause-verdict c =
+pub returns-in-Some-clause-verdict : goal.returns-in-Some-clause-verdict
+returns-in-Some-clause-verdict c =
     let run = c.requires.run in
-    without_room c.args.task.now (lines_of c.args.script.now.lines) c.args.report.now run.run run.turns c.in_ok-verdict.verdict c.in-Some.full run.most run.few c.in-Some.is c.in_ok-verdict.ensures
+    without_room c.args.task.now (lines_of c.args.script.now.lines) c.args.report.now run.run run.turns c.in_ok-verdict-in-Some.verdict c.in-Some.full run.most run.few c.in-Some.is c.in_ok-verdict-in-Some.ensures
 
 pub returns-in-None-difference-clause-right : goal.returns-in-None-difference-clause-right
 returns-in-None-difference-clause-right c = λ _.
