@@ -1,11 +1,11 @@
-use Rattle.std.proofs.Common.{subst, sym, ◌∙◌}
+use Rattle.std.proofs.Common.{Option, Some, None, subst, sym, ◌∙◌}
 use Rattle.std.specs.List.{AllZip}
 use Rattle.grade_verdicts.specs.Judged.{IsJudged}
 use Rattle.grade_verdicts.specs.declared.verdict.Verdict.{Verdict}
 use Rattle.grade_ways.specs.Ways.{RunsRightInEveryWay}
-use Rattle.grade_jobs.specs.Judges.{IsVerdictOn}
+use Rattle.grade_jobs.specs.Judges.{IsFoundOn, IsVerdictOn}
 use Rattle.grade_jobs.specs.declared.judging.Job.{Job}
-use Rattle.xvsh_grades.specs.Due.{IsJobOf, IsVerdictOf}
+use Rattle.xvsh_grades.specs.Due.{IsFoundOf, IsJobOf, IsVerdictOf}
 use Rattle.xvsh_grades.specs.declared.marks.Piece.{Piece}
 use Rattle.xvsh_grades.proofs.Joined.{joined}
 use Rattle.xvsh_grades.proofs.marks.judge_pieces.Goals as goal
@@ -20,8 +20,13 @@ of_job piece job verdict h k =
       ways = λ asked. subst (λ bytes. RunsRightInEveryWay job.task bytes verdict) h.bytes (k.ways (h.every_way ∙ asked));
     }
 
+-- so it is of what was found
+of_found : (piece : Piece) (job : Job) (found : Option Verdict) → IsJobOf piece job → IsFoundOn job found → IsFoundOf piece found
+of_found piece job None h k = tt
+of_found piece job (Some verdict) h k = of_job piece job verdict h k
+
 pub returns : goal.returns
 returns g c =
     let pieces = c.args.pieces.now in
-    joined IsJobOf IsVerdictOn IsVerdictOf of_job pieces c.as_slice.result.now c.in_ok-verdicts.verdicts.items
+    joined IsJobOf IsFoundOn IsFoundOf of_found pieces c.as_slice.result.now c.in_ok-verdicts.verdicts.items
     (subst (AllZip IsJobOf pieces) (sym c.as_slice.ensures.value) c.in_ok-jobs.ensures) c.in_ok-verdicts.ensures
