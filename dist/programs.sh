@@ -58,11 +58,10 @@ keep() {
     mv -f "$bin/$1.new" "$bin/$1"
 }
 
-# Proves and builds the program NAME of the sources of this digest, and says why: build NAME DIGEST REASON
+# Proves and builds the program NAME of the sources of this digest, where that was asked for, and says why: build NAME DIGEST REASON
 build() {
     command -v rt >/dev/null || { echo "xvsh: $3, and Rattle's command rt, which would prove and build $1, isn't installed here; an unchanged checkout has it in dist/, for x86-64 Linux" >&2; exit 125; }
     echo "xvsh: $3: proving and building $1" >&2
-    echo "xvsh: meanwhile rt try, in crates/$1, runs it unproved" >&2
     "$here/dist/build" "$1" || exit 125
     cp "$here/out/build/$1" "$bin/$1.new"
     keep "$1" "$2" build
@@ -85,9 +84,18 @@ prepare() {
         unpack_to "$1" "$bin/$1.new"
         keep "$1" "$digest" dist
     else
-        build "$1" "$digest" "dist/ has no program of these sources for $(uname -sm)"
+        exec 9>&-
+        refuse "$1"
     fi
     exec 9>&-
+}
+
+# Says how to have the program NAME of sources that dist/ has none of, and ends: to prove takes long, so it is asked for.
+refuse() {
+    echo "xvsh: dist/ has no program of these sources for $(uname -sm)" >&2
+    echo "xvsh: XVSH_BUILD=1 ./xvsh --version proves and builds it, in half an hour or more" >&2
+    echo "xvsh: rt try -- WORD.., in crates/$1, runs it unproved, after some minutes" >&2
+    exit 1
 }
 
 # Runs the program NAME with these words: run NAME WORD..
