@@ -1,12 +1,11 @@
-//! Runs on harts that are refused, and a file that grows until it is full.
+//! Runs on harts, and those that are refused.
 
 use crate::given::{TURNS, files_of};
-use kernel_events::{Full, Report};
+use kernel_events::Report;
 use kernel_threads::{Gate, OpenGate, RunFault, run_harts};
-use mem_files::{Files, MAX_SIZE};
+use mem_files::Files;
 use script_load::load;
 use std::alloc::Global;
-use std::process::Abort;
 use std::sync::Wait;
 use std::test::Fail;
 use std::thread::Threads;
@@ -24,19 +23,6 @@ pub(crate) fn run_text<R: Threads + Wait + Clock + Sync + AllocGlobal, G: Gate +
     let script = load(alloc, text.as_bytes())?;
     let given = files_of(alloc)?;
     Ok(run_harts(rt, alloc, &script, &[], &given, harts, TURNS, gate)?)
-}
-
-// The file f is as large as a file may be, and was to grow.
-fn is_full<R: Abort>(rt: &R, report: &Report<Global>) {
-    assert_eq!(rt; report.full, Some(Full::Size));
-    assert_eq!(rt; report.files.get(b"f").unwrap_or_default().len(), MAX_SIZE);
-}
-
-#[test]
-fn a_file_that_grows_is_full(rt: HostRuntime) -> Result<(), Fail> {
-    let report = run_text(&rt, "(echo a; cat f) > f", 2, &OpenGate)?;
-    is_full(&rt, &report);
-    Ok(())
 }
 
 // Why the empty script isn't run.

@@ -19,6 +19,4 @@ mod schedules;
 #[cfg(test)]
 mod seats;
 #[cfg(test)]
-mod tees;
-#[cfg(test)]
 mod threads;
