@@ -41,30 +41,25 @@ other_rule name = record (new_rule name) { value_names = 1; range = Some (record
 abbrev pub most_seed : ℕ
 most_seed = 18446744073709551615
 
--- an argument that can't be beside some others
-abbrev pub apart : Rule → Rule
-apart rule = record rule { is_free = false }
-
 -- the commands; `run` by the most harts and the most turns that it may have
 abbrev pub run_shape : ℕ → ℕ → Shape
 run_shape harts turns = record (new_shape (codes "run")) {
-  rules = number_rule (codes "harts") harts ∷ number_rule (codes "turns") turns ∷ apart (number_rule (codes "seed") most_seed) ∷ apart (path_rule (codes "order")) ∷ flag_rule (codes "schedule") ∷ path_rule (codes "schedule-to") ∷ path_rule (codes "files-to") ∷ path_rule (codes "trace") ∷ apart (flag_rule (codes "lines")) ∷ flag_rule (codes "strict") ∷ flag_rule (codes "append") ∷ flag_rule (codes "files") ∷ flag_rule (codes "quiet") ∷ flag_rule (codes "json") ∷ input_rule ∷ text_rule ∷ word_rule (codes "script") ∷ files_rule ∷ [];
+  rules = number_rule (codes "harts") harts ∷ number_rule (codes "turns") turns ∷ number_rule (codes "seed") most_seed ∷ path_rule (codes "order") ∷ flag_rule (codes "schedule") ∷ path_rule (codes "schedule-to") ∷ path_rule (codes "files-to") ∷ path_rule (codes "trace") ∷ flag_rule (codes "lines") ∷ flag_rule (codes "strict") ∷ flag_rule (codes "append") ∷ flag_rule (codes "files") ∷ flag_rule (codes "quiet") ∷ flag_rule (codes "json") ∷ input_rule ∷ text_rule ∷ word_rule (codes "script") ∷ files_rule ∷ [];
 }
 
 abbrev pub replay_shape : Shape
 replay_shape = record (new_shape (codes "replay")) {
-  rules = path_rule (codes "files-to") ∷ path_rule (codes "trace") ∷ apart (flag_rule (codes "lines")) ∷ flag_rule (codes "append") ∷ flag_rule (codes "files") ∷ flag_rule (codes "json") ∷ input_rule ∷ text_rule ∷ word_rule (codes "events") ∷ word_rule (codes "script") ∷ files_rule ∷ [];
+  rules = path_rule (codes "files-to") ∷ path_rule (codes "trace") ∷ flag_rule (codes "lines") ∷ flag_rule (codes "append") ∷ flag_rule (codes "files") ∷ flag_rule (codes "json") ∷ input_rule ∷ text_rule ∷ word_rule (codes "events") ∷ word_rule (codes "script") ∷ files_rule ∷ [];
 }
 
 abbrev pub plain_shape : Shape
 plain_shape = record (new_shape (codes "plain")) {
-  rules = path_rule (codes "files-to") ∷ apart (flag_rule (codes "diagnostics")) ∷ flag_rule (codes "strict") ∷ flag_rule (codes "append") ∷ flag_rule (codes "files") ∷ flag_rule (codes "json") ∷ input_rule ∷ text_rule ∷ word_rule (codes "script") ∷ files_rule ∷ [];
+  rules = path_rule (codes "files-to") ∷ flag_rule (codes "diagnostics") ∷ flag_rule (codes "strict") ∷ flag_rule (codes "append") ∷ flag_rule (codes "files") ∷ flag_rule (codes "json") ∷ input_rule ∷ text_rule ∷ word_rule (codes "script") ∷ files_rule ∷ [];
 }
 
--- files and an input only beside `--turns`
 abbrev pub check_shape : Shape
 check_shape = record (new_shape (codes "check")) {
-  rules = flag_rule (codes "turns") ∷ flag_rule (codes "strict") ∷ flag_rule (codes "json") ∷ apart input_rule ∷ text_rule ∷ word_rule (codes "script") ∷ record files_rule { is_free = false } ∷ [];
+  rules = flag_rule (codes "turns") ∷ flag_rule (codes "strict") ∷ flag_rule (codes "json") ∷ input_rule ∷ text_rule ∷ word_rule (codes "script") ∷ files_rule ∷ [];
 }
 
 -- `explore` by the most states that it may keep
@@ -89,10 +84,10 @@ step_shape = record (new_shape (codes "step")) {
   rules = path_rule (codes "schedule") ∷ flag_rule (codes "append") ∷ flag_rule (codes "json") ∷ input_rule ∷ text_rule ∷ word_rule (codes "script") ∷ files_rule ∷ [];
 }
 
--- `grade` by the most threads that it may have, and the most states; one form at most
+-- `grade` by the most threads that it may have, and the most states
 abbrev pub grade_shape : ℕ → ℕ → Shape
 grade_shape jobs states = record (new_shape (codes "grade")) {
-  rules = apart (flag_rule (codes "json")) ∷ apart (flag_rule (codes "tap")) ∷ apart (flag_rule (codes "gradescope")) ∷ number_rule (codes "jobs") jobs ∷ number_rule (codes "states") states ∷ word_rule (codes "suite") ∷ files_rule ∷ [];
+  rules = flag_rule (codes "json") ∷ flag_rule (codes "tap") ∷ flag_rule (codes "gradescope") ∷ number_rule (codes "jobs") jobs ∷ number_rule (codes "states") states ∷ word_rule (codes "suite") ∷ files_rule ∷ [];
 }
 
 -- the program, without a command and with all of them

@@ -3,4 +3,4 @@
 
 mod words;
 
-pub use words::command_line;
+pub use words::{Most, command_line};

@@ -1,9 +1,9 @@
 //! The words that the program takes.
 
-ghost use Rattle.std.specs.Prelude.{◌≡◌, IfOk, codes, false};
+ghost use Rattle.std.specs.Prelude.{◌≡◌, ℕ, IfOk, codes, false};
 ghost use Rattle.clap.specs.Simple.{App, Shape, app_of, with_subcommand};
 ghost use Rattle.clap.specs.Walk.{rule_of};
-ghost use Rattle.xvsh_words.specs.Program.{IsCommand, apart, bare_program, check_shape, draw_shape, explain_shape, explore_shape, files_rule, flag_rule, grade_shape, number_rule, other_rule, plain_shape, program, replay_shape, run_shape, step_shape, text_rule, word_rule, path_rule};
+ghost use Rattle.xvsh_words.specs.Program.{IsCommand, bare_program, check_shape, draw_shape, explain_shape, explore_shape, files_rule, flag_rule, grade_shape, number_rule, other_rule, plain_shape, program, replay_shape, run_shape, step_shape, text_rule, word_rule, path_rule};
 
 use clap::builder::ValueParser;
 use clap::{Arg, ArgAction, Command};
@@ -114,19 +114,26 @@ fn flag<'a>(alloc: Global, name: &'static str, help: &'static str) -> Arg<'a>
         .action(ArgAction::SetTrue)
 }
 
-// A flag beside which neither of two others can stand.
-fn lone_flag<'a>(
-    alloc: Global,
-    name: &'static str,
-    help: &'static str,
-    first: &'static str,
-    second: &'static str,
-) -> Result<Arg<'a>, AllocError>
-    ensures { IfOk result (λ arg. (rule_of arg ≡ apart (flag_rule name.now)) × (arg.global ≡ false)) }
+// An argument beside which another can't stand, where that is held.
+fn apart<'a>(arg: Arg<'a>, other: &'static str, is_strict: bool) -> Result<Arg<'a>, AllocError>
+    ensures { is_strict ≡ false → IfOk result (λ held. held ≡ arg.entry) }
 {
-    let flag = flag(alloc, name, help);
-    let alone = flag.conflicts_with(first)?;
-    alone.conflicts_with(second)
+    if is_strict {
+        arg.conflicts_with(other)
+    } else {
+        Ok(arg)
+    }
+}
+
+// An argument that stands only beside another, where that is held.
+fn needing<'a>(arg: Arg<'a>, other: &'static str, is_strict: bool) -> Result<Arg<'a>, AllocError>
+    ensures { is_strict ≡ false → IfOk result (λ held. held ≡ arg.entry) }
+{
+    if is_strict {
+        arg.requires_arg(other)
+    } else {
+        Ok(arg)
+    }
 }
 
 // An option that takes a number from 1 to the most.
@@ -271,13 +278,16 @@ fn run_command<'a>(
     alloc: Global,
     most_harts: u64,
     most_turns: u64,
+    is_strict: bool,
 ) -> Result<Command<'a>, AllocError>
-    ensures { IfOk result (IsCommand (run_shape most_harts most_turns)) }
+    ensures { is_strict ≡ false → IfOk result (IsCommand (run_shape most_harts most_turns)) }
 {
-    let seed = number_option(alloc, "seed", SEED_HELP, u64::MAX).conflicts_with("harts")?;
-    let alone = path_option(alloc, "order", "ORDER", ORDER_HELP).conflicts_with("harts")?;
-    let order = alone.conflicts_with("seed")?;
-    let lines = flag(alloc, "lines", LINES_HELP).conflicts_with("json")?;
+    let seed = number_option(alloc, "seed", SEED_HELP, u64::MAX);
+    let seed = apart(seed, "harts", is_strict)?;
+    let order = path_option(alloc, "order", "ORDER", ORDER_HELP);
+    let alone = apart(order, "harts", is_strict)?;
+    let order = apart(alone, "seed", is_strict)?;
+    let lines = apart(flag(alloc, "lines", LINES_HELP), "json", is_strict)?;
     let args = vec![in alloc;
         number_option(alloc, "harts", HARTS_HELP, most_harts),
         number_option(alloc, "turns", TURNS_HELP, most_turns),
@@ -309,10 +319,10 @@ const REPLAY_ABOUT: &str = "Runs a script by the events that `run --schedule` wr
 const SCHEDULE_HELP: &str =
     "The schedule's path; `-` is standard input, and the script's own input is then empty";
 
-fn replay_command<'a>(alloc: Global) -> Result<Command<'a>, AllocError>
-    ensures { IfOk result (IsCommand replay_shape) }
+fn replay_command<'a>(alloc: Global, is_strict: bool) -> Result<Command<'a>, AllocError>
+    ensures { is_strict ≡ false → IfOk result (IsCommand replay_shape) }
 {
-    let lines = flag(alloc, "lines", LINES_HELP).conflicts_with("json")?;
+    let lines = apart(flag(alloc, "lines", LINES_HELP), "json", is_strict)?;
     let args = vec![in alloc;
         path_option(alloc, "files-to", "DIR", FILES_TO_HELP),
         path_option(alloc, "trace", "FILE", TRACE_HELP),
@@ -336,10 +346,11 @@ const PLAIN_FILES_HELP: &str =
 
 const DIAGNOSTICS_HELP: &str = "Tell the diagnostics, if every order writes the same";
 
-fn plain_command<'a>(alloc: Global) -> Result<Command<'a>, AllocError>
-    ensures { IfOk result (IsCommand plain_shape) }
+fn plain_command<'a>(alloc: Global, is_strict: bool) -> Result<Command<'a>, AllocError>
+    ensures { is_strict ≡ false → IfOk result (IsCommand plain_shape) }
 {
-    let diagnostics = flag(alloc, "diagnostics", DIAGNOSTICS_HELP).conflicts_with("json")?;
+    let flagged = flag(alloc, "diagnostics", DIAGNOSTICS_HELP);
+    let diagnostics = apart(flagged, "json", is_strict)?;
     let args = vec![in alloc;
         path_option(alloc, "files-to", "DIR", FILES_TO_HELP),
         diagnostics,
@@ -362,11 +373,11 @@ const CHECKED_STRICT_HELP: &str = "End with status 3 for a line that is no comma
 const COUNTED_HELP: &str =
     "Write last in how many turns the script runs to its end on the FILEs and its input";
 
-fn check_command<'a>(alloc: Global) -> Result<Command<'a>, AllocError>
-    ensures { IfOk result (IsCommand check_shape) }
+fn check_command<'a>(alloc: Global, is_strict: bool) -> Result<Command<'a>, AllocError>
+    ensures { is_strict ≡ false → IfOk result (IsCommand check_shape) }
 {
-    let files = file_words(alloc).requires_arg("turns")?;
-    let input = input_option(alloc).requires_arg("turns")?;
+    let files = needing(file_words(alloc), "turns", is_strict)?;
+    let input = needing(input_option(alloc), "turns", is_strict)?;
     let args = vec![in alloc;
         flag(alloc, "turns", COUNTED_HELP),
         flag(alloc, "strict", CHECKED_STRICT_HELP),
@@ -521,13 +532,17 @@ fn grade_command<'a>(
     alloc: Global,
     most_jobs: u64,
     most_states: u64,
+    is_strict: bool,
 ) -> Result<Command<'a>, AllocError>
-    ensures { IfOk result (IsCommand (grade_shape most_jobs most_states)) }
+    ensures { is_strict ≡ false → IfOk result (IsCommand (grade_shape most_jobs most_states)) }
 {
+    let json = apart(flag(alloc, "json", GRADE_JSON_HELP), "tap", is_strict)?;
+    let json = apart(json, "gradescope", is_strict)?;
+    let tap = apart(flag(alloc, "tap", TAP_HELP), "gradescope", is_strict)?;
     let args = vec![in alloc;
-        lone_flag(alloc, "json", GRADE_JSON_HELP, "tap", "gradescope")?,
-        lone_flag(alloc, "tap", TAP_HELP, "json", "gradescope")?,
-        lone_flag(alloc, "gradescope", GRADESCOPE_HELP, "json", "tap")?,
+        json,
+        tap,
+        flag(alloc, "gradescope", GRADESCOPE_HELP),
         number_option(alloc, "jobs", JOBS_HELP, most_jobs),
         number_option(alloc, "states", GRADE_STATES_HELP, most_states),
         needed_word(alloc, "suite", "SUITE", SUITE_HELP),
@@ -562,25 +577,34 @@ fn with_command<'a>(
     program.subcommand(command)
 }
 
-/// The command line of the program, on which a run may be asked for on so many harts, and in so many turns, an exploration
-/// of so many states, and grading by so many threads, at most.
+/// The most that numbers of a command line may be: the harts of a run and its turns, the states of a search, and threads.
+#[derive(Clone, Copy)]
+pub struct Most {
+    pub harts: u64,
+    pub turns: u64,
+    pub states: u64,
+    pub jobs: u64,
+}
+
+/// The command line of the program, whose numbers are at most these. With `is_strict` it refuses words that can't stand beside
+/// each other, too.
 pub fn command_line<'a>(
     alloc: Global,
-    most_harts: u64,
-    most_turns: u64,
-    most_states: u64,
-    most_jobs: u64,
+    most: Most,
+    is_strict: bool,
 ) -> Result<Command<'a>, AllocError>
-    ensures { IfOk result (λ command. app_of command ≡ program most_harts most_turns most_states most_jobs) }
+    ensures { is_strict ≡ false → IfOk result (λ command. app_of command ≡ program most.harts most.turns most.states most.jobs) }
 {
     let bare = bare_command(alloc);
-    let one = with_command(bare, run_command(alloc, most_harts, most_turns));
-    let two = with_command(one, replay_command(alloc));
-    let three = with_command(two, plain_command(alloc));
-    let four = with_command(three, check_command(alloc));
+    let run = run_command(alloc, most.harts, most.turns, is_strict);
+    let one = with_command(bare, run);
+    let two = with_command(one, replay_command(alloc, is_strict));
+    let three = with_command(two, plain_command(alloc, is_strict));
+    let four = with_command(three, check_command(alloc, is_strict));
     let five = with_command(four, explain_command(alloc));
-    let six = with_command(five, explore_command(alloc, most_states));
-    let seven = with_command(six, draw_command(alloc, most_turns));
+    let six = with_command(five, explore_command(alloc, most.states));
+    let seven = with_command(six, draw_command(alloc, most.turns));
     let eight = with_command(seven, step_command(alloc));
-    with_command(eight, grade_command(alloc, most_jobs, most_states))
+    let grade = grade_command(alloc, most.jobs, most.states, is_strict);
+    with_command(eight, grade)
 }
