@@ -5,3 +5,4 @@ pub mod Meant
 pub mod Agreeing
 pub mod Statuses
 pub mod Strictly
+mod FromWords

@@ -52,7 +52,7 @@ module _ (input : Option Bytes) (file : Path → Option Bytes) where
   DidRun (asks_lined what) text told = Unit {0}
   DidRun (asks_json what) text told = Unit {0}
   DidRun asks_draw text told = Unit {0}
-  DidRun (asks_input path) text told = Unit {0}
+  DidRun (asks_input path) text told = ⊥
   DidRun help text told = Unit {0}
   DidRun misuse text told = Unit {0}
 
@@ -88,7 +88,7 @@ module _ (input : Option Bytes) (file : Path → Option Bytes) where
   due_well request text told status (unvalued is due) zero = tt
   due_well request text told status (drawn page) zero = tt
   due_well request text told status (undrawn report number) zero = tt
-  due_well request text told status (unread fault why) zero = tt
+  due_well request text told status (unread fault why) zero = absurd (some_status fault zero)
   due_well request text told status (helped shown) zero = tt
   due_well request text told status (misused shown) zero = tt
   due_well request text told status no_memory zero = cc

@@ -1,3 +1,4 @@
 pub mod Told
 pub mod Written
 pub mod Settings
+pub mod Words

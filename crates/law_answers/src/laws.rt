@@ -1,16 +1,20 @@
 //! Laws of runs of the program: each function's contract is the law, and its body is empty. Each is of both profiles, and says
 //! nothing of writers of which it isn't known what they hold.
 
-ghost use Rattle.std.specs.Prelude.{◌≡◌, ℕ, Bool, ◌++◌, true, Some, None, codes};
+ghost use Rattle.std.specs.Prelude.{◌≡◌, ℕ, Bool, List, ◌++◌, true, Some, None, codes};
+ghost use Rattle.clap.specs.Walk.{Row};
 ghost use Rattle.mem_files.specs.Files.{files};
 ghost use Rattle.mem_files.specs.Name.{Bytes};
 ghost use Rattle.meaning_model.specs.Meaning.{script_meaning};
 ghost use Rattle.meaning_model.specs.Settled.{IsSettledScript};
+ghost use Rattle.xvsh_read.specs.Console.{Known};
 ghost use Rattle.xvsh_read.specs.Path.{Path};
 ghost use Rattle.xvsh_runs.specs.Runs.{RanReplay, RanRun};
 ghost use Rattle.xvsh_runs.specs.declared.report.Lists.{Lists};
 ghost use Rattle.xvsh_ends.specs.Ends.{How};
+ghost use Rattle.xvsh.specs.Drive.{EndsOn};
 ghost use Rattle.law_answers.specs.Settings.{EndsIn, IsKnown, IsSettledIn, LeavesInput, MeantIn, Outputs, RanIn, Setting, WriteTheSame, WritesMeaningIn, plain_in, run_in, strict_in};
+ghost use Rattle.law_answers.specs.Words.{AreOfStrictRun, WroteMeaningOf};
 ghost use Rattle.law_answers.specs.Written.{IsValueText, no_lists};
 
 /// What `run` prints of a run in which nothing was full, of a script that is settled on what was read, is the output of the
@@ -50,4 +54,11 @@ pub fn status_0_of_a_strict_run_is_the_meaning()
     ensures meaning { (s : Setting) (harts turns : ℕ) (lists : Lists) (o : Outputs) → EndsIn s o (strict_in s harts turns lists) 0 → WritesMeaningIn s lists o }
     ensures two { (s : Setting) (harts turns others more : ℕ) (one two : Outputs) → IsKnown s
         → EndsIn s one (strict_in s harts turns no_lists) 0 → EndsIn s two (strict_in s others more no_lists) 0 → WriteTheSame one two }
+{}
+
+/// From the words of the command line on: where they are those of `run --strict`, and the program ends with status 0, the script that
+/// they name is settled on the standard input and the files that they name, and its recursive meaning was written, with the lists
+/// that they ask for.
+pub fn status_0_of_strict_words_is_the_meaning()
+    ensures { (old new : Known) (words : List (List ℕ)) (rows : List Row) → AreOfStrictRun words rows → EndsOn old new words 0 → WroteMeaningOf old new rows }
 {}

@@ -1,32 +1,28 @@
-ghost use Rattle.std.specs.Prelude.{◌≡◌, ◌≢◌, ℕ, List, Option, [], codes, false, map, string_bytes, IfOk};
-ghost use Rattle.clap.specs.Simple.{app_of};
+ghost use Rattle.std.specs.Prelude.{◌≡◌, ◌≢◌, [], codes, false, map, string_bytes, IfOk};
 ghost use Rattle.xvsh_read.specs.Console.{known};
-ghost use Rattle.xvsh_read.specs.Path.{Path};
 ghost use Rattle.xvsh_read.specs.Writing.{out_text};
-ghost use Rattle.xvsh_ends.specs.Ends.{Asked, IsDue, asks_plain, told_text};
+ghost use Rattle.xvsh_ends.specs.Ends.{Asked, IsDue, asks_plain};
 ghost use Rattle.xvsh_ends.specs.Requests.{EndsAt};
-ghost use Rattle.xvsh.specs.Drive.{EndsFrom, IsAskedBy, IsAskedByWords, IsDueGiven, IsNoRequest, WritesMeaning, completed, own_program};
+ghost use Rattle.xvsh.specs.Drive.{EndsOn, IsAskedBy, IsDueGiven, IsDueOn, WritesMeaning, completed};
 ghost use Rattle.xvsh_given.specs.Given.{Sight};
 
+use crate::parsing::parsed_words;
 use crate::request::{inputs_of, request_of};
-use clap::error::ErrorKind;
-use clap::{ArgMatches, Command};
+use clap::ArgMatches;
 use script_load::Profile;
-use sh_lexer::Bytes;
 use std::alloc::{AllocError, Global};
 use std::io::Write;
 use std::sync::Wait;
 use std::thread::Threads;
 use std::time::Clock;
 use xvsh_ends::{
-    Ending, Line, MAX_HARTS, MAX_STATES, MAX_TURNS, PlainRequest, Request, ending_of, hint_of,
-    no_output, report, report_made, report_no_memory, unread_ending, write_ending,
+    Ending, Line, PlainRequest, Request, ending_of, hint_of, report, report_no_memory,
+    unread_ending, write_ending,
 };
 use xvsh_explores::Watch;
 use xvsh_given::{Given, Inputs, read_given};
-use xvsh_read::{Console, Hints, Host, Output, STDIN, Source};
+use xvsh_read::{Console, Hints, Host, STDIN, Source};
 use xvsh_traces::Traces;
-use xvsh_words::command_line;
 
 // How the request ends with the standard input and the script that the words give, if they do.
 fn given_ending<R: Threads + Wait + Clock + Sync, H: Host + Traces + Watch>(
@@ -68,59 +64,6 @@ fn command_ending<R: Threads + Wait + Clock + Sync, H: Host + Traces + Watch>(
     }
 }
 
-// What is reported of a word that is no command.
-const TIP: &str =
-    "\n`xvsh plain SCRIPT` runs the script at a path, and `xvsh run SCRIPT` by its processes.\n";
-
-// The help, which goes to standard output.
-fn help_ending(alloc: Global, text: String) -> Ending
-    ensures out { out_text result.output ≡ string_bytes text }
-    ensures told { told_text result ≡ [] }
-    ensures status { result.status ≡ 0 }
-{
-    Ending {
-        output: Output {
-            out: Bytes::from_vec(text.into_bytes()),
-            ..no_output(alloc)
-        },
-        line: Line::Fixed(""),
-        status: 0,
-        recording: None,
-        left: None,
-        hint: "",
-    }
-}
-
-/// How the program ends where there is no command: the words ask for help, or are no command line.
-pub fn error_ending(alloc: Global, error: &clap::Error) -> Ending
-    ensures due { (input : Option (List ℕ)) (file : Path → Option (List ℕ)) → (asked : Asked) × IsNoRequest asked × IsDue input file asked result }
-    ensures nothing { result.status ≢ 0 → out_text result.output ≡ [] }
-{
-    if error.kind() == ErrorKind::OutOfMemory {
-        return report_no_memory(alloc);
-    }
-    let is_unknown = error.kind() == ErrorKind::InvalidSubcommand;
-    let tip = if is_unknown { TIP } else { "" };
-    let made = format!(in alloc; "{error}{tip}");
-    if error.use_stderr() {
-        return report_made(alloc, made, 2);
-    }
-    match made {
-        Ok(text) => help_ending(alloc, text),
-        Err(_) => report_no_memory(alloc),
-    }
-}
-
-/// The most threads that grade (own).
-pub const MAX_JOBS: u64 = 256;
-
-/// The command line of the program, with the most that its numbers may be.
-pub fn own_command_line<'a>(alloc: Global) -> Result<Command<'a>, AllocError>
-    ensures { IfOk result (λ command. app_of command ≡ own_program) }
-{
-    command_line(alloc, u64::from(MAX_HARTS), MAX_TURNS, MAX_STATES, MAX_JOBS)
-}
-
 // How the program ends on these words, of which there is one.
 fn words_ending<R: Threads + Wait + Clock + Sync, H: Host + Traces + Watch>(
     rt: &R,
@@ -128,15 +71,12 @@ fn words_ending<R: Threads + Wait + Clock + Sync, H: Host + Traces + Watch>(
     words: &[String],
     host: &mut H,
 ) -> Ending
-    ensures due { (sight : Sight) × (asked : Asked) × IsAskedByWords (H.input host.old) (H.file host.old) (map string_bytes words.now) sight asked × IsDue sight.input sight.file asked result }
+    ensures due { IsDueOn (H.input host.old) (H.file host.old) (map string_bytes words.now) result }
     ensures nothing { result.status ≢ 0 → result.status ≢ 1 → result.status ≢ 3 → result.status ≢ 4 → out_text result.output ≡ [] }
 {
-    let Ok(command) = own_command_line(alloc) else {
-        return report_no_memory(alloc);
-    };
-    match command.try_get_matches_from(words) {
+    match parsed_words(alloc, words) {
         Ok(matches) => command_ending(rt, alloc, &matches, host),
-        Err(error) => error_ending(alloc, &error),
+        Err(ending) => ending,
     }
 }
 
@@ -187,7 +127,7 @@ fn ending_on<R: Threads + Wait + Clock + Sync, H: Host + Traces + Watch>(
     host: &mut H,
 ) -> Ending
     ensures no_words { words.items ≡ [] → IsDue (H.input host.old) (H.file host.old) (asks_plain Profile.Xv6 (codes "-") [] false false) result }
-    ensures due { words.items ≢ [] → (sight : Sight) × (asked : Asked) × IsAskedByWords (H.input host.old) (H.file host.old) (completed (map string_bytes words.items)) sight asked × IsDue sight.input sight.file asked result }
+    ensures due { words.items ≢ [] → IsDueOn (H.input host.old) (H.file host.old) (completed (map string_bytes words.items)) result }
     ensures nothing { result.status ≢ 0 → result.status ≢ 1 → result.status ≢ 3 → result.status ≢ 4 → out_text result.output ≡ [] }
     ensures no_words_nothing { words.items ≡ [] → result.status ≢ 0 → out_text result.output ≡ [] }
 {
@@ -261,7 +201,7 @@ pub fn drive<
 >(rt: &R, alloc: Global, words: Vec<String>, console: &mut Console<H, W, E>) -> u8
     ensures meaning { let seen = known H.input H.file W.contents E.contents in words.items ≡ [] → result ≡ 0 → WritesMeaning (seen console.old).input (seen console.old).out (seen console.new).out }
     ensures no_words { let seen = known H.input H.file W.contents E.contents in words.items ≡ [] → EndsAt (seen console.old) (seen console.new) (asks_plain Profile.Xv6 (codes "-") [] false false) result }
-    ensures ends { let seen = known H.input H.file W.contents E.contents in words.items ≢ [] → (sight : Sight) × (asked : Asked) × IsAskedByWords (seen console.old).input (seen console.old).file (completed (map string_bytes words.items)) sight asked × EndsFrom sight (seen console.old) (seen console.new) asked result }
+    ensures ends { let seen = known H.input H.file W.contents E.contents in words.items ≢ [] → EndsOn (seen console.old) (seen console.new) (completed (map string_bytes words.items)) result }
     ensures nothing_written { result ≢ 0 → result ≢ 1 → result ≢ 3 → result ≢ 4 → console.new.out ≡ console.old.out }
     ensures no_words_written { words.items ≡ [] → result ≢ 0 → result ≢ 1 → console.new.out ≡ console.old.out }
 {

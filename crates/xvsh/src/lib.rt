@@ -2,9 +2,11 @@
 #![tactic(auto)]
 
 mod driver;
+mod parsing;
 mod request;
 
-pub use driver::{MAX_JOBS, drive, error_ending, own_command_line};
+pub use driver::drive;
+pub use parsing::{MAX_JOBS, parsed_words};
 pub use request::{OWN_INPUT, inputs_of, request_of};
 pub use xvsh_ends::Request;
 pub use xvsh_explores::Watch;

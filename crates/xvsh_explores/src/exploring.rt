@@ -1,8 +1,11 @@
 //! What `explore` does: it reads a script, its files and its input, tries every order, and returns what is told.
-ghost use Rattle.std.specs.Prelude.{◌≡◌, ◌↔◌, ◌⊎◌, Bool, true, Ok, IfOk, IfErr, IfSome, IsTrue};
+ghost use Rattle.std.specs.Prelude.{◌≡◌, ◌↔◌, ◌⊎◌, Bool, true, Ok, All, IfOk, IfErr, IfSome, IsTrue, OnOk, map};
 ghost use Rattle.script_load.specs.Line.{lines_of};
+ghost use Rattle.sh_machine.specs.Turn.{call_of, next_of};
 ghost use Rattle.run_model.specs.ScriptRun.{script_kernel};
 ghost use Rattle.run_room.specs.Room.{HasRoom};
+ghost use Rattle.order_model.specs.Explored.{AreAllOutcomes};
+ghost use Rattle.order_search.specs.Told.{IsReplayed, outcome_by};
 ghost use Rattle.xvsh_explores.specs.Explores.{AreSingle, IsExploreFault, LeftTheSame, RanExplore, Told};
 ghost use Rattle.xvsh_read.specs.declared.fault.Fault.TheVariants.{Memory, TooLarge};
 
@@ -17,6 +20,7 @@ use kernel_runs::RunOneFault;
 use order_partings::Scene;
 use plain_run::{Plain, PlainFault, plain};
 use run_room::full_in_run;
+use sample_runs::add_samples;
 use script_load::MAX_TURNS;
 use std::alloc::{AllocError, Global};
 use xvsh_read::{Fault, Host, Start, prepare};
@@ -69,21 +73,23 @@ fn text_of(
     request: &ExploreRequest<'_>,
     found: &Exploration,
     findings: &Findings,
+    runs: usize,
 ) -> Result<Vec<u8>, AllocError> {
     if request.is_json {
         let is_single = are_single(found.outcomes.as_slice());
-        object_of(alloc, found, findings, is_single)
+        object_of(alloc, found, findings, is_single, runs)
     } else {
-        told(alloc, request, found, findings)
+        told(alloc, request, found, findings, runs)
     }
 }
 
-// What is told of what was found.
+// What is told of what was found, after so many runs in a few orders.
 fn tell(
     alloc: Global,
     start: &Start,
     request: &ExploreRequest<'_>,
     found: &Exploration,
+    runs: usize,
 ) -> Result<Explored, AllocError>
     ensures whole { IfOk result (λ explored. explored.is_whole ≡ found.now.whole) }
     ensures single { IfOk result (λ explored. IsTrue explored.is_single ↔ AreSingle found.now.outcomes.items) }
@@ -95,7 +101,7 @@ fn tell(
     };
     let findings = findings_of(alloc, &scene, found.outcomes.as_slice())?;
     Ok(Explored {
-        text: text_of(alloc, request, found, &findings)?,
+        text: text_of(alloc, request, found, &findings, runs)?,
         is_whole: found.whole,
         is_single: are_single(found.outcomes.as_slice()),
         schedules: schedules_of(alloc, request, &findings)?,
@@ -103,7 +109,44 @@ fn tell(
     })
 }
 
-// What is found by trying every order.
+// Adds what runs in a few orders leave, where not every order was tried, and returns how many of these runs ended.
+fn add_sampled(alloc: Global, start: &Start, found: &mut Exploration) -> Result<usize, ExploreFault>
+    ensures whole { OnOk result (found.new.whole ≡ found.old.whole) }
+    ensures same { OnOk result (found.old.whole ≡ true → found.new.outcomes ≡ found.old.outcomes) }
+    ensures sound { OnOk result (All (IsReplayed call_of next_of (script_kernel start.now.script.profile (lines_of start.now.script.lines) start.now.stdin.items start.now.files)) found.old.outcomes.items → All (IsReplayed call_of next_of (script_kernel start.now.script.profile (lines_of start.now.script.lines) start.now.stdin.items start.now.files)) found.new.outcomes.items) }
+{
+    if found.whole {
+        return Ok(0);
+    }
+    let setting = Setting {
+        script: &start.script,
+        stdin: start.stdin.as_slice(),
+        files: &start.files,
+    };
+    let runs = add_samples(alloc, &setting, &mut found.outcomes)?;
+    Ok(runs)
+}
+
+// What is found by trying every order, of at most so many states.
+fn find_all<W: Watch>(
+    alloc: Global,
+    start: &Start,
+    states: u64,
+    watch: &mut W,
+) -> Result<Exploration, ExploreFault>
+    ensures sound { IfOk result (λ found. All (IsReplayed call_of next_of (script_kernel start.now.script.profile (lines_of start.now.script.lines) start.now.stdin.items start.now.files)) found.outcomes.items) }
+    ensures complete { IfOk result (λ found. found.whole ≡ true → AreAllOutcomes call_of next_of (script_kernel start.now.script.profile (lines_of start.now.script.lines) start.now.stdin.items start.now.files) (map outcome_by found.outcomes.items)) }
+{
+    let most = usize::try_from(states).unwrap_or(usize::MAX);
+    let setting = Setting {
+        script: &start.script,
+        stdin: start.stdin.as_slice(),
+        files: &start.files,
+    };
+    explore_watched(alloc, &setting, most, watch)
+}
+
+// What is found by trying every order, and where not every one was tried by runs in a few.
 fn explore_all<'a, W: Watch>(
     alloc: Global,
     start: &Start,
@@ -113,17 +156,15 @@ fn explore_all<'a, W: Watch>(
     ensures told { IfOk result (λ explored. (all : Bool) → Told start.now.script.profile (lines_of start.now.script.lines) start.now.stdin.items start.now.files all explored.is_whole explored.is_single) }
     ensures fault { IfErr result (λ fault. (fault ≡ Memory) ⊎ (fault ≡ TooLarge)) }
 {
-    let most = usize::try_from(request.states).unwrap_or(usize::MAX);
-    let setting = Setting {
-        script: &start.script,
-        stdin: start.stdin.as_slice(),
-        files: &start.files,
-    };
-    let found = match explore_watched(alloc, &setting, most, watch) {
+    let mut found = match find_all(alloc, start, request.states, watch) {
         Ok(found) => found,
         Err(fault) => return Err(of_explore(fault)),
     };
-    let explored = tell(alloc, start, request, &found)?;
+    let runs = match add_sampled(alloc, start, &mut found) {
+        Ok(runs) => runs,
+        Err(fault) => return Err(of_explore(fault)),
+    };
+    let explored = tell(alloc, start, request, &found, runs)?;
     Ok(explored)
 }
 

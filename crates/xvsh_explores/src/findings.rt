@@ -12,7 +12,7 @@ use std::alloc::{AllocError, Global};
 pub struct Findings {
     /// The place of each among the outcomes.
     pub order: Vec<usize>,
-    /// A shortest schedule of each: the processes in the order of their turns.
+    /// A schedule of each: the processes in the order of their turns.
     pub ways: Vec<Vec<u8>>,
     /// Where the schedule of the first and that of each part, where that is told.
     pub partings: Vec<Option<Parting>>,
@@ -75,7 +75,7 @@ fn part_all(
     Ok(partings)
 }
 
-/// The outcomes in their order, with a shortest schedule of each, and where these part.
+/// The outcomes in their order, with a schedule of each, and where these part.
 pub fn findings_of(
     alloc: Global,
     scene: &Scene<'_>,

@@ -81,16 +81,19 @@ fn write_outcomes(
     line.end_list()
 }
 
-/// The object of an exploration, by whether all its outcomes have one output and one set of files, and LF.
+/// The object of an exploration, by whether all its outcomes have one output and one set of files, and how many runs in a few orders
+/// ended, and LF.
 pub fn object_of(
     alloc: Global,
     found: &Exploration,
     findings: &Findings,
     is_single: bool,
+    runs: usize,
 ) -> Result<Vec<u8>, AllocError> {
     let (status, code) = status_of(found.whole, is_single);
     let mut line = begin_result(alloc, "explore", status, code)?;
     line.count("states", found.states as u64)?;
+    line.count("runs", runs as u64)?;
     line.truth("every_order_tried", found.whole)?;
     match &found.stuck {
         Some(pids) => write_pids(&mut line, "stuck", pids.as_slice())?,
@@ -108,6 +111,7 @@ pub fn object_of_settled(
 ) -> Result<Vec<u8>, AllocError> {
     let mut line = begin_result(alloc, "explore", "settled", 0)?;
     line.count("states", 0)?;
+    line.count("runs", 0)?;
     line.truth("every_order_tried", false)?;
     line.nothing("stuck")?;
     line.begin_list("outcomes")?;

@@ -35,26 +35,39 @@ fn outputs_of(outcomes: &[Outcome], order: &[usize]) -> usize {
     count
 }
 
+// Of how many runs and states the outcomes are, and whether every order was tried.
+fn add_tried(
+    alloc: Global,
+    text: &mut Vec<u8>,
+    found: &Exploration,
+    runs: usize,
+) -> Result<(), AllocError> {
+    if found.whole {
+        text.extend_from_slice(b", every order tried (".as_slice())?;
+        add_count(alloc, text, found.states, "state")?;
+        return text.extend_from_slice(b")\n".as_slice());
+    }
+    text.extend_from_slice(b" so far (of ".as_slice())?;
+    add_count(alloc, text, runs, "run")?;
+    text.extend_from_slice(b" and ".as_slice())?;
+    add_count(alloc, text, found.states, "state")?;
+    text.extend_from_slice(b"), not every order was tried\n".as_slice())
+}
+
 // The first line: how many outputs and outcomes there are, and whether every order was tried.
 fn add_head(
     alloc: Global,
     text: &mut Vec<u8>,
     found: &Exploration,
     outputs: usize,
+    runs: usize,
 ) -> Result<(), AllocError> {
     add_count(alloc, text, outputs, "output")?;
     if outputs < found.outcomes.len() {
         text.extend_from_slice(b", ".as_slice())?;
         add_count(alloc, text, found.outcomes.len(), "outcome")?;
     }
-    let tried = if found.whole {
-        ", every order tried ("
-    } else {
-        " so far, not every order was tried ("
-    };
-    text.extend_from_slice(tried.as_bytes())?;
-    add_count(alloc, text, found.states, "state")?;
-    text.extend_from_slice(b")\n".as_slice())
+    add_tried(alloc, text, found, runs)
 }
 
 // A line for each file, one for the diagnostics, and one for what was full.
@@ -148,21 +161,22 @@ fn add_stuck(alloc: Global, text: &mut Vec<u8>, found: &Exploration) -> Result<(
 }
 
 /// The text of an exploration: a line on how many outputs there are and whether every order was tried, and then a line an
-/// outcome, by output, files and diagnostics, with the events of a shortest run to it. Where outcomes differ in more than the
+/// outcome, by output, files and diagnostics, with the events of a run to it. Where outcomes differ in more than the
 /// output, each has its files, its diagnostics and what was full below it. Then comes where the schedule of the first outcome
 /// and those of others part, and, where schedules are written, how to replay one. Bytes that aren't printable ASCII are shown by
-/// their escapes.
+/// their escapes. Where not every order was tried, `runs` is how many runs in a few orders ended.
 pub fn told(
     alloc: Global,
     request: &ExploreRequest<'_>,
     found: &Exploration,
     findings: &Findings,
+    runs: usize,
 ) -> Result<Vec<u8>, AllocError> {
     let mut text = Vec::new(alloc);
     let outcomes = found.outcomes.as_slice();
     let order = findings.order.as_slice();
     let outputs = outputs_of(outcomes, order);
-    add_head(alloc, &mut text, found, outputs)?;
+    add_head(alloc, &mut text, found, outputs, runs)?;
     let shows_more = outputs < outcomes.len();
     add_outcomes(alloc, &mut text, outcomes, order, shows_more)?;
     add_stuck(alloc, &mut text, found)?;

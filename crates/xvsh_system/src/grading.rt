@@ -2,7 +2,7 @@
 
 use crate::system::System;
 use crate::terminal::Terminal;
-use crate::usage::{Parsed, parsed_words, report};
+use crate::usage::report;
 use clap::ArgMatches;
 use std::env::{self, VarError};
 use std::io::{self, Write};
@@ -11,6 +11,7 @@ use std::sync::Wait;
 use std::thread;
 use std::thread::Threads;
 use std::time::Clock;
+use xvsh::parsed_words;
 use xvsh_grades::{Form, GradeRequest, Report, grade};
 use xvsh_read::{STDIN, write};
 
@@ -116,10 +117,10 @@ where
     T: Write + Drop,
 {
     match parsed_words(rt.alloc(), words) {
-        Parsed::Words(matches) => match matches.subcommand_matches("grade") {
+        Ok(matches) => match matches.subcommand_matches("grade") {
             Some(words) => carry_out(rt, words, err, terminal),
             None => 2,
         },
-        Parsed::Ending(ending) => report(rt, &ending, err),
+        Err(ending) => report(rt, &ending, err),
     }
 }

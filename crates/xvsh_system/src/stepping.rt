@@ -2,7 +2,7 @@
 
 use crate::system::System;
 use crate::terminal::Terminal;
-use crate::usage::{Parsed, parsed_words, report};
+use crate::usage::report;
 use clap::ArgMatches;
 use std::alloc::Global;
 use std::fs::File;
@@ -10,6 +10,7 @@ use std::io::{self, Write};
 use std::rt::Files;
 use std::sync::Wait;
 use std::time::Clock;
+use xvsh::parsed_words;
 use xvsh_given::{Given, NOTHING, TEXT_PATH, read_given};
 use xvsh_read::{Host, HostFault, STDIN, Source, Unwritten, profile_of, write};
 use xvsh_steps::{Keep, StepFault, StepRequest, step};
@@ -153,10 +154,10 @@ where
     T: Write + Drop,
 {
     match parsed_words(rt.alloc(), words) {
-        Parsed::Words(matches) => match matches.subcommand_matches("step") {
+        Ok(matches) => match matches.subcommand_matches("step") {
             Some(words) => carry_out(rt, words, err, terminal),
             None => 2,
         },
-        Parsed::Ending(ending) => report(rt, &ending, err),
+        Err(ending) => report(rt, &ending, err),
     }
 }

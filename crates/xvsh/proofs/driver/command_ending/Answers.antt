@@ -1,4 +1,4 @@
-use Rattle.std.proofs.Common.{[], inr, refl}
+use Rattle.std.proofs.Common.{[]}
 use Rattle.xvsh_ends.specs.Ends.{misuse, misused}
 use Rattle.xvsh_ends.proofs.Dues.{due_by}
 use Rattle.xvsh.specs.Drive.{asks_nothing}
@@ -9,7 +9,7 @@ pub returns-in-None-clause-due : goal.returns-in-None-clause-due
 returns-in-None-clause-due g c =
     let input = g.H.Host.input c.args.host.now in
     let file = g.H.Host.file c.args.host.now in
-    (record { input = input; file = file }, misuse, asks_nothing (inr refl), due_by input file misuse [] [] 2 c.report.result c.report.ensures.nothing c.report.ensures.reported c.report.ensures.with (misused []))
+    (record { input = input; file = file }, misuse, asks_nothing (c.request_of.ensures.none c.in-None.is), due_by input file misuse [] [] 2 c.report.result c.report.ensures.nothing c.report.ensures.reported c.report.ensures.with (misused []))
 
 pub returns-in-Some-clause-due : goal.returns-in-Some-clause-due
 returns-in-Some-clause-due g c =
