@@ -50,8 +50,8 @@ name_of_rows : (matches : ArgMatches) (name : List ℕ) (rows : List Row) → su
 name_of_rows matches name rows is = go (out-ArgMatches matches).subcommand is
   where
     go : {Z : Type 0} (met : Option (Box SubCommand Z)) → subcommand_rows met ≡ Some (name, rows) → option_map (λ b. (out-SubCommand (box_value b)).name.now) met ≡ Some name
-    go None e = cc
-    go (Some b) e = cc
+    go None e = ap (option_map (λ p. p.0)) e
+    go (Some b) e = ap (option_map (λ p. p.0)) e
 
 -- another command has a name of another length
 run_has_three : (matches : ArgMatches) (name : List ℕ) → subcommand_name_of matches ≡ Some (codes "run") → subcommand_name_of matches ≡ Some name → length name ≡ 3

@@ -23,7 +23,7 @@ strictly_settled true zero = refl
 strictly_settled false zero = cc
 
 -- with status 0 all that is due was written, and it is due with that status
-written_well : (text told : Bytes) (status : ℕ) (out out' err err' : Option Bytes) (result : ℕ) → Writes text told status out out' err err' result → result ≡ 0 → (status ≡ 0) × Appends out out' text × Appends err err' told
+pub written_well : (text told : Bytes) (status : ℕ) (out out' err err' : Option Bytes) (result : ℕ) → Writes text told status out out' err err' result → result ≡ 0 → (status ≡ 0) × Appends out out' text × Appends err err' told
 written_well text told status out out' err err' result (whole printed reported) zero = (zero, printed, reported)
 written_well text told status out out' err err' result (out_stopped part kept) zero = cc
 written_well text told status out out' err err' result (err_stopped printed part) zero = cc
