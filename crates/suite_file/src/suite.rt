@@ -31,21 +31,9 @@ pub struct NamedSource {
     pub source: Source,
 }
 
-/// A test of a suite (own).
-#[derive(Debug, Drop)]
-pub struct SuiteTest {
-    pub name: String,
-    pub points: u64,
-    /// Its own script; `None` where it is run on each script that is graded.
-    pub script: Option<Source>,
-    /// The standard input.
-    pub stdin: Source,
-    /// The files at the beginning, in byte order of their names.
-    pub files: Vec<NamedSource>,
-    /// The standard output that is expected.
-    pub output: Source,
-    /// The files that are expected at the end, in byte order of their names.
-    pub expected: Vec<NamedSource>,
+/// How a test judges scripts (own).
+#[derive(Clone, Copy, Debug, PartialEq, Eq)]
+pub struct Limits {
     /// Whether `>>` appends.
     pub appends: bool,
     /// The most bytes that a script may have.
@@ -56,6 +44,36 @@ pub struct SuiteTest {
     pub turns: u64,
     /// Whether a script that passes is run in every way, too.
     pub every_way: bool,
+}
+
+/// What a test gives to a script (own).
+#[derive(Debug, Drop)]
+pub struct Given {
+    /// The test's own script; `None` where it is run on each script that is graded.
+    pub script: Option<Source>,
+    /// The standard input.
+    pub stdin: Source,
+    /// The files at the beginning, in byte order of their names.
+    pub files: Vec<NamedSource>,
+}
+
+/// What a test wants of a script (own).
+#[derive(Debug, Drop)]
+pub struct Wanted {
+    /// The standard output.
+    pub output: Source,
+    /// The files at the end, in byte order of their names.
+    pub files: Vec<NamedSource>,
+}
+
+/// A test of a suite (own).
+#[derive(Debug, Drop)]
+pub struct SuiteTest {
+    pub name: String,
+    pub points: u64,
+    pub limits: Limits,
+    pub given: Given,
+    pub wanted: Wanted,
 }
 
 /// A suite: tests, of which no two have one name (own).

@@ -9,7 +9,7 @@ use mem_files::{Files, FilesFault, MAX_FILES, is_openable};
 use script_load::Profile;
 use std::alloc::Global;
 use std::str;
-use suite_file::{NamedSource, Suite, SuiteTest};
+use suite_file::{Given, NamedSource, Suite, SuiteTest, Wanted};
 use xvsh_read::{Fault, Host, profile_of};
 
 /// A test, with all bytes that it names (own).
@@ -142,17 +142,19 @@ fn load<'a, H: Host>(
     let SuiteTest {
         name,
         points,
+        limits,
+        given,
+        wanted,
+    } = test;
+    let Given {
         script,
         stdin,
         files,
+    } = given;
+    let Wanted {
         output,
-        expected,
-        appends,
-        bytes,
-        states,
-        turns,
-        every_way,
-    } = test;
+        files: expected,
+    } = wanted;
     let script = match script {
         Some(source) => Some(spot.bytes_of(host, &Place::script(), source)?),
         None => None,
@@ -171,11 +173,11 @@ fn load<'a, H: Host>(
             out,
             files: expected,
         },
-        profile: profile_of(appends),
-        bytes,
-        states: states.min(most),
-        turns,
-        every_way,
+        profile: profile_of(limits.appends),
+        bytes: limits.bytes,
+        states: limits.states.min(most),
+        turns: limits.turns,
+        every_way: limits.every_way,
     })
 }
 
