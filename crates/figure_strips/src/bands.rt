@@ -1,13 +1,13 @@
 //! The bands of a strip: how full each pipe is, and who holds its ends.
 
 use crate::geometry::{BAND, FILL, Fold, LETTER, TIME, Window};
-use crate::labels::{begin_label, begin_text};
+use crate::labels::{add_label, add_text};
 use crate::strip::{Strip, states_of};
 use Piece::{Bits, Mark, Num};
 use figure_words::{Run, events_of};
 use page_markup::{Page, Piece, bits_width};
 use std::alloc::{AllocError, Allocator};
-use trace_data::{Object, PipeState, Reply, State};
+use trace_data::{Object, PipeState, Reply, State, Trap};
 
 // How many bytes a pipe holds.
 const PIPE_SIZE: usize = 512;
@@ -31,6 +31,22 @@ fn digits(number: usize) -> usize {
     }
 }
 
+// How high so many bytes in a pipe are drawn.
+fn fill_height(held: usize) -> usize {
+    let high = held.min(PIPE_SIZE) * FILL / PIPE_SIZE;
+    if held > 0 && high == 0 { 1 } else { high }
+}
+
+// How far below a band's base the number of its bytes stands, which are drawn so high: above them, or in them.
+fn number_line(base: usize, high: usize) -> usize {
+    let low = base.saturating_sub(high).saturating_sub(2);
+    if high > 14 {
+        low.saturating_add(12)
+    } else {
+        low
+    }
+}
+
 // How full a pipe is from one event to another.
 fn add_fill<A: Allocator>(
     page: &mut Page<A>,
@@ -39,70 +55,104 @@ fn add_fill<A: Allocator>(
     (left, right, top): (usize, usize, usize),
 ) -> Result<(), AllocError> {
     let wide = right.saturating_sub(left);
-    let high = held.min(PIPE_SIZE) * FILL / PIPE_SIZE;
-    let high = if held > 0 && high == 0 { 1 } else { high };
+    let high = fill_height(held);
     let base = top.saturating_add(FILL_TOP + FILL);
     if held > 0 {
-        page.add(&[
-            Mark("<rect class=\"fill\" x=\""),
-            Num(left),
-            Mark("\" y=\""),
-            Num(base.saturating_sub(high)),
-            Mark("\" width=\""),
-            Num(wide),
-            Mark("\" height=\""),
-            Num(high),
-            Mark("\"/>"),
-        ])?;
+        page.fill(
+            "<rect class=\"fill\" x=\"%\" y=\"%\" width=\"%\" height=\"%\"/>",
+            &[
+                Num(left),
+                Num(base.saturating_sub(high)),
+                Num(wide),
+                Num(high),
+            ],
+        )?;
     }
     if !is_new || wide < digits(held).saturating_add(1).saturating_mul(LETTER) {
         return Ok(());
     }
-    let low = base.saturating_sub(high).saturating_sub(2);
-    let low = if high > 14 {
-        low.saturating_add(12)
-    } else {
-        low
-    };
-    begin_text(page, "small left", (left.saturating_add(2), low))?;
-    page.add(&[Num(held), Mark("</text>")])
+    let place = (left.saturating_add(2), number_line(base, high));
+    add_text(page, "small left", place, &[Num(held)])
 }
 
-// Who holds an end from one event to another; where the end is closed then, a cross.
+// Who holds an end from one event to another.
 fn add_rail<A: Allocator>(
     page: &mut Page<A>,
     bits: u64,
     is_new: bool,
-    closed: Option<&'static str>,
     (left, right, at): (usize, usize, usize),
 ) -> Result<(), AllocError> {
-    if bits != 0 {
-        page.add(&[
-            Mark("<path class=\"rail\" d=\"M"),
-            Num(left),
-            Mark(" "),
-            Num(at),
-            Mark("H"),
-            Num(right),
-            Mark("\"/>"),
-        ])?;
-        let columns = bits_width(bits);
-        if is_new
-            && right.saturating_sub(left) >= columns.saturating_add(2).saturating_mul(LETTER)
-        {
-            let place = (left.saturating_add(6), at.saturating_add(4));
-            begin_label(page, "small left", place, columns)?;
-            page.add(&[Bits(bits), Mark("</text>")])?;
-        }
+    if bits == 0 {
+        return Ok(());
     }
-    match closed {
-        None => Ok(()),
-        Some(end) => {
-            let left = left.saturating_sub(3).min(TIME - CLOSED * LETTER);
-            begin_label(page, "small left alert", (left, at.saturating_add(4)), 1)?;
-            page.add(&[Mark("× "), Mark(end), Mark(" end closed</text>")])
-        }
+    page.fill(
+        "<path class=\"rail\" d=\"M% %H%\"/>",
+        &[Num(left), Num(at), Num(right)],
+    )?;
+    let columns = bits_width(bits);
+    let needed = columns.saturating_add(2).saturating_mul(LETTER);
+    if !is_new || right.saturating_sub(left) < needed {
+        return Ok(());
     }
+    let place = (left.saturating_add(6), at.saturating_add(4));
+    add_label(page, "small left", place, columns, &[Bits(bits)])
+}
+
+// A cross where an end is closed.
+fn add_cross<A: Allocator>(
+    page: &mut Page<A>,
+    end: &'static str,
+    (left, at): (usize, usize),
+) -> Result<(), AllocError> {
+    let left = left.saturating_sub(3).min(TIME - CLOSED * LETTER);
+    let place = (left, at.saturating_add(4));
+    let text = [Mark("× "), Mark(end), Mark(" end closed")];
+    add_label(page, "small left alert", place, 1, &text)
+}
+
+// What of a pipe is to be told: what is another than before, and all where the strip begins.
+#[derive(Clone, Copy)]
+struct News {
+    held: bool,
+    writers: bool,
+    readers: bool,
+}
+
+// What of a state is to be told, which is in the strip or before it.
+fn news_of(before: Option<PipeState>, state: &PipeState, is_here: bool) -> News {
+    match before {
+        Some(before) if is_here => News {
+            held: before.held != state.held,
+            writers: before.writers != state.writers,
+            readers: before.readers != state.readers,
+        },
+        _ => News {
+            held: true,
+            writers: true,
+            readers: true,
+        },
+    }
+}
+
+// The ends of a pipe, and a cross where one was closed by the state's event, if that is in the strip.
+fn add_ends<A: Allocator>(
+    page: &mut Page<A>,
+    state: &PipeState,
+    news: News,
+    (left, right, top): (usize, usize, usize),
+    is_here: bool,
+) -> Result<(), AllocError> {
+    let low = top.saturating_add(WRITE_RAIL);
+    add_rail(page, state.writers, news.writers, (left, right, low))?;
+    if is_here && state.closes_write {
+        add_cross(page, "write", (left, low))?;
+    }
+    let low = top.saturating_add(READ_RAIL);
+    add_rail(page, state.readers, news.readers, (left, right, low))?;
+    if is_here && state.closes_read {
+        add_cross(page, "read", (left, low))?;
+    }
+    Ok(())
 }
 
 // A pipe's state, from its event to the next one's.
@@ -119,27 +169,19 @@ fn add_state<A: Allocator>(
     } else {
         0
     };
-    let is_new = |bits: u64, was: Option<u64>| !is_here || was != Some(bits);
-    let is_other = !is_here || before.map(|before| before.held) != Some(state.held);
+    let news = news_of(before, state, is_here);
     if state.readers != 0 || state.writers != 0 {
-        add_fill(page, state.held, is_other, (left, right, top))?;
+        add_fill(page, state.held, news.held, (left, right, top))?;
     }
-    let write_end = if is_here && state.closes_write {
-        Some("write")
-    } else {
-        None
-    };
-    let read_end = if is_here && state.closes_read {
-        Some("read")
-    } else {
-        None
-    };
-    let writers = is_new(state.writers, before.map(|before| before.writers));
-    let readers = is_new(state.readers, before.map(|before| before.readers));
-    let low = top.saturating_add(WRITE_RAIL);
-    add_rail(page, state.writers, writers, write_end, (left, right, low))?;
-    let low = top.saturating_add(READ_RAIL);
-    add_rail(page, state.readers, readers, read_end, (left, right, low))
+    add_ends(page, state, news, (left, right, top), is_here)
+}
+
+// Where a state ends in the strip: where the next one begins.
+fn end_of(window: Window<'_>, next: Option<&PipeState>) -> usize {
+    match next {
+        Some(next) => window.right(next.event),
+        None => window.end(),
+    }
 }
 
 // The states of a pipe in the strip.
@@ -150,51 +192,46 @@ fn add_states<A: Allocator>(
     top: usize,
 ) -> Result<(), AllocError> {
     let mut before = None;
-    for place in 0..states.len() {
-        let Some(state) = states.get(place) else {
-            return Ok(());
-        };
-        let right = match states.get(place.saturating_add(1)) {
-            Some(next) => window.right(next.event),
-            None => window.end(),
-        };
+    let mut next: usize = 1;
+    for state in states {
+        let right = end_of(window, states.get(next));
         add_state(page, window, (before, state), right, top)?;
         before = Some(*state);
+        next = next.saturating_add(1);
     }
     Ok(())
 }
 
+// What is told of a call on a pipe: that it met the end, or was refused.
+fn alert_of(trap: &Trap, pipe: usize) -> Option<&'static str> {
+    match (trap.object, trap.state) {
+        (Some(Object::PipeRead(name)), _) if name == pipe && trap.is_at_end => Some("EOF"),
+        (Some(Object::PipeWrite(name)), State::Runnable(Reply::Refused)) if name == pipe => {
+            Some("−1")
+        }
+        _ => None,
+    }
+}
+
 // Marks the reads that met the end of the pipe, and the writes that were refused.
-fn add_alerts<A: Allocator + Copy>(
+fn add_alerts<A: Allocator>(
     page: &mut Page<A>,
     run: &Run<'_, A>,
     window: Window<'_>,
     pipe: usize,
     top: usize,
 ) -> Result<(), AllocError> {
+    let low = top.saturating_add(FILL_TOP + FILL / 2 + 4);
     for event in events_of(run.trace, window.first, window.past) {
-        let Some(trap) = event.trap else {
-            continue;
-        };
-        if window.fold_of(event.number).is_some() {
-            continue;
-        }
-        let text = match (trap.object, trap.state) {
-            (Some(Object::PipeRead(name)), _) if name == pipe && trap.is_at_end => "EOF",
-            (Some(Object::PipeWrite(name)), State::Runnable(Reply::Refused)) if name == pipe => {
-                "−1"
+        if let Some(trap) = &event.trap {
+            if let Some(text) = alert_of(trap, pipe) {
+                if window.fold_of(event.number).is_none() {
+                    let place = (window.middle(event.number).saturating_sub(8), low);
+                    let columns = if trap.is_at_end { 3 } else { 2 };
+                    add_label(page, "small left alert", place, columns, &[Mark(text)])?;
+                }
             }
-            _ => continue,
-        };
-        let low = top.saturating_add(FILL_TOP + FILL / 2 + 4);
-        let left = window.middle(event.number).saturating_sub(8);
-        begin_label(
-            page,
-            "small left alert",
-            (left, low),
-            if trap.is_at_end { 3 } else { 2 },
-        )?;
-        page.add(&[Mark(text), Mark("</text>")])?;
+        }
     }
     Ok(())
 }
@@ -211,7 +248,30 @@ fn range_in(states: &[PipeState], fold: Fold) -> Option<(usize, usize)> {
     range
 }
 
-// Between which numbers of bytes a pipe is in each fold, in place of how full it is.
+// Between which numbers of bytes a pipe is in a fold, in place of how full it is.
+fn add_range<A: Allocator>(
+    page: &mut Page<A>,
+    window: Window<'_>,
+    fold: Fold,
+    (low, high): (usize, usize),
+    top: usize,
+) -> Result<(), AllocError> {
+    let (left, right) = (window.left(fold.first), window.right(fold.first));
+    page.fill(
+        "<rect class=\"folded\" x=\"%\" y=\"%\" width=\"%\" height=\"%\"/>",
+        &[
+            Num(left),
+            Num(top.saturating_add(FILL_TOP - 2)),
+            Num(right.saturating_sub(left)),
+            Num(FILL + 2),
+        ],
+    )?;
+    let low_line = top.saturating_add(FILL_TOP + FILL / 2 + 4);
+    let place = (window.middle(fold.first), low_line);
+    add_text(page, "small", place, &[Num(low), Mark(" to "), Num(high)])
+}
+
+// The same of each fold.
 fn add_ranges<A: Allocator>(
     page: &mut Page<A>,
     window: Window<'_>,
@@ -219,26 +279,26 @@ fn add_ranges<A: Allocator>(
     top: usize,
 ) -> Result<(), AllocError> {
     for fold in window.folds {
-        let Some((low, high)) = range_in(states, *fold) else {
-            continue;
-        };
-        let (left, right) = (window.left(fold.first), window.right(fold.first));
-        page.add(&[
-            Mark("<rect class=\"folded\" x=\""),
-            Num(left),
-            Mark("\" y=\""),
-            Num(top.saturating_add(FILL_TOP - 2)),
-            Mark("\" width=\""),
-            Num(right.saturating_sub(left)),
-            Mark("\" height=\""),
-            Num(FILL + 2),
-            Mark("\"/>"),
-        ])?;
-        let low_line = top.saturating_add(FILL_TOP + FILL / 2 + 4);
-        begin_text(page, "small", (window.middle(fold.first), low_line))?;
-        page.add(&[Num(low), Mark(" to "), Num(high), Mark("</text>")])?;
+        if let Some(range) = range_in(states, *fold) {
+            add_range(page, window, *fold, range, top)?;
+        }
     }
     Ok(())
+}
+
+// The band of a pipe with these states.
+fn add_band<A: Allocator>(
+    page: &mut Page<A>,
+    window: Window<'_>,
+    states: &[PipeState],
+    top: usize,
+) -> Result<(), AllocError> {
+    page.fill(
+        "<path class=\"base\" d=\"M0 %H%\"/>",
+        &[Num(top.saturating_add(FILL_TOP + FILL)), Num(window.end())],
+    )?;
+    add_states(page, window, states, top)?;
+    add_ranges(page, window, states, top)
 }
 
 /// The bands of a strip.
@@ -251,15 +311,7 @@ pub fn add_bands<A: Allocator + Copy>(
     let mut top = strip.below;
     for band in strip.bands.as_slice() {
         let states = states_of(alloc, run, strip.window, band.pipe)?;
-        page.add(&[
-            Mark("<path class=\"base\" d=\"M0 "),
-            Num(top.saturating_add(FILL_TOP + FILL)),
-            Mark("H"),
-            Num(strip.window.end()),
-            Mark("\"/>"),
-        ])?;
-        add_states(page, strip.window, states.as_slice(), top)?;
-        add_ranges(page, strip.window, states.as_slice(), top)?;
+        add_band(page, strip.window, states.as_slice(), top)?;
         add_alerts(page, run, strip.window, band.pipe, top)?;
         top = top.saturating_add(BAND);
     }

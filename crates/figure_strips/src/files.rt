@@ -1,7 +1,7 @@
 //! The bands of a strip's files: what each file that the run changes holds, and which events touch it.
 
 use crate::geometry::{FILE, LETTER, Window};
-use crate::labels::begin_text;
+use crate::labels::add_text;
 use crate::strip::Strip;
 use Piece::{Mark, Num, Short};
 use figure_words::{Run, events_of};
@@ -16,7 +16,9 @@ const TOP: usize = 7;
 
 // The name of the file that the call of an event opens, reads, writes or closes.
 fn touched<A: Allocator>(run: &Run<'_, A>, event: &Event) -> Option<Part> {
-    let trap = event.trap?;
+    let Some(trap) = &event.trap else {
+        return None;
+    };
     match (trap.call, trap.object) {
         (Call::Open(name, _), _) => Some(name),
         (_, Some(Object::File(name, _))) => Some(name),
@@ -34,7 +36,12 @@ fn is_same<A: Allocator>(run: &Run<'_, A>, one: Part, other: Part) -> bool {
 
 // Whether a name is among the others.
 fn is_among<A: Allocator>(run: &Run<'_, A>, names: &[Part], name: Part) -> bool {
-    names.iter().any(|other| is_same(run, *other, name))
+    for other in names {
+        if is_same(run, *other, name) {
+            return true;
+        }
+    }
+    false
 }
 
 /// The names of the files that the run changes and that an event of the strip opens, reads, writes or closes, in the order in
@@ -76,81 +83,96 @@ fn states_of<A: Allocator + Copy>(
     Ok(states)
 }
 
-// What a file holds from one place to another.
-fn add_state<A: Allocator + Copy>(
+// What a file holds, from one place to another.
+fn add_frame<A: Allocator>(
     page: &mut Page<A>,
-    run: &Run<'_, A>,
-    state: &FileState,
+    class: &'static str,
+    (left, wide, top): (usize, usize, usize),
+) -> Result<(), AllocError> {
+    page.fill(
+        "<rect class=\"%\" x=\"%\" y=\"%\" width=\"%\" height=\"%\"/>",
+        &[Mark(class), Num(left), Num(top), Num(wide), Num(HIGH)],
+    )
+}
+
+// The same in words, in so many columns.
+fn add_head<A: Allocator>(
+    page: &mut Page<A>,
+    head: &[u8],
+    is_empty: bool,
+    room: usize,
+    place: (usize, usize),
+) -> Result<(), AllocError> {
+    if is_empty {
+        let word = if room < 5 { "∅" } else { "empty" };
+        return add_text(page, "small left", place, &[Mark(word)]);
+    }
+    let shown = Short(head, room.saturating_sub(2));
+    add_text(page, "small left", place, &[Mark("“"), shown, Mark("”")])
+}
+
+// What a file holds from one place to another: this many bytes, which begin so.
+fn add_state<A: Allocator>(
+    page: &mut Page<A>,
+    length: usize,
+    head: &[u8],
     (left, right, top): (usize, usize, usize),
 ) -> Result<(), AllocError> {
     let wide = right.saturating_sub(left);
     if wide == 0 {
         return Ok(());
     }
-    let class = if state.length == 0 {
-        "file empty"
-    } else {
-        "file"
-    };
-    page.add(&[
-        Mark("<rect class=\""),
-        Mark(class),
-        Mark("\" x=\""),
-        Num(left),
-        Mark("\" y=\""),
-        Num(top),
-        Mark("\" width=\""),
-        Num(wide),
-        Mark("\" height=\""),
-        Num(HIGH),
-        Mark("\"/>"),
-    ])?;
+    let class = if length == 0 { "file empty" } else { "file" };
+    add_frame(page, class, (left, wide, top))?;
     let room = wide.saturating_sub(6) / LETTER;
     if room < 3 {
         return Ok(());
     }
-    begin_text(
-        page,
-        "small left",
-        (left.saturating_add(4), top.saturating_add(12)),
-    )?;
-    if state.length == 0 {
-        page.mark(if room < 5 { "∅" } else { "empty" })?;
+    let place = (left.saturating_add(4), top.saturating_add(12));
+    add_head(page, head, length == 0, room, place)
+}
+
+// Where a state begins in the strip, and where it ends: where the next one begins.
+fn ends_of(window: Window<'_>, event: usize, next: Option<&FileState>) -> (usize, usize) {
+    let left = if window.has(event) {
+        window.right(event)
     } else {
-        let head = run.trace.text(state.head);
-        page.add(&[Mark("“"), Short(head, room.saturating_sub(2)), Mark("”")])?;
+        0
+    };
+    match next {
+        Some(next) => (left, window.right(next.event)),
+        None => (left, window.end()),
     }
-    page.mark("</text>")
 }
 
 // What a file holds in the strip.
-fn add_states<A: Allocator + Copy>(
+fn add_states<A: Allocator>(
     page: &mut Page<A>,
     run: &Run<'_, A>,
     window: Window<'_>,
     states: &[FileState],
     top: usize,
 ) -> Result<(), AllocError> {
-    for place in 0..states.len() {
-        let Some(state) = states.get(place) else {
-            return Ok(());
-        };
-        let left = if window.has(state.event) {
-            window.right(state.event)
-        } else {
-            0
-        };
-        let right = match states.get(place.saturating_add(1)) {
-            Some(next) => window.right(next.event),
-            None => window.end(),
-        };
-        add_state(page, run, state, (left, right, top))?;
+    let mut next: usize = 1;
+    for state in states {
+        let (left, right) = ends_of(window, state.event, states.get(next));
+        let head = run.trace.text(state.head);
+        add_state(page, state.length, head, (left, right, top))?;
+        next = next.saturating_add(1);
     }
     Ok(())
 }
 
+// Whether an event touches the file of this name.
+fn touches<A: Allocator>(run: &Run<'_, A>, event: &Event, name: Part) -> bool {
+    match touched(run, event) {
+        Some(other) => is_same(run, other, name),
+        None => false,
+    }
+}
+
 // Marks the events that touch a file: a stroke down to its band.
-fn add_touches<A: Allocator + Copy>(
+fn add_touches<A: Allocator>(
     page: &mut Page<A>,
     run: &Run<'_, A>,
     window: Window<'_>,
@@ -158,18 +180,11 @@ fn add_touches<A: Allocator + Copy>(
     top: usize,
 ) -> Result<(), AllocError> {
     for event in events_of(run.trace, window.first, window.past) {
-        let is_here = match touched(run, event) {
-            Some(other) => is_same(run, other, name),
-            None => false,
-        };
-        if is_here && window.fold_of(event.number).is_none() {
-            page.add(&[
-                Mark("<path class=\"tick\" d=\"M"),
-                Num(window.middle(event.number)),
-                Mark(" "),
-                Num(top),
-                Mark("v5\"/>"),
-            ])?;
+        if touches(run, event, name) && window.fold_of(event.number).is_none() {
+            page.fill(
+                "<path class=\"tick\" d=\"M% %v5\"/>",
+                &[Num(window.middle(event.number)), Num(top)],
+            )?;
         }
     }
     Ok(())

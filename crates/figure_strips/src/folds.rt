@@ -3,7 +3,7 @@
 use crate::geometry::{FOLD_COLUMNS, Fold, Window};
 use figure_words::{Run, events_of};
 use std::alloc::{AllocError, Allocator};
-use trace_data::{Call, Event, Object, Process, Reply, State, Trap};
+use trace_data::{Call, Event, Object, Part, PipeState, Process, Reply, State, Trap};
 
 // How often a read or a write of a kind is drawn before it is dull, and how many dull events in a row are folded.
 const DRAWN: usize = 3;
@@ -62,21 +62,32 @@ fn kind_of(event: &Event, trap: &Trap) -> Option<Kind> {
     })
 }
 
+// Whether bytes end a line.
+fn ends_line<A: Allocator>(run: &Run<'_, A>, bytes: Option<Part>) -> bool {
+    match bytes {
+        Some(bytes) => run.trace.text(bytes).contains(&b'\n'),
+        None => false,
+    }
+}
+
+// Whether an end is closed in one of these states.
+fn closes_end(states: &[PipeState]) -> bool {
+    for state in states {
+        if state.closes_read || state.closes_write {
+            return true;
+        }
+    }
+    false
+}
+
 // Whether a call is always drawn: it meets the end of a file, ends a line of the output, tells a diagnostic, changes a file, closes
 // an end of a pipe, or finds something full.
 fn is_notable<A: Allocator>(run: &Run<'_, A>, trap: &Trap) -> bool {
-    let ends_line = match trap.out {
-        Some(out) => run.trace.text(out).contains(&b'\n'),
-        None => false,
-    };
     let pipes = run.trace.pipes.as_slice();
     let pipes = pipes.get(trap.pipes.first..trap.pipes.past).unwrap_or(&[]);
-    let closes = pipes
-        .iter()
-        .any(|state| state.closes_read || state.closes_write);
     trap.is_at_end
-        || ends_line
-        || closes
+        || ends_line(run, trap.out)
+        || closes_end(pipes)
         || trap.diag.is_some()
         || trap.full.is_some()
         || trap.files.first < trap.files.past
@@ -101,6 +112,37 @@ fn mark(dull: &mut [bool], first: usize, event: usize) {
     }
 }
 
+// Whether a call is like others before it, and isn't always drawn.
+fn is_dull<A: Allocator>(
+    run: &Run<'_, A>,
+    seen: &mut Vec<Seen, A>,
+    event: &Event,
+    trap: &Trap,
+) -> Result<bool, AllocError> {
+    match kind_of(event, trap) {
+        Some(kind) => Ok(is_seen(seen, kind)? && !is_notable(run, trap)),
+        None => Ok(false),
+    }
+}
+
+// Marks the calls that are like others, and the dispatches before them.
+fn mark_all<A: Allocator>(
+    run: &Run<'_, A>,
+    seen: &mut Vec<Seen, A>,
+    dull: &mut [bool],
+    (first, past): (usize, usize),
+) -> Result<(), AllocError> {
+    for event in events_of(run.trace, first, past) {
+        if let Some(trap) = &event.trap {
+            if is_dull(run, seen, event, trap)? {
+                mark(dull, first, event.number);
+                mark(dull, first, trap.from);
+            }
+        }
+    }
+    Ok(())
+}
+
 // Which events from the first on are dull: the calls that are like others, and the dispatches before them.
 fn dull_events<A: Allocator + Copy>(
     alloc: A,
@@ -110,27 +152,39 @@ fn dull_events<A: Allocator + Copy>(
     let mut seen: Vec<Seen, A> = Vec::new(alloc);
     let mut dull: Vec<bool, A> = Vec::new(alloc);
     dull.resize(past.saturating_sub(first), false)?;
-    for event in events_of(run.trace, first, past) {
-        let Some(trap) = event.trap else {
-            continue;
-        };
-        let Some(kind) = kind_of(event, &trap) else {
-            continue;
-        };
-        if is_seen(&mut seen, kind)? && !is_notable(run, &trap) {
-            mark(dull.as_mut_slice(), first, event.number);
-            mark(dull.as_mut_slice(), first, trap.from);
-        }
-    }
+    mark_all(run, &mut seen, dull.as_mut_slice(), (first, past))?;
     Ok(dull)
 }
 
 // Adds the fold of these events, if they are enough.
-fn add_fold<A: Allocator>(folds: &mut Vec<Fold, A>, fold: Fold) -> Result<(), AllocError> {
+fn add_fold<A: Allocator>(
+    folds: &mut Vec<Fold, A>,
+    first: usize,
+    past: usize,
+) -> Result<(), AllocError> {
+    let fold = Fold { first, past };
     if fold.count() >= FEWEST {
         folds.push(fold)?;
     }
     Ok(())
+}
+
+// Adds the folds of events, of which the first has this number.
+fn add_folds<A: Allocator>(
+    folds: &mut Vec<Fold, A>,
+    dull: &[bool],
+    first: usize,
+) -> Result<(), AllocError> {
+    let mut begin = first;
+    let mut event = first;
+    for is_dull in dull {
+        if !*is_dull {
+            add_fold(folds, begin, event)?;
+            begin = event.saturating_add(1);
+        }
+        event = event.saturating_add(1);
+    }
+    add_fold(folds, begin, event)
 }
 
 /// Which of the events from a number on, and before another, are folded, in order: twelve or more in a row that are dull. Dull is a
@@ -146,28 +200,7 @@ pub fn folds_of<A: Allocator + Copy>(
 ) -> Result<Vec<Fold, A>, AllocError> {
     let dull = dull_events(alloc, run, (first, past))?;
     let mut folds: Vec<Fold, A> = Vec::new(alloc);
-    let mut begin = first;
-    let mut event = first;
-    for is_dull in dull.as_slice() {
-        if !*is_dull {
-            add_fold(
-                &mut folds,
-                Fold {
-                    first: begin,
-                    past: event,
-                },
-            )?;
-            begin = event.saturating_add(1);
-        }
-        event = event.saturating_add(1);
-    }
-    add_fold(
-        &mut folds,
-        Fold {
-            first: begin,
-            past: event,
-        },
-    )?;
+    add_folds(&mut folds, dull.as_slice(), first)?;
     Ok(folds)
 }
 

@@ -99,7 +99,12 @@ impl<'f> Window<'f> {
 
     /// The fold that an event is in.
     pub fn fold_of(self, event: usize) -> Option<Fold> {
-        self.folds.iter().copied().find(|fold| fold.has(event))
+        for fold in self.folds {
+            if fold.has(event) {
+                return Some(*fold);
+            }
+        }
+        None
     }
 
     /// Where the column of an event begins.

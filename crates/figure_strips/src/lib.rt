@@ -3,14 +3,22 @@
 //! `folds_of` says which events are drawn as one, and `add_strips` draws. All coordinates are whole pixels.
 #![tactic(auto)]
 
+mod axis;
 mod bands;
+mod boxes;
 mod drawing;
+mod edges;
 mod files;
+mod folded;
 mod folds;
 mod geometry;
 mod labels;
 mod lanes;
+mod lives;
+mod names;
+mod outcomes;
 mod strip;
+mod written;
 
 pub use drawing::add_strips;
 pub use folds::folds_of;

@@ -53,11 +53,16 @@ fn rows_of<A: Allocator + Copy>(
 
 /// The row of a process.
 pub fn row_of(rows: &[Row], process: Process) -> Option<&Row> {
-    rows.iter().find(|row| row.life.lane.process == process)
+    for row in rows {
+        if row.life.lane.process == process {
+            return Some(row);
+        }
+    }
+    None
 }
 
 // Marks the rows of processes that run in the strip.
-fn mark_busy<A: Allocator + Copy>(run: &Run<'_, A>, window: Window<'_>, rows: &mut [Row]) {
+fn mark_busy<A: Allocator>(run: &Run<'_, A>, window: Window<'_>, rows: &mut [Row]) {
     for event in events_of(run.trace, window.first, window.past) {
         for row in rows.iter_mut() {
             if row.life.lane.process == event.process {
@@ -115,11 +120,11 @@ fn bands_of<A: Allocator + Copy>(
 }
 
 // Whether an event of the strip writes to the output, and to the diagnostics.
-fn writes<A: Allocator + Copy>(run: &Run<'_, A>, window: Window<'_>) -> (bool, bool) {
+fn writes<A: Allocator>(run: &Run<'_, A>, window: Window<'_>) -> (bool, bool) {
     let mut has_output = false;
     let mut has_messages = false;
     for event in events_of(run.trace, window.first, window.past) {
-        if let Some(trap) = event.trap {
+        if let Some(trap) = &event.trap {
             has_output = has_output || trap.out.is_some();
             has_messages = has_messages || trap.diag.is_some();
         }
@@ -135,29 +140,34 @@ fn line_height(is_there: bool) -> usize {
 impl<'f, A: Allocator + Copy> Strip<'f, A> {
     /// The strip of these events.
     pub fn new(alloc: A, run: &Run<'_, A>, window: Window<'f>) -> Result<Self, AllocError> {
+        let (has_output, has_messages) = writes(run, window);
+        let mut strip = Strip {
+            window,
+            rows: rows_of(alloc, run, window)?,
+            bands: bands_of(alloc, run, window)?,
+            files: touched_files(alloc, run, window)?,
+            below: 0,
+            has_output,
+            has_messages,
+            height: 0,
+        };
+        strip.place(run);
+        Ok(strip)
+    }
+}
+
+impl<A: Allocator> Strip<'_, A> {
+    // Sets the rows below each other, and then the others.
+    fn place(&mut self, run: &Run<'_, A>) {
         let lane = if run.trace.head.harts > 1 {
             LANE_OF_HARTS
         } else {
             LANE
         };
-        let mut rows = rows_of(alloc, run, window)?;
-        mark_busy(run, window, rows.as_mut_slice());
-        let below = set_rows(rows.as_mut_slice(), lane);
-        let (has_output, has_messages) = writes(run, window);
-        let mut strip = Strip {
-            window,
-            rows,
-            bands: bands_of(alloc, run, window)?,
-            files: touched_files(alloc, run, window)?,
-            below,
-            has_output,
-            has_messages,
-            height: 0,
-        };
-        strip.height = strip
-            .message_top()
-            .saturating_add(line_height(has_messages));
-        Ok(strip)
+        mark_busy(run, self.window, self.rows.as_mut_slice());
+        self.below = set_rows(self.rows.as_mut_slice(), lane);
+        let last = line_height(self.has_messages);
+        self.height = self.message_top().saturating_add(last);
     }
 
     /// How far below its top the first file is.

@@ -5,7 +5,7 @@ use crate::words::full_name;
 use Piece::{Bits, Count, Mark, Num, Pipe, Short};
 use page_markup::{Page, Piece};
 use std::alloc::{AllocError, Allocator};
-use trace_data::{Call, Channel, Event, Mode, Object, Part, Reply, State, Trap};
+use trace_data::{Call, Channel, Event, Full, Mode, Object, Part, PipeState, Reply, State, Trap};
 
 // How many columns bytes take in a sentence at most.
 const ROOM: usize = 60;
@@ -13,291 +13,285 @@ const ROOM: usize = 60;
 // What a call returns that is refused.
 const REFUSED: &str = ": <b class=\"alert\">refused, −1</b>";
 
-// What a descriptor has open.
-fn add_object<A: Allocator + Copy>(
-    page: &mut Page<A>,
-    run: &Run<'_, A>,
+// What a descriptor has open, in two pieces.
+fn object_words<'a, A: Allocator>(
+    run: &Run<'a, A>,
     object: Option<Object>,
-) -> Result<(), AllocError> {
+) -> (Piece<'a>, Piece<'a>) {
     match object {
-        None => page.mark("nothing"),
-        Some(Object::Input) => page.mark("the input"),
-        Some(Object::Out) => page.mark("the output"),
-        Some(Object::Diag) => page.mark("the messages"),
-        Some(Object::File(name, _)) => {
-            page.add(&[Mark("file "), Short(run.trace.text(name), ROOM)])
-        }
+        None => (Mark("nothing"), Mark("")),
+        Some(Object::Input) => (Mark("the input"), Mark("")),
+        Some(Object::Out) => (Mark("the output"), Mark("")),
+        Some(Object::Diag) => (Mark("the messages"), Mark("")),
+        Some(Object::File(name, _)) => (Mark("file "), Short(run.trace.text(name), ROOM)),
         Some(Object::PipeRead(pipe) | Object::PipeWrite(pipe)) => {
-            page.add(&[Mark("pipe "), Pipe(run.pipe(pipe))])
+            (Mark("pipe "), Pipe(run.pipe(pipe)))
         }
     }
 }
 
-// Bytes between quotes.
-fn add_quoted<A: Allocator + Copy>(
+// What a process waits for that sleeps.
+fn add_reason<A: Allocator>(
     page: &mut Page<A>,
     run: &Run<'_, A>,
-    bytes: Part,
+    channel: Channel,
 ) -> Result<(), AllocError> {
-    page.add(&[Mark(": “"), Short(run.trace.text(bytes), ROOM), Mark("”")])
+    match channel {
+        Channel::Children => page.mark("sleeps: no child has ended"),
+        Channel::PipeBytes(pipe) => {
+            page.fill("sleeps: pipe % is empty", &[Pipe(run.pipe(pipe))])
+        }
+        Channel::PipeRoom(pipe) => page.fill("sleeps: pipe % is full", &[Pipe(run.pipe(pipe))]),
+    }
 }
 
 // A call that put its process to sleep; a write may have moved some bytes before.
-fn add_sleep<A: Allocator + Copy>(
+fn add_sleep<A: Allocator>(
     page: &mut Page<A>,
     run: &Run<'_, A>,
-    trap: &Trap,
+    moved: Option<usize>,
     channel: Channel,
 ) -> Result<(), AllocError> {
-    if let Some(moved) = trap.moved {
-        page.add(&[Mark("writes "), Count(moved), Mark(", and ")])?;
+    if let Some(moved) = moved {
+        page.fill("writes %, and ", &[Count(moved)])?;
     }
-    match channel {
-        Channel::Children => page.mark("sleeps: no child has ended"),
-        Channel::PipeBytes(pipe) => page.add(&[
-            Mark("sleeps: pipe "),
-            Pipe(run.pipe(pipe)),
-            Mark(" is empty"),
-        ]),
-        Channel::PipeRoom(pipe) => page.add(&[
-            Mark("sleeps: pipe "),
-            Pipe(run.pipe(pipe)),
-            Mark(" is full"),
-        ]),
-    }
+    add_reason(page, run, channel)
 }
 
 // A read that returned.
-fn add_read<A: Allocator + Copy>(
+fn add_read<A: Allocator>(
     page: &mut Page<A>,
     run: &Run<'_, A>,
     trap: &Trap,
     reply: Reply,
 ) -> Result<(), AllocError> {
-    if trap.is_at_end {
-        page.mark("reads 0 bytes: <b class=\"alert\">end of file</b>, ")?;
-        return add_object(page, run, trap.object);
-    }
+    let (what, name) = object_words(run, trap.object);
     match reply {
+        _ if trap.is_at_end => page.fill(
+            "reads 0 bytes: <b class=\"alert\">end of file</b>, %%",
+            &[what, name],
+        ),
         Reply::Bytes(bytes) => {
-            page.add(&[
-                Mark("reads "),
-                Count(run.trace.text(bytes).len()),
-                Mark(" of "),
-            ])?;
-            add_object(page, run, trap.object)?;
-            add_quoted(page, run, bytes)
+            let bytes = run.trace.text(bytes);
+            page.fill(
+                "reads % of %%: “%”",
+                &[Count(bytes.len()), what, name, Short(bytes, ROOM)],
+            )
         }
-        _ => {
-            page.mark("can’t read ")?;
-            add_object(page, run, trap.object)?;
-            page.mark(REFUSED)
-        }
+        _ => page.fill("can’t read %%%", &[what, name, Mark(REFUSED)]),
     }
 }
 
 // A write that returned.
-fn add_write<A: Allocator + Copy>(
+fn add_write<A: Allocator>(
     page: &mut Page<A>,
     run: &Run<'_, A>,
-    trap: &Trap,
+    object: Option<Object>,
     bytes: Part,
     reply: Reply,
 ) -> Result<(), AllocError> {
-    if matches!(reply, Reply::Refused) {
-        page.mark("can’t write to ")?;
-        add_object(page, run, trap.object)?;
-        return page.mark(REFUSED);
+    let (what, name) = object_words(run, object);
+    match reply {
+        Reply::Refused => page.fill("can’t write to %%%", &[what, name, Mark(REFUSED)]),
+        _ => {
+            let bytes = run.trace.text(bytes);
+            page.fill(
+                "writes % to %%: “%”",
+                &[Count(bytes.len()), what, name, Short(bytes, ROOM)],
+            )
+        }
     }
-    page.add(&[
-        Mark("writes "),
-        Count(run.trace.text(bytes).len()),
-        Mark(" to "),
-    ])?;
-    add_object(page, run, trap.object)?;
-    add_quoted(page, run, bytes)
+}
+
+// For what a file is opened.
+fn purpose(mode: Mode) -> &'static str {
+    match mode {
+        Mode::Input => " to read it, as descriptor ",
+        Mode::Fresh => " and empties it, as descriptor ",
+        Mode::Over => " to write over it, as descriptor ",
+        Mode::Append => " to write at its end, as descriptor ",
+    }
 }
 
 // An open that returned.
-fn add_open<A: Allocator + Copy>(
+fn add_open<A: Allocator>(
     page: &mut Page<A>,
-    run: &Run<'_, A>,
-    name: Part,
+    name: &[u8],
     mode: Mode,
     reply: Reply,
 ) -> Result<(), AllocError> {
-    let name = Short(run.trace.text(name), ROOM);
+    let name = Short(name, ROOM);
     match reply {
-        Reply::Fd(fd) => page.add(&[
-            Mark("opens file "),
-            name,
-            Mark(match mode {
-                Mode::Input => " to read it, as descriptor ",
-                Mode::Fresh => " and empties it, as descriptor ",
-                Mode::Over => " to write over it, as descriptor ",
-                Mode::Append => " to write at its end, as descriptor ",
-            }),
-            Num(fd),
-        ]),
-        _ => page.add(&[Mark("can’t open file "), name, Mark(REFUSED)]),
+        Reply::Fd(fd) => page.fill("opens file %%%", &[name, Mark(purpose(mode)), Num(fd)]),
+        _ => page.fill("can’t open file %%", &[name, Mark(REFUSED)]),
+    }
+}
+
+// The name of the program of these words.
+fn program_name<'a, A: Allocator>(run: &Run<'a, A>, words: Part) -> Piece<'a> {
+    match run.trace.words.as_slice().get(words.first) {
+        Some(word) => Short(run.trace.text(*word), ROOM),
+        None => Mark("nothing"),
     }
 }
 
 // A program that a process becomes, or doesn't.
-fn add_exec<A: Allocator + Copy>(
+fn add_exec<A: Allocator>(
     page: &mut Page<A>,
-    run: &Run<'_, A>,
-    words: Part,
+    name: Piece<'_>,
     reply: Reply,
 ) -> Result<(), AllocError> {
-    let name = match run.trace.words.as_slice().get(words.first) {
-        Some(word) => Short(run.trace.text(*word), ROOM),
-        None => Mark("nothing"),
-    };
     match reply {
-        Reply::Refused => page.add(&[Mark("can’t become the program "), name, Mark(REFUSED)]),
-        _ => page.add(&[Mark("becomes the program "), name]),
+        Reply::Refused => page.fill("can’t become the program %%", &[name, Mark(REFUSED)]),
+        _ => page.fill("becomes the program %", &[name]),
     }
 }
 
 // A descriptor that is closed or doubled.
-fn add_descriptor<A: Allocator + Copy>(
+fn add_descriptor<'p, A: Allocator>(
     page: &mut Page<A>,
-    run: &Run<'_, A>,
-    trap: &Trap,
+    (what, name): (Piece<'p>, Piece<'p>),
     fd: usize,
     reply: Reply,
 ) -> Result<(), AllocError> {
     match reply {
-        Reply::Fd(new) => page.add(&[
-            Mark("makes descriptor "),
-            Num(new),
-            Mark(" the same as "),
-            Num(fd),
-            Mark(", "),
-        ])?,
-        Reply::Refused => page.add(&[
-            Mark("can’t double or close descriptor "),
-            Num(fd),
-            Mark(REFUSED),
-            Mark(", "),
-        ])?,
-        _ => page.add(&[Mark("closes descriptor "), Num(fd), Mark(", ")])?,
+        Reply::Fd(new) => page.fill(
+            "makes descriptor % the same as %, %%",
+            &[Num(new), Num(fd), what, name],
+        ),
+        Reply::Refused => page.fill(
+            "can’t double or close descriptor %%, %%",
+            &[Num(fd), Mark(REFUSED), what, name],
+        ),
+        _ => page.fill("closes descriptor %, %%", &[Num(fd), what, name]),
     }
-    add_object(page, run, trap.object)
+}
+
+// A pipe that a call makes, or what a call can't make or wait for.
+fn add_pipe<A: Allocator>(
+    page: &mut Page<A>,
+    pipe: Piece<'_>,
+    call: Call,
+    reply: Reply,
+) -> Result<(), AllocError> {
+    match (reply, call) {
+        (Reply::Ends(reader, writer), _) => page.fill(
+            "makes pipe %: descriptor % to read, % to write",
+            &[pipe, Num(reader), Num(writer)],
+        ),
+        (_, Call::Fork) => page.fill("can’t make a process%", &[Mark(REFUSED)]),
+        (_, Call::Wait) => page.fill("has no child to wait for%", &[Mark(REFUSED)]),
+        _ => page.fill("can’t make a pipe%", &[Mark(REFUSED)]),
+    }
 }
 
 // A process that a call makes or takes out, or a pipe that it makes.
-fn add_made<A: Allocator + Copy>(
+fn add_made<A: Allocator>(
     page: &mut Page<A>,
     run: &Run<'_, A>,
-    event: &Event,
+    number: usize,
     trap: &Trap,
     reply: Reply,
 ) -> Result<(), AllocError> {
-    if let Some(child) = trap.child {
-        return page.add(&[Mark("makes process "), Num(child.pid as usize)]);
+    match (&trap.child, trap.reaped) {
+        (Some(child), _) => page.fill("makes process %", &[Num(child.pid as usize)]),
+        (None, Some(reaped)) => page.fill(
+            "takes process % out, which has ended",
+            &[Num(reaped.pid as usize)],
+        ),
+        _ => add_pipe(page, Pipe(run.pipe(number)), trap.call, reply),
     }
-    if let Some(reaped) = trap.reaped {
-        return page.add(&[
-            Mark("takes process "),
-            Num(reaped.pid as usize),
-            Mark(" out, which has ended"),
-        ]);
-    }
-    if let Reply::Ends(reader, writer) = reply {
-        return page.add(&[
-            Mark("makes pipe "),
-            Pipe(run.pipe(event.number)),
-            Mark(": descriptor "),
-            Num(reader),
-            Mark(" to read, "),
-            Num(writer),
-            Mark(" to write"),
-        ]);
-    }
-    let what = match trap.call {
-        Call::Fork => "can’t make a process",
-        Call::Wait => "has no child to wait for",
-        _ => "can’t make a pipe",
-    };
-    page.add(&[Mark(what), Mark(REFUSED)])
 }
 
 // A call that returned.
-fn add_returned<A: Allocator + Copy>(
+fn add_returned<A: Allocator>(
     page: &mut Page<A>,
     run: &Run<'_, A>,
-    event: &Event,
+    number: usize,
     trap: &Trap,
     reply: Reply,
 ) -> Result<(), AllocError> {
     match trap.call {
         Call::Exit => page.mark("ends"),
-        Call::Fork | Call::Wait | Call::Pipe => add_made(page, run, event, trap, reply),
-        Call::Exec(words, _) => add_exec(page, run, words, reply),
+        Call::Fork | Call::Wait | Call::Pipe => add_made(page, run, number, trap, reply),
+        Call::Exec(words, _) => add_exec(page, program_name(run, words), reply),
         Call::Read(_, _) => add_read(page, run, trap, reply),
-        Call::Write(_, bytes) => add_write(page, run, trap, bytes, reply),
-        Call::Open(name, mode) => add_open(page, run, name, mode, reply),
-        Call::Close(fd) | Call::Dup(fd) => add_descriptor(page, run, trap, fd, reply),
+        Call::Write(_, bytes) => add_write(page, run, trap.object, bytes, reply),
+        Call::Open(name, mode) => add_open(page, run.trace.text(name), mode, reply),
+        Call::Close(fd) | Call::Dup(fd) => {
+            add_descriptor(page, object_words(run, trap.object), fd, reply)
+        }
     }
 }
 
 // The processes that a call woke or gave to init.
-fn add_processes<A: Allocator>(page: &mut Page<A>, trap: &Trap) -> Result<(), AllocError> {
-    if trap.adopted != 0 {
-        page.add(&[Mark("; init gets "), Bits(trap.adopted)])?;
+fn add_processes<A: Allocator>(
+    page: &mut Page<A>,
+    adopted: u64,
+    woken: u64,
+) -> Result<(), AllocError> {
+    if adopted != 0 {
+        page.fill("; init gets %", &[Bits(adopted)])?;
     }
-    if trap.woken != 0 {
-        page.add(&[
-            Mark("; <b class=\"wakes\">wakes "),
-            Bits(trap.woken),
-            Mark("</b>"),
-        ])?;
+    if woken == 0 {
+        return Ok(());
     }
-    Ok(())
+    page.fill("; <b class=\"wakes\">wakes %</b>", &[Bits(woken)])
+}
+
+// The ends of a pipe with this place that a call closed for good.
+fn add_closed<A: Allocator>(
+    page: &mut Page<A>,
+    state: &PipeState,
+    place: usize,
+) -> Result<(), AllocError> {
+    if state.closes_read {
+        page.fill(
+            "; <b class=\"alert\">nobody can read % any more</b>",
+            &[Pipe(place)],
+        )?;
+    }
+    if !state.closes_write {
+        return Ok(());
+    }
+    page.fill(
+        "; <b class=\"alert\">nobody can write to % any more</b>",
+        &[Pipe(place)],
+    )
 }
 
 // The ends of pipes that a call closed for good.
-fn add_closed<A: Allocator + Copy>(
+fn add_all_closed<A: Allocator>(
     page: &mut Page<A>,
     run: &Run<'_, A>,
-    trap: &Trap,
+    pipes: Part,
 ) -> Result<(), AllocError> {
-    let states = run
-        .trace
-        .pipes
-        .as_slice()
-        .get(trap.pipes.first..trap.pipes.past);
+    let states = run.trace.pipes.as_slice().get(pipes.first..pipes.past);
     for state in states.unwrap_or(&[]) {
-        let place = run.pipe(state.pipe);
-        if state.closes_read {
-            page.add(&[
-                Mark("; <b class=\"alert\">nobody can read "),
-                Pipe(place),
-                Mark(" any more</b>"),
-            ])?;
-        }
-        if state.closes_write {
-            page.add(&[
-                Mark("; <b class=\"alert\">nobody can write to "),
-                Pipe(place),
-                Mark(" any more</b>"),
-            ])?;
-        }
+        add_closed(page, state, run.pipe(state.pipe))?;
     }
     Ok(())
 }
 
 // What was full.
-fn add_full<A: Allocator>(page: &mut Page<A>, trap: &Trap) -> Result<(), AllocError> {
-    match trap.full {
-        Some(full) => page.add(&[
-            Mark("; <b class=\"alert\">full: "),
-            Mark(full_name(full)),
-            Mark("</b>"),
-        ]),
+fn add_full<A: Allocator>(page: &mut Page<A>, full: Option<Full>) -> Result<(), AllocError> {
+    match full {
+        Some(full) => page.fill("; <b class=\"alert\">full: %</b>", &[Mark(full_name(full))]),
         None => Ok(()),
+    }
+}
+
+// What the call of an event did.
+fn add_deed<A: Allocator>(
+    page: &mut Page<A>,
+    run: &Run<'_, A>,
+    number: usize,
+    trap: &Trap,
+) -> Result<(), AllocError> {
+    match trap.state {
+        State::Zombie => page.mark("ends"),
+        State::Asleep(channel) => add_sleep(page, run, trap.moved, channel),
+        State::Runnable(reply) => add_returned(page, run, number, trap, reply),
     }
 }
 
@@ -309,12 +303,8 @@ pub fn add_sentence<A: Allocator + Copy>(
     event: &Event,
     trap: &Trap,
 ) -> Result<(), AllocError> {
-    match trap.state {
-        State::Zombie => page.mark("ends")?,
-        State::Asleep(channel) => add_sleep(page, run, trap, channel)?,
-        State::Runnable(reply) => add_returned(page, run, event, trap, reply)?,
-    }
-    add_processes(page, trap)?;
-    add_closed(page, run, trap)?;
-    add_full(page, trap)
+    add_deed(page, run, event.number, trap)?;
+    add_processes(page, trap.adopted, trap.woken)?;
+    add_all_closed(page, run, trap.pipes)?;
+    add_full(page, trap.full)
 }

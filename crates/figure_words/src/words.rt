@@ -4,7 +4,7 @@ use crate::run::Run;
 use Piece::{Mark, Num, Pipe, Short};
 use page_markup::{Page, Piece};
 use std::alloc::{AllocError, Allocator};
-use trace_data::{Call, Channel, Doing, Event, Full, Mode, Node, Part, Trap};
+use trace_data::{Call, Channel, Doing, Event, Full, Mode, Node, Part, Trace, Trap};
 
 // How many columns bytes take in a table at most.
 const TABLE_ROOM: usize = 60;
@@ -60,6 +60,23 @@ fn mode_name(mode: Mode) -> &'static str {
     }
 }
 
+// What stands before the command of a process, the command, and how many columns it has of these.
+fn doing_words<'a, A: Allocator>(
+    run: &Run<'a, A>,
+    doing: &Doing,
+    room: usize,
+) -> (Piece<'a>, &'a [u8], usize) {
+    let program = run.trace.text(doing.program);
+    let Some(command) = doing.command else {
+        return (Mark(""), program, room);
+    };
+    let command = run.trace.text(command);
+    if program == b"sh".as_slice() && doing.node != Some(Node::Exec) {
+        return (Mark("sh: "), command, room.saturating_sub(4));
+    }
+    (Mark(""), command, room)
+}
+
 /// The command of a process, or else its program, in so many columns.
 pub fn add_doing<A: Allocator + Copy>(
     page: &mut Page<A>,
@@ -67,50 +84,45 @@ pub fn add_doing<A: Allocator + Copy>(
     doing: &Doing,
     room: usize,
 ) -> Result<(), AllocError> {
-    let program = run.trace.text(doing.program);
-    match doing.command {
-        None => page.add(&[Short(program, room)]),
-        Some(command) => {
-            let command = run.trace.text(command);
-            if program == b"sh".as_slice() && doing.node != Some(Node::Exec) {
-                return page.add(&[Mark("sh: "), Short(command, room.saturating_sub(4))]);
-            }
-            page.add(&[Short(command, room)])
-        }
-    }
+    let (shell, text, room) = doing_words(run, doing, room);
+    page.add(&[shell, Short(text, room)])
 }
 
 /// What a shell carries out, in words; nothing of another process.
 pub fn add_node<A: Allocator>(page: &mut Page<A>, doing: &Doing) -> Result<(), AllocError> {
     if let Some(node) = doing.node {
-        page.add(&[Mark(", "), Mark(node_name(node))])?;
+        page.fill(", %", &[Mark(node_name(node))])?;
     }
-    if let Some(line) = doing.line {
-        page.add(&[Mark(", line "), Num(line)])?;
+    match doing.line {
+        Some(line) => page.fill(", line %", &[Num(line)]),
+        None => Ok(()),
+    }
+}
+
+// The words of a command, with commas between.
+fn add_words<A: Allocator>(
+    page: &mut Page<A>,
+    trace: &Trace<A>,
+    words: &[Part],
+) -> Result<(), AllocError> {
+    let mut comma = "";
+    for word in words {
+        page.fill("%“%”", &[Mark(comma), Short(trace.text(*word), TABLE_ROOM)])?;
+        comma = ", ";
     }
     Ok(())
 }
 
-// The words of a command, with commas between.
-fn add_words<A: Allocator + Copy>(
+// An exec with the words of its command.
+fn add_exec<A: Allocator>(
     page: &mut Page<A>,
-    run: &Run<'_, A>,
+    trace: &Trace<A>,
     words: Part,
 ) -> Result<(), AllocError> {
-    let words = run.trace.words.as_slice().get(words.first..words.past);
-    let mut is_first = true;
-    for word in words.unwrap_or(&[]) {
-        if !is_first {
-            page.mark(", ")?;
-        }
-        page.add(&[
-            Mark("“"),
-            Short(run.trace.text(*word), TABLE_ROOM),
-            Mark("”"),
-        ])?;
-        is_first = false;
-    }
-    Ok(())
+    let words = trace.words.as_slice().get(words.first..words.past);
+    page.mark("exec(")?;
+    add_words(page, trace, words.unwrap_or(&[]))?;
+    page.mark(")")
 }
 
 /// A call with its arguments, as a program would write it: `read(3, 512)`. Of a write the count of the bytes stands there.
@@ -119,24 +131,25 @@ pub fn add_call<A: Allocator + Copy>(
     run: &Run<'_, A>,
     trap: &Trap,
 ) -> Result<(), AllocError> {
-    page.add(&[Mark(call_name(trap.call)), Mark("(")])?;
+    let name = call_name(trap.call);
     match trap.call {
-        Call::Fork | Call::Exit | Call::Wait | Call::Pipe => {}
-        Call::Exec(words, _) => add_words(page, run, words)?,
-        Call::Read(fd, size) => page.add(&[Num(fd), Mark(", "), Num(size)])?,
+        Call::Fork | Call::Exit | Call::Wait | Call::Pipe => page.fill("%()", &[Mark(name)]),
+        Call::Exec(words, _) => add_exec(page, run.trace, words),
+        Call::Read(fd, size) => page.fill("%(%, %)", &[Mark(name), Num(fd), Num(size)]),
         Call::Write(fd, bytes) => {
             let size = run.trace.text(bytes).len();
-            page.add(&[Num(fd), Mark(", "), Num(size)])?;
+            page.fill("%(%, %)", &[Mark(name), Num(fd), Num(size)])
         }
-        Call::Open(name, mode) => page.add(&[
-            Mark("“"),
-            Short(run.trace.text(name), TABLE_ROOM),
-            Mark("”, "),
-            Mark(mode_name(mode)),
-        ])?,
-        Call::Close(fd) | Call::Dup(fd) => page.add(&[Num(fd)])?,
+        Call::Open(file, mode) => page.fill(
+            "%(“%”, %)",
+            &[
+                Mark(name),
+                Short(run.trace.text(file), TABLE_ROOM),
+                Mark(mode_name(mode)),
+            ],
+        ),
+        Call::Close(fd) | Call::Dup(fd) => page.fill("%(%)", &[Mark(name), Num(fd)]),
     }
-    page.mark(")")
 }
 
 /// What a process sleeps on.
@@ -147,16 +160,8 @@ pub fn add_channel<A: Allocator + Copy>(
 ) -> Result<(), AllocError> {
     match channel {
         Channel::Children => page.mark("until a child exits"),
-        Channel::PipeBytes(pipe) => page.add(&[
-            Mark("until pipe "),
-            Pipe(run.pipe(pipe)),
-            Mark(" has bytes"),
-        ]),
-        Channel::PipeRoom(pipe) => page.add(&[
-            Mark("until pipe "),
-            Pipe(run.pipe(pipe)),
-            Mark(" has room"),
-        ]),
+        Channel::PipeBytes(pipe) => page.fill("until pipe % has bytes", &[Pipe(run.pipe(pipe))]),
+        Channel::PipeRoom(pipe) => page.fill("until pipe % has room", &[Pipe(run.pipe(pipe))]),
     }
 }
 
@@ -167,6 +172,6 @@ pub fn add_process<A: Allocator + Copy>(
     event: &Event,
     room: usize,
 ) -> Result<(), AllocError> {
-    page.add(&[Mark("<b>"), Num(event.process.pid as usize), Mark("</b> ")])?;
+    page.fill("<b>%</b> ", &[Num(event.process.pid as usize)])?;
     add_doing(page, run, &event.doing, room)
 }

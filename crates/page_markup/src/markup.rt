@@ -150,6 +150,19 @@ impl<A: Allocator> Page<A> {
         Ok(())
     }
 
+    /// Writes HTML of the page's own, with the pieces, in order, in place of each `%`.
+    pub fn fill(&mut self, form: &'static str, pieces: &[Piece<'_>]) -> Result<(), AllocError> {
+        let mut rest = pieces;
+        for part in form.split('%') {
+            self.mark(part)?;
+            if let [piece, behind @ ..] = rest {
+                self.add_one(*piece)?;
+                rest = behind;
+            }
+        }
+        Ok(())
+    }
+
     /// Writes HTML of the page's own.
     pub fn mark(&mut self, mark: &'static str) -> Result<(), AllocError> {
         self.text.extend_from_slice(mark.as_bytes())

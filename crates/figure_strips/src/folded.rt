@@ -1,0 +1,103 @@
+//! The calls that are folded in a strip, as one box a process.
+
+use crate::geometry::{Row, Window};
+use crate::labels::add_text;
+use Piece::{Mark, Num};
+use figure_words::{Run, events_of};
+use page_markup::{Page, Piece};
+use std::alloc::{AllocError, Allocator};
+use trace_data::{Call, Event, Process};
+
+// How many of the events are reads of a process, and how many are its writes.
+fn calls_in(events: &[Event], process: Process) -> (usize, usize) {
+    let (mut reads, mut writes): (usize, usize) = (0, 0);
+    for event in events {
+        if event.process == process {
+            match &event.trap {
+                Some(trap) if matches!(trap.call, Call::Read(_, _)) => {
+                    reads = reads.saturating_add(1);
+                }
+                Some(_) => writes = writes.saturating_add(1),
+                None => {}
+            }
+        }
+    }
+    (reads, writes)
+}
+
+// A line of the box of folded calls.
+fn add_fold_line<A: Allocator>(
+    page: &mut Page<A>,
+    count: usize,
+    what: &'static str,
+    place: (usize, usize),
+) -> Result<(), AllocError> {
+    if count == 0 {
+        return Ok(());
+    }
+    add_text(page, "small", place, &[Num(count), Mark("× "), Mark(what)])
+}
+
+// Where the lines of reads and of writes are, of a lane with this middle.
+fn lines_at(middle: usize, (reads, writes): (usize, usize)) -> (usize, usize) {
+    if reads > 0 && writes > 0 {
+        (middle.saturating_sub(3), middle.saturating_add(10))
+    } else {
+        (middle.saturating_add(4), middle.saturating_add(4))
+    }
+}
+
+// The frame of the box of folded calls, from a place to another.
+fn add_frame<A: Allocator>(
+    page: &mut Page<A>,
+    row: &Row,
+    left: usize,
+    right: usize,
+) -> Result<(), AllocError> {
+    page.fill(
+        "<rect class=\"folded\" x=\"%\" y=\"%\" width=\"%\" height=\"%\"/>",
+        &[
+            Num(left),
+            Num(row.top.saturating_add(3)),
+            Num(right.saturating_sub(left)),
+            Num(row.height.saturating_sub(6)),
+        ],
+    )
+}
+
+// The calls of a process that are folded, of which the first event is this one, as one box.
+fn add_fold_box<A: Allocator>(
+    page: &mut Page<A>,
+    window: Window<'_>,
+    row: &Row,
+    first: usize,
+    (reads, writes): (usize, usize),
+) -> Result<(), AllocError> {
+    if reads == 0 && writes == 0 {
+        return Ok(());
+    }
+    let left = window.left(first).saturating_add(1);
+    let right = window.right(first).saturating_sub(1);
+    add_frame(page, row, left, right)?;
+    let middle = window.middle(first);
+    let (high, low) = lines_at(row.middle(), (reads, writes));
+    add_fold_line(page, reads, "read", (middle, high))?;
+    add_fold_line(page, writes, "write", (middle, low))
+}
+
+/// The folds of a strip.
+pub fn add_folds<A: Allocator>(
+    page: &mut Page<A>,
+    run: &Run<'_, A>,
+    window: Window<'_>,
+    rows: &[Row],
+) -> Result<(), AllocError> {
+    for fold in window.folds {
+        let events = events_of(run.trace, fold.first, fold.past);
+        for row in rows {
+            let calls = calls_in(events, row.life.lane.process);
+            add_fold_box(page, window, row, fold.first, calls)?;
+        }
+    }
+    Ok(())
+}
