@@ -1,5 +1,5 @@
 -- Where a run of turns came to, if nothing was full there.
-use Rattle.std.proofs.Common.{◌≡◌, ℕ, List, Bool, Some, None, sym, ap, subst, ◌∙◌}
+use Rattle.std.proofs.Common.{◌≡◌, ℕ, List, Bool, Some, None, sym, ap, ◌∙◌}
 use Rattle.user_calls.specs.declared.calls.Call.{Call}
 use Rattle.user_calls.specs.declared.calls.Reply.{Reply}
 use Rattle.kernel_model.specs.declared.events.Event.{Event}

@@ -124,8 +124,3 @@ module _ {K : Type 0} (turn : K → ℕ → Option K) (does : K → K → Type 0
 
   pub every_ending : (start m : K) (seen : List K) (ps : List ℕ) → IsReduced turn does private start seen → turns turn (Some start) ps ≡ Some m → IsEnding turn does private m → Any (λ s. does s m) seen
   every_ending start m seen ps r is over = reaches seen r.goes_on (suc (length ps)) start m ps (omega arith) r.starts is over
-
-  -- likenesses that are as good as another
-  pub led_more : (like : K → K → Type 0) → ((k l : K) → like k l → does k l) → (seen : List K) (k : K) → IsLed turn like private seen k → IsLed turn does private seen k
-  led_more like more seen k (listed j any) = listed k (any_more (λ s. like s k) (λ s. does s k) seen (λ s. more s k) any)
-  led_more like more seen k (private_turn j a p mine first led) = private_turn k a p mine first (led_more like more seen a led)

@@ -16,12 +16,12 @@ use Rattle.kernel_model.specs.Events.{run, IsFinished}
 use Rattle.kernel_model.specs.Quiet.{no_refusals}
 use Rattle.kernel_model.proofs.Quiet.{run_quiet}
 use Rattle.law_kernel.specs.Asking.{MaySleep}
-use Rattle.order_model.specs.Turns.{after_turn, callers, IsReachedFrom}
+use Rattle.order_model.specs.Turns.{after_turn, callers}
 use Rattle.order_model.specs.Explored.{AreEnough, IsFinishedOrBusy, IsFinishedOrAwake, IsNeverStuck}
 use Rattle.law_orders.proofs.Back.{could_turn}
 use Rattle.law_orders.proofs.Matching.{quiet_matched}
-use Rattle.order_model.specs.Reduced.{IsReduced, IsEnding}
-use Rattle.order_model.specs.Privately.{IsPrivateCall, executes, dups, closes, Privately}
+use Rattle.order_model.specs.Reduced.{IsEnding}
+use Rattle.order_model.specs.Privately.{IsPrivateCall, executes, dups, closes}
 use Rattle.order_model.specs.Woke.{SameKeyAwake}
 use Rattle.order_model.specs.Begun.{IsBegun, DoesAwake, itself, likened, PrivatelyBegun}
 use Rattle.law_every_outcome.proofs.Moved.{of_all}

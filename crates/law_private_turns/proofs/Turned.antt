@@ -79,14 +79,7 @@ module _ {S : Type 0} (call : S → Reply → Call) (next : S → Reply → S) w
       let before : Holds x (at d.table p) = in_own x p q ne k.table _ h in
       ends_keeping x p q ne d (next y.machine y.reply) (call y.machine y.reply) (turned call next k q y false) before (every_call_ends d q (next y.machine y.reply) (call y.machine y.reply) false)
 
-  -- another's turn, with something else left in p's slot
-  pub turn_told : (k : KernelState S) (p q : ℕ) (l : Left S) (x y : Process S) → q ≢ p → Holds x (at k.table p) → turned call next (retold p l k) q y false ≡ retold p l (turned call next k q y false)
-  turn_told k p q l x y ne h =
-      let d : KernelState S = counted (given_0 k q) in
-      let before : Holds x (at d.table p) = in_own x p q ne k.table _ h in
-      (λ i. acted (record (counted (given_0 (retold p l k) q)) { table = status_told p l q ne k.table (Running 0) i }) q (next y.machine y.reply) (call y.machine y.reply) false) ∙
-      acted_told p l q ne (next y.machine y.reply) d (call y.machine y.reply) false (ap is_free before.there) (holds_alive x (at d.table p) before)
-
+  -- a call of p that only answers it, and another's turn
   module _ (p : ℕ) (x : Process S) (reply : Reply) (answers : (k : KernelState S) → acted k p (next x.machine x.reply) (call x.machine x.reply) false ≡ answered k p (next x.machine x.reply) reply) where
     -- what p's turn leaves in its slot
     abbrev pub left : Left S

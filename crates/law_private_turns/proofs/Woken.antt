@@ -9,7 +9,7 @@ use Rattle.proc_table.specs.declared.states.Channel.{Channel}
 use Rattle.proc_table.specs.declared.states.Channel.TheVariants.{Children}
 use Rattle.proc_table.specs.declared.states.Status.{Status}
 use Rattle.proc_table.specs.declared.states.Status.TheVariants.{Runnable, Running, Asleep, Zombie}
-use Rattle.proc_table.specs.Slots.{Slot, Table, at, same_channel, is_free, is_child_of, is_zombie, is_zombie_status, is_zombie_child_of, parent_of, put_of}
+use Rattle.proc_table.specs.Slots.{Slot, Table, at, same_channel, is_free, is_child_of, is_zombie_status, is_zombie_child_of, parent_of, put_of}
 use Rattle.proc_table.specs.Calls.{with_status, status_set, made_ready, readied, put_to_sleep, slept, with_fds, fds_set, woken_status, woken, all_woken, given, zombie_child, some_child, buried, exited, wait_answer, wait_by, freed, reaped, lowest_free, forked, newborn}
 use Rattle.proc_table.proofs.Changes.{mapped}
 use Rattle.kernel_model.specs.KernelState.{fds_of}
@@ -43,10 +43,6 @@ zombie_status Runnable = refl
 zombie_status (Running h) = refl
 zombie_status (Asleep c) = refl
 zombie_status Zombie = refl
-
-woke_zombie : {S : Type 0} (x : Slot S) → is_zombie (woke_slot x) ≡ is_zombie x
-woke_zombie None = refl
-woke_zombie (Some p) = zombie_status p.status
 
 woke_zombie_child : {S : Type 0} (pid : ℕ) (x : Slot S) → is_zombie_child_of pid (woke_slot x) ≡ is_zombie_child_of pid x
 woke_zombie_child pid None = refl

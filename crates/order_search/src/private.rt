@@ -26,11 +26,7 @@ pub fn is_private_call(call: &Call, places: &[Option<u8>]) -> bool
 fn entry_of(places: &[Option<u8>], fd: usize) -> Option<u8>
     ensures { result ≡ entry_of places.now fd }
 {
-    if fd < places.len() {
-        places[fd]
-    } else {
-        None
-    }
+    if fd < places.len() { places[fd] } else { None }
 }
 
 // The lowest free place.
@@ -44,8 +40,5 @@ fn lowest_free(places: &[Option<u8>]) -> Option<usize>
 fn holders_in(places: &[Option<u8>], entry: u8) -> usize
     ensures { result ≡ holders_in places.now entry }
 {
-    places
-        .iter()
-        .filter(|place| **place == Some(entry))
-        .count()
+    places.iter().filter(|place| **place == Some(entry)).count()
 }

@@ -1,4 +1,4 @@
-use Rattle.std.proofs.Common.{◌≡◌, Some, sym, ap, subst, ◌∙◌}
+use Rattle.std.proofs.Common.{Some, sym, ap, subst}
 use Rattle.proc_table.specs.Slots.{Slot, Process}
 use Rattle.order_search.specs.Shown.{slot_of, IsPrivateSlot}
 use Rattle.order_search.proofs.looks.is_private.Goals as goal

@@ -1,4 +1,4 @@
-use Rattle.std.proofs.Common.{◌≡◌, ◌<◌, false, get_or, length, rules, arith}
+use Rattle.std.proofs.Common.{◌≡◌, ◌<◌, false, get_or, length, rules}
 use Rattle.order_search.proofs.Looking.{slots_at, never}
 use Rattle.order_search.proofs.looks.same_slots.Goals as goal
 

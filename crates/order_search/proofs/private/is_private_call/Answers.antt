@@ -1,4 +1,4 @@
-use Rattle.std.proofs.Common.{◌≡◌, ◌≤◌, ℕ, sym, subst, ◌∙◌, leb-true}
+use Rattle.std.proofs.Common.{◌≤◌, ℕ, sym, subst, ◌∙◌, leb-true}
 use Rattle.fd_table.specs.Descriptors.{holders_in}
 use Rattle.order_model.specs.Privately.{executes, dups, closes}
 use Rattle.order_search.proofs.Looking.{some_value}

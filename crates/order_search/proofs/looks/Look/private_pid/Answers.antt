@@ -1,4 +1,4 @@
-use Rattle.std.proofs.Common.{◌≡◌, ◌≢◌, ◌<◌, ℕ, length, get_or, ap, sym, ◌∙◌, arith, rules}
+use Rattle.std.proofs.Common.{◌≡◌, ◌≢◌, ◌<◌, ℕ, length, ap, sym, ◌∙◌, arith, rules}
 use Rattle.proc_table.specs.Slots.{at}
 use Rattle.kernel_model.specs.KernelState.{KernelState}
 use Rattle.order_search.specs.Shown.{slot_of}

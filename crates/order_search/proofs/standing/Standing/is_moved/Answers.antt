@@ -1,10 +1,9 @@
 -- What the turn leads to has another key where its look is another one, but for who sleeps.
-use Rattle.std.proofs.Common.{◌≡◌, Bool, true, false, Ok, Some, sym, ap, ◌∙◌}
-use Rattle.std.specs.Prelude.{Result, not, option_map}
+use Rattle.std.proofs.Common.{◌≡◌, sym, ap, ◌∙◌}
+use Rattle.std.specs.Prelude.{option_map}
 use Rattle.kernel_model.specs.KernelState.{KernelState}
 use Rattle.order_model.specs.Key.{key}
 use Rattle.order_model.specs.Woke.{woke}
-use Rattle.order_model.specs.Turns.{after_turn}
 use Rattle.order_search.specs.Led.{Led, kernel_of}
 use Rattle.order_search.proofs.Leading.{woken_key}
 use Rattle.order_search.proofs.Looking.{never, not_said}

@@ -1,4 +1,4 @@
-use Rattle.std.proofs.Common.{◌≡◌, inl, inr, subst}
+use Rattle.std.proofs.Common.{inl, subst}
 use Rattle.kernel_model.specs.Events.{IsFinished}
 use Rattle.order_model.specs.Explored.{IsFinishedOrBusy}
 use Rattle.order_search.specs.Led.{Led}

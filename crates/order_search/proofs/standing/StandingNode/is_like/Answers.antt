@@ -1,5 +1,4 @@
 use Rattle.std.proofs.Common.{◌≡◌, sym, subst, ◌∙◌}
-use Rattle.kernel_model.specs.KernelState.{KernelState}
 use Rattle.order_model.specs.Key.{key}
 use Rattle.order_model.specs.Woke.{woke}
 use Rattle.order_search.specs.Led.{Led}

@@ -1,4 +1,4 @@
-use Rattle.std.proofs.Common.{ℕ, subst}
+use Rattle.std.proofs.Common.{subst}
 use Rattle.order_model.specs.Privately.{Privately}
 use Rattle.order_search.specs.Led.{Led}
 use Rattle.order_search.proofs.Leading.{key_private}
