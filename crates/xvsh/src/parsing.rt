@@ -1,6 +1,6 @@
 //! What the words of a command line are: a command with its words, a call for help, or neither.
 
-ghost use Rattle.std.specs.Prelude.{◌≡◌, ◌≢◌, ℕ, [], List, Option, false, map, string_bytes, IfErr, IfOk};
+ghost use Rattle.std.specs.Prelude.{◌≡◌, ◌≢◌, ℕ, [], List, Option, false, true, map, string_bytes, IfErr, IfOk};
 ghost use Rattle.clap.specs.Matches.{found_of};
 ghost use Rattle.clap.specs.Simple.{app_of, subcommand_rows_of};
 ghost use Rattle.clap.specs.Takes.{is_given};
@@ -8,6 +8,7 @@ ghost use Rattle.clap.specs.Values.{kind_of};
 ghost use Rattle.clap.specs.Walk.{rows_of};
 ghost use Rattle.clap.specs.declared.error.kind.ErrorKind.TheVariants.{OutOfMemory};
 ghost use Rattle.xvsh_read.specs.Status.{fault_told};
+ghost use Rattle.xvsh_read.specs.declared.fault.Fault.TheVariants.{Memory};
 ghost use Rattle.xvsh_read.specs.Path.{Path};
 ghost use Rattle.xvsh_read.specs.Writing.{out_text};
 ghost use Rattle.xvsh_ends.specs.Ends.{IsDue, Tells, help, misuse, told_text};
@@ -46,7 +47,8 @@ fn is_given(words: &ArgMatches<'_>, name: &str) -> bool
 {
     match words.value_source(name) {
         Some(ValueSource::DefaultValue) => false,
-        _ => words.contains_id(name),
+        Some(ValueSource::CommandLine) => words.contains_id(name),
+        None => words.contains_id(name),
     }
 }
 
@@ -121,15 +123,19 @@ const TIP: &str =
 // What is reported of words that conflict, where nothing else is.
 const CONFLICT: &str = "error: some of these words can't stand beside each other\n";
 
+// The text of an error.
+fn text_of(alloc: Global, error: &clap::Error) -> Result<String, AllocError> {
+    let is_unknown = error.kind() == ErrorKind::InvalidSubcommand;
+    let tip = if is_unknown { TIP } else { "" };
+    format!(in alloc; "{error}{tip}")
+}
+
 // What is wrong with the words.
 fn told_of(alloc: Global, words: &[String]) -> Result<String, AllocError> {
     let command = own_command_line(alloc, true)?;
     match command.try_get_matches_from(words) {
-        Err(error) if error.kind() == ErrorKind::InvalidSubcommand => {
-            format!(in alloc; "{error}{TIP}")
-        }
-        Err(error) => format!(in alloc; "{error}"),
-        Ok(_) => String::from_str(alloc, CONFLICT),
+        Err(error) => text_of(alloc, &error),
+        Ok(_matches) => String::from_str(alloc, CONFLICT),
     }
 }
 
@@ -170,7 +176,7 @@ fn error_ending(alloc: Global, words: &[String], error: &clap::Error) -> Ending
     match error.kind() {
         ErrorKind::OutOfMemory => report_no_memory(alloc),
         ErrorKind::DisplayHelp | ErrorKind::DisplayVersion => {
-            match format!(in alloc; "{error}") {
+            match text_of(alloc, error) {
                 Ok(text) => help_ending(alloc, text),
                 Err(_) => report_no_memory(alloc),
             }

@@ -1,7 +1,7 @@
 use Rattle.std.proofs.Common.{◌∙◌}
 use Rattle.xvsh_read.specs.Writing.{out_text}
 use Rattle.xvsh_ends.specs.Ends.{told_text}
-use Rattle.xvsh_read.specs.Console.{known}
+use Rattle.xvsh_read.specs.Console.{Known, known}
 use Rattle.xvsh.proofs.Coming.{written}
 use Rattle.xvsh.proofs.Meaning.{run_writes_meaning}
 use Rattle.xvsh.proofs.Written.{status_due}
@@ -22,7 +22,7 @@ returns-clause-no_words g c none =
 pub returns-clause-ends : goal.returns-clause-ends
 returns-clause-ends g c some =
     let old = known g.H.Host.input g.H.Host.file g.W.Write.contents g.E.Write.contents c.args.console.now in
-    let new = record { input = old.input; file = old.file; out = g.W.Write.contents c.write_ending-status.new.out; err = g.E.Write.contents c.write_ending-status.new.err } in
+    let new : Known = record { input = old.input; file = old.file; out = g.W.Write.contents c.write_ending-status.new.out; err = g.E.Write.contents c.write_ending-status.new.err } in
     written old new _ c.ending_on-ending.result c.write_ending-status.result (c.ending_on-ending.ensures.due some) c.write_ending-status.ensures.writes
 
 pub returns-clause-nothing_written : goal.returns-clause-nothing_written
