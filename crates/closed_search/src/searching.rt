@@ -1,7 +1,7 @@
 //! The search.
 
-ghost use Rattle.std.specs.Prelude.{◌≡◌, ℕ, ◌<◌, ◌≤◌, Some, None, Ok, IfOk, OnOk, All, length, map, slice_index_or, true, false, [], ◌∷◌, ◌++◌};
-ghost use Rattle.closed_search.specs.Searched.{HasLike, IsExpanded, IsReached, IsLonger, IsClosedUnder};
+ghost use Rattle.std.specs.Prelude.{◌≡◌, ℕ, ◌<◌, ◌≤◌, Some, None, Ok, IfOk, IfSome, OnOk, All, length, map, slice_index_or, true, false, [], ◌∷◌, ◌++◌};
+ghost use Rattle.closed_search.specs.Searched.{HasLike, IsLedOn, IsLed, IsExpanded, IsReached, IsLonger, IsReducedUnder};
 
 use crate::indexes::Index;
 use crate::nodes::Node;
@@ -24,6 +24,8 @@ pub struct Bounds {
     pub moves: usize,
     /// With how many nodes it goes on. With more it stops.
     pub limit: usize,
+    /// How many private moves are made in a row at most, before a node is kept.
+    pub chain: usize,
 }
 
 // Whether the state of one of the nodes, of those with this digest, stands for the node's.
@@ -67,39 +69,79 @@ fn add<T: Node>(nodes: &mut Vec<T>, index: &mut Index, node: T) -> Result<(), T:
     Ok(())
 }
 
-// The node after a move of the one at the place is added, unless one stands for it.
+// The node after a private move, if one was found.
+fn advance<T: Node>(node: &T, tools: &mut T::Tools) -> Result<Option<T>, T::Fault>
+    ensures { IfOk result (λ found. IfSome found (λ next. (move : ℕ) × T.private (T.state node.now) move × (T.step (T.state node.now) move ≡ Some (T.state next)))) }
+{
+    match node.private_move() {
+        None => Ok(None),
+        Some(step_number) => node.after(tools, step_number),
+    }
+}
+
+// The node after private moves, as many as are found in a row, up to so many.
+fn settle<T: Node>(first: T, tools: &mut T::Tools, chain: usize) -> Result<T, T::Fault>
+    ensures { IfOk result (λ node. IsLedOn T.step T.private (T.state first) (T.state node)) }
+{
+    let mut node = first;
+    for _ in 0..chain {
+        match advance(&node, tools)? {
+            None => return Ok(node),
+            Some(next) => node = next,
+        }
+    }
+    Ok(node)
+}
+
+// The node after private moves of this one is added, unless one stands for it.
+fn add_settled<T: Node>(
+    nodes: &mut Vec<T>,
+    index: &mut Index,
+    tools: &mut T::Tools,
+    node: T,
+    chain: usize,
+) -> Result<(), T::Fault>
+    ensures has { IfOk result (λ _. IsLed T.step T.stands T.private (map T.state nodes.new.items) (T.state node)) }
+    ensures grown { IfOk result (λ _. IsLonger (λ t. IsReached T.step (T.state node) t) (map T.state nodes.old.items) (map T.state nodes.new.items)) }
+{
+    let settled = settle(node, tools, chain)?;
+    add(nodes, index, settled)
+}
+
+// What the node after a move of the one at the place leads to is added, unless a node stands for it.
 fn take_move<T: Node>(
     nodes: &mut Vec<T>,
     index: &mut Index,
     tools: &mut T::Tools,
     place: usize,
     step_number: usize,
+    chain: usize,
 ) -> Result<(), T::Fault>
     requires place { place < length nodes.old.items }
-    ensures has { IfOk result (λ _. (d t : T.State) → T.step (slice_index_or (map T.state nodes.old.items) place d) step_number ≡ Some t → HasLike T.stands (map T.state nodes.new.items) t) }
-    ensures grown { IfOk result (λ _. IsLonger (λ t. (d : T.State) → T.step (slice_index_or (map T.state nodes.old.items) place d) step_number ≡ Some t) (map T.state nodes.old.items) (map T.state nodes.new.items)) }
+    ensures has { IfOk result (λ _. (d t : T.State) → T.step (slice_index_or (map T.state nodes.old.items) place d) step_number ≡ Some t → IsLed T.step T.stands T.private (map T.state nodes.new.items) t) }
+    ensures grown { IfOk result (λ _. IsLonger (λ t. (d : T.State) → IsReached T.step (slice_index_or (map T.state nodes.old.items) place d) t) (map T.state nodes.old.items) (map T.state nodes.new.items)) }
 {
     let found = nodes[place].after(tools, step_number)?;
     match found {
         None => Ok(()),
-        Some(node) => add(nodes, index, node),
+        Some(node) => add_settled(nodes, index, tools, node, chain),
     }
 }
 
-// The nodes after all moves of the one at the place are added, each unless one stands for it.
+// What all moves of the one at the place lead to is added, each unless a node stands for it.
 fn expand<T: Node>(
     nodes: &mut Vec<T>,
     index: &mut Index,
     tools: &mut T::Tools,
     place: usize,
-    moves: usize,
+    bounds: Bounds,
 ) -> Result<(), T::Fault>
     requires place { place < length nodes.old.items }
-    ensures has { IfOk result (λ _. (d : T.State) → IsExpanded T.step T.stands (map T.state nodes.new.items) (slice_index_or (map T.state nodes.old.items) place d) moves) }
-    ensures grown { IfOk result (λ _. IsLonger (λ t. (move : ℕ) × ((d : T.State) → T.step (slice_index_or (map T.state nodes.old.items) place d) move ≡ Some t)) (map T.state nodes.old.items) (map T.state nodes.new.items)) }
+    ensures has { IfOk result (λ _. (d : T.State) → IsExpanded T.step T.stands T.private (map T.state nodes.new.items) (slice_index_or (map T.state nodes.old.items) place d) bounds.moves) }
+    ensures grown { IfOk result (λ _. IsLonger (λ t. (d : T.State) → IsReached T.step (slice_index_or (map T.state nodes.old.items) place d) t) (map T.state nodes.old.items) (map T.state nodes.new.items)) }
 {
-    for step_number in 0..moves {
-        take_move(nodes, index, tools, place, step_number)?;
+    for step_number in 0..bounds.moves {
+        take_move(nodes, index, tools, place, step_number, bounds.chain)?;
     }
     Ok(())
 }
@@ -113,13 +155,14 @@ fn search_from<T: Node, W: Watch>(
     watch: &mut W,
 ) -> Result<Found<T>, T::Fault>
     ensures reached { IfOk result (λ found. All (IsReached T.step (T.state start)) (map T.state found.nodes.items)) }
-    ensures whole { IfOk result (λ found. found.whole ≡ true → IsClosedUnder T.step T.stands bounds.moves (T.state start) (map T.state found.nodes.items)) }
+    ensures whole { IfOk result (λ found. found.whole ≡ true → IsReducedUnder T.step T.stands T.private bounds.moves (T.state start) (map T.state found.nodes.items)) }
     ensures part { IfOk result (λ found. found.whole ≡ false → bounds.limit < length found.nodes.items) }
 {
     let mut nodes = Vec::new(alloc);
     let mut index = Index::new(alloc);
-    let digest = start.digest();
-    keep(&mut nodes, &mut index, start, digest)?;
+    let settled = settle(start, tools, bounds.chain)?;
+    let digest = settled.digest();
+    keep(&mut nodes, &mut index, settled, digest)?;
     let mut place = 0;
     while place < nodes.len() {
         if bounds.limit < nodes.len() {
@@ -129,7 +172,7 @@ fn search_from<T: Node, W: Watch>(
             });
         }
         watch.found(nodes.len());
-        expand(&mut nodes, &mut index, tools, place, bounds.moves)?;
+        expand(&mut nodes, &mut index, tools, place, bounds)?;
         place += 1;
     }
     Ok(Found { nodes, whole: true })
@@ -149,7 +192,7 @@ pub fn search<T: Node, W: Watch>(
     watch: &mut W,
 ) -> Result<Found<T>, T::Fault>
     ensures reached { IfOk result (λ found. All (IsReached T.step (T.state start)) (map T.state found.nodes.items)) }
-    ensures whole { IfOk result (λ found. found.whole ≡ true → IsClosedUnder T.step T.stands bounds.moves (T.state start) (map T.state found.nodes.items)) }
+    ensures whole { IfOk result (λ found. found.whole ≡ true → IsReducedUnder T.step T.stands T.private bounds.moves (T.state start) (map T.state found.nodes.items)) }
     ensures part { IfOk result (λ found. found.whole ≡ false → bounds.limit < length found.nodes.items) }
 {
     let found = search_from(alloc, tools, start, bounds, watch);

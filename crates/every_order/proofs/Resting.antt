@@ -1,5 +1,5 @@
 -- Where a run of turns came to, if nothing was full there.
-use Rattle.std.proofs.Common.{◌≡◌, ℕ, List, Bool, Some, None, sym, ap, subst, ◌∙◌}
+use Rattle.std.proofs.Common.{◌≡◌, ℕ, List, Bool, Some, None, sym, ap, ◌∙◌}
 use Rattle.user_calls.specs.declared.calls.Call.{Call}
 use Rattle.user_calls.specs.declared.calls.Reply.{Reply}
 use Rattle.kernel_model.specs.declared.events.Event.{Event}
@@ -8,7 +8,7 @@ use Rattle.kernel_model.specs.Events.{run}
 use Rattle.kernel_model.specs.Quiet.{no_refusals}
 use Rattle.kernel_model.proofs.Quiet.{run_quiet}
 use Rattle.order_model.specs.Turns.{after_turns, quiet_turns, turn_events}
-use Rattle.law_every_outcome.proofs.Covered.{turns_run}
+use Rattle.law_every_outcome.proofs.Runs.{turns_run}
 
 module _ {S : Type 0} (call : S → Reply → Call) (next : S → Reply → S) where
   -- turns of these processes at which memory isn't refused come to the kernel of such a run

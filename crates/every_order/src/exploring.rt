@@ -8,8 +8,8 @@ ghost use Rattle.order_model.specs.Explored.{AreAllOutcomes, IsNeverStuck};
 ghost use Rattle.order_search.specs.Told.{outcome_by, IsReplayed, AreApart, LeadsToSleep};
 
 use law_every_outcome::laws::{
-    every_outcome_of_a_script_is_told, no_run_of_a_script_is_stuck_if_no_kernel_of_the_list_is,
-    what_a_search_found_is_explored,
+    a_script_begins_at_a_boot, no_run_is_stuck_if_each_kernel_can_do_something,
+    what_a_search_found_is_explored, what_was_explored_is_every_outcome,
 };
 use mem_files::Files;
 use mem_files::laws::are_files;
@@ -91,9 +91,10 @@ fn explore_named<N: Naming, B: Allocator, C: Allocator, W: Watch>(
     ensures part { IfOk result (λ found. found.whole ≡ false → states < found.states) }
 {
     are_files(setting.files);
+    a_script_begins_at_a_boot();
     what_a_search_found_is_explored::<User<B, N>>();
-    every_outcome_of_a_script_is_told();
-    no_run_of_a_script_is_stuck_if_no_kernel_of_the_list_is();
+    what_was_explored_is_every_outcome::<User<B, N>>();
+    no_run_is_stuck_if_each_kernel_can_do_something::<User<B, N>>();
     let origin = Origin {
         init: User::<B, N>::init(),
         shell: User::shell(setting.script),

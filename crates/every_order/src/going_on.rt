@@ -5,10 +5,9 @@ ghost use Rattle.kernel_model.specs.Boot.{boot_kernel};
 ghost use Rattle.every_order.specs.Rest.{TellsAfter};
 
 use law_every_outcome::laws::{
-    a_list_with_the_keys_of_its_turns_is_closed, no_run_is_stuck_if_no_kernel_of_the_list_is,
-    what_a_search_found_is_explored, what_was_explored_is_every_outcome,
+    no_run_is_stuck_if_each_kernel_can_do_something, what_a_search_found_is_explored,
+    what_was_explored_is_every_outcome,
 };
-use law_orders::laws::a_kernel_is_still_between_turns;
 use mem_files::laws::are_files;
 use order_search::{Exploration, ExploreFault, Origin, Watch};
 use std::alloc::{Allocator, Global};
@@ -31,10 +30,8 @@ pub fn explore_after<M: Machine, C: Allocator, W: Watch>(
     ensures part { IfOk result (λ found. found.whole ≡ false → states < found.states) }
 {
     are_files(origin.files);
-    a_kernel_is_still_between_turns::<M>();
     what_a_search_found_is_explored::<M>();
     what_was_explored_is_every_outcome::<M>();
-    a_list_with_the_keys_of_its_turns_is_closed::<M>();
-    no_run_is_stuck_if_no_kernel_of_the_list_is::<M>();
+    no_run_is_stuck_if_each_kernel_can_do_something::<M>();
     order_search::explore_after(alloc, origin, pids, states, watch)
 }

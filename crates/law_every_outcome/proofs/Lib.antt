@@ -1,5 +1,8 @@
 pub mod Looks
-pub mod Covered
-pub mod Keyed
+pub mod Moved
+pub mod Runs
+pub mod Canonical
+pub mod Listed
+pub mod Stuck
 pub mod Searched
 pub mod Scripts

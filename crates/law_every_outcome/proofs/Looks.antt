@@ -1,5 +1,4 @@
--- What kernels that are alike have in common and can be passed on: their outcome, and who is awake. That `Alike` itself can be passed
--- on isn't needed.
+-- What kernels that are alike have in common: their outcome, and who is awake.
 use Rattle.std.proofs.Common.{◌≡◌, ℕ, Bool, true, false, None, Some, inl, inr, refl, sym, ap, ◌∙◌}
 use Rattle.std.specs.Prelude.{◌⊎◌}
 use Rattle.proc_table.specs.declared.states.Status.{Status}
@@ -64,14 +63,3 @@ looks k l a =
       outcome = same_outcome k l a;
       who = λ pid. sym (awake_idle a.first (at k.table pid)) ∙ ap is_runnable (slots_alike k l a pid) ∙ awake_idle a.second (at l.table pid);
     }
-
-outcome_on : {S : Type 0} (k l m : KernelState S) → SameOutcome k l → SameOutcome l m → SameOutcome k m
-outcome_on k l m a b =
-    record {
-      outcome = a.outcome ∙ b.outcome;
-      input = a.input ∙ b.input;
-      finished = (λ is. b.finished.0 (a.finished.0 is), λ is. a.finished.1 (b.finished.1 is));
-    }
-
-pub looks_on : {S : Type 0} (k l m : KernelState S) → Looks k l → Looks l m → Looks k m
-looks_on k l m a b = record { outcome = outcome_on k l m a.outcome b.outcome; who = λ pid. a.who pid ∙ b.who pid }

@@ -1,7 +1,10 @@
 pub mod Idle
 pub mod Alike
 pub mod Key
+pub mod Woke
 pub mod Turns
 pub mod Outcome
-pub mod Closed
+pub mod Privately
+pub mod Reduced
+pub mod Begun
 pub mod Explored

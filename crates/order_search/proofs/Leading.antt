@@ -8,7 +8,7 @@ use Rattle.mem_files.specs.Name.{Name, Bytes}
 use Rattle.proc_table.specs.declared.states.Status.{Status}
 use Rattle.proc_table.specs.declared.states.Status.TheVariants.{Runnable, Running, Asleep, Zombie}
 use Rattle.proc_table.specs.declared.table.TheConstants.{HARTS}
-use Rattle.proc_table.specs.Slots.{Slot, Table, at, is_runnable, is_runnable_status, is_running, is_running_status, is_running_on}
+use Rattle.proc_table.specs.Slots.{Slot, Table, Process, at, is_runnable, is_runnable_status, is_running, is_running_status, is_running_on}
 use Rattle.proc_table.specs.Calls.{dispatched}
 use Rattle.kernel_model.specs.declared.events.Event.TheVariants.{Trap}
 use Rattle.kernel_model.specs.KernelState.{KernelState}
@@ -16,9 +16,12 @@ use Rattle.kernel_model.specs.Boot.{boot_kernel}
 use Rattle.kernel_model.specs.Events.{counted, can_dispatch, then_happens, IsFinished}
 use Rattle.order_model.specs.Idle.{idle_slot, idle_status, idle_kernel, renamed_entry, renamed_pipe}
 use Rattle.order_model.specs.Key.{key, place_in}
+use Rattle.order_model.specs.Woke.{woke_status, woke_slot, woke_table, woke}
+use Rattle.order_model.specs.Privately.{IsPrivateCall, Privately}
 use Rattle.order_model.specs.Outcome.{outcome_of}
 use Rattle.order_model.specs.Turns.{by_turns, quiet_turns, after_turns, after_turn, turn_events, turn_notes}
 use Rattle.order_search.specs.Led.{start_kernel}
+use Rattle.order_search.specs.Shown.{IsPrivateSlot}
 use Rattle.order_search.specs.Places.{IsOrderly, names_in, place_among}
 use Rattle.order_search.proofs.Placing.{place_is}
 use Rattle.law_kernel.proofs.EntriesLong.{every_run_has_entries}
@@ -109,19 +112,57 @@ none_of test [] k free none = free
 none_of test (x ∷ t) zero free none = (none_by test x t (test x) refl none).0
 none_of test (x ∷ t) (suc k) free none = none_of test t k free (none_by test x t (test x) refl none).1
 
-ready_status : (name : ℕ → ℕ) (s : Status) → is_runnable_status (idle_status name s) ≡ true → is_running_status s ≡ false → is_runnable_status s ≡ true
-ready_status name Runnable ready idle = refl
-ready_status name (Running h) ready idle = absurd (let z : ⊥ = cc in z)
-ready_status name (Asleep c) ready idle = absurd (let z : ⊥ = cc in z)
-ready_status name Zombie ready idle = absurd (let z : ⊥ = cc in z)
+-- ---- whose next call is private
 
-ready_slot : {S : Type 0} (name : ℕ → ℕ) (x : Slot S) → is_runnable (idle_slot name x) ≡ true → is_running x ≡ false → is_runnable x ≡ true
-ready_slot name None ready idle = ready
-ready_slot name (Some p) ready idle = ready_status name p.status ready idle
+ready_is : (name : ℕ → ℕ) (s : Status) → idle_status name s ≡ Runnable → is_running_status s ≡ false → s ≡ Runnable
+ready_is name Runnable ready idle = refl
+ready_is name (Running h) ready idle = absurd (let z : ⊥ = cc in z)
+ready_is name (Asleep c) ready idle = absurd (let z : ⊥ = cc in z)
+ready_is name Zombie ready idle = absurd (let z : ⊥ = cc in z)
 
-pub key_ready : {S : Type 0} (k look : KernelState S) (pid : ℕ) → look ≡ key k → count_by is_running k.table ≡ 0 → is_runnable (at look.table pid) ≡ true → is_runnable (at k.table pid) ≡ true
-key_ready k look pid is none ready =
-    ready_slot (place_in k.pipes) (at k.table pid) (ap is_runnable (sym (at_idle (place_in k.pipes) k.table pid)) ∙ ap (λ (j : KernelState _). is_runnable (at j.table pid)) (sym is) ∙ ready) (none_of is_running k.table pid refl none)
+private_slot : {S : Type 0} (call : S → Reply → Call) (name : ℕ → ℕ) (x : Slot S) → is_running x ≡ false → IsPrivateSlot call (idle_slot name x) → IsPrivateSlot call x
+private_slot call name None idle e = absurd (let is = e.is in let z : ⊥ = cc in z)
+private_slot call name (Some p) idle e =
+    let is = e.is in
+    let same : record p { status = idle_status name p.status } ≡ e.process = cc in
+    record {
+      process = p;
+      is = refl;
+      ready = ready_is name p.status (ap (λ (q : Process _). q.status) same ∙ e.ready) idle;
+      calls = subst (λ (q : Process _). IsPrivateCall q.fds (call q.machine q.reply)) (sym same) e.calls;
+    }
+
+pub key_private : {S : Type 0} (call : S → Reply → Call) (k look : KernelState S) (pid : ℕ) → look ≡ key k → count_by is_running k.table ≡ 0 → Privately call look pid → Privately call k pid
+key_private call k look pid is none e =
+    let there : IsPrivateSlot call (idle_slot (place_in k.pipes) (at k.table pid)) =
+    record {
+      process = e.process;
+      is = sym (at_idle (place_in k.pipes) k.table pid) ∙ ap (λ (j : KernelState _). at j.table pid) (sym is) ∙ e.there;
+      ready = e.ready;
+      calls = e.calls;
+    } in
+    let x = private_slot call (place_in k.pipes) (at k.table pid) (none_of is_running k.table pid refl none) there in
+    record { child = e.child; process = x.process; there = x.is; ready = x.ready; calls = x.calls }
+
+-- ---- keys but for who sleeps
+
+woken_status : (name : ℕ → ℕ) (s : Status) → woke_status (idle_status name s) ≡ idle_status name (woke_status s)
+woken_status name Runnable = refl
+woken_status name (Running h) = refl
+woken_status name (Asleep c) = refl
+woken_status name Zombie = refl
+
+woken_slot : {S : Type 0} (name : ℕ → ℕ) (x : Slot S) → woke_slot (idle_slot name x) ≡ idle_slot name (woke_slot x)
+woken_slot name None = refl
+woken_slot name (Some p) = λ i. Some (record p { status = woken_status name p.status i })
+
+woken_table : {S : Type 0} (name : ℕ → ℕ) (t : Table S) → woke_table (map (idle_slot name) t) ≡ map (idle_slot name) (woke_table t)
+woken_table name [] = refl
+woken_table name (x ∷ t) = λ i. woken_slot name x i ∷ woken_table name t i
+
+-- a look as if all were awake is the key of the kernel as if all were awake
+pub woken_key : {S : Type 0} (k look : KernelState S) → look ≡ key k → woke look ≡ key (woke k)
+woken_key k look is = ap woke is ∙ (λ i. record (key k) { table = woken_table (place_in k.pipes) k.table i })
 
 pub key_outcome : {S : Type 0} (k look : KernelState S) → look ≡ key k → outcome_of look ≡ outcome_of k
 key_outcome k look is = ap outcome_of is

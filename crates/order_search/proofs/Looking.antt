@@ -1,9 +1,11 @@
 -- Slots that are kept.
-use Rattle.std.proofs.Common.{◌≡◌, ◌≢◌, ◌⊎◌, inl, inr, take, ℕ, zero, suc, ◌+◌, ◌<◌, ◌≤◌, List, [], ◌∷◌, Bool, true, false, Some, None, length, get_or, refl, ap, ◌∙◌, arith, map}
+use Rattle.std.proofs.Common.{◌≡◌, ◌≢◌, ◌⊎◌, inl, inr, take, ℕ, zero, suc, ◌+◌, ◌<◌, ◌≤◌, List, [], ◌∷◌, Bool, true, false, Some, None, length, get_or, refl, sym, ap, ◌∙◌, arith, map}
 use Rattle.std.specs.declared.rc.Rc.{Rc}
-use Rattle.std.specs.Prelude.{Option, IsSome, is_some}
+use Rattle.std.specs.Prelude.{Option, Result, Ok, not, IfSome, IsSome, is_some}
+use Rattle.std.specs.Option.{is_some as some_in}
 use Rattle.std.proofs.lemmas.Bool.{cases_eq}
 use Rattle.proc_table.specs.Slots.{Process, Table, at}
+use Rattle.order_model.specs.Woke.{woke_slot}
 use Rattle.order_search.specs.Shown.{slot_of}
 
 module _ {S Z : Type 0} where
@@ -43,3 +45,28 @@ never b t f = let z : ⊥ = cc in z
 pub some_not : {X : Type 0} (o : Option X) → IsSome o → o ≡ None → ⊥
 some_not None some is = let z : ⊥ = cc in z
 some_not (Some x) some is = let z : ⊥ = cc in z
+
+pub some_value : {X : Type 0} (o : Option X) → some_in o ≡ true → (x : X) × (o ≡ Some x)
+some_value None is = absurd (let z : ⊥ = cc in z)
+some_value (Some x) is = (x, refl)
+
+pub if_some_more : {X : Type 0} (o : Option X) (P Q : X → Type 0) → ((x : X) → P x → Q x) → IfSome o P → IfSome o Q
+if_some_more None P Q more is = is
+if_some_more (Some x) P Q more is = more x is
+
+pub not_said : {E : Type 0} (b : Bool) → ◌≡◌ {A = Result Bool E} (Ok (not b)) (Ok true) → b ≡ false
+not_said true is = absurd (let z : ⊥ = cc in z)
+not_said false is = refl
+
+-- ---- slots but for who sleeps
+
+at_woke : {S : Type 0} (t : Table S) (i : ℕ) → at (map woke_slot t) i ≡ woke_slot (at t i)
+at_woke [] i = refl
+at_woke (x ∷ t) zero = refl
+at_woke (x ∷ t) (suc i) = at_woke t i
+
+pub slots_at : {S Z : Type 0} (xs ys : List (Option (Rc (Process S) Z))) (i : ℕ) (x y : Option (Rc (Process S) Z)) → i < length xs → i < length ys → x ≡ get_or xs i x → y ≡ get_or ys i y
+    → map woke_slot (map slot_of xs) ≡ map woke_slot (map slot_of ys) → woke_slot (slot_of x) ≡ woke_slot (slot_of y)
+slots_at {S} xs ys i x y within within_too is is_too same =
+    (λ j. woke_slot (slot_of (is j))) ∙ ap woke_slot (sym (at_kept xs i x within)) ∙ sym (at_woke (map slot_of xs) i) ∙ ap (λ (t : Table S). at t i) same ∙
+    at_woke (map slot_of ys) i ∙ ap woke_slot (at_kept ys i y within_too) ∙ sym (λ j. woke_slot (slot_of (is_too j)))

@@ -1,12 +1,14 @@
 //! What is kept of a kernel, part by part: each is compared by its whole value. Each has its digest, which is no part of its
 //! value.
 
-ghost use Rattle.std.specs.Prelude.{◌≡◌, true};
+ghost use Rattle.std.specs.Prelude.{◌≡◌, ◌↔◌, IsTrue, true};
+ghost use Rattle.order_model.specs.Woke.{woke_status};
 
 use crate::pools::{Digest, Same};
+use crate::private::is_private_call;
 use fd_table::{Mode, Object};
 use mem_files::Files;
-use proc_table::{Channel, Status};
+use proc_table::Status;
 use std::alloc::Global;
 use std::marker::Model;
 use user_calls::{Machine, Reply};
@@ -183,10 +185,10 @@ impl AllFiles {
 }
 
 impl Piped {
-    ghost use Rattle.std.specs.Prelude.{◌≡◌, true};
+    ghost use Rattle.std.specs.Prelude.{◌≡◌, ◌↔◌, IsTrue};
 
     fn same(&self, other: &Piped) -> bool
-        ensures { result ≡ true → self.now ≡ other.now }
+        ensures { IsTrue result ↔ (self.now ≡ other.now) }
     {
         self.name == other.name
             && self.reader == other.reader
@@ -233,7 +235,7 @@ impl Pipes {
 }
 
 fn same_object(object: &Object, other: &Object) -> bool
-    ensures { result ≡ true → object.now ≡ other.now }
+    ensures { IsTrue result ↔ (object.now ≡ other.now) }
 {
     match (object, other) {
         (Object::Input, Object::Input) => true,
@@ -249,10 +251,10 @@ fn same_object(object: &Object, other: &Object) -> bool
 }
 
 impl Opened {
-    ghost use Rattle.std.specs.Prelude.{◌≡◌, true};
+    ghost use Rattle.std.specs.Prelude.{◌≡◌, ◌↔◌, IsTrue};
 
     fn same(&self, other: &Opened) -> bool
-        ensures { result ≡ true → self.now ≡ other.now }
+        ensures { IsTrue result ↔ (self.now ≡ other.now) }
     {
         same_object(&self.object, &other.object)
             && self.count == other.count
@@ -289,7 +291,7 @@ impl Opened {
 }
 
 fn same_entry(entry: &Option<Opened>, other: &Option<Opened>) -> bool
-    ensures { result ≡ true → entry.now ≡ other.now }
+    ensures { IsTrue result ↔ (entry.now ≡ other.now) }
 {
     match (entry, other) {
         (None, None) => true,
@@ -339,12 +341,9 @@ impl Entries {
 
 fn status_number(status: Status) -> u64 {
     match status {
-        Status::Runnable => 0,
+        Status::Runnable | Status::Asleep(_) => 0,
         Status::Running(_) => 1,
         Status::Zombie => 2,
-        Status::Asleep(Channel::PipeBytes(pipe)) => (pipe & 0xffff) * 4,
-        Status::Asleep(Channel::PipeRoom(pipe)) => (pipe & 0xffff) * 4 + 1,
-        Status::Asleep(Channel::Children(_)) => 3,
     }
 }
 
@@ -364,7 +363,7 @@ fn add_reply(reply: &Reply, digest: &mut Digest) {
 }
 
 fn same_places(places: &[Option<u8>], others: &[Option<u8>]) -> bool
-    ensures { result ≡ true → places.now ≡ others.now }
+    ensures { IsTrue result ↔ (places.now ≡ others.now) }
 {
     if places.len() != others.len() {
         return false;
@@ -377,21 +376,19 @@ fn same_places(places: &[Option<u8>], others: &[Option<u8>]) -> bool
     true
 }
 
+// A status as if who sleeps were awake.
+fn awake(status: Status) -> Status
+    ensures { result ≡ woke_status status }
+{
+    match status {
+        Status::Asleep(_) => Status::Runnable,
+        other => other,
+    }
+}
+
 impl<M: Machine> Same for Held<M> {
     fn same(&self, other: &Held<M>) -> bool {
-        if self.status != other.status {
-            return false;
-        }
-        if self.parent != other.parent || self.put != other.put {
-            return false;
-        }
-        if !same_places(&self.places, &other.places) {
-            return false;
-        }
-        if !self.reply.same(&other.reply) {
-            return false;
-        }
-        self.machine.same(&other.machine)
+        self.status == other.status && self.same_awake(other)
     }
 
     fn digest(&self) -> u64 {
@@ -400,7 +397,40 @@ impl<M: Machine> Same for Held<M> {
 }
 
 impl<M: Machine> Held<M> {
-    // What the digest is to be.
+    ghost use Rattle.std.specs.Prelude.{◌≡◌, ◌↔◌, IsTrue, true, Some};
+    ghost use Rattle.order_model.specs.Woke.{woke_slot};
+    ghost use Rattle.order_model.specs.Privately.{IsPrivateCall};
+    ghost use Rattle.order_search.specs.Shown.{IsPrivateSlot};
+
+    // Whether the two are equal, but for who sleeps.
+    pub fn same_awake(&self, other: &Held<M>) -> bool
+        ensures { IsTrue result ↔ (woke_slot (Some self.now) ≡ woke_slot (Some other.now)) }
+    {
+        awake(self.status) == awake(other.status)
+            && self.parent == other.parent
+            && self.put == other.put
+            && same_places(&self.places, &other.places)
+            && self.reply.same(&other.reply)
+            && self.machine.same(&other.machine)
+    }
+
+    // Whether it is Runnable and its next call is private.
+    pub fn is_private(&self) -> bool
+        ensures { result ≡ true → IsPrivateSlot M.call_of (Some self.now) }
+    {
+        self.status == Status::Runnable && self.calls_privately()
+    }
+
+    // Whether its next call is private.
+    fn calls_privately(&self) -> bool
+        ensures { result ≡ true → IsPrivateCall self.now.fds (M.call_of self.now.machine self.now.reply) }
+    {
+        let mut machine = self.machine.twin();
+        let call = machine.run(&self.reply);
+        is_private_call(&call, &self.places)
+    }
+
+    // What the digest is to be: it is the same for two that are equal but for who sleeps.
     pub fn digest_of(&self) -> u64 {
         let mut digest = Digest::new();
         digest.add(status_number(self.status));

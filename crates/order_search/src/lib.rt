@@ -11,6 +11,7 @@ mod outcomes;
 mod parts;
 mod places;
 mod pools;
+mod private;
 mod reading;
 mod standing;
 mod trail;

@@ -2,7 +2,8 @@
 
 ghost use Rattle.std.specs.Prelude.{◌≡◌, ◌↔◌, IsTrue, IsSome, true, map};
 ghost use Rattle.proc_table.specs.Slots.{is_runnable};
-ghost use Rattle.order_search.specs.Shown.{slot_of};
+ghost use Rattle.order_model.specs.Woke.{woke_slot};
+ghost use Rattle.order_search.specs.Shown.{slot_of, IsPrivateSlot};
 
 use crate::kept::{AllFiles, Bytes, Entries, Held, Pipes};
 use crate::pools::{Digest, Same};
@@ -48,17 +49,17 @@ impl<M: Machine> Model for Look<M> {
 }
 
 fn same_slot<M: Machine>(slot: &Option<Rc<Held<M>>>, other: &Option<Rc<Held<M>>>) -> bool
-    ensures { result ≡ true → slot_of slot.now ≡ slot_of other.now }
+    ensures { IsTrue result ↔ (woke_slot (slot_of slot.now) ≡ woke_slot (slot_of other.now)) }
 {
     match (slot, other) {
         (None, None) => true,
-        (Some(held), Some(other)) => held.same(other),
+        (Some(held), Some(other)) => held.same_awake(other),
         _ => false,
     }
 }
 
 fn same_slots<M: Machine>(slots: &[Option<Rc<Held<M>>>], others: &[Option<Rc<Held<M>>>]) -> bool
-    ensures { result ≡ true → map slot_of slots.now ≡ map slot_of others.now }
+    ensures { IsTrue result ↔ (map woke_slot (map slot_of slots.now) ≡ map woke_slot (map slot_of others.now)) }
 {
     if slots.len() != others.len() {
         return false;
@@ -72,10 +73,11 @@ fn same_slots<M: Machine>(slots: &[Option<Rc<Held<M>>>], others: &[Option<Rc<Hel
 }
 
 impl<M: Machine> Look<M> {
-    ghost use Rattle.std.specs.Prelude.{◌≡◌, ◌↔◌, IsTrue, true};
-    ghost use Rattle.std.specs.Prelude.{ℕ};
+    ghost use Rattle.std.specs.Prelude.{◌≡◌, ◌↔◌, IsTrue, IfSome};
     ghost use Rattle.proc_table.specs.Slots.{at, is_runnable};
     ghost use Rattle.kernel_model.specs.Events.{IsFinished};
+    ghost use Rattle.order_model.specs.Woke.{woke};
+    ghost use Rattle.order_model.specs.Privately.{Privately};
 
     // A look at nothing.
     pub fn blank(alloc: Global) -> Result<Look<M>, AllocError> {
@@ -100,9 +102,9 @@ impl<M: Machine> Look<M> {
         }
     }
 
-    // Whether the two are equal.
-    pub fn same(&self, other: &Look<M>) -> bool
-        ensures { result ≡ true → self.now ≡ other.now }
+    // Whether the two are equal, but for who sleeps.
+    pub fn same_awake(&self, other: &Look<M>) -> bool
+        ensures { IsTrue result ↔ (woke self.now ≡ woke other.now) }
     {
         self.full == other.full
             && self.entries.same(&other.entries)
@@ -114,7 +116,7 @@ impl<M: Machine> Look<M> {
             && same_slots(&self.slots, &other.slots)
     }
 
-    // A number, the same for equal ones.
+    // A number, the same for two that are equal but for who sleeps.
     pub fn digest_of(&self) -> u64 {
         let mut digest = Digest::new();
         add_slots(&self.slots, &mut digest);
@@ -146,16 +148,16 @@ impl<M: Machine> Look<M> {
         pid < self.slots.len() && is_ready(&self.slots[pid])
     }
 
-    // Whether some process is Runnable.
-    pub fn is_ready(&self) -> bool
-        ensures { result ≡ true → ((pid : ℕ) × (is_runnable (at self.now.table pid) ≡ true)) }
+    // A process, not init, that is Runnable and whose next call is private.
+    pub fn private_pid(&self) -> Option<usize>
+        ensures { IfSome result (Privately M.call_of self.now) }
     {
-        for slot in &self.slots {
-            if is_ready(slot) {
-                return true;
+        for pid in 1..self.slots.len() {
+            if is_private(&self.slots[pid]) {
+                return Some(pid);
             }
         }
-        false
+        None
     }
 }
 
@@ -170,6 +172,16 @@ fn is_ready<M: Machine>(slot: &Option<Rc<Held<M>>>) -> bool
 {
     match slot {
         Some(held) => matches!(held.status, proc_table::Status::Runnable),
+        None => false,
+    }
+}
+
+// Whether the slot's process is Runnable and its next call is private.
+fn is_private<M: Machine>(slot: &Option<Rc<Held<M>>>) -> bool
+    ensures { result ≡ true → IsPrivateSlot M.call_of (slot_of slot.now) }
+{
+    match slot {
+        Some(held) => held.is_private(),
         None => false,
     }
 }

@@ -2,7 +2,7 @@
 
 ghost use Rattle.std.specs.Prelude.{◌≡◌, ◌<◌, IfOk, IfSome, None, All, length, map, false};
 ghost use Rattle.order_search.specs.Led.{start_kernel};
-ghost use Rattle.order_model.specs.Explored.{IsFinishedOrReady};
+ghost use Rattle.order_model.specs.Explored.{IsFinishedOrBusy};
 ghost use Rattle.order_search.specs.Led.{kernel_of};
 ghost use Rattle.order_search.specs.Told.{LeadsToSleep, Tells};
 ghost use Rattle.order_search.specs.Exploring.{Explores, ExploresAfter};
@@ -16,15 +16,18 @@ use proc_table::PROCS;
 use std::alloc::{Allocator, Global};
 use user_calls::Machine;
 
+// How many private turns are taken in a row at most, before a state is kept.
+const MAX_CHAIN: usize = 64;
+
 /// What an exploration found.
 #[derive(Drop)]
 pub struct Exploration {
     /// Whether every order was tried.
     pub whole: bool,
-    /// How many states were found: kernels that differ in more than who runs, how many events there were, and what pipes are
-    /// called.
+    /// How many states were kept: kernels that differ in more than who runs, who sleeps, how many events there were, and what
+    /// pipes are called. Where a turn is private the state after it stands for the one before it, which is not kept.
     pub states: usize,
-    /// Each outcome that was found, once. Those that fewer turns lead to come first.
+    /// Each outcome that was found, once, with a schedule that leads to it.
     pub outcomes: Vec<Outcome>,
     /// The processes of turns that lead to where all processes sleep, if there are such turns.
     pub stuck: Option<Vec<u8>>,
@@ -63,26 +66,28 @@ pub fn explore_after<M: Machine, C: Allocator, W: Watch>(
     let bounds = Bounds {
         moves: PROCS,
         limit: states,
+        chain: MAX_CHAIN,
     };
     let found = search(alloc, &mut tools, start, bounds, watch)?;
-    let told = tell(alloc, origin, &found)?;
+    let told = tell(alloc, origin, &mut tools, &found)?;
     Ok(told)
 }
 
 // What is told of what was found.
-fn tell<M: Machine, C: Allocator>(
+fn tell<'t, M: Machine, C: Allocator>(
     alloc: Global,
     origin: &Origin<'_, M, C>,
-    found: &Found<Standing<'_, M, C>>,
+    tools: &mut Tools<'t, M, C>,
+    found: &Found<Standing<'t, M, C>>,
 ) -> Result<Exploration, ExploreFault>
     ensures whole { IfOk result (λ e. e.whole ≡ found.now.whole) }
     ensures tells { IfOk result (λ e. Tells M.call_of M.next_of (start_kernel (M.view origin.now.init) (M.view origin.now.shell) origin.now.stdin.now origin.now.files.now) (map kernel_of found.now.nodes.items) e.outcomes.items) }
-    ensures ready { IfOk result (λ e. e.stuck ≡ None → All IsFinishedOrReady (map kernel_of found.now.nodes.items)) }
+    ensures busy { IfOk result (λ e. e.stuck ≡ None → All (IsFinishedOrBusy M.call_of M.next_of) (map kernel_of found.now.nodes.items)) }
     ensures asleep { IfOk result (λ e. IfSome e.stuck (λ pids. LeadsToSleep M.call_of M.next_of (start_kernel (M.view origin.now.init) (M.view origin.now.shell) origin.now.stdin.now origin.now.files.now) pids.items)) }
     ensures states { IfOk result (λ e. e.states ≡ length found.now.nodes.items) }
 {
     let outcomes = outcomes_of(alloc, origin, &found.nodes)?;
-    let stuck = stuck_of(alloc, origin, &found.nodes)?;
+    let stuck = stuck_of(alloc, origin, tools, &found.nodes)?;
     Ok(Exploration {
         whole: found.whole,
         states: found.nodes.len(),

@@ -4,14 +4,14 @@ ghost use Rattle.std.specs.Prelude.{◌≡◌, ◌↔◌, ◌++◌, ◌∷◌, [
 ghost use Rattle.order_search.specs.Led.{start_kernel};
 ghost use Rattle.kernel_model.specs.Events.{IsFinished};
 ghost use Rattle.order_model.specs.Outcome.{outcome_of};
-ghost use Rattle.order_model.specs.Explored.{IsFinishedOrReady};
+ghost use Rattle.order_model.specs.Explored.{IsFinishedOrBusy};
 ghost use Rattle.order_search.specs.Told.{outcome_by, IsReplayed, IsAddedTo, LeadsToSleep, Tells};
 ghost use Rattle.order_search.specs.Led.{kernel_of};
 
 use crate::fault::ExploreFault;
 use crate::looks::Look;
 use crate::origin::{Origin, remake};
-use crate::standing::Standing;
+use crate::standing::{Standing, Tools};
 use kernel_model::Full;
 use mem_files::Files;
 use std::alloc::{AllocError, Allocator, Global};
@@ -143,18 +143,21 @@ fn asleep_by<M: Machine, C: Allocator>(
     Ok(way)
 }
 
-// A schedule that leads to a kernel that isn't finished and where nobody is Runnable, if one of these is such a kernel.
-pub fn stuck_of<M: Machine, C: Allocator>(
+// A schedule that leads to a kernel that isn't finished and where nobody is Runnable, if one of these is where nobody can do
+// anything but fall asleep.
+pub fn stuck_of<'t, M: Machine, C: Allocator>(
     alloc: Global,
     origin: &Origin<'_, M, C>,
-    nodes: &[Standing<'_, M, C>],
+    tools: &mut Tools<'t, M, C>,
+    nodes: &[Standing<'t, M, C>],
 ) -> Result<Option<Vec<u8>>, ExploreFault>
-    ensures ready { result ≡ Ok None → All IsFinishedOrReady (map kernel_of nodes.now) }
+    ensures busy { result ≡ Ok None → All (IsFinishedOrBusy M.call_of M.next_of) (map kernel_of nodes.now) }
     ensures asleep { IfOk result (λ stuck. IfSome stuck (λ pids. LeadsToSleep M.call_of M.next_of (start_kernel (M.view origin.now.init) (M.view origin.now.shell) origin.now.stdin.now origin.now.files.now) pids.items)) }
 {
     for node in nodes {
-        if node.is_stuck() {
-            let way = asleep_by(alloc, origin, &node.pids)?;
+        if node.is_stuck(tools)? {
+            let pids = node.with_ready(alloc)?;
+            let way = asleep_by(alloc, origin, &pids)?;
             return Ok(Some(way));
         }
     }

@@ -1,6 +1,6 @@
 //! Values that are kept once, however many states have them.
 
-ghost use Rattle.std.specs.Prelude.{◌≡◌, true};
+ghost use Rattle.std.specs.Prelude.{◌≡◌, ◌↔◌, IsTrue};
 
 use closed_search::Index;
 use std::alloc::{AllocError, Global};
@@ -8,9 +8,9 @@ use std::rc::Rc;
 
 // A value that can be compared.
 pub trait Same: Drop {
-    // Whether the two were compared and are equal.
+    // Whether the two are equal.
     fn same(&self, other: &Self) -> bool
-        ensures { result ≡ true → self.now ≡ other.now };
+        ensures { IsTrue result ↔ (self.now ≡ other.now) };
 
     // A number, the same for equal values.
     fn digest(&self) -> u64;

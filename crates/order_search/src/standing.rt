@@ -9,6 +9,7 @@ use crate::reading::Reader;
 use crate::trail::Trail;
 use closed_search::Node;
 use kernel_state::State;
+use proc_table::PROCS;
 use std::alloc::{AllocError, Allocator, Global};
 use std::marker::Model;
 use std::snapshot::Snapshot;
@@ -92,14 +93,43 @@ impl<'t, M: Machine, C: Allocator> Standing<'t, M, C> {
 }
 
 impl<'t, M: Machine, C: Allocator> Standing<'t, M, C> {
-    ghost use Rattle.std.specs.Prelude.{◌≡◌, true, false};
-    ghost use Rattle.order_model.specs.Explored.{IsFinishedOrReady};
+    ghost use Rattle.std.specs.Prelude.{◌≡◌, Ok, true, false};
+    ghost use Rattle.order_model.specs.Explored.{IsBusy, IsFinishedOrBusy};
 
-    // Whether it isn't finished, and nobody is Runnable.
-    pub fn is_stuck(&self) -> bool
-        ensures { result ≡ false → IsFinishedOrReady self.now.now }
+    // Whether it isn't finished, and each turn comes back to its key.
+    pub fn is_stuck(&self, tools: &mut Tools<'t, M, C>) -> Result<bool, ExploreFault>
+        ensures { result ≡ Ok false → IsFinishedOrBusy M.call_of M.next_of self.now.now }
     {
-        !self.look.is_finished() && !self.look.is_ready()
+        if self.look.is_finished() {
+            return Ok(false);
+        }
+        for number in 0..PROCS {
+            if self.is_moved(tools, number)? {
+                return Ok(false);
+            }
+        }
+        Ok(true)
+    }
+
+    // Whether a turn of the process in the slot of this number leads to another key.
+    fn is_moved(&self, tools: &mut Tools<'t, M, C>, number: usize) -> Result<bool, ExploreFault>
+        ensures { result ≡ Ok true → IsBusy M.call_of M.next_of self.now.now }
+    {
+        match self.after(tools, number)? {
+            None => Ok(false),
+            Some(node) => Ok(!self.look.same_awake(&node.look)),
+        }
+    }
+
+    // The processes of the turns that lead to it, and then each one that is Runnable there.
+    pub fn with_ready(&self, alloc: Global) -> Result<Vec<u8>, AllocError> {
+        let mut pids = Vec::from_slice(alloc, &self.pids)?;
+        for number in 0..PROCS {
+            if self.look.is_runnable(number) {
+                pids.push(number as u8)?;
+            }
+        }
+        Ok(pids)
     }
 }
 
@@ -139,7 +169,8 @@ fn longer(alloc: Global, pids: &[u8], pid: u8) -> Result<Vec<u8>, AllocError>
 impl<'t, M: Machine, C: Allocator> Node for Standing<'t, M, C> {
     ghost use Rattle.std.specs.Prelude.{refl};
     ghost use Rattle.kernel_model.specs.KernelState.{KernelState};
-    ghost use Rattle.order_model.specs.Key.{SameKey};
+    ghost use Rattle.order_model.specs.Woke.{SameKeyAwake};
+    ghost use Rattle.order_model.specs.Privately.{Privately};
     ghost use Rattle.order_model.specs.Turns.{after_turn};
 
     ghost State = { KernelState M.State };
@@ -148,7 +179,9 @@ impl<'t, M: Machine, C: Allocator> Node for Standing<'t, M, C> {
 
     ghost step = { after_turn M.call_of M.next_of };
 
-    ghost stands = { SameKey };
+    ghost stands = { SameKeyAwake };
+
+    ghost private = { Privately M.call_of };
 
     ghost itself = { λ k. refl };
 
@@ -170,8 +203,12 @@ impl<'t, M: Machine, C: Allocator> Node for Standing<'t, M, C> {
         Ok(Some(self.turned(tools, pid)?))
     }
 
+    fn private_move(&self) -> Option<usize> {
+        self.look.private_pid()
+    }
+
     fn is_like(&self, other: &Self) -> bool {
-        self.look.same(&other.look)
+        self.look.same_awake(&other.look)
     }
 
     fn digest(&self) -> u64 {

@@ -34,12 +34,12 @@ returns-clause-complete g c =
     let start : KernelState User = script_kernel profile lines input list in
     let same = script_starts profile lines (user_of c.init.result) (user_of c.shell.result) input list c.init.ensures c.shell.ensures in
     let search_law = c.what_a_search_found_is_explored.ensures in
-    let law = c.every_outcome_of_a_script_is_told.ensures in
     passes c.explore_from.result _ _
     (λ found e whole.
     let x : Explores call_of next_of start start found = subst (λ (k : KernelState User). Explores call_of next_of k k found) same e in
-    let still = law.still profile lines input list c.are_files.ensures in
-    law.keys profile lines input list x.seen (map outcome_by found.outcomes.items) c.are_files.ensures (search_law.reached start x.seen x.reached) (search_law.closed PROCS start x.seen still enough x.reached (x.closed whole)) x.tells.of)
+    let begun = c.a_script_begins_at_a_boot.ensures profile lines input list c.are_files.ensures in
+    let all = search_law.enough PROCS start x.seen begun enough x.reached (x.reduced whole) in
+    c.what_was_explored_is_every_outcome.ensures start (map outcome_by found.outcomes.items) begun (search_law.explored start x.seen (map outcome_by found.outcomes.items) all x.tells.of))
     c.explore_from.ensures.explores
 
 pub returns-clause-awake : goal.returns-clause-awake
@@ -50,13 +50,12 @@ returns-clause-awake g c =
     let list = c.args.setting.now.files.now in
     let start : KernelState User = script_kernel profile lines input list in
     let same = script_starts profile lines (user_of c.init.result) (user_of c.shell.result) input list c.init.ensures c.shell.ensures in
-    let search_law = c.what_a_search_found_is_explored.ensures in
-    let law = c.every_outcome_of_a_script_is_told.ensures in
     passes c.explore_from.result _ _
     (λ found e whole none.
     let x : Explores call_of next_of start start found = subst (λ (k : KernelState User). Explores call_of next_of k k found) same e in
-    let still = law.still profile lines input list c.are_files.ensures in
-    c.no_run_of_a_script_is_stuck_if_no_kernel_of_the_list_is.ensures profile lines input list x.seen c.are_files.ensures (search_law.reached start x.seen x.reached) (search_law.closed PROCS start x.seen still enough x.reached (x.closed whole)) (x.ready none))
+    let begun = c.a_script_begins_at_a_boot.ensures profile lines input list c.are_files.ensures in
+    let all = c.what_a_search_found_is_explored.ensures.enough PROCS start x.seen begun enough x.reached (x.reduced whole) in
+    c.no_run_is_stuck_if_each_kernel_can_do_something.ensures start x.seen begun all (x.busy none))
     c.explore_from.ensures.explores
 
 pub returns-clause-asleep : goal.returns-clause-asleep

@@ -1,4 +1,4 @@
-use Rattle.law_every_outcome.proofs.Covered.{explored_all}
+use Rattle.law_every_outcome.proofs.Listed.{explored_all}
 use Rattle.law_every_outcome.proofs.laws.what_was_explored_is_every_outcome.Goals as goal
 
 pub returns : goal.returns

@@ -13,9 +13,9 @@ returns-clause-explores g c =
       explores = record {
         seen = seen;
         reached = c.in_ok-found.ensures.reached;
-        closed = λ whole. c.in_ok-found.ensures.whole (sym c.in_ok-told.ensures.whole ∙ whole);
+        reduced = λ whole. c.in_ok-found.ensures.whole (sym c.in_ok-told.ensures.whole ∙ whole);
         tells = c.in_ok-told.ensures.tells;
-        ready = c.in_ok-told.ensures.ready;
+        busy = c.in_ok-told.ensures.busy;
         asleep = c.in_ok-told.ensures.asleep;
         states = c.in_ok-told.ensures.states ∙ sym (length-map c.in_ok-found.found.nodes.items kernel_of);
       };

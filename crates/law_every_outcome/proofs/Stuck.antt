@@ -1,0 +1,147 @@
+-- No run is stuck if each kernel of a reduced list is finished or can do something.
+use Rattle.std.proofs.Common.{◌≡◌, ◌⊎◌, ℕ, zero, suc, List, [], ◌∷◌, Bool, true, false, Some, inl, inr, refl, sym, ap, subst, ◌∙◌}
+use Rattle.std.specs.Prelude.{All}
+use Rattle.user_calls.specs.declared.calls.Call.{Call}
+use Rattle.user_calls.specs.declared.calls.Call.TheVariants.{Fork, Exec, Exit, Wait, MakePipe, Read, Write, OpenFile, Close, Dup}
+use Rattle.fd_table.specs.Descriptors.{Descriptors}
+use Rattle.user_calls.specs.declared.calls.Reply.{Reply}
+use Rattle.proc_table.specs.declared.states.Channel.{Channel}
+use Rattle.proc_table.specs.declared.states.Channel.TheVariants.{PipeBytes, PipeRoom, Children}
+use Rattle.proc_table.specs.declared.states.Status.{Status}
+use Rattle.proc_table.specs.declared.states.Status.TheVariants.{Runnable, Asleep}
+use Rattle.proc_table.specs.Slots.{Slot, Table, Process, at, is_runnable}
+use Rattle.kernel_model.specs.declared.events.Event.{Event}
+use Rattle.kernel_model.specs.KernelState.{KernelState}
+use Rattle.kernel_model.specs.Events.{run, IsFinished}
+use Rattle.kernel_model.specs.Quiet.{no_refusals}
+use Rattle.kernel_model.proofs.Quiet.{run_quiet}
+use Rattle.law_kernel.specs.Asking.{MaySleep}
+use Rattle.order_model.specs.Turns.{after_turn, callers}
+use Rattle.order_model.specs.Explored.{AreEnough, IsFinishedOrBusy, IsFinishedOrAwake, IsNeverStuck}
+use Rattle.law_orders.proofs.Back.{could_turn}
+use Rattle.law_orders.proofs.Matching.{quiet_matched}
+use Rattle.order_model.specs.Reduced.{IsEnding}
+use Rattle.order_model.specs.Privately.{IsPrivateCall, executes, dups, closes}
+use Rattle.order_model.specs.Woke.{SameKeyAwake}
+use Rattle.order_model.specs.Begun.{IsBegun, DoesAwake, itself, likened, PrivatelyBegun}
+use Rattle.law_every_outcome.proofs.Moved.{of_all}
+use Rattle.law_every_outcome.proofs.Looks.{looks, awake, runnable_awake, slot_awake}
+use Rattle.law_private_turns.proofs.Begun.{begun_still, begun_asks}
+use Rattle.law_private_turns.proofs.Awake.{awake_back, awake_on, follows_awake, Elsewhere, found_elsewhere}
+use Rattle.law_every_outcome.proofs.Listed.{does_outcome, turns_listed}
+use Rattle.law_every_outcome.proofs.Canonical.{alike_same_key}
+
+-- ---- somebody is awake, or nobody is
+
+abbrev Nobody : {S : Type 0} → Table S → Type 0
+Nobody t = (pid : ℕ) → awake (at t pid) ≡ false
+
+abbrev Somebody : {S : Type 0} → Table S → Type 0
+Somebody t = (pid : ℕ) × (awake (at t pid) ≡ true)
+
+somebody_by : {S : Type 0} (x : Slot S) (t : Table S) (b : Bool) → awake x ≡ b → Somebody t ⊎ Nobody t → Somebody (x ∷ t) ⊎ Nobody (x ∷ t)
+somebody_by x t true is rest = inl (0, is)
+somebody_by x t false is (inl some) = inl (suc some.0, some.1)
+somebody_by x t false is (inr none) = inr all where
+  all : (pid : ℕ) → awake (at (x ∷ t) pid) ≡ false
+  all zero = is
+  all (suc pid) = none pid
+
+somebody : {S : Type 0} (t : Table S) → Somebody t ⊎ Nobody t
+somebody [] = inr (λ pid. refl)
+somebody (x ∷ t) = somebody_by x t (awake x) refl (somebody t)
+
+-- ---- who never sleeps
+
+-- the call never puts its process to sleep
+abbrev Sleepless : Call → Type 0
+Sleepless Fork = Unit {0}
+Sleepless (Exec found) = Unit {0}
+Sleepless Exit = Unit {0}
+Sleepless Wait = ⊥
+Sleepless MakePipe = Unit {0}
+Sleepless (Read fd n) = ⊥
+Sleepless (Write fd b) = ⊥
+Sleepless (OpenFile file mode) = Unit {0}
+Sleepless (Close fd) = Unit {0}
+Sleepless (Dup fd) = Unit {0}
+
+private_sleepless : (fds : Descriptors) (c : Call) → IsPrivateCall fds c → Sleepless c
+private_sleepless fds c (executes found is) = subst Sleepless (sym is) tt
+private_sleepless fds c (dups fd entry place is held free) = subst Sleepless (sym is) tt
+private_sleepless fds c (closes fd entry is held enough) = subst Sleepless (sym is) tt
+
+module _ {S : Type 0} (call : S → Reply → Call) (next : S → Reply → S) where
+  does_back : (k m : KernelState S) → DoesAwake call next k m → DoesAwake call next m k
+  does_back k m (itself j) = itself j
+  does_back k m (likened i j n b d alike rest) = awake_on call next m j i (does_back j m rest) (likened j i i d b (awake_back i j alike) (itself i))
+
+  does_same_key : (k m : KernelState S) → DoesAwake call next k m → SameKeyAwake k m
+  does_same_key k m (itself j) = refl
+  does_same_key k m (likened i j n b d alike rest) = alike_same_key call next i j b d alike ∙ does_same_key j m rest
+
+  -- ---- whose turn is private doesn't sleep
+
+  no_sleep : (m : KernelState S) (p : ℕ) (c : Call) (put : ℕ) (ch : Channel) → Sleepless c → MaySleep m p c put ch → ⊥
+  no_sleep m p c put (PipeBytes id) never may = subst Sleepless may.2 never
+  no_sleep m p c put (PipeRoom id) never may = subst Sleepless may.1.1 never
+  no_sleep m p c put (Children pid) never may = subst Sleepless may.1 never
+
+  -- the process p is Runnable, and its call never puts it to sleep
+  record Stands (m : KernelState S) (p : ℕ) : Type 0 where
+    process : Process S
+    there : at m.table p ≡ Some process
+    calls : Sleepless (call process.machine process.reply)
+    ready : process.status ≡ Runnable
+
+  awake_by : (m : KernelState S) (p : ℕ) (y : Process S) (w : Elsewhere y (at m.table p)) → IsBegun call next m → Sleepless (call y.machine y.reply) → Stands m p
+  awake_by m p y w b calls =
+      let x = w.process in
+      let same : Sleepless (call x.machine x.reply) = subst Sleepless (λ i. call (sym w.machine i) (sym w.reply i)) calls in
+      by w.status same where
+        by : (w.process.status ≡ Runnable) ⊎ ((c : Channel) × (w.process.status ≡ Asleep c)) → Sleepless (call w.process.machine w.process.reply) → Stands m p
+        by (inl ready) same = record { process = w.process; there = w.there; calls = same; ready = ready }
+        by (inr asleep) same = absurd (no_sleep m p (call w.process.machine w.process.reply) w.process.put asleep.0 same (begun_asks call next m b p w.process asleep.0 w.there asleep.1))
+
+  stands_on : (k m : KernelState S) (p : ℕ) → DoesAwake call next k m → Stands k p → Stands m p
+  stands_on k m p (itself j) s = s
+  stands_on k m p (likened i j n b d alike rest) s =
+      stands_on j m p rest (awake_by j p s.process (found_elsewhere call next j i p d b (awake_back i j alike) s.process s.there s.ready) d s.calls)
+
+  nobody_ends : (m : KernelState S) → Nobody m.table → IsEnding (after_turn call next) (DoesAwake call next) (PrivatelyBegun call next) m
+  nobody_ends m none k p e does =
+      let x = e.private in
+      let s = stands_on k m p does (record { process = x.process; there = x.there; calls = private_sleepless x.process.fds (call x.process.machine x.process.reply) x.calls; ready = x.ready }) in
+      let up : awake (at m.table p) ≡ true = ap awake s.there ∙ runnable_awake (Some s.process) (ap (λ (t : Status). is_runnable (Some (record s.process { status = t }))) s.ready) in
+      let no : true ≡ false = sym up ∙ none p in
+      let z : ⊥ = cc in
+      z
+
+  module _ (start : KernelState S) (seen : List (KernelState S)) (begun : IsBegun call next start) (e : AreEnough call next start seen) (busy : All (IsFinishedOrBusy call next) seen) where
+    over_by : (m s : KernelState S) → Nobody m.table → DoesAwake call next s m → IsFinishedOrBusy call next s → IsFinished m
+    over_by m s none does (inl over) = (does_outcome call next s m does).finished.0 over
+    over_by m s none does (inr b) = by (follows_awake call next m s b.now b.pid (does_back s m does) b.turn) where
+      by : DoesAwake call next m b.now ⊎ ((after : KernelState S) × (after_turn call next m b.pid ≡ Some after) × DoesAwake call next after b.now) → IsFinished m
+      by (inl more) = absurd (b.other (sym (does_same_key s b.now (awake_on call next s m b.now does more))))
+      by (inr turn) =
+          let up : awake (at m.table b.pid) ≡ true = runnable_awake (at m.table b.pid) (could_turn call next m (record { pid = b.pid; refused = false }) (turn.0, turn.1)) in
+          let no : true ≡ false = sym up ∙ none b.pid in
+          absurd (let z : ⊥ = cc in z)
+
+    not_stuck : (m : KernelState S) (es : List Event) → run call next (Some start) es (no_refusals es) ≡ Some m → IsFinishedOrAwake m
+    not_stuck m es is = by (somebody m.table) where
+      by : Somebody m.table ⊎ Nobody m.table → IsFinishedOrAwake m
+      by (inl some) = inr (some.0, slot_awake (at m.table some.0) some.1)
+      by (inr none) =
+          let f = quiet_matched call next start m es (begun_still call next start begun) is in
+          let none_too : Nobody f.last.table = λ pid. sym ((looks m f.last f.alike).who pid) ∙ none pid in
+          let any = turns_listed call next start seen begun e f.last (callers es) f.turns (nobody_ends f.last none_too) in
+          let over = over_by f.last any.1 none_too any.4 (of_all (IsFinishedOrBusy call next) seen any.0 any.1 busy any.2 any.3) in
+          inl (f.outcome.finished.1 over)
+
+    pub never_stuck : IsNeverStuck call next start
+    never_stuck =
+        record {
+          quiet = λ es m is. not_stuck m es is;
+          roomy = λ es ns m is roomy. not_stuck m es (run_quiet call next start m es ns is roomy);
+        }
