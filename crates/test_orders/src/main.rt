@@ -1,5 +1,6 @@
 //! Explores the scripts of rows, and compares how many outcomes there are, and each of them with the turns of its schedule, with
-//! what an independent simulator counted. It may tell states apart otherwise, so how many there are isn't compared.
+//! what an independent simulator counted. The simulator keeps the states of all orders, and an exploration fewer, so how many
+//! there are isn't compared.
 #![tactic(auto)]
 
 use anyhow::{Result, bail};
