@@ -46,7 +46,11 @@ fn refuse_unfit<'a>(
     request: &GradeRequest<'a>,
     suite: &Suite,
 ) -> Result<(), GradeFault<'a>> {
-    match suite.tests.iter().position(|test| test.given.script.is_none()) {
+    match suite
+        .tests
+        .iter()
+        .position(|test| test.given.script.is_none())
+    {
         None if request.scripts.is_empty() => Ok(()),
         None => Err(GradeFault::Unused(request.suite)),
         Some(_) if !request.scripts.is_empty() => Ok(()),
