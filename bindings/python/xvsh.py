@@ -292,7 +292,7 @@ class Parting:
 
 @dataclasses.dataclass(frozen=True)
 class Outcome(Answer):
-    """What runs of a script can leave; and of a script that was explored the diagnostics, what was full first, or None, a shortest
+    """What runs of a script can leave; and of a script that was explored the diagnostics, what was full first, or None, a
     schedule that leads there, and where it parts from that of the first outcome."""
 
     diag: bytes

@@ -172,7 +172,7 @@ fn ending_on<R: Threads + Wait + Clock + Sync, H: Host + Traces + Watch>(
 ///
 /// `explore [--states N] [--all] [--witness DIR] [--draw FILE] [--json] [--append] SCRIPT [FILE]..` reads what `plain` reads, tries
 /// every order in which the script's processes can take their turns, through at most 200,000 states or N, and writes the outcomes,
-/// each with the events of a shortest run to it, and where two of these runs part. A settled script has one output, which is written
+/// each with the events of a run to it, and where two of these runs part. A settled script has one output, which is written
 /// without trying, unless with `--all`, `--witness` or `--draw`. With `--witness` it writes first a schedule for each outcome to
 /// `DIR/1.schedule` and so on, which `replay` reads. With `--draw` it writes first the page of the runs to the first outcome and to
 /// the next one with another output to FILE, as `run --trace` writes a trace; no page where no outcome was found. With `--json` it

@@ -82,8 +82,8 @@ which names no file has, and each reason why the script isn't settled on them.
 
 `xvsh explore SCRIPT [FILE]..` tries every order in which the script's
 processes can take their turns, and writes a line for each output that the
-script can have, with the events of a shortest run to it, and then where two of
-these runs part. With `--witness DIR` it writes the schedule of each run to
+script can have, with the events of a run to it, and then where two of these
+runs part. With `--witness DIR` it writes the schedule of each run to
 DIR, and with `--draw FILE` a page that draws two of them to FILE.
 
 `xvsh step SCRIPT [FILE]..` reads commands from standard input, a line each, and
