@@ -1,6 +1,4 @@
-//! Traces that are written by hand.
-
-use std::alloc::{AllocError, Global};
+//! A trace that is written by hand.
 
 /// A run of `a | b`: process 1 forks process 2, which makes a pipe and sleeps until process 1 has written to it.
 pub(crate) const TRACE: &str =
@@ -19,27 +17,3 @@ pub(crate) const TRACE: &str =
 {"kind":"trap","n":12,"from":9,"hart":1,"pid":2,"born":2,"parent":1,"prog":"b","cmd":"b","line":1,"call":{"name":"write","fd":1,"size":2,"data":"x\n"},"object":{"type":"out"},"state":"runnable","reply":{"type":"done"},"moved":2,"out":"x\n"}
 {"kind":"end","outcome":"unfinished","events":12,"by_hart":[6,6],"out":"x\n","diag":"","full":null,"files":[{"name":"f","length":2,"head":"x\n"}]}
 "#;
-
-/// A text with the new one in place of each of the old.
-pub(crate) fn replaced(
-    alloc: Global,
-    text: &str,
-    old: &str,
-    new: &str,
-) -> Result<String, AllocError> {
-    let mut made = String::new(alloc);
-    let mut is_first = true;
-    for piece in text.split(old) {
-        if !is_first {
-            made.push_str(new)?;
-        }
-        is_first = false;
-        made.push_str(piece)?;
-    }
-    Ok(made)
-}
-
-/// The trace with each of the first text in place of the other.
-pub(crate) fn changed(alloc: Global, old: &str, new: &str) -> Result<String, AllocError> {
-    replaced(alloc, TRACE, old, new)
-}
