@@ -50,20 +50,6 @@ pub(crate) fn turn<A: Allocator + Copy>(
     Ok(Some(reply))
 }
 
-/// The process makes so many calls, one after the other.
-pub(crate) fn turns<A: Allocator + Copy>(
-    kernel: &mut Kernel<Walker, A>,
-    pid: usize,
-    count: usize,
-) -> Result<(), Fail> {
-    for _call in 0..count {
-        if turn(kernel, pid)?.is_none() {
-            return Err(Fail::from("it can't run"));
-        }
-    }
-    Ok(())
-}
-
 // Hands the kernel the task's run on hart 0; tells whether it is taken.
 fn takes<A: Allocator + Copy>(kernel: &mut Kernel<Walker, A>, task: &Task<Walker>) -> bool {
     let ran = Ran::make(task.machine.twin(), task.reply.twin());
@@ -86,35 +72,4 @@ fn a_dispatched_run_is_taken_once(rt: HostRuntime) -> Result<(), Fail> {
     let mut kernel = boot(rt.alloc(), b"x.")?;
     assert!(rt; is_taken_once(&mut kernel)?);
     Ok(())
-}
-
-// Whether the shell, whose child of this slot makes three calls and exits, sleeps until then.
-fn sleeps_for<A: Allocator + Copy>(
-    kernel: &mut Kernel<Walker, A>,
-    child: usize,
-) -> Result<bool, Fail> {
-    if turn(kernel, 1)?.is_some() {
-        return Ok(false);
-    }
-    turns(kernel, child, 3)?;
-    // The wait is made again, and has come to something at the next turn.
-    turns(kernel, 1, 1)?;
-    Ok(matches!(turn(kernel, 1)?, Some(Reply::Done)))
-}
-
-// Whether the shell sleeps until its child 3 exits, and then until its child 2 does.
-fn sleeps_for_both<A: Allocator + Copy>(kernel: &mut Kernel<Walker, A>) -> Result<(), Fail> {
-    turns(kernel, 1, 6)?;
-    let third = sleeps_for(kernel, 3)?;
-    let second = sleeps_for(kernel, 2)?;
-    if !third || !second {
-        return Err(Fail::from("it doesn't sleep so long"));
-    }
-    Ok(())
-}
-
-#[test]
-fn the_parent_of_a_pipe_sleeps_until_a_child_exits(rt: HostRuntime) -> Result<(), Fail> {
-    let mut kernel = boot(rt.alloc(), b"p.f.f.c3c4z.z.x.|c3c4x.")?;
-    sleeps_for_both(&mut kernel)
 }

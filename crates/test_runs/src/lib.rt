@@ -1,11 +1,9 @@
 //! Tests alone: what no row of a file can say of runs of scripts: arenas, gates and threads, seats, refused memory, faults that no
-//! command line reaches, schedules that are forged or were kept, bounds of steps and turns, and readers that fail.
+//! command line reaches, and readers that fail.
 #![tactic(auto)]
 
 #[cfg(test)]
 mod arenas;
-#[cfg(test)]
-mod bounds;
 #[cfg(test)]
 mod faults;
 #[cfg(test)]
@@ -14,8 +12,6 @@ mod given;
 mod memory;
 #[cfg(test)]
 mod reading;
-#[cfg(test)]
-mod schedules;
 #[cfg(test)]
 mod seats;
 #[cfg(test)]
