@@ -1,0 +1,7 @@
+pub mod Measure
+pub mod Counting
+pub mod Processes
+pub mod Marks
+pub mod FirstFull
+pub mod AtCalls
+pub mod FewProcesses

@@ -1,0 +1,13 @@
+//! Laws: each function's contract is the law, and its body is empty. Each is of both profiles.
+
+ghost use Rattle.std.specs.Prelude.{◌≡◌, ◌≤◌, Some};
+ghost use Rattle.proc_table.specs.declared.pid.TheConstants.{PROCS};
+ghost use Rattle.kernel_model.specs.declared.events.Full.TheVariants.{Procs};
+ghost use Rattle.run_model.specs.ScriptRun.{HasNoBack, ScriptRun};
+ghost use Rattle.room_model.specs.Processes.{script_processes};
+
+/// No run of a script without `&` whose processes are at most 64 by their bound is ever out of processes: whatever the schedule, and
+/// whether memory is refused or not, it isn't that a fork found no free slot that was full first.
+pub fn no_run_is_out_of_processes()
+    ensures { (r : ScriptRun) → HasNoBack r → script_processes r.lines ≤ PROCS → r.last.full ≡ Some Procs → ⊥ }
+{}

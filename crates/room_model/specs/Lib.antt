@@ -1,0 +1,3 @@
+pub mod Processes
+pub mod Descriptors
+pub mod Entries
