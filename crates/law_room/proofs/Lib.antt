@@ -5,3 +5,4 @@ pub mod Marks
 pub mod FirstFull
 pub mod AtCalls
 pub mod FewProcesses
+pub mod FilesHeld
