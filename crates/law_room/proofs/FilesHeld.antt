@@ -1,5 +1,5 @@
 -- How many files a program has open at once, by its state and the call that it makes: no call makes it more.
-use Rattle.std.proofs.Common.{◌≡◌, ℕ, zero, suc, ◌+◌, ◌≤◌, ◌==◌, Bool, true, false, List, [], ◌∷◌, ◌++◌, Option, Some, None, length, refl, sym, ap, ◌∙◌, subst, arith}
+use Rattle.std.proofs.Common.{◌≡◌, ℕ, zero, suc, ◌+◌, ◌≤◌, ◌==◌, Bool, true, false, List, [], ◌∷◌, ◌++◌, Option, Some, None, length, refl, arith}
 use Rattle.std.specs.Prelude.{if◌then◌else◌, nat_lt}
 use Rattle.std.specs.Option.{is_some}
 use Rattle.mem_files.specs.Name.{Name, Bytes}
@@ -12,9 +12,9 @@ use Rattle.user_calls.specs.declared.calls.Call.{Call}
 use Rattle.user_calls.specs.declared.calls.Call.TheVariants.{Fork, Exec, Exit, Wait, MakePipe, Read, Write, OpenFile, Close, Dup}
 use Rattle.user_calls.specs.declared.calls.Reply.{Reply}
 use Rattle.user_calls.specs.declared.calls.Reply.TheVariants.{Done, Refused}
-use Rattle.user_progs.specs.State.{Filter, copying, heading, counting, searching, Source, standard, file, Work, Tee, tee_opens, tee_reads, tee_writes, tee_gives, State, begins, echo_word, echo_space, opens, works, closes, tees, told, ended}
+use Rattle.user_progs.specs.State.{Filter, copying, heading, counting, searching, Source, standard, file, tee_opens, tee_reads, tee_writes, tee_gives, State, begins, echo_word, echo_space, opens, works, closes, tees, told, ended}
 use Rattle.user_progs.specs.Turn.{Answer, yields, denies, strays, fd_in, bytes_in, done_in, Turn, turn, Step, reads, writes, finishes, fails, quits, turn_by, opens_next, opened_by, closed_by, after_source, begins_filter, begins_head, begins_grep, begins_program, first_step, work_step, filter_of, name_of, echo_next, echo_end, tee_opens_next, tee_opened, tee_got, tee_gives_next, tee_wrote, tee_turn}
-use Rattle.program_model.specs.Alone.{OwnFile, World, held, moved_on, closed, readable, may_write, can_open, after_read, after_file_write, after_done_write, after_write, after_open, after_close, after_call, done_if}
+use Rattle.program_model.specs.Alone.{OwnFile, World, held, moved_on, closed, readable, may_write, can_open, after_read, after_file_write, after_done_write, after_write, after_call, done_if}
 use Rattle.tree_model.specs.Residual.{Running, alone}
 use Rattle.tree_model.specs.Begin.{begun, begun_words}
 use Rattle.tree_model.specs.Answers.{kind_of, open_reply, read_reply, reply_of, resumed, replied, answer}

@@ -6,3 +6,5 @@ pub mod FirstFull
 pub mod AtCalls
 pub mod FewProcesses
 pub mod FilesHeld
+pub mod Descriptors
+pub mod FewDescriptors
