@@ -8,3 +8,5 @@ pub mod FewProcesses
 pub mod FilesHeld
 pub mod Descriptors
 pub mod FewDescriptors
+pub mod FileWrites
+pub mod SmallFiles

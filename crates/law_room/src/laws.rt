@@ -3,8 +3,10 @@
 ghost use Rattle.std.specs.Prelude.{◌≡◌, ◌≤◌, Some};
 ghost use Rattle.fd_table.specs.declared.descriptors.TheConstants.{DESCRIPTORS};
 ghost use Rattle.proc_table.specs.declared.pid.TheConstants.{PROCS};
-ghost use Rattle.kernel_model.specs.declared.events.Full.TheVariants.{Fds, Procs};
+ghost use Rattle.kernel_model.specs.declared.events.Full.TheVariants.{Fds, Procs, Size};
 ghost use Rattle.run_model.specs.ScriptRun.{HasNoBack, ScriptRun};
+ghost use Rattle.tree_model.specs.Tidy.{IsClearScript};
+ghost use Rattle.room_model.specs.Bytes.{FilesStaySmall};
 ghost use Rattle.room_model.specs.Descriptors.{script_descriptors};
 ghost use Rattle.room_model.specs.Processes.{script_processes};
 
@@ -18,4 +20,10 @@ pub fn no_run_is_out_of_processes()
 /// as many free as it wants.
 pub fn no_run_is_out_of_descriptors()
     ensures { (r : ScriptRun) → HasNoBack r → script_descriptors r.lines ≤ DESCRIPTORS → r.last.full ≡ Some Fds → ⊥ }
+{}
+
+/// No file gets too large in a run of a clear script, where the bytes that each file has and all that the script writes at most are no
+/// more than a file can have.
+pub fn no_file_gets_too_large()
+    ensures { (r : ScriptRun) → IsClearScript r.lines → FilesStaySmall r.lines r.input r.files → r.last.full ≡ Some Size → ⊥ }
 {}

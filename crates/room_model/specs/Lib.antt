@@ -1,3 +1,4 @@
 pub mod Processes
 pub mod Descriptors
 pub mod Entries
+pub mod Bytes
