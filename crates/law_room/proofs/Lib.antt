@@ -10,3 +10,6 @@ pub mod Descriptors
 pub mod FewDescriptors
 pub mod FileWrites
 pub mod SmallFiles
+pub mod Entries
+pub mod Injected
+pub mod HeldEntries
