@@ -1,5 +1,5 @@
 -- What a call for which something is full is in the tree of processes.
-use Rattle.std.proofs.Common.{◌≡◌, ◌≢◌, ◌≤◌, List, Bool, true, false, Some, refl, sym, ap, ◌∙◌, arith}
+use Rattle.std.proofs.Common.{◌≡◌, ◌≢◌, ◌≤◌, List, Bool, true, false, Some, refl, sym, ap, ◌∙◌, arith, length}
 use Rattle.mem_files.specs.Name.{Name, Bytes}
 use Rattle.mem_files.specs.Files.{files}
 use Rattle.mem_files.specs.Listing.{AreFiles}
@@ -9,6 +9,7 @@ use Rattle.script_load.specs.declared.profile.Profile.{Profile}
 use Rattle.meaning_model.specs.Meaning.{script_tree}
 use Rattle.user_calls.specs.declared.calls.Call.{Call}
 use Rattle.user_calls.specs.declared.calls.Call.TheVariants.{Wait}
+use Rattle.fd_table.specs.declared.entries.TheConstants.{ENTRIES}
 use Rattle.proc_table.specs.Slots.{at, is_zombie_status, parent_or_init}
 use Rattle.kernel_model.specs.declared.events.Event.{Event}
 use Rattle.kernel_model.specs.declared.events.Full.{Full}
@@ -24,6 +25,7 @@ use Rattle.process_model.specs.Shape.{occurs, is_used}
 use Rattle.law_views.specs.Consistent.{IsConsistent}
 use Rattle.law_views.proofs.Runs as runs
 use Rattle.law_views.proofs.Tables.{seen_up}
+use Rattle.law_kernel.proofs.EntriesLong.{every_run_has_entries}
 use Rattle.law_kernel.proofs.Runs.{runs_alive}
 use Rattle.law_standing.proofs.RunsStand.{IsOnWay, every_run_stands}
 use Rattle.law_room.proofs.FirstFull.{Asks, first_full}
@@ -37,6 +39,7 @@ pub record Filled (profile : Profile) (lines : List ScriptLine) (input : Bytes) 
   pub kernel : KernelState User
   pub way : IsOnWay profile (first_stage (script_tree lines) input (files list)) kernel
   pub settled : IsConsistent kernel
+  pub entries : length kernel.entries ≡ ENTRIES
   pub asks : Asks kernel full
 
 module _ (profile : Profile) (lines : List ScriptLine) (input : Bytes) (list : List (Name × Bytes)) (are : AreFiles list) (plain : has_back (script_tree lines) ≡ false) where
@@ -47,6 +50,7 @@ module _ (profile : Profile) (lines : List ScriptLine) (input : Bytes) (list : L
         kernel = f.kernel;
         way = every_run_stands profile lines input list f.reached.events f.reached.notes f.kernel are plain f.reached.runs f.clean;
         settled = runs.settled init (shell profile (top Starts lines)) input list are f.kernel f.reached;
+        entries = every_run_has_entries call_of next_of init (shell profile (top Starts lines)) input list f.reached.events f.reached.notes f.kernel f.reached.runs;
         asks = f.asks;
       }
 

@@ -13,3 +13,4 @@ pub mod SmallFiles
 pub mod Entries
 pub mod Injected
 pub mod HeldEntries
+pub mod FewEntries
