@@ -14,3 +14,4 @@ pub mod Entries
 pub mod Injected
 pub mod HeldEntries
 pub mod FewEntries
+pub mod FewFiles

@@ -2,3 +2,4 @@ pub mod Processes
 pub mod Descriptors
 pub mod Entries
 pub mod Bytes
+pub mod Files
