@@ -26,6 +26,7 @@ use Rattle.law_views.specs.Consistent.{IsConsistent}
 use Rattle.law_views.proofs.Runs as runs
 use Rattle.law_views.proofs.Tables.{seen_up}
 use Rattle.law_kernel.proofs.EntriesLong.{every_run_has_entries}
+use Rattle.law_kernel.proofs.SoundRuns.{every_run_has_files}
 use Rattle.law_kernel.proofs.Runs.{runs_alive}
 use Rattle.law_standing.proofs.RunsStand.{IsOnWay, every_run_stands}
 use Rattle.law_room.proofs.FirstFull.{Asks, first_full}
@@ -40,6 +41,7 @@ pub record Filled (profile : Profile) (lines : List ScriptLine) (input : Bytes) 
   pub way : IsOnWay profile (first_stage (script_tree lines) input (files list)) kernel
   pub settled : IsConsistent kernel
   pub entries : length kernel.entries ≡ ENTRIES
+  pub kept : AreFiles kernel.files
   pub asks : Asks kernel full
 
 module _ (profile : Profile) (lines : List ScriptLine) (input : Bytes) (list : List (Name × Bytes)) (are : AreFiles list) (plain : has_back (script_tree lines) ≡ false) where
@@ -51,6 +53,7 @@ module _ (profile : Profile) (lines : List ScriptLine) (input : Bytes) (list : L
         way = every_run_stands profile lines input list f.reached.events f.reached.notes f.kernel are plain f.reached.runs f.clean;
         settled = runs.settled init (shell profile (top Starts lines)) input list are f.kernel f.reached;
         entries = every_run_has_entries call_of next_of init (shell profile (top Starts lines)) input list f.reached.events f.reached.notes f.kernel f.reached.runs;
+        kept = every_run_has_files call_of next_of init (shell profile (top Starts lines)) input list f.reached.events f.reached.notes f.kernel are f.reached.runs;
         asks = f.asks;
       }
 

@@ -1,9 +1,9 @@
 -- The open-file entries that a tree of processes names: no more than its bound, and as many fewer as a call of one of them wants.
-use Rattle.std.proofs.Common.{◌≡◌, ◌≢◌, ◌⊎◌, inl, inr, ℕ, zero, suc, ◌+◌, ◌<◌, ◌≤◌, Bool, List, [], ◌∷◌, ◌++◌, Option, Some, None, length, length-append, drop, refl, sym, ap, ◌∙◌, subst, arith}
+use Rattle.std.proofs.Common.{◌≡◌, inl, inr, ℕ, ◌+◌, ◌≤◌, List, [], ◌∷◌, ◌++◌, Option, Some, None, length, length-append, drop, refl, sym, ap, ◌∙◌, arith}
 use Rattle.std.specs.Prelude.{max}
 use Rattle.std.proofs.Math.Nat.{le-max_left, le-max_right, max-le}
 use Rattle.sh_tree.specs.Tree.{Tree, exec, redir, pipe, list, back}
-use Rattle.mem_files.specs.Name.{Name, Bytes}
+use Rattle.mem_files.specs.Name.{Bytes}
 use Rattle.prog_parts.specs.declared.program.Program.{Program}
 use Rattle.script_load.specs.declared.profile.Profile.{Profile}
 use Rattle.script_load.specs.Line.{ScriptLine, command, bad, cd}
@@ -13,16 +13,15 @@ use Rattle.user_calls.specs.declared.calls.Call.TheVariants.{Fork, Exec, Exit, W
 use Rattle.user_progs.specs.State.{State}
 use Rattle.user_progs.specs.Turn.{block}
 use Rattle.user_progs.specs.View.{first_state}
-use Rattle.program_model.specs.Tame.{IsTame, Among}
+use Rattle.program_model.specs.Tame.{IsTame}
 use Rattle.sh_machine.specs.Turn.{runs, execs_found, takes_first, call_mode}
 use Rattle.tree_model.specs.Residual.{Running}
 use Rattle.tree_model.specs.Begin.{begun_words}
-use Rattle.process_model.specs.Seen.{Entry, reader, writer, file, Seen, View}
+use Rattle.process_model.specs.Seen.{Entry, reader, writer, file, View}
 use Rattle.process_model.specs.Own.{Owned, own_files, own_fds}
 use Rattle.process_model.specs.Phases.{Stage, closes_read, closes_write, waits_two, waits_one, leaves_pipe, Step, closes_old, dups_kept, drops_read, drops_write, has_forked, on_left, on_right, does}
 use Rattle.process_model.specs.Shape.{Node, reaped, gone, starts, works, tells, leaves, reads_lines, in_line, in_list, pipe_made, pipe_half, pipe_both, left_child, right_child, opening, under_input, under_output, Has, same, occurs, stands_for}
 use Rattle.process_model.proofs.Counts.{same_yes, none_or_some}
-use Rattle.room_model.specs.Descriptors.{files_of_words}
 use Rattle.room_model.specs.Entries.{most_entries}
 use Rattle.law_room.proofs.Measure.{Measure, of_begun, IsMeasure, left}
 use Rattle.law_room.proofs.Marks.{entries_wanted}

@@ -1,5 +1,5 @@
 -- No run of a script within the bound on open-file entries finds fewer free ones than a call wants.
-use Rattle.std.proofs.Common.{◌≡◌, ◌≢◌, ◌⊎◌, inl, inr, ℕ, zero, suc, ◌+◌, ◌<◌, ◌≤◌, List, [], ◌∷◌, Bool, true, false, Option, Some, None, refl, sym, ap, ◌∙◌, subst, length, arith}
+use Rattle.std.proofs.Common.{◌≡◌, ℕ, zero, suc, ◌<◌, ◌≤◌, List, ◌∷◌, Bool, true, false, Option, Some, None, refl, sym, ap, ◌∙◌, arith}
 use Rattle.std.specs.Prelude.{option_map, IsSome}
 use Rattle.mem_files.specs.Name.{Name, Bytes}
 use Rattle.mem_files.specs.Files.{files}
@@ -12,7 +12,7 @@ use Rattle.program_model.specs.Tame.{Among}
 use Rattle.user_calls.specs.declared.calls.Call.{Call}
 use Rattle.fd_table.specs.declared.descriptors.TheConstants.{DESCRIPTORS}
 use Rattle.fd_table.specs.declared.entries.TheConstants.{ENTRIES}
-use Rattle.fd_table.specs.Entries.{OpenFile, entry_at, free_count}
+use Rattle.fd_table.specs.Entries.{OpenFile, entry_at}
 use Rattle.fd_table.specs.Descriptors.{Descriptors, entry_of}
 use Rattle.proc_table.specs.Slots.{Slot, Process, at, is_zombie, is_zombie_status}
 use Rattle.kernel_model.specs.declared.events.Event.{Event}
@@ -29,9 +29,8 @@ use Rattle.process_model.specs.Shape.{occurs, is_used}
 use Rattle.law_kernel.specs.Held.{HasHolder}
 use Rattle.law_kernel.proofs.Held.{used_while_held, none_open}
 use Rattle.law_views.proofs.Fds.{seen_fd}
-use Rattle.law_standing.proofs.RunsStand.{IsOnWay}
 use Rattle.law_standing.proofs.Reaching.{reach}
-use Rattle.room_model.specs.Entries.{most_entries, script_entries}
+use Rattle.room_model.specs.Entries.{script_entries}
 use Rattle.law_room.proofs.Measure.{kept_on}
 use Rattle.law_room.proofs.Marks.{entries_wanted}
 use Rattle.law_room.proofs.Processes.{call_in}

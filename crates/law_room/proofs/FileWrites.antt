@@ -1,8 +1,7 @@
 -- What a process of the tree writes to a file is among the bytes that are still to be written.
-use Rattle.std.proofs.Common.{◌≡◌, ◌≢◌, ◌⊎◌, inl, inr, ℕ, zero, suc, ◌+◌, ◌-◌, ◌<◌, ◌≤◌, Bool, List, [], ◌∷◌, Option, Some, None, length, drop, refl, sym, ap, ◌∙◌, subst, arith}
+use Rattle.std.proofs.Common.{◌≡◌, ◌⊎◌, inl, inr, ℕ, zero, suc, ◌+◌, ◌-◌, ◌<◌, ◌≤◌, List, [], ◌∷◌, Option, Some, None, length, drop, refl, sym, ap, ◌∙◌, subst, arith}
 use Rattle.sh_tree.specs.Tree.{Tree, exec, redir, pipe, list, back}
-use Rattle.mem_files.specs.Name.{Name, Bytes}
-use Rattle.prog_parts.specs.declared.program.Program.{Program}
+use Rattle.mem_files.specs.Name.{Bytes}
 use Rattle.script_load.specs.declared.profile.Profile.{Profile}
 use Rattle.script_load.specs.Line.{ScriptLine, command, bad, cd}
 use Rattle.user_calls.specs.declared.calls.Call.{Call}
@@ -12,12 +11,11 @@ use Rattle.user_progs.specs.Turn.{Turn}
 use Rattle.user_progs.specs.View.{first_state}
 use Rattle.program_model.specs.Tame.{IsTame, Among}
 use Rattle.program_model.specs.FilesAhead.{Sizes}
-use Rattle.sh_machine.specs.Turn.{runs, execs_found, takes_first}
-use Rattle.tree_model.specs.Residual.{Running}
-use Rattle.tree_model.specs.Bound.{run_bytes, bytes_left, reads_ahead, grown}
-use Rattle.tree_model.specs.ProgramBytes.{call_bytes, write_bytes, later_bytes}
+use Rattle.sh_machine.specs.Turn.{runs, execs_found}
+use Rattle.tree_model.specs.Bound.{bytes_left}
+use Rattle.tree_model.specs.ProgramBytes.{call_bytes, write_bytes}
 use Rattle.process_model.specs.Seen.{Entry, diag, reader, writer, file, Fds, fd_at, Act, Seen, free, zombie, live, View}
-use Rattle.process_model.specs.Own.{Owned, own_files, own_fds, OwnFds, IsWriter, PutFits, program_act, Works}
+use Rattle.process_model.specs.Own.{Owned, own_fds, OwnFds, IsWriter, PutFits, program_act, Works}
 use Rattle.process_model.specs.Phases.{Stage, closes_read, closes_write, waits_two, waits_one, leaves_pipe, Step, closes_old, dups_kept, drops_read, drops_write, at_lines, has_forked, on_left, on_right, does, plain_fds}
 use Rattle.process_model.specs.Shape.{Node, reaped, gone, starts, works, tells, leaves, reads_lines, in_line, in_list, pipe_made, pipe_half, pipe_both, left_child, right_child, opening, under_input, under_output, Has, same, occurs, stands_for}
 use Rattle.process_model.proofs.Counts.{same_yes, none_or_some}

@@ -1,13 +1,13 @@
 -- What a process of the tree holds is the input or the output of its command, the diagnostics, or an entry that the tree names.
-use Rattle.std.proofs.Common.{◌≡◌, ◌≢◌, ◌⊎◌, inl, inr, ℕ, zero, suc, ◌+◌, ◌<◌, ◌≤◌, ◌==◌, Bool, true, false, List, [], ◌∷◌, ◌++◌, Option, Some, None, refl, sym, ap, ◌∙◌, subst, arith}
+use Rattle.std.proofs.Common.{◌≡◌, inl, inr, ℕ, zero, suc, ◌+◌, ◌≤◌, ◌==◌, Bool, true, false, List, [], ◌∷◌, ◌++◌, Option, Some, None, refl, sym, ap, ◌∙◌, subst, arith}
 use Rattle.std.specs.Prelude.{if◌then◌else◌, replicate}
 use Rattle.sh_tree.specs.declared.tree.Mode.{Mode}
 use Rattle.sh_tree.specs.declared.tree.Mode.TheVariants.{Input, Fresh, Over}
 use Rattle.sh_tree.specs.Tree.{Tree}
-use Rattle.mem_files.specs.Name.{Name, Bytes}
+use Rattle.mem_files.specs.Name.{Name}
 use Rattle.script_load.specs.declared.profile.Profile.{Profile}
 use Rattle.program_model.specs.Tame.{Among}
-use Rattle.process_model.specs.Seen.{Entry, input, out, diag, reader, writer, file, Fds, fd_at, Act, Seen, live, View}
+use Rattle.process_model.specs.Seen.{Entry, input, out, diag, reader, writer, file, Fds, fd_at, Act, live, View}
 use Rattle.process_model.specs.Own.{Owned, owned_at, OwnFds}
 use Rattle.process_model.specs.Effect.{HasOpen, Holds}
 use Rattle.process_model.specs.Phases.{Stage, closes_read, closes_write, waits_two, waits_one, leaves_pipe, Step, closes_old, dups_kept, drops_read, drops_write, has_forked, on_left, on_right, opens, has_open, fds, plain_fds, open_fds, partner}

@@ -1,11 +1,11 @@
 -- As many places as are in use are no more than a list in which each has a place of its own.
-use Rattle.std.proofs.Common.{◌≡◌, ◌≢◌, ◌⊎◌, inl, inr, ℕ, zero, suc, ◌+◌, ◌<◌, ◌≤◌, List, [], ◌∷◌, ◌++◌, Bool, true, false, Option, Some, None, length, get_or, refl, sym, ap, ◌∙◌, subst, arith}
+use Rattle.std.proofs.Common.{◌≡◌, inl, inr, ℕ, zero, suc, ◌+◌, ◌<◌, ◌≤◌, List, [], ◌∷◌, Option, Some, None, length, get_or, refl, sym, ap, ◌∙◌, arith}
 use Rattle.std.proofs.lemmas.List.Sums.{sum_by-cons}
 use Rattle.std.specs.Prelude.{cond}
 use Rattle.program_model.specs.Tame.{Among}
 use Rattle.fd_table.specs.Entries.{Entries, OpenFile, entry_at, is_free, free_count}
 use Rattle.process_model.specs.Shape.{same}
-use Rattle.process_model.proofs.Counts.{same_self, same_other, same_cases}
+use Rattle.process_model.proofs.Counts.{same_other, same_cases}
 use Rattle.law_room.proofs.Counting.{total, total_sum, total_none}
 
 -- 1 where a number is below n
@@ -13,7 +13,7 @@ abbrev pub below : ℕ → ℕ → ℕ
 below zero q = 0
 below (suc n) q = same q n + below n q
 
-is_below : (n q : ℕ) → q < n → 1 ≤ below n q
+pub is_below : (n q : ℕ) → q < n → 1 ≤ below n q
 is_below zero q few = absurd (omega (arith, few))
 is_below (suc n) q few = elim (same_cases q n) [ inl is ↦ omega (arith, is.1) | inr ne ↦ omega (arith, is_below n q (by ne.0)) ]
   where
@@ -69,7 +69,7 @@ total_more f g more a (suc n) = omega (arith, more a, total_more f g more (suc a
 -- ---- places in a list
 
 module _ {X : Type 0} where
-  place : (x : X) (xs : List X) → Among x xs → (i : ℕ) × (i < length xs) × (get_or xs i x ≡ x)
+  pub place : (x : X) (xs : List X) → Among x xs → (i : ℕ) × (i < length xs) × (get_or xs i x ≡ x)
   place x [] here = absurd here
   place x (y ∷ ys) (inl is) = (0, omega arith, sym is)
   place x (y ∷ ys) (inr rest) = let p = place x ys rest in (suc p.0, omega (arith, p.1), p.2)

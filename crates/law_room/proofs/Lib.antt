@@ -15,3 +15,4 @@ pub mod Injected
 pub mod HeldEntries
 pub mod FewEntries
 pub mod FewFiles
+pub mod Roomy

@@ -1,8 +1,8 @@
 -- No run of a clear script within the bound on sizes finds a file too large for what is written to it.
-use Rattle.std.proofs.Common.{◌≡◌, ◌≢◌, ◌⊎◌, inl, inr, ℕ, zero, suc, ◌+◌, ◌<◌, ◌≤◌, List, [], ◌∷◌, Bool, true, false, Option, Some, None, refl, sym, ap, ◌∙◌, subst, length, map, get_or, arith}
+use Rattle.std.proofs.Common.{◌≡◌, ℕ, zero, suc, ◌+◌, ◌<◌, ◌≤◌, List, [], ◌∷◌, Bool, Option, Some, None, refl, sym, ap, ◌∙◌, subst, length, arith}
 use Rattle.std.specs.Prelude.{option_map}
 use Rattle.mem_files.specs.Name.{Name, Bytes}
-use Rattle.mem_files.specs.Files.{files, bytes_of}
+use Rattle.mem_files.specs.Files.{files}
 use Rattle.mem_files.specs.Listing.{AreFiles, max_size}
 use Rattle.script_load.specs.Line.{ScriptLine}
 use Rattle.script_load.specs.declared.profile.Profile.{Profile}
@@ -10,15 +10,11 @@ use Rattle.meaning_model.specs.Meaning.{script_tree}
 use Rattle.program_model.specs.FilesAhead.{sizes}
 use Rattle.user_calls.specs.declared.calls.Call.{Call}
 use Rattle.user_calls.specs.declared.calls.Call.TheVariants.{Wait, Write}
-use Rattle.fd_table.specs.declared.names.Mode.{Mode}
 use Rattle.fd_table.specs.declared.names.Object.{Object}
-use Rattle.fd_table.specs.declared.names.Object.TheVariants.{File}
-use Rattle.fd_table.specs.Entries.{OpenFile, entry_at}
 use Rattle.fd_table.specs.Descriptors.{Descriptors, entry_of}
-use Rattle.proc_table.specs.Slots.{at}
 use Rattle.kernel_model.specs.declared.events.Event.{Event}
 use Rattle.kernel_model.specs.declared.events.Full.TheVariants.{Size}
-use Rattle.kernel_model.specs.KernelState.{KernelState, fds_of, fds_at, file_at}
+use Rattle.kernel_model.specs.KernelState.{KernelState, fds_of, file_at}
 use Rattle.kernel_model.specs.Events.{run, counted}
 use Rattle.run_model.specs.ScriptRun.{script_kernel}
 use Rattle.sh_machine.specs.State.{User}
@@ -27,10 +23,9 @@ use Rattle.tree_model.specs.Tidy.{IsClearScript}
 use Rattle.tree_model.specs.Runs.{Stage, first_stage}
 use Rattle.tree_model.specs.Bound.{bytes_left, most_bytes}
 use Rattle.process_model.specs.Seen.{Entry, input as std_input, out, file, fd_at, fds_seen, view}
-use Rattle.process_model.specs.Shows.{IsNamed, IsFile}
+use Rattle.process_model.specs.Shows.{IsNamed}
 use Rattle.process_model.specs.Shape.{stands_for}
 use Rattle.law_tree_ends.proofs.Ending.{bounded}
-use Rattle.law_standing.proofs.RunsStand.{IsOnWay}
 use Rattle.law_standing.proofs.Reaching.{reach}
 use Rattle.room_model.specs.Bytes.{FilesStaySmall}
 use Rattle.law_room.proofs.Marks.{WritesTooMuch}

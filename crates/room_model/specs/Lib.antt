@@ -3,3 +3,4 @@ pub mod Descriptors
 pub mod Entries
 pub mod Bytes
 pub mod Files
+pub mod Roomy
