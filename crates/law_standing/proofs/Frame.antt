@@ -32,8 +32,8 @@ stays profile V W a b old parent (works p t put owns) s h = record {
   plain = h.plain;
   steady = h.steady;
 }
-stays profile V W a b old parent (tells p m) s (d, is, two) = (d, s.slots p (omega (arith, same_self p)) ∙ is, two)
-stays profile V W a b old parent (leaves p) s (d, is) = (d, s.slots p (omega (arith, same_self p)) ∙ is)
+stays profile V W a b old parent (tells p m) s (d, is, two, left) = (d, s.slots p (omega (arith, same_self p)) ∙ is, two, left)
+stays profile V W a b old parent (leaves p) s (d, is, left) = (d, s.slots p (omega (arith, same_self p)) ∙ is, left)
 stays profile V W a b old parent (reads_lines p lines) s h = s.slots p (omega (arith, same_self p)) ∙ h
 stays profile V W a b old parent (in_line p x later) s h = (
   s.slots p (omega (arith, same_self p)) ∙ h.0,

@@ -64,7 +64,7 @@ module _ (profile : Profile) (V W : View) (a b old : Entry) (parent p : ℕ) (ev
           let slot : V.slots p ≡ live parent act 0 (plain_fds a b) = g.has ∙ ap (λ o. live parent (shell_act profile (execs_found (found_by o arguments) name)) 0 (plain_fds a b)) none in
           let f : Answers V W p parent act Refused (plain_fds a b) = kinds.effect_at V W p parent 0 act (plain_fds a b) ev slot in
           let left : done ≡ unfolded (exec (name ∷ arguments)) = sym (ap (λ o. run_left (begun o arguments)) none) in
-          kinds.calm V W profile a b old parent p (live parent act 0 (plain_fds a b)) _ (starts p (exec (name ∷ arguments))) (tells p (block (codes "exec " ++ (name ++ codes " failed\n")))) slot f.slots f.rest refl (plain_fds a b, f.slots.here, refl) (goes (begins_it left)) (λ q. refl) (λ k. omega arith) refl (omega arith)
+          kinds.calm V W profile a b old parent p (live parent act 0 (plain_fds a b)) _ (starts p (exec (name ∷ arguments))) (tells p (block (codes "exec " ++ (name ++ codes " failed\n")))) slot f.slots f.rest refl (plain_fds a b, f.slots.here, refl, inl refl) (goes (begins_it left)) (λ q. refl) (λ k. omega arith) refl (omega arith)
       by (Some program) some =
           let state = begins_program program arguments in
           let act : Act = record { call = Exec true; next = Rattle.sh_machine.specs.State.program state } in

@@ -1,5 +1,5 @@
 -- A process of the shell that waits for its children, forks them, or closes and doubles the ends of a pipe.
-use Rattle.std.proofs.Common.{◌≡◌, ◌≢◌, ℕ, ◌+◌, ◌≤◌, List, [], ◌∷◌, Bool, false, arith, refl, ap, ◌∙◌, subst}
+use Rattle.std.proofs.Common.{◌≡◌, ◌≢◌, inl, ℕ, ◌+◌, ◌≤◌, List, [], ◌∷◌, Bool, false, arith, refl, ap, ◌∙◌, subst}
 use Rattle.mem_files.specs.Name.{Bytes}
 use Rattle.sh_tree.specs.Tree.{Tree}
 use Rattle.script_load.specs.Line.{ScriptLine, command, bad, cd}
@@ -31,7 +31,7 @@ module _ (profile : Profile) (V W : View) (a b old : Entry) (parent p : ℕ) (ev
       let slot = g.has.1 in
       let e0 : EffectBy V W p parent 0 act g.has.0 (Write 2 message) = kinds.effect_at V W p parent 0 act g.has.0 ev slot in
       let f = subst (λ x. Rattle.process_model.specs.Effect.WritesAt V W p parent 0 act g.has.0 message x) g.has.2 e0 in
-      kinds.calm V W profile a b old parent p _ _ (tells p message) (leaves p) slot f.slots f.rest refl (g.has.0, f.slots.here) stay (λ q. refl) (λ k. omega arith) refl (omega arith)
+      kinds.calm V W profile a b old parent p _ _ (tells p message) (leaves p) slot f.slots f.rest refl (g.has.0, f.slots.here, g.has.3) stay (λ q. refl) (λ k. omega arith) refl (omega arith)
 
   pub leaves_now : Part profile V a b old parent p (leaves p) → After profile V W p a b old parent (leaves p)
   leaves_now g =
@@ -46,7 +46,7 @@ module _ (profile : Profile) (V W : View) (a b old : Entry) (parent p : ℕ) (ev
       kinds.forked V W profile a b old parent p _ (plain_fds a b) _ (reads_lines p (command tree ∷ later)) (in_line p (starts f.child tree) (command tree ∷ later)) g.has refl f (f.here, refl, f.child_is) (goes (begins_it refl)) (λ q. refl) (λ k. omega arith) refl (omega arith)
   begins_line (bad fault text) later g =
       let f = kinds.effect_at V W p parent 0 _ (plain_fds a b) ev g.has in
-      kinds.forked V W profile a b old parent p _ (plain_fds a b) _ (reads_lines p (bad fault text ∷ later)) (in_line p (tells f.child (block (fault_text fault text))) (bad fault text ∷ later)) g.has refl f (f.here, refl, (plain_fds a b, f.child_is, refl))
+      kinds.forked V W profile a b old parent p _ (plain_fds a b) _ (reads_lines p (bad fault text ∷ later)) (in_line p (tells f.child (block (fault_text fault text))) (bad fault text ∷ later)) g.has refl f (f.here, refl, (plain_fds a b, f.child_is, refl, inl refl))
       (then_goes (goes (begins_it refl)) (seq_steps (begins_it refl))) (λ q. refl) (λ k. omega arith) refl (omega arith)
   begins_line (cd text) later g =
       let f = kinds.effect_at V W p parent 0 _ (plain_fds a b) ev g.has in

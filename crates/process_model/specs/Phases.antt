@@ -107,7 +107,7 @@ partner (reader i) = writer i
 partner (writer i) = reader i
 partner (file e) = file e
 
-abbrev open_fds : Mode → Entry → Entry → Fds
+abbrev pub open_fds : Mode → Entry → Entry → Fds
 open_fds Input a b = fds None (Some b) None None
 open_fds Fresh a b = fds (Some a) None None None
 open_fds Over a b = fds (Some a) None None None

@@ -1,5 +1,5 @@
 -- The tree of processes: when the kernel has it, and what it stands for.
-use Rattle.std.specs.Prelude.{◌≡◌, ℕ, ◌+◌, ◌<◌, ◌≤◌, Bool, false, ◌==◌, if◌then◌else◌, List, [], ◌∷◌, drop, Some}
+use Rattle.std.specs.Prelude.{◌≡◌, ◌⊎◌, ℕ, ◌+◌, ◌<◌, ◌≤◌, Bool, false, ◌==◌, if◌then◌else◌, List, [], ◌∷◌, drop, Some}
 use Rattle.sh_tree.specs.declared.tree.Mode.{Mode}
 use Rattle.sh_tree.specs.Tree.{Tree}
 use Rattle.mem_files.specs.Name.{Name, Bytes}
@@ -15,7 +15,7 @@ use Rattle.sh_machine.specs.State.{told}
 use Rattle.sh_machine.specs.Turn.{calls, exits}
 use Rattle.tree_model.specs.Residual.{Residual, done, todo, running, seq, piped, unopened, from, into, Position, at_byte, at_file_end}
 use Rattle.process_model.specs.Seen.{Entry, input, out, diag, reader, writer, file, Fds, fd_at, Seen, free, zombie, live, Place, View}
-use Rattle.process_model.specs.Phases.{Stage, closes_read, closes_write, waits_two, waits_one, leaves_pipe, Step, Phase, at_lines, waits_line, begins, opens, waits_list, forks_left, forks_right, has_forked, on_left, on_right, shell_act, does, has_open}
+use Rattle.process_model.specs.Phases.{Stage, closes_read, closes_write, waits_two, waits_one, leaves_pipe, Step, Phase, at_lines, waits_line, begins, opens, waits_list, forks_left, forks_right, has_forked, on_left, on_right, shell_act, does, has_open, plain_fds, open_fds}
 use Rattle.process_model.specs.Own.{Owned, own_files, Works}
 
 pub data Node : Type 0 where
@@ -73,6 +73,10 @@ OpensOutput Append ToOver = ⊥
 OpensOutput Xv6 ToAppend = ⊥
 OpensOutput Append ToAppend = Unit {0}
 
+-- what a process that ends has open: what its command began with, or that but for what a redirection gave up
+abbrev pub HasLeft : Entry → Entry → Fds → Type 0
+HasLeft a b d = (d ≡ plain_fds a b) ⊎ ((mode : Mode) × (d ≡ open_fds mode a b))
+
 module _ (profile : Profile) where
   -- the process p of the shell is in this phase, in a command with a as its input and b as its output
   abbrev pub IsIn : View → Entry → Entry → Entry → ℕ → ℕ → Phase → Type 0
@@ -86,8 +90,8 @@ module _ (profile : Profile) where
   Has V a b old parent (starts p tree) = IsIn V a b old parent p (begins tree)
   Has V a b old parent (works p turn put owns) = Works V a b parent p turn put owns
   Has V a b old parent (tells p message) =
-      (d : Fds) × (V.slots p ≡ live parent (shell_act profile (calls (Write 2 message) told)) 0 d) × (fd_at d 2 ≡ Some diag)
-  Has V a b old parent (leaves p) = (d : Fds) × (V.slots p ≡ live parent (shell_act profile exits) 0 d)
+      (d : Fds) × (V.slots p ≡ live parent (shell_act profile (calls (Write 2 message) told)) 0 d) × (fd_at d 2 ≡ Some diag) × HasLeft a b d
+  Has V a b old parent (leaves p) = (d : Fds) × (V.slots p ≡ live parent (shell_act profile exits) 0 d) × HasLeft a b d
   Has V a b old parent (reads_lines p lines) = IsIn V a b old parent p (at_lines lines)
   Has V a b old parent (in_line p x lines) = IsIn V a b old parent p (waits_line lines) × (is_there x ≡ 1) × Has V a b old p x
   Has V a b old parent (in_list p x later) = IsIn V a b old parent p (waits_list later) × (is_there x ≡ 1) × Has V a b old p x

@@ -1,0 +1,6 @@
+pub mod Processes
+pub mod Descriptors
+pub mod Entries
+pub mod Bytes
+pub mod Files
+pub mod Roomy
