@@ -1,5 +1,9 @@
 //! What a report is made of.
 
+ghost use Rattle.std.specs.Prelude.{◌≡◌, count_by, is_none, sum_by};
+ghost use Rattle.std.specs.Option.{option_copied};
+ghost use Rattle.grade_report.specs.Sums.{IsSumOf, capped, earned, is_pass};
+
 use grade_verdicts::{Verdict, passes};
 
 /// What a test says of a script (own).
@@ -28,7 +32,9 @@ pub struct Sum {
 
 impl<'r> Row<'r> {
     /// Whether its test is passed.
-    pub fn is_passed(&self) -> bool {
+    pub fn is_passed(&self) -> bool
+        ensures { result ≡ is_pass (option_copied self.now.verdict) }
+    {
         match self.verdict {
             Some(verdict) => passes(verdict),
             None => false,
@@ -36,30 +42,60 @@ impl<'r> Row<'r> {
     }
 
     /// The points that it gives.
-    pub fn earned(&self) -> u64 {
+    pub fn earned(&self) -> u64
+        ensures { result ≡ earned self.now }
+    {
         if self.is_passed() { self.points } else { 0 }
     }
 }
 
-/// The sum of the rows (own).
-pub fn sum_of(rows: &[Row<'_>]) -> Sum {
-    let mut sum = Sum {
-        points: 0,
-        of: 0,
-        passed: 0,
-        tests: 0,
-        unjudged: 0,
-    };
+// The points that the rows give.
+fn points_of(rows: &[Row<'_>]) -> u64
+    ensures { result ≡ capped (sum_by earned rows.now) }
+{
+    let mut points: u64 = 0;
     for row in rows {
-        sum.points = sum.points.saturating_add(row.earned());
-        sum.of = sum.of.saturating_add(row.points);
-        sum.passed = sum.passed.saturating_add(usize::from(row.is_passed()));
-        sum.tests = sum.tests.saturating_add(1);
-        sum.unjudged = sum
-            .unjudged
-            .saturating_add(usize::from(row.verdict.is_none()));
+        points = points.saturating_add(row.earned());
     }
-    sum
+    points
+}
+
+// The points that they could give.
+fn most_of(rows: &[Row<'_>]) -> u64
+    ensures { result ≡ capped (sum_by (λ row. row.points) rows.now) }
+{
+    let mut points: u64 = 0;
+    for row in rows {
+        points = points.saturating_add(row.points);
+    }
+    points
+}
+
+// How many of them pass.
+fn passed_of(rows: &[Row<'_>]) -> usize
+    ensures { result ≡ count_by (λ row. is_pass (option_copied row.verdict)) rows.now }
+{
+    rows.iter().filter(|row| row.is_passed()).count()
+}
+
+// How many of them have no verdict.
+fn unjudged_of(rows: &[Row<'_>]) -> usize
+    ensures { result ≡ count_by (λ row. is_none row.verdict) rows.now }
+{
+    rows.iter().filter(|row| row.verdict.is_none()).count()
+}
+
+/// The sum of the rows (own).
+pub fn sum_of(rows: &[Row<'_>]) -> Sum
+    ensures { IsSumOf rows.now result }
+{
+    Sum {
+        points: points_of(rows),
+        of: most_of(rows),
+        passed: passed_of(rows),
+        tests: rows.len(),
+        unjudged: unjudged_of(rows),
+    }
 }
 
 /// Where the rows of a script end that begin at `from`, from 0; the number of rows where none is there.

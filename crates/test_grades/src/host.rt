@@ -64,4 +64,6 @@ impl Grading for Told<'_> {
     fn graded(&mut self, done: usize, of: usize) {
         let _ = write!(self.steps, "{done}/{of} ");
     }
+
+    fn ended(&mut self) {}
 }

@@ -1,1 +1,5 @@
+mod Books
+mod Growing
 mod Joined
+mod Judged
+mod Own

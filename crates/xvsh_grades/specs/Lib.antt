@@ -1,2 +1,4 @@
-pub mod Due
+pub mod Endings
+pub mod Jobs
+pub mod Marks
 pub mod Passed

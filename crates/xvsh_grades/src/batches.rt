@@ -1,9 +1,17 @@
 //! Scripts, read and judged a batch at a time.
 
-use crate::fault::GradeFault;
-use crate::loading::Loaded;
+ghost use Rattle.std.specs.Prelude.{◌≡◌, ◌<◌, ◌∷◌, ◌++◌, [], IfOk, IfSome, List, None, MatchOption, OnOk, Some, map, length};
+ghost use Rattle.std.specs.List.{AllZip};
+ghost use Rattle.xvsh_read.specs.Reading.{Agree, max_input, told_at};
+ghost use Rattle.grade_tests.specs.declared.test.Loaded.{Loaded};
+ghost use Rattle.xvsh_grades.specs.Jobs.{ArePieces, Holds, IsPieceOf, read_of};
+ghost use Rattle.xvsh_grades.specs.Marks.{AreMarks, IsReadAt, IsTooLong, ScriptRead};
+ghost use Rattle.xvsh_grades.specs.declared.marks.Mark.{Mark};
+ghost use Rattle.xvsh_grades.specs.declared.marks.Piece.{Piece};
+
 use crate::marks::{Mark, Piece, mark_all};
 use crate::request::Grading;
+use grade_tests::{GradeFault, Loaded};
 use grade_verdicts::Verdict;
 use std::alloc::{AllocError, Global};
 use std::sync::Wait;
@@ -17,29 +25,29 @@ const BATCH: usize = 256;
 // After how many bytes of scripts the batch is judged.
 const BATCH_BYTES: usize = 16_777_216;
 
-// A script that was read.
+/// A script that was read.
 #[derive(Drop)]
-struct Script<'a> {
-    path: &'a str,
-    bytes: Vec<u8>,
+pub struct Script<'a> {
+    pub path: &'a str,
+    pub bytes: Vec<u8>,
 }
 
 /// How scripts are judged: the tests without a script of their own, by how many threads, and how many verdicts there will be.
 #[derive(Clone, Copy)]
-pub(crate) struct Plan<'t, 'p> {
-    pub(crate) alloc: Global,
-    pub(crate) tests: &'p [&'t Loaded],
-    pub(crate) threads: usize,
-    pub(crate) of: usize,
+pub struct Plan<'t, 'p> {
+    pub alloc: Global,
+    pub tests: &'p [&'t Loaded],
+    pub threads: usize,
+    pub of: usize,
 }
 
-// The scripts that wait to be judged, and what was found before.
+/// The scripts that wait to be judged, and what was found before.
 #[derive(Drop)]
-pub(crate) struct Book<'t, 'a> {
-    pub(crate) marks: Vec<Mark<'t, 'a>>,
-    waiting: Vec<Script<'a>>,
-    // How many bytes more may wait.
-    room: usize,
+pub struct Book<'t, 'a> {
+    pub marks: Vec<Mark<'t, 'a>>,
+    pub waiting: Vec<Script<'a>>,
+    /// How many bytes more may wait.
+    pub room: usize,
 }
 
 // The bytes of the script at the path; `None` where there are too many.
@@ -47,7 +55,11 @@ fn script_at<'a, H: Host>(
     alloc: Global,
     host: &mut H,
     path: &'a str,
-) -> Result<Option<Vec<u8>>, Fault<'a>> {
+) -> Result<Option<Vec<u8>>, Fault<'a>>
+    ensures read { IfOk result (λ read. MatchOption read (IfSome (told_at None (H.file host.old) path.now) (λ bytes. max_input < length bytes))
+        (λ bytes. Agree (told_at None (H.file host.old) path.now) bytes.items)) }
+    ensures stays { H.file host.new ≡ H.file host.old }
+{
     match read(alloc, host, path, MAX_INPUT) {
         Ok(bytes) => Ok(Some(bytes)),
         Err(Fault::TooLong(_)) => Ok(None),
@@ -60,7 +72,10 @@ fn add_pieces<'t, 'a, 'b>(
     tests: &[&'t Loaded],
     script: &'b Script<'a>,
     pieces: &mut Vec<Piece<'t, 'a, 'b>>,
-) -> Result<(), AllocError> {
+) -> Result<(), AllocError>
+    ensures { OnOk result ((more : List Piece) × (pieces.new.items ≡ pieces.old.items ++ more)
+        × AllZip (IsPieceOf (Some script.now.path.now) script.now.bytes.items) (map (λ test. test.now) tests.now) more) }
+{
     for test in tests {
         pieces.push(Piece {
             script: Some(script.path),
@@ -75,7 +90,9 @@ fn add_pieces<'t, 'a, 'b>(
 fn pieces_of<'t, 'a, 'b>(
     plan: &Plan<'t, '_>,
     scripts: &'b [Script<'a>],
-) -> Result<Vec<Piece<'t, 'a, 'b>>, AllocError> {
+) -> Result<Vec<Piece<'t, 'a, 'b>>, AllocError>
+    ensures { IfOk result (λ pieces. ArePieces (map (λ test. test.now) plan.now.tests.now) scripts.now pieces.items) }
+{
     let mut pieces = Vec::new(plan.alloc);
     for script in scripts {
         add_pieces(plan.tests, script, &mut pieces)?;
@@ -89,14 +106,48 @@ fn judge_scripts<'t, 'a, R: Threads + Wait + Clock + Sync>(
     plan: &Plan<'t, '_>,
     scripts: &[Script<'a>],
     marks: &mut Vec<Mark<'t, 'a>>,
-) -> Result<(), AllocError> {
+) -> Result<(), AllocError>
+    ensures { OnOk result ((own : List Loaded) (reads : List ScriptRead) → AreMarks own (map (λ test. test.now) plan.now.tests.now) reads marks.old.items
+        → AreMarks own (map (λ test. test.now) plan.now.tests.now) (reads ++ map read_of scripts.now) marks.new.items) }
+{
     let pieces = pieces_of(plan, scripts)?;
-    mark_all(rt, plan.alloc, pieces.as_slice(), plan.threads, marks)
+    mark_all(rt, plan.alloc, pieces.as_slice(), plan.threads, marks)?;
+    Ok(())
+}
+
+// Adds the verdicts on a script of too many bytes.
+fn add_too_large<'t, 'a>(
+    tests: &[&'t Loaded],
+    path: &'a str,
+    marks: &mut Vec<Mark<'t, 'a>>,
+) -> Result<(), AllocError>
+    ensures { OnOk result ((more : List Mark) × (marks.new.items ≡ marks.old.items ++ more) × AllZip (IsTooLong path.now) (map (λ test. test.now) tests.now) more) }
+{
+    for test in tests {
+        marks.push(Mark {
+            script: Some(path),
+            test: *test,
+            verdict: Some(Verdict::TooLarge),
+        })?;
+    }
+    Ok(())
+}
+
+// Tells the host how far it is, where a script was judged.
+fn tell<H: Grading>(host: &mut H, scripts: usize, done: usize, of: usize)
+    ensures { H.file host.new ≡ H.file host.old }
+{
+    if scripts > 0 {
+        host.graded(done, of);
+    }
 }
 
 impl<'t, 'a> Book<'t, 'a> {
     /// Nothing was found yet.
-    pub(crate) fn new(alloc: Global) -> Book<'t, 'a> {
+    pub(crate) fn new(alloc: Global) -> Book<'t, 'a>
+        ensures marks { result.marks.items ≡ [] }
+        ensures waiting { result.waiting.items ≡ [] }
+    {
         Book {
             marks: Vec::new(alloc),
             waiting: Vec::new(alloc),
@@ -110,83 +161,110 @@ impl<'t, 'a> Book<'t, 'a> {
     }
 
     // Judges the scripts that wait, and tells the host how far it is.
-    fn judge_waiting<R: Threads + Wait + Clock + Sync, H: Host + Grading>(
+    fn judge_waiting<R: Threads + Wait + Clock + Sync, H: Grading>(
         &mut self,
         rt: &R,
         plan: &Plan<'t, '_>,
         host: &mut H,
-    ) -> Result<(), AllocError> {
-        if self.waiting.is_empty() {
-            return Ok(());
-        }
+    ) -> Result<(), AllocError>
+        ensures holds { OnOk result ((own : List Loaded) (reads : List ScriptRead) → Holds own (map (λ test. test.now) plan.now.tests.now) reads self.old
+            → AreMarks own (map (λ test. test.now) plan.now.tests.now) reads self.new.marks.items) }
+        ensures empty { OnOk result (self.new.waiting.items ≡ []) }
+        ensures stays { H.file host.new ≡ H.file host.old }
+    {
         judge_scripts(rt, plan, self.waiting.as_slice(), &mut self.marks)?;
-        host.graded(self.marks.len(), plan.of);
+        tell(host, self.waiting.len(), self.marks.len(), plan.of);
         self.waiting.clear();
         self.room = BATCH_BYTES;
         Ok(())
     }
 
-    // Adds the verdicts on a script of too many bytes.
-    fn add_too_large(&mut self, plan: &Plan<'t, '_>, path: &'a str) -> Result<(), AllocError> {
-        for test in plan.tests {
-            self.marks.push(Mark {
-                script: Some(path),
-                test: *test,
-                verdict: Some(Verdict::TooLarge),
-            })?;
-        }
-        Ok(())
-    }
-
-    // Reads the script at the path, and judges those that wait if they are enough.
-    fn take<R: Threads + Wait + Clock + Sync, H: Host + Grading>(
+    // Judges those that wait, and adds the verdicts on a script of too many bytes.
+    fn take_too_large<R: Threads + Wait + Clock + Sync, H: Grading>(
         &mut self,
         rt: &R,
         plan: &Plan<'t, '_>,
         host: &mut H,
         path: &'a str,
-    ) -> Result<(), GradeFault<'a>> {
-        let Some(bytes) = script_at(plan.alloc, host, path)? else {
-            self.judge_waiting(rt, plan, host)?;
-            self.add_too_large(plan, path)?;
-            host.graded(self.marks.len(), plan.of);
-            return Ok(());
-        };
-        self.room = self.room.saturating_sub(bytes.len());
-        self.waiting.push(Script { path, bytes })?;
-        if self.is_full(plan) {
-            self.judge_waiting(rt, plan, host)?;
-        }
+    ) -> Result<(), AllocError>
+        ensures holds { OnOk result ((own : List Loaded) (reads : List ScriptRead) → Holds own (map (λ test. test.now) plan.now.tests.now) reads self.old
+            → Holds own (map (λ test. test.now) plan.now.tests.now) (reads ++ record { path = path.now; bytes = None } ∷ []) self.new) }
+        ensures stays { H.file host.new ≡ H.file host.old }
+    {
+        self.judge_waiting(rt, plan, host)?;
+        add_too_large(plan.tests, path, &mut self.marks)?;
+        host.graded(self.marks.len(), plan.of);
         Ok(())
     }
 
+    // Lets a script wait.
+    fn add_waiting(&mut self, script: Script<'a>) -> Result<(), AllocError>
+        ensures { OnOk result ((own : List Loaded) (others : List Loaded) (reads : List ScriptRead) → Holds own others reads self.old → Holds own others (reads ++ read_of script.entry ∷ []) self.new) }
+    {
+        self.room = self.room.saturating_sub(script.bytes.len());
+        self.waiting.push(script)?;
+        Ok(())
+    }
+
+    // Lets a script wait, and judges those that wait if they are enough.
+    fn take_script<R: Threads + Wait + Clock + Sync, H: Grading>(
+        &mut self,
+        rt: &R,
+        plan: &Plan<'t, '_>,
+        host: &mut H,
+        script: Script<'a>,
+    ) -> Result<(), AllocError>
+        ensures holds { OnOk result ((own : List Loaded) (reads : List ScriptRead) → Holds own (map (λ test. test.now) plan.now.tests.now) reads self.old
+            → Holds own (map (λ test. test.now) plan.now.tests.now) (reads ++ read_of script.entry ∷ []) self.new) }
+        ensures stays { H.file host.new ≡ H.file host.old }
+    {
+        self.add_waiting(script)?;
+        if !self.is_full(plan) {
+            return Ok(());
+        }
+        self.judge_waiting(rt, plan, host)?;
+        Ok(())
+    }
+
+    // Reads the script at the path.
+    fn take<R: Threads + Wait + Clock + Sync, H: Grading>(
+        &mut self,
+        rt: &R,
+        plan: &Plan<'t, '_>,
+        host: &mut H,
+        path: &'a str,
+    ) -> Result<(), GradeFault<'a>>
+        ensures holds { OnOk result ((read : ScriptRead) × IsReadAt (told_at None (H.file host.old)) path.entry read × ((own : List Loaded) (reads : List ScriptRead)
+            → Holds own (map (λ test. test.now) plan.now.tests.now) reads self.old → Holds own (map (λ test. test.now) plan.now.tests.now) (reads ++ read ∷ []) self.new)) }
+        ensures stays { H.file host.new ≡ H.file host.old }
+    {
+        match script_at(plan.alloc, host, path)? {
+            None => {
+                self.take_too_large(rt, plan, host, path)?;
+                Ok(())
+            }
+            Some(bytes) => {
+                self.take_script(rt, plan, host, Script { path, bytes })?;
+                Ok(())
+            }
+        }
+    }
+
     /// Judges the scripts at the paths, in order.
-    pub(crate) fn take_all<R: Threads + Wait + Clock + Sync, H: Host + Grading>(
+    pub(crate) fn take_all<R: Threads + Wait + Clock + Sync, H: Grading>(
         &mut self,
         rt: &R,
         plan: &Plan<'t, '_>,
         host: &mut H,
         paths: &[&'a str],
-    ) -> Result<(), GradeFault<'a>> {
+    ) -> Result<(), GradeFault<'a>>
+        ensures holds { OnOk result ((reads : List ScriptRead) × AllZip (IsReadAt (told_at None (H.file host.old))) paths.now reads × ((own : List Loaded)
+            → Holds own (map (λ test. test.now) plan.now.tests.now) [] self.old → AreMarks own (map (λ test. test.now) plan.now.tests.now) reads self.new.marks.items)) }
+    {
         for path in paths {
             self.take(rt, plan, host, *path)?;
         }
         self.judge_waiting(rt, plan, host)?;
         Ok(())
     }
-}
-
-/// Judges the scripts that tests have of their own, in order.
-pub(crate) fn judge_own<'t, 'a, R: Threads + Wait + Clock + Sync, H: Host + Grading>(
-    rt: &R,
-    plan: &Plan<'t, '_>,
-    host: &mut H,
-    pieces: &[Piece<'t, 'a, 't>],
-    book: &mut Book<'t, 'a>,
-) -> Result<(), AllocError> {
-    for some in pieces.chunks(BATCH) {
-        mark_all(rt, plan.alloc, some, plan.threads, &mut book.marks)?;
-        host.graded(book.marks.len(), plan.of);
-    }
-    Ok(())
 }

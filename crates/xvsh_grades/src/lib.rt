@@ -4,16 +4,14 @@
 #![tactic(auto)]
 
 mod batches;
-mod fault;
+mod ending;
 mod grading;
-mod loading;
 mod marks;
 mod reporting;
 mod request;
-mod sources;
 
-pub use fault::GradeFault;
+pub use ending::run_grade;
+pub use grade_tests::{GradeFault, Loaded};
 pub use grading::grade;
-pub use loading::Loaded;
 pub use marks::{Mark, Piece};
 pub use request::{Form, GradeRequest, Grading, Report};

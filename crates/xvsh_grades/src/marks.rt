@@ -1,11 +1,12 @@
 //! Verdicts with what they are of.
 
-ghost use Rattle.std.specs.Prelude.{IfOk};
+ghost use Rattle.std.specs.Prelude.{◌≡◌, ◌++◌, IfOk, OnOk, List};
 ghost use Rattle.std.specs.List.{AllZip};
-ghost use Rattle.xvsh_grades.specs.Due.{IsFoundOf, IsJobOf};
+ghost use Rattle.xvsh_grades.specs.Jobs.{IsFoundOf, IsJobOf, IsMarkOf};
+ghost use Rattle.xvsh_grades.specs.declared.marks.Mark.{Mark};
 
-use crate::loading::Loaded;
 use grade_jobs::{Job, judge_all};
+use grade_tests::Loaded;
 use grade_verdicts::Verdict;
 use std::alloc::{AllocError, Global};
 use std::sync::Wait;
@@ -72,8 +73,15 @@ fn add_marks<'t, 'a>(
     pieces: &[Piece<'t, 'a, '_>],
     verdicts: Vec<Option<Verdict>>,
     marks: &mut Vec<Mark<'t, 'a>>,
-) -> Result<(), AllocError> {
-    for (piece, verdict) in pieces.iter().zip(verdicts) {
+) -> Result<(), AllocError>
+    requires { AllZip IsFoundOf pieces.now verdicts.items }
+    ensures { OnOk result ((found : List Mark) × (marks.new.items ≡ marks.old.items ++ found) × AllZip IsMarkOf pieces.now found) }
+{
+    let mut left = verdicts.into_iter();
+    for piece in pieces {
+        let Some(verdict) = left.next() else {
+            break;
+        };
         marks.push(Mark {
             script: piece.script,
             test: piece.test,
@@ -90,7 +98,9 @@ pub(crate) fn mark_all<'t, 'a, R: Threads + Wait + Clock + Sync>(
     pieces: &[Piece<'t, 'a, '_>],
     threads: usize,
     marks: &mut Vec<Mark<'t, 'a>>,
-) -> Result<(), AllocError> {
+) -> Result<(), AllocError>
+    ensures { OnOk result ((found : List Mark) × (marks.new.items ≡ marks.old.items ++ found) × AllZip IsMarkOf pieces.now found) }
+{
     let verdicts = judge_pieces(rt, alloc, pieces, threads)?;
     add_marks(pieces, verdicts, marks)
 }

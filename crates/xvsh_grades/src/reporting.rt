@@ -1,24 +1,37 @@
 //! The report of what was found.
 
-ghost use Rattle.std.specs.Prelude.{◌↔◌, All, IfOk, IsTrue};
-ghost use Rattle.xvsh_grades.specs.Passed.{HasVerdict, IsPassed};
+ghost use Rattle.std.specs.Prelude.{◌≡◌, ◌≢◌, ◌↔◌, [], All, IfOk, IsTrue, List, sum_by};
+ghost use Rattle.std.specs.List.{AllZip};
+ghost use Rattle.grade_report.specs.Sums.{IsSumOf};
+ghost use Rattle.grade_report.specs.declared.rows.Row.{Row};
+ghost use Rattle.xvsh_grades.specs.Passed.{AreAllPassed, HasVerdict, IsPassed, IsReportOf, IsRowOf, IsStatusOf};
+ghost use Rattle.xvsh_grades.specs.declared.marks.Mark.{Mark};
 
 use crate::marks::Mark;
 use crate::request::{Form, Report};
-use grade_report::{Row, gradescope_text, object_text, table_text, tap_text};
+use grade_report::{Row, gradescope_text, object_text, sum_of, table_text, tap_text};
 use grade_verdicts::passes;
 use std::alloc::{AllocError, Global};
 
+// The row of a mark.
+fn row_of<'r>(mark: &'r Mark<'_, '_>) -> Row<'r>
+    ensures { IsRowOf mark.now result }
+{
+    Row {
+        script: mark.script,
+        test: mark.test.name.as_str(),
+        points: mark.test.points,
+        verdict: mark.verdict.as_ref(),
+    }
+}
+
 // The rows of the report.
-fn rows_of<'r>(alloc: Global, marks: &'r [Mark<'_, '_>]) -> Result<Vec<Row<'r>>, AllocError> {
+fn rows_of<'r>(alloc: Global, marks: &'r [Mark<'_, '_>]) -> Result<Vec<Row<'r>>, AllocError>
+    ensures { IfOk result (λ rows. AllZip IsRowOf marks.now rows.items) }
+{
     let mut rows = Vec::with_capacity(alloc, marks.len())?;
     for mark in marks {
-        rows.push(Row {
-            script: mark.script,
-            test: mark.test.name.as_str(),
-            points: mark.test.points,
-            verdict: mark.verdict.as_ref(),
-        })?;
+        rows.push(row_of(mark))?;
     }
     Ok(rows)
 }
@@ -40,29 +53,63 @@ fn is_judged(mark: &Mark<'_, '_>) -> bool
     mark.verdict.is_some()
 }
 
-/// The report of these verdicts, whether each is a pass, and whether there is one of each.
+// Whether there is a mark, and each gives its test's points.
+fn are_passed(marks: &[Mark<'_, '_>]) -> bool
+    ensures { IsTrue result ↔ AreAllPassed marks.now }
+{
+    !marks.is_empty() && marks.iter().all(|mark| is_passed(mark))
+}
+
+// Whether each is a verdict.
+fn are_judged(marks: &[Mark<'_, '_>]) -> bool
+    ensures { IsTrue result ↔ All HasVerdict marks.now }
+{
+    marks.iter().all(|mark| is_judged(mark))
+}
+
+// The text of the report.
+fn text_of(
+    alloc: Global,
+    rows: &[Row<'_>],
+    form: Form,
+    is_coloured: bool,
+) -> Result<Vec<u8>, AllocError> {
+    match form {
+        Form::Table => table_text(alloc, rows, is_coloured),
+        Form::Json => object_text(alloc, rows),
+        Form::Tap => tap_text(alloc, rows),
+        Form::Gradescope => gradescope_text(alloc, rows),
+    }
+}
+
+/// The report of these marks.
 pub(crate) fn report_of(
     alloc: Global,
     marks: &[Mark<'_, '_>],
     form: Form,
     is_coloured: bool,
 ) -> Result<Report, AllocError>
-    ensures passed { IfOk result (λ report. IsTrue report.has_passed ↔ All IsPassed marks.now) }
-    ensures judged { IfOk result (λ report. IsTrue report.is_judged ↔ All HasVerdict marks.now) }
+    ensures { IfOk result (IsReportOf marks.now) }
 {
     let rows = rows_of(alloc, marks)?;
-    let rows = rows.as_slice();
-    let text = match form {
-        Form::Table => table_text(alloc, rows, is_coloured)?,
-        Form::Json => object_text(alloc, rows)?,
-        Form::Tap => tap_text(alloc, rows)?,
-        Form::Gradescope => gradescope_text(alloc, rows)?,
-    };
-    let has_passed = marks.iter().all(|mark| is_passed(mark));
-    let is_judged = marks.iter().all(|mark| is_judged(mark));
+    let text = text_of(alloc, rows.as_slice(), form, is_coloured)?;
     Ok(Report {
         text,
-        has_passed,
-        is_judged,
+        sum: sum_of(rows.as_slice()),
+        has_passed: are_passed(marks),
+        is_judged: are_judged(marks),
     })
+}
+
+/// The status of a report: 4 where a test wasn't judged, else 0 where every test was passed, else 3.
+pub(crate) fn status_of(report: &Report) -> u8
+    ensures { (marks : List Mark) → IsReportOf marks report.now → IsStatusOf marks result }
+{
+    if !report.is_judged {
+        4
+    } else if report.has_passed {
+        0
+    } else {
+        3
+    }
 }

@@ -1,5 +1,10 @@
 //! What `grade` is asked for, what it answers, and who is told how far it is.
 
+ghost use Rattle.std.specs.Prelude.{◌≡◌};
+
+use grade_report::Sum;
+use xvsh_read::Host;
+
 /// How the report is written.
 #[derive(Clone, Copy, Debug, PartialEq, Eq)]
 pub enum Form {
@@ -29,16 +34,22 @@ pub struct GradeRequest<'a> {
     pub is_coloured: bool,
 }
 
-/// What is printed, whether every test was passed, and whether each was judged, which one isn't where memory is refused to it.
+/// What is printed, the points and how many tests passed, whether there is a verdict and each is a pass, and whether each test was
+/// judged, which one isn't where memory is refused to it.
 #[derive(Debug, Drop)]
 pub struct Report {
     pub text: Vec<u8>,
+    pub sum: Sum,
     pub has_passed: bool,
     pub is_judged: bool,
 }
 
 /// Who is told how far the grading is.
-pub trait Grading {
+pub trait Grading: Host {
     /// So many verdicts of so many are there.
-    fn graded(&mut self, done: usize, of: usize);
+    fn graded(&mut self, done: usize, of: usize)
+        ensures stays { Self.file self.new ≡ Self.file self.old };
+
+    /// No more are to come.
+    fn ended(&mut self);
 }

@@ -12,8 +12,8 @@ use std::thread;
 use std::thread::Threads;
 use std::time::Clock;
 use xvsh::parsed_words;
-use xvsh_grades::{Form, GradeRequest, Report, grade};
-use xvsh_read::{STDIN, write};
+use xvsh_grades::{Form, GradeRequest, run_grade};
+use xvsh_read::{Console, STDIN};
 
 // The form of the report that the words name.
 fn form_of(words: &ArgMatches<'_>) -> Form {
@@ -77,17 +77,7 @@ fn request_of<'m>(
     }
 }
 
-// Writes the report, and returns the status: 4 where a test wasn't judged, 3 where one wasn't passed, and 1 where it can't be written.
-fn write_report<W: Write>(out: &mut W, report: &Report) -> u8 {
-    match write(out, report.text.as_slice()) {
-        Ok(()) if !report.is_judged => 4,
-        Ok(()) if report.has_passed => 0,
-        Ok(()) => 3,
-        Err(_) => 1,
-    }
-}
-
-// Carries out the words of `grade`, and returns the status.
+// Carries out the words of `grade`, and returns the status: that of `run_grade`.
 fn carry_out<R, E, T>(rt: &R, words: &ArgMatches<'_>, err: &mut E, terminal: Terminal<T>) -> u8
 where
     R: Env + AllocGlobal + Input + Files + Print + Eprint + Threads + Wait + Clock + Sync,
@@ -96,16 +86,12 @@ where
 {
     let is_coloured = terminal.writes && !is_plain(rt);
     let request = request_of(words, threads_of(rt, words), is_coloured);
-    let mut host = System::new(rt, terminal, None);
-    let graded = grade(rt, rt.alloc(), &request, &mut host);
-    host.end_progress();
-    match graded {
-        Ok(report) => write_report(&mut io::writer(rt), &report),
-        Err(fault) => {
-            let _ = writeln!(err, "xvsh: {fault}");
-            fault.status()
-        }
-    }
+    let mut console = Console {
+        host: System::new(rt, terminal, None),
+        out: io::writer(rt),
+        err,
+    };
+    run_grade(rt, rt.alloc(), &request, &mut console)
 }
 
 /// Grades what these words ask for, of which the first is `grade`, writes the report to standard output, and returns the status with

@@ -143,9 +143,13 @@ impl<R: Files + Clock, E: Write> Watch for System<'_, R, E> {
     }
 }
 
-impl<R: Files + Clock, E: Write> Grading for System<'_, R, E> {
+impl<R: Input + Files + Wait + Clock + Eprint, E: Write> Grading for System<'_, R, E> {
     fn graded(&mut self, done: usize, _of: usize) {
         self.show_progress(done, " verdicts");
+    }
+
+    fn ended(&mut self) {
+        self.end_progress();
     }
 }
 

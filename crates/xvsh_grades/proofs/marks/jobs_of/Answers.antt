@@ -1,5 +1,5 @@
 use Rattle.std.proofs.Common.{arith}
-use Rattle.xvsh_grades.specs.Due.{IsJobOf}
+use Rattle.xvsh_grades.specs.Jobs.{IsJobOf}
 use Rattle.xvsh_grades.proofs.Joined.{one_more}
 use Rattle.xvsh_grades.proofs.marks.jobs_of.Goals as goal
 

@@ -1,6 +1,6 @@
 use Rattle.std.proofs.Common.{take}
 use Rattle.std.specs.List.{AllZip}
-use Rattle.xvsh_grades.specs.Due.{IsJobOf}
+use Rattle.xvsh_grades.specs.Jobs.{IsJobOf}
 use Rattle.xvsh_grades.proofs.marks.jobs_of.Given as goal
 
 abbrev pub invariant-loop-piece : goal.invariant-loop-piece

@@ -5,13 +5,14 @@ use Rattle.grade_verdicts.specs.declared.verdict.Verdict.{Verdict}
 use Rattle.grade_ways.specs.Ways.{RunsRightInEveryWay}
 use Rattle.grade_jobs.specs.Judges.{IsFoundOn, IsVerdictOn}
 use Rattle.grade_jobs.specs.declared.judging.Job.{Job}
-use Rattle.xvsh_grades.specs.Due.{IsFoundOf, IsJobOf, IsVerdictOf}
+use Rattle.xvsh_grades.specs.Jobs.{IsFoundOf, IsJobOf}
+use Rattle.xvsh_grades.specs.Marks.{IsVerdictOf}
 use Rattle.xvsh_grades.specs.declared.marks.Piece.{Piece}
 use Rattle.xvsh_grades.proofs.Joined.{joined}
 use Rattle.xvsh_grades.proofs.marks.judge_pieces.Goals as goal
 
 -- what is due of its job is due of the piece
-of_job : (piece : Piece) (job : Job) (verdict : Verdict) → IsJobOf piece job → IsVerdictOn job verdict → IsVerdictOf piece verdict
+of_job : (piece : Piece) (job : Job) (verdict : Verdict) → IsJobOf piece job → IsVerdictOn job verdict → IsVerdictOf piece.test.now piece.bytes.now verdict
 of_job piece job verdict h k =
     record {
       t = job.task;

@@ -1,5 +1,8 @@
 //! Why nothing is graded.
 
+ghost use Rattle.std.specs.Prelude.{◌≡◌};
+ghost use Rattle.grade_tests.specs.Status.{grade_status};
+
 use std::alloc::{AllocError, AllocFailed};
 use thiserror::Error;
 use xvsh_read::Fault;
@@ -23,7 +26,9 @@ pub enum GradeFault<'a> {
 
 impl GradeFault<'_> {
     /// The status with which the program ends: 2 where the suite is wrong, or the scripts don't fit it.
-    pub fn status(&self) -> u8 {
+    pub fn status(&self) -> u8
+        ensures { result ≡ grade_status self.now }
+    {
         match self {
             GradeFault::Common(fault) => fault.status(),
             GradeFault::Suite(_, _, _) | GradeFault::Twice(_) | GradeFault::Unused(_) => 2,

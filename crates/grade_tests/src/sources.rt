@@ -1,8 +1,14 @@
 //! Bytes that a suite names.
 
+ghost use Rattle.std.specs.Prelude.{◌≡◌, ℕ, List, IfOk, string_bytes};
+ghost use Rattle.xvsh_read.specs.Reading.{Agree};
+ghost use Rattle.grade_tests.specs.Loads.{AreBytesOf};
+ghost use Rattle.grade_tests.specs.Paths.{IsPlaceOf};
+
 use crate::fault::GradeFault;
+use crate::paths::path_beside;
 use mem_files::MAX_SIZE;
-use std::alloc::{AllocError, Global};
+use std::alloc::Global;
 use suite_file::{Key, Source, line_of};
 use xvsh_read::{Fault, Host, HostFault, MAX_INPUT};
 
@@ -70,19 +76,6 @@ pub(crate) struct Spot<'a, 's> {
     pub(crate) test: usize,
 }
 
-// The path, which begins at the suite's folder unless it begins with `/`.
-fn path_beside(alloc: Global, suite: &str, path: &str) -> Result<String, AllocError> {
-    let mut joined = String::new(alloc);
-    if !path.starts_with('/') {
-        if let Some((folder, _)) = suite.rsplit_once('/') {
-            joined.push_str(folder)?;
-            joined.push_str("/")?;
-        }
-    }
-    joined.push_str(path)?;
-    Ok(joined)
-}
-
 impl<'a> Spot<'a, '_> {
     /// What is wrong at the key of a table.
     pub(crate) fn fault(&self, table: &str, key: &str, told: String) -> GradeFault<'a> {
@@ -116,7 +109,10 @@ impl<'a> Spot<'a, '_> {
         host: &mut H,
         place: &Place<'_>,
         path: &str,
-    ) -> Result<Vec<u8>, GradeFault<'a>> {
+    ) -> Result<Vec<u8>, GradeFault<'a>>
+        ensures bytes { IfOk result (λ bytes. (at : List ℕ) × IsPlaceOf self.now.suite.now path.now at × Agree (H.file host.old at) bytes.items) }
+        ensures stays { (H.input host.new ≡ H.input host.old) × (H.file host.new ≡ H.file host.old) }
+    {
         let path = path_beside(self.alloc, self.suite, path)?;
         match host.read_path(self.alloc, path.as_str(), place.limit) {
             Ok(bytes) => Ok(bytes),
@@ -131,13 +127,16 @@ impl<'a> Spot<'a, '_> {
         &self,
         host: &mut H,
         place: &Place<'_>,
-        source: Source,
-    ) -> Result<Vec<u8>, GradeFault<'a>> {
+        source: &Source,
+    ) -> Result<Vec<u8>, GradeFault<'a>>
+        ensures bytes { IfOk result (λ bytes. AreBytesOf (H.file host.old) self.now.suite.now source.now bytes.items) }
+        ensures stays { (H.input host.new ≡ H.input host.old) × (H.file host.new ≡ H.file host.old) }
+    {
         match source {
             Source::Inline(bytes) if bytes.len() > place.limit => {
                 Err(self.too_long(place, place.key, "this"))
             }
-            Source::Inline(bytes) => Ok(bytes),
+            Source::Inline(bytes) => Ok(Vec::from_slice(self.alloc, bytes.as_slice())?),
             Source::Beside(path) => self.read_beside(host, place, path.as_str()),
         }
     }

@@ -1,0 +1,4 @@
+pub mod Loads
+pub mod Paths
+pub mod Status
+pub mod Tasks
