@@ -15,8 +15,9 @@ ghost use Rattle.grade_verdicts.specs.Judged.{AreMost, EndsInTime, IsInTime, IsJ
 use crate::agreeing::{are_firm, first_filled, first_right, first_roomy, first_wrong};
 use crate::differing::{difference_of, first_difference};
 use crate::expected::Task;
+use crate::searching::search;
 use crate::verdict::{Difference, Race, Refusal, Verdict};
-use every_order::{Exploration, ExploreFault, Outcome, explore};
+use every_order::{Exploration, ExploreFault, Outcome};
 use kernel_model::Full;
 use kernel_runs::{RunOneFault, run_one};
 use mem_files::laws::are_files;
@@ -245,7 +246,8 @@ fn judge_found(
     Ok(judge_right(task, script, outcomes))
 }
 
-// The verdict on a script whose meaning doesn't say what every run leaves, by every order of its processes.
+// The verdict on a script whose meaning doesn't say what every run leaves, by a few orders of its processes where they show a race, and
+// else by every order.
 fn judge_by_orders(
     alloc: Global,
     task: &Task<'_>,
@@ -255,7 +257,7 @@ fn judge_by_orders(
     requires unknown { IsKnown task.now (lines_of script.now.lines) → ⊥ }
     ensures { IfOk result (IsVerdict task.now (lines_of script.now.lines)) }
 {
-    match explore(alloc, script, task.stdin, task.files, task.states) {
+    match search(alloc, task, script) {
         Ok(found) => judge_found(alloc, task, script, &found),
         Err(ExploreFault::Memory) => Err(AllocError),
         Err(ExploreFault::TooLong) => Ok(Verdict::Unsure(0)),

@@ -5,6 +5,7 @@ mod agreeing;
 mod differing;
 mod expected;
 mod judging;
+mod searching;
 mod verdict;
 
 pub use differing::first_difference;
