@@ -9,4 +9,4 @@ pub returns-clause-sound : goal.returns-clause-sound
 returns-clause-sound c =
     let task = c.args.task.now in
     let lines = lines_of c.args.script.now.lines in
-    subst (λ profile. All (IsReplayed call_of next_of (script_kernel profile lines task.stdin.now task.files.now)) c.args.found.now.outcomes.items → All (IsReplayed call_of next_of (script_kernel profile lines task.stdin.now task.files.now)) c.add_samples.new.outcomes.items) c.requires c.in_ok-_ended.ensures
+    subst (λ profile. All (IsReplayed call_of next_of (script_kernel profile lines task.stdin.now task.files.now)) c.args.found.now.outcomes.items → All (IsReplayed call_of next_of (script_kernel profile lines task.stdin.now task.files.now)) c.add_samples.new.outcomes.items) c.requires c.in_ok-_ended.ensures.sound
