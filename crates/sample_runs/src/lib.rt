@@ -1,11 +1,12 @@
 //! What a script leaves in some orders of its processes, found by running it: for scripts of which not every order can be tried.
 #![tactic(auto)]
 
-ghost use Rattle.std.specs.Prelude.{◌≡◌, ◌⊎◌, ◌++◌, All, IfOk, OnOk};
+ghost use Rattle.std.specs.Prelude.{◌≡◌, ◌≢◌, ◌↔◌, ◌⊎◌, ◌∷◌, ◌++◌, ◌<◌, ℕ, [], false, All, IfOk, IfSome, IsTrue, OnOk, length, slice_index_or};
+ghost use Rattle.std.specs.Option.{option_to_list};
 ghost use Rattle.script_load.specs.Line.{lines_of};
 ghost use Rattle.sh_machine.specs.Turn.{call_of, next_of};
 ghost use Rattle.run_model.specs.ScriptRun.{script_kernel};
-ghost use Rattle.order_search.specs.Told.{IsReplayed};
+ghost use Rattle.order_search.specs.Told.{AreApart, IsReplayed, outcome_by};
 
 use every_order::{ExploreFault, Origin, Outcome, Setting, Unwatched, explore_after};
 use kernel_model::Event;
@@ -59,9 +60,9 @@ fn left_named<N: Naming, B: Allocator, C: Allocator>(
     alloc: Global,
     setting: &Setting<'_, B, C>,
     pids: &[u8],
-) -> Result<Vec<Outcome>, ExploreFault>
+) -> Result<Option<Outcome>, ExploreFault>
     requires { lines_of setting.now.script.now.lines ≡ N.script }
-    ensures { IfOk result (λ outcomes. All (IsReplayed call_of next_of (script_kernel setting.now.script.now.profile (lines_of setting.now.script.now.lines) setting.now.stdin.now setting.now.files.now)) outcomes.items) }
+    ensures { IfOk result (λ outcome. IfSome outcome (IsReplayed call_of next_of (script_kernel setting.now.script.now.profile (lines_of setting.now.script.now.lines) setting.now.stdin.now setting.now.files.now))) }
 {
     let origin = Origin {
         init: User::<B, N>::init(),
@@ -69,8 +70,8 @@ fn left_named<N: Naming, B: Allocator, C: Allocator>(
         stdin: setting.stdin,
         files: setting.files,
     };
-    let found = explore_after(alloc, &origin, pids, 1, &mut Unwatched)?;
-    Ok(found.outcomes)
+    let mut found = explore_after(alloc, &origin, pids, 1, &mut Unwatched)?;
+    Ok(found.outcomes.pop())
 }
 
 // The same, whatever names the script.
@@ -78,8 +79,8 @@ fn left_after<B: Allocator, C: Allocator>(
     alloc: Global,
     setting: &Setting<'_, B, C>,
     pids: &[u8],
-) -> Result<Vec<Outcome>, ExploreFault>
-    ensures { IfOk result (λ outcomes. All (IsReplayed call_of next_of (script_kernel setting.now.script.now.profile (lines_of setting.now.script.now.lines) setting.now.stdin.now setting.now.files.now)) outcomes.items) }
+) -> Result<Option<Outcome>, ExploreFault>
+    ensures { IfOk result (λ outcome. IfSome outcome (IsReplayed call_of next_of (script_kernel setting.now.script.now.profile (lines_of setting.now.script.now.lines) setting.now.stdin.now setting.now.files.now))) }
 {
     left_named::<Brand, B, C>(alloc, setting, pids)
 }
@@ -89,21 +90,23 @@ fn sample_of<B: Allocator, C: Allocator>(
     alloc: Global,
     setting: &Setting<'_, B, C>,
     order: Order,
-) -> Result<Vec<Outcome>, ExploreFault>
-    ensures { IfOk result (λ outcomes. All (IsReplayed call_of next_of (script_kernel setting.now.script.now.profile (lines_of setting.now.script.now.lines) setting.now.stdin.now setting.now.files.now)) outcomes.items) }
+) -> Result<Option<Outcome>, ExploreFault>
+    ensures { IfOk result (λ outcome. IfSome outcome (IsReplayed call_of next_of (script_kernel setting.now.script.now.profile (lines_of setting.now.script.now.lines) setting.now.stdin.now setting.now.files.now))) }
 {
     let (script, stdin, files) = (setting.script, setting.stdin, setting.files);
     let report = match run_in_order(alloc, script, stdin, files, MOST_TURNS, order) {
         Ok(report) => report,
         Err(RunOneFault::Memory) => return Err(ExploreFault::Memory),
-        Err(RunOneFault::BadTurns | RunOneFault::Spent) => return Ok(Vec::new(alloc)),
+        Err(RunOneFault::BadTurns | RunOneFault::Spent) => return Ok(None),
     };
     let pids = turns_of(alloc, report.schedule.as_slice())?;
     left_after(alloc, setting, pids.as_slice())
 }
 
 // Whether both leave the same.
-fn agree(one: &Outcome, other: &Outcome) -> bool {
+fn agree(one: &Outcome, other: &Outcome) -> bool
+    ensures { IsTrue result ↔ (outcome_by one.now ≡ outcome_by other.now) }
+{
     one.full == other.full
         && one.out.as_slice() == other.out.as_slice()
         && one.diag.as_slice() == other.diag.as_slice()
@@ -111,43 +114,58 @@ fn agree(one: &Outcome, other: &Outcome) -> bool {
 }
 
 // Whether one of them leaves what this one leaves.
-fn is_among(outcomes: &[Outcome], outcome: &Outcome) -> bool {
-    outcomes.iter().any(|known| agree(known, outcome))
+fn is_among(outcomes: &[Outcome], outcome: &Outcome) -> bool
+    ensures { result ≡ false → (k : ℕ) (d : Outcome) → k < length outcomes.now → outcome_by (slice_index_or outcomes.now k d) ≢ outcome_by outcome.now }
+{
+    for known in outcomes {
+        if agree(known, outcome) {
+            return true;
+        }
+    }
+    false
 }
 
 // Adds what a run leaves, unless one of the outcomes leaves that.
-fn add_new(outcomes: &mut Vec<Outcome>, mut sample: Vec<Outcome>) -> Result<(), AllocError>
-    ensures { OnOk result ((outcomes.new.items ≡ outcomes.old.items) ⊎ (outcomes.new.items ≡ outcomes.old.items ++ sample.items)) }
+fn add_new(outcomes: &mut Vec<Outcome>, sample: Outcome) -> Result<(), AllocError>
+    ensures added { OnOk result ((outcomes.new.items ≡ outcomes.old.items) ⊎ (outcomes.new.items ≡ outcomes.old.items ++ sample ∷ [])) }
+    ensures apart { OnOk result (AreApart outcomes.old.items → AreApart outcomes.new.items) }
 {
-    if sample
-        .iter()
-        .any(|outcome| is_among(outcomes.as_slice(), outcome))
-    {
+    if is_among(outcomes.as_slice(), &sample) {
         return Ok(());
     }
-    outcomes.append(&mut sample)?;
+    outcomes.push(sample)?;
     Ok(())
+}
+
+// Adds what a run leaves, if it ended, and returns whether it did, as a number.
+fn add_left(outcomes: &mut Vec<Outcome>, sample: Option<Outcome>) -> Result<usize, AllocError>
+    ensures added { OnOk result ((outcomes.new.items ≡ outcomes.old.items) ⊎ (outcomes.new.items ≡ outcomes.old.items ++ option_to_list sample)) }
+    ensures apart { OnOk result (AreApart outcomes.old.items → AreApart outcomes.new.items) }
+{
+    let Some(sample) = sample else {
+        return Ok(0);
+    };
+    add_new(outcomes, sample)?;
+    Ok(1)
 }
 
 /// Runs the script in `RUNS` orders, each in at most `MOST_TURNS` turns, adds what they leave to the outcomes, unless it is among
 /// them, and returns how many of the runs ended (own).
 ///
-/// Each outcome that is added is that of a finished run of the script by its own schedule, at which no memory was refused. The fault
-/// is `Memory` where memory is refused.
+/// Each outcome that is added is that of a finished run of the script by its own schedule, at which no memory was refused (`sound`),
+/// and where no two outcomes were equal, none are (`apart`). The fault is `Memory` where memory is refused.
 pub fn add_samples<B: Allocator, C: Allocator>(
     alloc: Global,
     setting: &Setting<'_, B, C>,
     outcomes: &mut Vec<Outcome>,
 ) -> Result<usize, ExploreFault>
-    ensures { OnOk result (All (IsReplayed call_of next_of (script_kernel setting.now.script.now.profile (lines_of setting.now.script.now.lines) setting.now.stdin.now setting.now.files.now)) outcomes.old.items → All (IsReplayed call_of next_of (script_kernel setting.now.script.now.profile (lines_of setting.now.script.now.lines) setting.now.stdin.now setting.now.files.now)) outcomes.new.items) }
+    ensures sound { OnOk result (All (IsReplayed call_of next_of (script_kernel setting.now.script.now.profile (lines_of setting.now.script.now.lines) setting.now.stdin.now setting.now.files.now)) outcomes.old.items → All (IsReplayed call_of next_of (script_kernel setting.now.script.now.profile (lines_of setting.now.script.now.lines) setting.now.stdin.now setting.now.files.now)) outcomes.new.items) }
+    ensures apart { OnOk result (AreApart outcomes.old.items → AreApart outcomes.new.items) }
 {
     let mut ended: usize = 0;
     for number in 0..RUNS {
         let sample = sample_of(alloc, setting, order_of(number))?;
-        if !sample.is_empty() {
-            ended = ended.saturating_add(1);
-        }
-        add_new(outcomes, sample)?;
+        ended = ended.saturating_add(add_left(outcomes, sample)?);
     }
     Ok(ended)
 }

@@ -7,6 +7,7 @@ use Rattle.sh_machine.specs.State.{User}
 use Rattle.sh_machine.specs.Turn.{call_of, next_of}
 use Rattle.run_model.specs.ScriptRun.{script_kernel}
 use Rattle.order_search.specs.Told.{IsReplayed}
+use Rattle.sample_runs.proofs.Last.{last_of}
 use Rattle.sample_runs.proofs.left_named.Goals as goal
 
 pub returns : goal.returns
@@ -14,4 +15,6 @@ returns g c =
     let stdin = c.args.setting.now.stdin.now in
     let files = c.args.setting.now.files.now in
     let same : boot_kernel _ _ stdin files ≡ script_kernel c.args.setting.now.script.now.profile (lines_of c.args.setting.now.script.now.lines) stdin files = λ i. boot_kernel (c.init.ensures i) (c.shell.ensures i) stdin files in
-    subst (λ (start : KernelState User). All (IsReplayed call_of next_of start) c.in_ok-found.found.outcomes.items) same c.in_ok-found.ensures.told.tells.sound
+    let start = script_kernel c.args.setting.now.script.now.profile (lines_of c.args.setting.now.script.now.lines) stdin files in
+    let sound = subst (λ (first : KernelState User). All (IsReplayed call_of next_of first) c.in_ok-found.found.outcomes.items) same c.in_ok-found.ensures.told.tells.sound in
+    last_of (IsReplayed call_of next_of start) _ _ c.pop.result c.pop.ensures.items sound
