@@ -2,6 +2,9 @@
 use Rattle.std.proofs.Common.{◌≡◌, ◌++◌, ◌∙◌, ap, append_assoc}
 use Rattle.mem_files.specs.Name.{Bytes}
 
+pub joined_two : (old one new a b : Bytes) → one ≡ old ++ a → new ≡ one ++ b → new ≡ old ++ (a ++ b)
+joined_two old one new a b p q = q ∙ ap (λ x. x ++ b) p ∙ append_assoc old a b
+
 pub joined_three : (old one two new a b d : Bytes) → one ≡ old ++ a → two ≡ one ++ b → new ≡ two ++ d → new ≡ old ++ (a ++ (b ++ d))
 joined_three old one two new a b d p q r = r ∙ ap (λ x. x ++ d) (q ∙ ap (λ x. x ++ b) p) ∙ simp append_assoc
 

@@ -1,2 +1,4 @@
+pub mod Partings
 pub mod Shown
 pub mod Text
+pub mod Told

@@ -2,15 +2,15 @@
 ghost use Rattle.std.specs.Prelude.{◌≡◌, ◌++◌, ◌∷◌, [], ◌+◌, ◌*◌, ◌<◌, ◌^◌, OnOk, codes};
 ghost use Rattle.std.specs.Fmt.{decimal};
 ghost use Rattle.explore_lines.specs.Shown.{shown};
-ghost use Rattle.explore_lines.specs.Text.{counted, end_mark, full_line, full_word, outcome_line, plural, told_line};
+ghost use Rattle.explore_lines.specs.Text.{counted, end_mark, full_line, full_word, outcome_line, plural, settled_text, told_line};
 
-use crate::showing::add_shown;
-use crate::stub::Outcome;
+use crate::showing::{add_labelled, add_shown};
+use every_order::Outcome;
 use kernel_model::Full;
 use std::alloc::{AllocError, Global};
 
-// Adds a number.
-fn add_number(alloc: Global, text: &mut Vec<u8>, number: usize) -> Result<(), AllocError>
+/// Adds a number.
+pub(crate) fn add_number(alloc: Global, text: &mut Vec<u8>, number: usize) -> Result<(), AllocError>
     ensures { OnOk result (text.new.items ≡ text.old.items ++ decimal number) }
 {
     let made = format!(in alloc; "{number}")?;
@@ -114,21 +114,6 @@ pub(crate) fn add_full(
     }
 }
 
-// Adds a line with these bytes behind a label.
-fn add_labelled(
-    alloc: Global,
-    text: &mut Vec<u8>,
-    label: &[u8],
-    bytes: &[u8],
-) -> Result<(), AllocError>
-    ensures { OnOk result (text.new.items ≡ text.old.items ++ (label.now ++ (shown bytes.now ++ 10 ∷ []))) }
-{
-    text.extend_from_slice(label)?;
-    add_shown(alloc, text, bytes)?;
-    text.push(b'\n')?;
-    Ok(())
-}
-
 /// Adds a line for diagnostics, if there are any.
 pub(crate) fn add_told(alloc: Global, text: &mut Vec<u8>, diag: &[u8]) -> Result<(), AllocError>
     ensures { OnOk result (text.new.items ≡ text.old.items ++ told_line diag.now) }
@@ -152,4 +137,14 @@ pub(crate) fn add_outcome(
     text.extend_from_slice(b"    ".as_slice())?;
     add_events(alloc, text, outcome.pids.len())?;
     add_end(text, outcome.out.as_slice())
+}
+
+/// Adds the text of a settled script, whose output is the same in every order.
+pub(crate) fn add_settled(alloc: Global, text: &mut Vec<u8>, out: &[u8]) -> Result<(), AllocError>
+    ensures { OnOk result (text.new.items ≡ text.old.items ++ settled_text out.now) }
+{
+    text.extend_from_slice(b"1 output, of every order (settled)\n1: ".as_slice())?;
+    add_shown(alloc, text, out)?;
+    add_end(text, out)?;
+    Ok(())
 }

@@ -109,3 +109,18 @@ pub(crate) fn add_shown(alloc: Global, text: &mut Vec<u8>, bytes: &[u8]) -> Resu
     add_escaped(text, beginning(bytes))?;
     add_length(alloc, text, bytes.len())
 }
+
+/// Adds a line with these bytes behind a label.
+pub(crate) fn add_labelled(
+    alloc: Global,
+    text: &mut Vec<u8>,
+    label: &[u8],
+    bytes: &[u8],
+) -> Result<(), AllocError>
+    ensures { OnOk result (text.new.items ≡ text.old.items ++ (label.now ++ (shown bytes.now ++ 10 ∷ []))) }
+{
+    text.extend_from_slice(label)?;
+    add_shown(alloc, text, bytes)?;
+    text.push(b'\n')?;
+    Ok(())
+}

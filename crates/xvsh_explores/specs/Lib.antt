@@ -1,1 +1,3 @@
 pub mod Explores
+pub mod Order
+pub mod Verdicts

@@ -1,0 +1,112 @@
+//! The page of two outcomes.
+
+use crate::findings::{Findings, way_by};
+use every_order::Outcome;
+use order_partings::{Scene, Way, align, events_of};
+use std::alloc::{AllocError, Global};
+use xvsh_draws::draw_runs;
+use xvsh_read::Start;
+
+// The place of the outcome that is drawn beside the first: the next one with another output, or else the second.
+fn other_place(outcomes: &[Outcome]) -> usize {
+    let Some(first) = outcomes.first() else {
+        return 1;
+    };
+    for (place, other) in outcomes.iter().enumerate() {
+        if other.out.as_slice() != first.out.as_slice() {
+            return place;
+        }
+    }
+    1
+}
+
+// The way to the outcome with this place.
+fn way_at<'o>(
+    alloc: Global,
+    outcomes: &'o [Outcome],
+    findings: &Findings,
+    place: usize,
+) -> Result<Option<Way<'o>>, AllocError> {
+    let found = outcomes.get(place);
+    let (Some(outcome), Some(pids)) = (found, findings.ways.as_slice().get(place)) else {
+        return Ok(None);
+    };
+    Ok(Some(way_by(alloc, outcome, pids.as_slice())?))
+}
+
+// The ways to the first outcome, if one was found, and to the one with this place.
+fn two_ways<'o>(
+    alloc: Global,
+    outcomes: &'o [Outcome],
+    findings: &Findings,
+    place: usize,
+) -> Result<Vec<Way<'o>>, AllocError> {
+    let mut ways = Vec::new(alloc);
+    if let Some(first) = way_at(alloc, outcomes, findings, 0)? {
+        ways.push(first)?;
+    }
+    if let Some(other) = way_at(alloc, outcomes, findings, place)? {
+        ways.push(other)?;
+    }
+    Ok(ways)
+}
+
+// Whether it was told where the ways to the first outcome and to the one with this place part; then they were made alike.
+fn is_parted(findings: &Findings, place: usize) -> bool {
+    matches!(findings.partings.as_slice().get(place), Some(Some(_)))
+}
+
+// The page of the run by a way, or with another of both runs.
+fn page_of_runs(
+    alloc: Global,
+    start: &Start,
+    first: &Way<'_>,
+    other: Option<&Way<'_>>,
+) -> Result<Vec<u8>, AllocError> {
+    let one = events_of(alloc, first.pids.as_slice())?;
+    let Some(other) = other else {
+        return draw_runs(alloc, start, one.as_slice(), None);
+    };
+    let two = events_of(alloc, other.pids.as_slice())?;
+    draw_runs(alloc, start, one.as_slice(), Some(two.as_slice()))
+}
+
+// The page of the runs by these ways, of which there are two at most, made alike unless they were.
+fn page_of_ways(
+    alloc: Global,
+    start: &Start,
+    are_alike: bool,
+    ways: &mut [Way<'_>],
+) -> Result<Option<Vec<u8>>, AllocError> {
+    let Some((first, others)) = ways.split_first_mut() else {
+        return Ok(None);
+    };
+    if !are_alike {
+        let scene = Scene {
+            script: &start.script,
+            stdin: start.stdin.as_slice(),
+            files: &start.files,
+        };
+        align(alloc, &scene, first, &mut others[0..])?;
+    }
+    let page = page_of_runs(alloc, start, first, others.first())?;
+    Ok(Some(page))
+}
+
+/// The page of the runs to the first outcome and to the next one with another output, or with other files or diagnostics where
+/// all have one output, or of the run to the only one; `None` where no outcome was found.
+pub(crate) fn page_of(
+    alloc: Global,
+    start: &Start,
+    outcomes: &[Outcome],
+    findings: &Findings,
+) -> Result<Option<Vec<u8>>, AllocError> {
+    let place = other_place(outcomes);
+    let mut ways = two_ways(alloc, outcomes, findings, place)?;
+    page_of_ways(
+        alloc,
+        start,
+        is_parted(findings, place),
+        ways.as_mut_slice(),
+    )
+}

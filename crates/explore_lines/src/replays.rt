@@ -1,0 +1,86 @@
+//! How a schedule is replayed.
+ghost use Rattle.std.specs.Prelude.{IfOk};
+ghost use Rattle.explore_lines.specs.Told.{IsReplayLine};
+
+use xvsh_explores::ExploreRequest;
+use script_load::Profile;
+use std::alloc::{AllocError, Global};
+
+// Whether a byte of a word stands for itself in a shell.
+fn is_plain(byte: u8) -> bool {
+    byte.is_ascii_alphanumeric() || b"_-./,:+@%=".contains(&byte)
+}
+
+// Adds a space and a word, between quotes where a shell would else read it otherwise.
+fn add_word(text: &mut Vec<u8>, word: &str) -> Result<(), AllocError> {
+    text.push(b' ')?;
+    let bytes = word.as_bytes();
+    if !bytes.is_empty() && bytes.iter().all(|byte| is_plain(*byte)) {
+        return text.extend_from_slice(bytes);
+    }
+    text.push(b'\'')?;
+    for byte in bytes {
+        if *byte == b'\'' {
+            text.extend_from_slice(b"'\\''".as_slice())?;
+        } else {
+            text.push(*byte)?;
+        }
+    }
+    text.push(b'\'')?;
+    Ok(())
+}
+
+// Adds the words of the standard input, if there are any.
+fn add_input(text: &mut Vec<u8>, input: Option<&str>) -> Result<(), AllocError> {
+    if let Some(word) = input {
+        add_word(text, "--input")?;
+        add_word(text, word)?;
+    }
+    Ok(())
+}
+
+// Adds a space and the path of the first schedule in the folder.
+fn add_schedule(text: &mut Vec<u8>, folder: &str) -> Result<(), AllocError> {
+    add_word(text, folder)?;
+    text.extend_from_slice(b"/1.schedule".as_slice())
+}
+
+// Adds the words behind `xvsh replay`, and LF.
+fn add_words(
+    text: &mut Vec<u8>,
+    request: &ExploreRequest<'_>,
+    folder: &str,
+) -> Result<(), AllocError> {
+    if request.source.profile == Profile::Append {
+        add_word(text, "--append")?;
+    }
+    add_input(text, request.input)?;
+    if request.text.is_some() {
+        add_word(text, "-c")?;
+    }
+    add_schedule(text, folder)?;
+    add_word(text, request.text.unwrap_or(request.source.script))?;
+    for path in request.source.files {
+        add_word(text, path)?;
+    }
+    text.push(b'\n')?;
+    Ok(())
+}
+
+/// A line with the command that replays the first schedule, where schedules are written; else nothing.
+pub(crate) fn replay_line(
+    alloc: Global,
+    request: &ExploreRequest<'_>,
+) -> Result<Vec<u8>, AllocError>
+    ensures { IfOk result (λ line. IsReplayLine line.items) }
+{
+    let mut line = Vec::new(alloc);
+    let Some(folder) = request.witness else {
+        return Ok(line);
+    };
+    let mut words = Vec::new(alloc);
+    add_words(&mut words, request, folder)?;
+    line.extend_from_slice(b"replay 1 by: xvsh replay".as_slice())?;
+    line.extend_from_slice(words.as_slice())?;
+    Ok(line)
+}
