@@ -1,3 +1,1 @@
 pub mod Known
-pub mod Orders
-pub mod Leads

@@ -1,3 +1,1 @@
 pub mod Explores
-pub mod Order
-pub mod Verdicts

@@ -1,27 +1,46 @@
-//! What `explore` does: it reads a script, its files and its input, tries every order, and returns what is found.
-ghost use Rattle.std.specs.Prelude.{◌≡◌, ◌⊎◌, ◌<◌, ◌≤◌, ℕ, true, false, Ok, IfOk, IfErr, IfSome, OnOk};
+//! What `explore` does: it reads a script, its files and its input, tries every order, and returns what is told.
+ghost use Rattle.std.specs.Prelude.{◌≡◌, ◌↔◌, ◌⊎◌, Bool, true, Ok, All, IfOk, IfErr, IfSome, IsTrue, OnOk, map};
 ghost use Rattle.script_load.specs.Line.{lines_of};
+ghost use Rattle.sh_machine.specs.Turn.{call_of, next_of};
 ghost use Rattle.run_model.specs.ScriptRun.{script_kernel};
 ghost use Rattle.run_room.specs.Room.{HasRoom};
-ghost use Rattle.xvsh_explores.specs.Explores.{AreTriedFrom, IsExploreFault, IsFoundFrom, LeadFrom, RanExplore};
-ghost use Rattle.xvsh_explores.specs.Verdicts.{IsVerdict};
-ghost use Rattle.xvsh_read.specs.declared.starting.Start.{Start};
+ghost use Rattle.order_model.specs.Explored.{AreAllOutcomes};
+ghost use Rattle.order_search.specs.Told.{IsReplayed, outcome_by};
+ghost use Rattle.xvsh_explores.specs.Explores.{AreSingle, IsExploreFault, LeftTheSame, RanExplore, Told};
 ghost use Rattle.xvsh_read.specs.declared.fault.Fault.TheVariants.{Memory, TooLarge};
 
-use crate::explored::{Explored, Found, Tried, verdict_of};
+use crate::drawing::page_of;
+use crate::findings::{Findings, findings_of, schedules_of};
+use crate::objects::{object_of, object_of_settled};
 use crate::request::ExploreRequest;
-use crate::sorting::in_order;
-use every_order::{Exploration, ExploreFault, Setting, Watch, explore_watched};
+use crate::telling::{told, told_settled};
+use every_order::{Exploration, ExploreFault, Outcome, Setting, Watch, explore_watched};
 use kernel_model::Full;
 use kernel_runs::RunOneFault;
-use plain_run::{PlainFault, plain};
+use order_partings::Scene;
+use plain_run::{Plain, PlainFault, plain};
 use run_room::full_in_run;
 use sample_runs::add_samples;
 use script_load::MAX_TURNS;
-use std::alloc::Global;
+use std::alloc::{AllocError, Global};
 use xvsh_read::{Fault, Host, Start, prepare};
 
-// Why nothing is found.
+/// What `explore` tells of a script.
+#[derive(Drop)]
+pub struct Explored {
+    /// The text.
+    pub text: Vec<u8>,
+    /// Whether every order was tried, or is known without.
+    pub is_whole: bool,
+    /// Whether there is an outcome, and all that were found have its output and its files.
+    pub is_single: bool,
+    /// Where a folder for schedules was given, one of each outcome, as text, in the order of their numbers; else none.
+    pub schedules: Vec<Vec<u8>>,
+    /// Where a page is asked for and an outcome was found, the page of the first output and the next one.
+    pub page: Option<Vec<u8>>,
+}
+
+// Why nothing is told.
 fn of_explore<'a>(fault: ExploreFault) -> Fault<'a>
     ensures { (result ≡ Memory) ⊎ (result ≡ TooLarge) }
 {
@@ -31,26 +50,70 @@ fn of_explore<'a>(fault: ExploreFault) -> Fault<'a>
     }
 }
 
-// What is found by trying every order, among at most so many states.
-fn find_all<W: Watch>(
+// Whether both have one output and one set of files.
+fn agree(outcome: &Outcome, other: &Outcome) -> bool
+    ensures { IsTrue result ↔ LeftTheSame outcome.now other.now }
+{
+    outcome.out.as_slice() == other.out.as_slice() && outcome.files.same(&other.files)
+}
+
+// Whether there is an outcome, and all have its output and its files.
+fn are_single(outcomes: &[Outcome]) -> bool
+    ensures { IsTrue result ↔ AreSingle outcomes.now }
+{
+    match outcomes.split_first() {
+        Some((first, rest)) => rest.iter().all(|outcome| agree(first, outcome)),
+        None => false,
+    }
+}
+
+// The text or the object of what was found.
+fn text_of(
+    alloc: Global,
+    request: &ExploreRequest<'_>,
+    found: &Exploration,
+    findings: &Findings,
+    runs: usize,
+) -> Result<Vec<u8>, AllocError> {
+    if request.is_json {
+        let is_single = are_single(found.outcomes.as_slice());
+        object_of(alloc, found, findings, is_single, runs)
+    } else {
+        told(alloc, request, found, findings, runs)
+    }
+}
+
+// What is told of what was found, after so many runs in a few orders.
+fn tell(
     alloc: Global,
     start: &Start,
-    states: usize,
-    watch: &mut W,
-) -> Result<Exploration, ExploreFault>
-    ensures { IfOk result (LeadFrom start.now states) }
+    request: &ExploreRequest<'_>,
+    found: &Exploration,
+    runs: usize,
+) -> Result<Explored, AllocError>
+    ensures whole { IfOk result (λ explored. explored.is_whole ≡ found.now.whole) }
+    ensures single { IfOk result (λ explored. IsTrue explored.is_single ↔ AreSingle found.now.outcomes.items) }
 {
-    let setting = Setting {
+    let scene = Scene {
         script: &start.script,
         stdin: start.stdin.as_slice(),
         files: &start.files,
     };
-    explore_watched(alloc, &setting, states, watch)
+    let findings = findings_of(alloc, &scene, found.outcomes.as_slice())?;
+    Ok(Explored {
+        text: text_of(alloc, request, found, &findings, runs)?,
+        is_whole: found.whole,
+        is_single: are_single(found.outcomes.as_slice()),
+        schedules: schedules_of(alloc, request, &findings)?,
+        page: page_of(alloc, start, request, found.outcomes.as_slice(), &findings)?,
+    })
 }
 
 // Adds what runs in a few orders leave, where not every order was tried, and returns how many of these runs ended.
 fn add_sampled(alloc: Global, start: &Start, found: &mut Exploration) -> Result<usize, ExploreFault>
-    ensures { OnOk result ((allowed : ℕ) → LeadFrom start.now allowed found.old → LeadFrom start.now allowed found.new) }
+    ensures whole { OnOk result (found.new.whole ≡ found.old.whole) }
+    ensures same { OnOk result (found.old.whole ≡ true → found.new.outcomes ≡ found.old.outcomes) }
+    ensures sound { OnOk result (All (IsReplayed call_of next_of (script_kernel start.now.script.profile (lines_of start.now.script.lines) start.now.stdin.items start.now.files)) found.old.outcomes.items → All (IsReplayed call_of next_of (script_kernel start.now.script.profile (lines_of start.now.script.lines) start.now.stdin.items start.now.files)) found.new.outcomes.items) }
 {
     if found.whole {
         return Ok(0);
@@ -64,51 +127,36 @@ fn add_sampled(alloc: Global, start: &Start, found: &mut Exploration) -> Result<
     Ok(runs)
 }
 
-// Whether every order was tried, and no more states were found than were allowed.
-fn is_within(is_whole: bool, states: usize, allowed: usize) -> bool
-    ensures whole { result ≡ true → is_whole ≡ true }
-    ensures within { result ≡ true → states ≤ allowed }
-    ensures part { result ≡ false → (is_whole ≡ false) ⊎ (allowed < states) }
-{
-    if !is_whole {
-        return false;
-    }
-    states <= allowed
-}
-
-// What was found, in the order in which it is told. Where more states were found than were allowed, not every order counts as tried.
-fn ordered<'a>(
+// What is found by trying every order, of at most so many states.
+fn find_all<W: Watch>(
     alloc: Global,
-    found: Exploration,
-    states: usize,
-    runs: usize,
-) -> Result<Tried, Fault<'a>>
-    ensures tried { IfOk result (λ tried. (start : Start) → LeadFrom start states found → AreTriedFrom start states tried) }
-    ensures fault { IfErr result (λ fault. fault ≡ Memory) }
+    start: &Start,
+    states: u64,
+    watch: &mut W,
+) -> Result<Exploration, ExploreFault>
+    ensures sound { IfOk result (λ found. All (IsReplayed call_of next_of (script_kernel start.now.script.profile (lines_of start.now.script.lines) start.now.stdin.items start.now.files)) found.outcomes.items) }
+    ensures complete { IfOk result (λ found. found.whole ≡ true → AreAllOutcomes call_of next_of (script_kernel start.now.script.profile (lines_of start.now.script.lines) start.now.stdin.items start.now.files) (map outcome_by found.outcomes.items)) }
 {
-    let is_whole = is_within(found.whole, found.states, states);
-    let outcomes = in_order(alloc, found.outcomes)?;
-    Ok(Tried {
-        is_whole,
-        states: found.states,
-        runs,
-        outcomes,
-        stuck: found.stuck,
-    })
+    let most = usize::try_from(states).unwrap_or(usize::MAX);
+    let setting = Setting {
+        script: &start.script,
+        stdin: start.stdin.as_slice(),
+        files: &start.files,
+    };
+    explore_watched(alloc, &setting, most, watch)
 }
 
 // What is found by trying every order, and where not every one was tried by runs in a few.
 fn explore_all<'a, W: Watch>(
     alloc: Global,
     start: &Start,
-    states: u64,
+    request: &ExploreRequest<'a>,
     watch: &mut W,
-) -> Result<Tried, Fault<'a>>
-    ensures tried { IfOk result (AreTriedFrom start.now states) }
+) -> Result<Explored, Fault<'a>>
+    ensures told { IfOk result (λ explored. (all : Bool) → Told start.now.script.profile (lines_of start.now.script.lines) start.now.stdin.items start.now.files all explored.is_whole explored.is_single) }
     ensures fault { IfErr result (λ fault. (fault ≡ Memory) ⊎ (fault ≡ TooLarge)) }
 {
-    let most = states as usize;
-    let mut found = match find_all(alloc, start, most, watch) {
+    let mut found = match find_all(alloc, start, request.states, watch) {
         Ok(found) => found,
         Err(fault) => return Err(of_explore(fault)),
     };
@@ -116,8 +164,21 @@ fn explore_all<'a, W: Watch>(
         Ok(runs) => runs,
         Err(fault) => return Err(of_explore(fault)),
     };
-    let tried = ordered(alloc, found, most, runs)?;
-    Ok(tried)
+    let explored = tell(alloc, start, request, &found, runs)?;
+    Ok(explored)
+}
+
+// The text or the object of a settled script.
+fn text_of_settled(
+    alloc: Global,
+    request: &ExploreRequest<'_>,
+    value: &Plain<Global>,
+) -> Result<Vec<u8>, AllocError> {
+    if request.is_json {
+        object_of_settled(alloc, value.out.as_slice(), &value.files)
+    } else {
+        told_settled(alloc, value.out.as_slice())
+    }
 }
 
 // Whether the request asks for schedules, or for a page of them.
@@ -146,8 +207,8 @@ fn explore_settled<'a>(
     alloc: Global,
     start: &Start,
     request: &ExploreRequest<'a>,
-) -> Result<Option<Found>, Fault<'a>>
-    ensures found { IfOk result (λ known. IfSome known (λ found. (allowed : ℕ) → IsFoundFrom start.now allowed request.now.is_thorough found)) }
+) -> Result<Option<Explored>, Fault<'a>>
+    ensures told { IfOk result (λ known. IfSome known (λ explored. Told start.now.script.profile (lines_of start.now.script.lines) start.now.stdin.items start.now.files request.now.is_thorough explored.is_whole explored.is_single)) }
     ensures fault { IfErr result (λ fault. fault ≡ Memory) }
 {
     if wants_ways(request) {
@@ -168,49 +229,36 @@ fn explore_settled<'a>(
     if !has_room(alloc, start)? {
         return Ok(None);
     }
-    Ok(Some(Found::Settled(value)))
+    let text = text_of_settled(alloc, request, &value)?;
+    Ok(Some(Explored {
+        text,
+        is_whole: true,
+        is_single: true,
+        schedules: Vec::new(alloc),
+        page: None,
+    }))
 }
 
-// What is found of a script, settled or not.
-fn find<'a, W: Watch>(
+/// What is told of a script from what its runs begin with: as `run_explore`, of a request whose source was read. `watch` is told how
+/// many states were found.
+pub fn explore_start<'a, W: Watch>(
     alloc: Global,
     start: &Start,
     request: &ExploreRequest<'a>,
     watch: &mut W,
-) -> Result<Found, Fault<'a>>
-    ensures found { IfOk result (IsFoundFrom start.now request.now.states request.now.is_thorough) }
+) -> Result<Explored, Fault<'a>>
+    ensures told { IfOk result (λ explored. Told start.now.script.profile (lines_of start.now.script.lines) start.now.stdin.items start.now.files request.now.is_thorough explored.is_whole explored.is_single) }
     ensures fault { IfErr result (λ fault. (fault ≡ Memory) ⊎ (fault ≡ TooLarge)) }
 {
     if let Some(known) = explore_settled(alloc, start, request)? {
         return Ok(known);
     }
-    let tried = explore_all(alloc, start, request.states, watch)?;
-    Ok(Found::Tried(tried))
-}
-
-/// What is found of a script from what its runs begin with: as `run_explore`, of a request whose source was read. `watch` is told how
-/// many states were found.
-pub fn explore_start<'a, W: Watch>(
-    alloc: Global,
-    start: Start,
-    request: &ExploreRequest<'a>,
-    watch: &mut W,
-) -> Result<Explored, Fault<'a>>
-    ensures found { IfOk result (λ explored. IsFoundFrom start request.now.states request.now.is_thorough explored.found) }
-    ensures verdict { IfOk result (λ explored. IsVerdict explored.found explored.verdict) }
-    ensures fault { IfErr result (λ fault. (fault ≡ Memory) ⊎ (fault ≡ TooLarge)) }
-{
-    let found = find(alloc, &start, request, watch)?;
-    let verdict = verdict_of(&found);
-    Ok(Explored {
-        start,
-        found,
-        verdict,
-    })
+    let explored = explore_all(alloc, start, request, watch)?;
+    Ok(explored)
 }
 
 /// `explore`: reads the script, the files in order, and standard input unless that is the script, tries every order of its
-/// processes' turns, and returns the outcomes (own). A settled script that has room has one, which is known without an order,
+/// processes' turns, and returns what is told of the outcomes (own). A settled script that has room has one, which is told without,
 /// unless the request is thorough or asks for schedules or a page, or some file is soft. The host is told how many states were found. Nothing is
 /// written.
 ///
@@ -220,11 +268,10 @@ pub fn run_explore<'a, H: Host + Watch>(
     request: &ExploreRequest<'a>,
     host: &mut H,
 ) -> Result<Explored, Fault<'a>>
-    ensures ran { IfOk result (λ explored. RanExplore (H.input host.old) (H.file host.old) request.now.source.profile request.now.source.script.now request.now.source.files.now request.now.states request.now.is_thorough explored.found) }
-    ensures verdict { IfOk result (λ explored. IsVerdict explored.found explored.verdict) }
+    ensures ran { IfOk result (λ explored. RanExplore (H.input host.old) (H.file host.old) request.now.source.profile request.now.source.script.now request.now.source.files.now request.now.is_thorough explored.is_whole explored.is_single) }
     ensures fault { IfErr result (IsExploreFault (H.input host.old) (H.file host.old) request.now.source.script.now request.now.source.files.now) }
 {
     let start = prepare(alloc, host, &request.source, false)?;
-    let explored = explore_start(alloc, start, request, host)?;
+    let explored = explore_start(alloc, &start, request, host)?;
     Ok(explored)
 }

@@ -1,12 +1,16 @@
-//! Explorations of scripts: what `explore` reads and tries, and what it finds.
+//! Explorations of scripts: what `explore` reads, tries and prints.
 #![tactic(auto)]
 
-mod explored;
+mod drawing;
+mod escaping;
 mod exploring;
+mod findings;
+mod objects;
+mod replays;
 mod request;
 mod sorting;
+mod telling;
 
 pub use every_order::Watch;
-pub use explored::{Explored, Found, Tried, Verdict, is_single, is_whole, status_of, verdict_of};
-pub use exploring::{explore_start, run_explore};
+pub use exploring::{Explored, explore_start, run_explore};
 pub use request::{ExploreRequest, MAX_STATES};

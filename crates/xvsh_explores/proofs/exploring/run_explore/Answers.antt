@@ -1,7 +1,7 @@
 use Rattle.std.proofs.Common.{subst}
 use Rattle.script_load.specs.Line.{lines_of}
 use Rattle.xvsh_read.proofs.Faults.{at_fault}
-use Rattle.xvsh_explores.specs.Explores.{IsFound, no_start}
+use Rattle.xvsh_explores.specs.Explores.{Told, no_start}
 use Rattle.xvsh_explores.proofs.Known.{told_faults}
 use Rattle.xvsh_explores.proofs.exploring.run_explore.Goals as goal
 
@@ -18,11 +18,10 @@ pub returns-clause-ran : goal.returns-clause-ran
 returns-clause-ran g c =
     let start = c.in_ok-start.start in
     let explored = c.in_ok-explored.explored in
-    let request = c.args.request.now in
     record {
       lines = lines_of start.script.lines;
       given = start.files;
       stdin = start.stdin.items;
       starts = c.in_ok-start.ensures.prepared;
-      is = subst (λ profile. IsFound profile (lines_of start.script.lines) start.stdin.items start.files request.states request.is_thorough explored.found) c.in_ok-start.ensures.profile c.in_ok-explored.ensures.found;
+      told = subst (λ profile. Told profile (lines_of start.script.lines) start.stdin.items start.files c.args.request.now.is_thorough explored.is_whole explored.is_single) c.in_ok-start.ensures.profile c.in_ok-explored.ensures.told;
     }

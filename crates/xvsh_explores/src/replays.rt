@@ -1,10 +1,8 @@
 //! How a schedule is replayed.
-ghost use Rattle.std.specs.Prelude.{IfOk};
-ghost use Rattle.explore_lines.specs.Told.{IsReplayLine};
 
-use xvsh_explores::ExploreRequest;
+use crate::request::ExploreRequest;
 use script_load::Profile;
-use std::alloc::{AllocError, Global};
+use std::alloc::AllocError;
 
 // Whether a byte of a word stands for itself in a shell.
 fn is_plain(byte: u8) -> bool {
@@ -45,12 +43,12 @@ fn add_schedule(text: &mut Vec<u8>, folder: &str) -> Result<(), AllocError> {
     text.extend_from_slice(b"/1.schedule".as_slice())
 }
 
-// Adds the words behind `xvsh replay`, and LF.
-fn add_words(
-    text: &mut Vec<u8>,
-    request: &ExploreRequest<'_>,
-    folder: &str,
-) -> Result<(), AllocError> {
+/// Adds a line with the command that replays the first schedule, where schedules are written.
+pub fn add_replay(text: &mut Vec<u8>, request: &ExploreRequest<'_>) -> Result<(), AllocError> {
+    let Some(folder) = request.witness else {
+        return Ok(());
+    };
+    text.extend_from_slice(b"replay 1 by: xvsh replay".as_slice())?;
     if request.source.profile == Profile::Append {
         add_word(text, "--append")?;
     }
@@ -65,22 +63,4 @@ fn add_words(
     }
     text.push(b'\n')?;
     Ok(())
-}
-
-/// A line with the command that replays the first schedule, where schedules are written; else nothing.
-pub(crate) fn replay_line(
-    alloc: Global,
-    request: &ExploreRequest<'_>,
-) -> Result<Vec<u8>, AllocError>
-    ensures { IfOk result (λ line. IsReplayLine line.items) }
-{
-    let mut line = Vec::new(alloc);
-    let Some(folder) = request.witness else {
-        return Ok(line);
-    };
-    let mut words = Vec::new(alloc);
-    add_words(&mut words, request, folder)?;
-    line.extend_from_slice(b"replay 1 by: xvsh replay".as_slice())?;
-    line.extend_from_slice(words.as_slice())?;
-    Ok(line)
 }

@@ -1,37 +1,51 @@
 //! The page of two outcomes.
 
-use crate::findings::{Findings, way_by};
+use crate::findings::Findings;
+use crate::request::ExploreRequest;
 use every_order::Outcome;
 use order_partings::{Scene, Way, align, events_of};
 use std::alloc::{AllocError, Global};
 use xvsh_draws::draw_runs;
 use xvsh_read::Start;
 
+// The outcome with this place in the order.
+fn at<'o>(outcomes: &'o [Outcome], order: &[usize], place: usize) -> Option<&'o Outcome> {
+    outcomes.get(*order.get(place)?)
+}
+
 // The place of the outcome that is drawn beside the first: the next one with another output, or else the second.
-fn other_place(outcomes: &[Outcome]) -> usize {
-    let Some(first) = outcomes.first() else {
+fn other_place(outcomes: &[Outcome], order: &[usize]) -> usize {
+    let Some(first) = at(outcomes, order, 0) else {
         return 1;
     };
-    for (place, other) in outcomes.iter().enumerate() {
-        if other.out.as_slice() != first.out.as_slice() {
-            return place;
+    for place in 1..order.len() {
+        if let Some(other) = at(outcomes, order, place) {
+            if other.out.as_slice() != first.out.as_slice() {
+                return place;
+            }
         }
     }
     1
 }
 
-// The way to the outcome with this place.
+// The way to the outcome with this place in the order.
 fn way_at<'o>(
     alloc: Global,
     outcomes: &'o [Outcome],
     findings: &Findings,
     place: usize,
 ) -> Result<Option<Way<'o>>, AllocError> {
-    let found = outcomes.get(place);
+    let found = at(outcomes, findings.order.as_slice(), place);
     let (Some(outcome), Some(pids)) = (found, findings.ways.as_slice().get(place)) else {
         return Ok(None);
     };
-    Ok(Some(way_by(alloc, outcome, pids.as_slice())?))
+    Ok(Some(Way {
+        out: outcome.out.as_slice(),
+        diag: outcome.diag.as_slice(),
+        files: &outcome.files,
+        full: outcome.full,
+        pids: Vec::from_slice(alloc, pids.as_slice())?,
+    }))
 }
 
 // The ways to the first outcome, if one was found, and to the one with this place.
@@ -94,14 +108,18 @@ fn page_of_ways(
 }
 
 /// The page of the runs to the first outcome and to the next one with another output, or with other files or diagnostics where
-/// all have one output, or of the run to the only one; `None` where no outcome was found.
-pub(crate) fn page_of(
+/// all have one output, or of the run to the only one; `None` where no page is asked for, or no outcome was found.
+pub fn page_of(
     alloc: Global,
     start: &Start,
+    request: &ExploreRequest<'_>,
     outcomes: &[Outcome],
     findings: &Findings,
 ) -> Result<Option<Vec<u8>>, AllocError> {
-    let place = other_place(outcomes);
+    if request.draw.is_none() {
+        return Ok(None);
+    }
+    let place = other_place(outcomes, findings.order.as_slice());
     let mut ways = two_ways(alloc, outcomes, findings, place)?;
     page_of_ways(
         alloc,

@@ -1,4 +1,0 @@
-pub mod Partings
-pub mod Shown
-pub mod Text
-pub mod Told

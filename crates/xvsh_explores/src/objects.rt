@@ -1,0 +1,125 @@
+//! What was found as one object of JSON.
+
+use crate::findings::Findings;
+use every_order::{Exploration, Outcome};
+use mem_files::Files;
+use order_partings::Parting;
+use result_json::{begin_result, full_word, write_files};
+use std::alloc::{AllocError, Global};
+use trace_lines::Line;
+
+// The status in words, and the one with which the program ends, by whether every order was tried, and whether all outcomes have
+// one output and one set of files.
+fn status_of(is_whole: bool, is_single: bool) -> (&'static str, u8) {
+    match (is_whole, is_single) {
+        (false, _) => ("not every order tried", 4),
+        (true, false) => ("several outputs", 3),
+        (true, true) => ("one output", 0),
+    }
+}
+
+fn write_pids(line: &mut Line, key: &str, pids: &[u8]) -> Result<(), AllocError> {
+    line.begin_list(key)?;
+    for pid in pids {
+        line.raw_count(u64::from(*pid))?;
+    }
+    line.end_list()
+}
+
+// Where the schedule of the first outcome and this one part.
+fn write_parting(line: &mut Line, parting: &Parting) -> Result<(), AllocError> {
+    line.begin_object("parting")?;
+    line.count("from", 1)?;
+    line.count("event", parting.event as u64)?;
+    line.bytes("there", parting.one.as_slice())?;
+    line.bytes("here", parting.other.as_slice())?;
+    line.end_object()
+}
+
+fn write_outcome(
+    line: &mut Line,
+    number: usize,
+    outcome: &Outcome,
+    pids: &[u8],
+    parting: Option<&Parting>,
+) -> Result<(), AllocError> {
+    line.begin_raw_object()?;
+    line.count("number", number as u64)?;
+    line.bytes("output", outcome.out.as_slice())?;
+    line.bytes("diagnostics", outcome.diag.as_slice())?;
+    write_files(line, &outcome.files, None)?;
+    if let Some(full) = outcome.full {
+        line.word("full", full_word(full))?;
+    }
+    line.count("events", (pids.len() as u64).saturating_mul(2))?;
+    write_pids(line, "schedule", pids)?;
+    if let Some(parting) = parting {
+        write_parting(line, parting)?;
+    }
+    line.end_object()
+}
+
+fn write_outcomes(
+    line: &mut Line,
+    outcomes: &[Outcome],
+    findings: &Findings,
+) -> Result<(), AllocError> {
+    line.begin_list("outcomes")?;
+    for (i, place) in findings.order.iter().enumerate() {
+        if let Some(outcome) = outcomes.get(*place) {
+            let pids = match findings.ways.as_slice().get(i) {
+                Some(pids) => pids.as_slice(),
+                None => &[],
+            };
+            let parting = match findings.partings.as_slice().get(i) {
+                Some(Some(parting)) => Some(parting),
+                _ => None,
+            };
+            write_outcome(line, i.saturating_add(1), outcome, pids, parting)?;
+        }
+    }
+    line.end_list()
+}
+
+/// The object of an exploration, by whether all its outcomes have one output and one set of files, and how many runs in a few orders
+/// ended, and LF.
+pub fn object_of(
+    alloc: Global,
+    found: &Exploration,
+    findings: &Findings,
+    is_single: bool,
+    runs: usize,
+) -> Result<Vec<u8>, AllocError> {
+    let (status, code) = status_of(found.whole, is_single);
+    let mut line = begin_result(alloc, "explore", status, code)?;
+    line.count("states", found.states as u64)?;
+    line.count("runs", runs as u64)?;
+    line.truth("every_order_tried", found.whole)?;
+    match &found.stuck {
+        Some(pids) => write_pids(&mut line, "stuck", pids.as_slice())?,
+        None => line.nothing("stuck")?,
+    }
+    write_outcomes(&mut line, found.outcomes.as_slice(), findings)?;
+    line.end()
+}
+
+/// The object of a settled script, whose output and files are the same in every order, and LF.
+pub fn object_of_settled(
+    alloc: Global,
+    out: &[u8],
+    files: &Files<Global>,
+) -> Result<Vec<u8>, AllocError> {
+    let mut line = begin_result(alloc, "explore", "settled", 0)?;
+    line.count("states", 0)?;
+    line.count("runs", 0)?;
+    line.truth("every_order_tried", false)?;
+    line.nothing("stuck")?;
+    line.begin_list("outcomes")?;
+    line.begin_raw_object()?;
+    line.count("number", 1)?;
+    line.bytes("output", out)?;
+    write_files(&mut line, files, None)?;
+    line.end_object()?;
+    line.end_list()?;
+    line.end()
+}
