@@ -4,8 +4,9 @@ use crate::objects::{write_fds, write_files, write_pipes, write_ps, write_state}
 use crate::play::{Pace, Play, PlayFault, Told, pid_of};
 use crate::rest::{add_rest, states_after, write_rest};
 use crate::sleeps::add_why;
+use crate::text::Text;
 use crate::views::{add_fds, add_files, add_out, add_pipes, add_ps};
-use crate::words::{add, add_count, add_number, add_quoted};
+use crate::words::add_quoted;
 use proc_table::{Pid, State};
 use result_json::full_word;
 use schedule_lines::schedule_text;
@@ -42,41 +43,42 @@ fn add_fault(
 
 // That there is no process of this number.
 fn no_process(alloc: Global, number: u64) -> Result<Vec<u8>, AllocError> {
-    let mut sentence = Vec::new(alloc);
-    add(&mut sentence, "there is no process ")?;
-    add_number(alloc, &mut sentence, number)?;
-    Ok(sentence)
+    let mut sentence = Text::new(alloc);
+    sentence.add("there is no process ");
+    sentence.number(number);
+    sentence.end()
+}
+
+// Which command was meant, if one is near.
+fn add_nearest(sentence: &mut Text, word: &[u8]) {
+    match nearest(sentence.alloc(), word) {
+        Ok(Some(name)) => {
+            sentence.add("was `");
+            sentence.add(name.usage());
+            sentence.add("` meant?");
+        }
+        Ok(None) => sentence.add("`help` lists the commands"),
+        Err(_) => sentence.refuse(),
+    }
 }
 
 // What a line is that is no command.
-fn mistake_of(alloc: Global, mistake: &Mistake<'_>) -> Result<Vec<u8>, AllocError> {
-    let mut sentence = Vec::new(alloc);
+fn add_mistake(sentence: &mut Text, mistake: &Mistake<'_>) {
     match mistake {
         Mistake::Unknown(word) => {
-            add_quoted(&mut sentence, word, 40)?;
-            add(&mut sentence, " is no command; ")?;
-            match nearest(alloc, word)? {
-                Some(name) => {
-                    add(&mut sentence, "was `")?;
-                    add(&mut sentence, name.usage())?;
-                    add(&mut sentence, "` meant?")?;
-                }
-                None => add(&mut sentence, "`help` lists the commands")?,
-            }
+            add_quoted(sentence, word, 40);
+            sentence.add(" is no command; ");
+            add_nearest(sentence, word);
         }
         Mistake::Misused(name) => {
-            add(&mut sentence, "the command is `")?;
-            add(&mut sentence, name.usage())?;
-            sentence.push(b'`')?;
+            sentence.add("the command is `");
+            sentence.add(name.usage());
+            sentence.byte(b'`');
         }
         Mistake::MoreThanNumber => {
-            add(
-                &mut sentence,
-                "a number alone is a turn of that process; `help` lists the commands",
-            )?;
+            sentence.add("a number alone is a turn of that process; `help` lists the commands");
         }
     }
-    Ok(sentence)
 }
 
 // That the teller's kernel had memory which was refused to the session's.
@@ -92,15 +94,14 @@ fn no_rest(fault: RestFault) -> &'static str {
 }
 
 // The commands with what they do.
-fn add_help(text: &mut Vec<u8>) -> Result<(), AllocError> {
-    add(text, "N: a turn of process N\n")?;
+fn add_help(text: &mut Text) {
+    text.add("N: a turn of process N\n");
     for name in NAMES {
-        add(text, name.usage())?;
-        add(text, ": ")?;
-        add(text, name.help())?;
-        text.push(b'\n')?;
+        text.add(name.usage());
+        text.add(": ");
+        text.add(name.help());
+        text.byte(b'\n');
     }
-    Ok(())
 }
 
 fn write_help(line: &mut Line) -> Result<(), AllocError> {
@@ -113,13 +114,13 @@ fn write_help(line: &mut Line) -> Result<(), AllocError> {
 }
 
 // The records, which are lines, as the objects of a list.
-fn add_records(text: &mut Vec<u8>, records: &[u8]) -> Result<(), AllocError> {
-    add(text, "{\"answer\":\"turns\",\"records\":[")?;
+fn add_records(text: &mut Text, records: &[u8]) {
+    text.add("{\"answer\":\"turns\",\"records\":[");
     let lines = records.strip_suffix(b"\n".as_slice()).unwrap_or(records);
     for byte in lines {
-        text.push(if *byte == b'\n' { b',' } else { *byte })?;
+        text.byte(if *byte == b'\n' { b',' } else { *byte });
     }
-    add(text, "]")
+    text.byte(b']');
 }
 
 impl<M: Machine> Play<'_, M> {
@@ -129,8 +130,9 @@ impl<M: Machine> Play<'_, M> {
 
     /// Adds what is wrong with a line to the text.
     pub fn add_mistake(&self, mistake: &Mistake<'_>, text: Vec<u8>) -> Result<Vec<u8>, PlayFault> {
-        let sentence = mistake_of(self.alloc, mistake)?;
-        self.fault(text, sentence.as_slice())
+        let mut sentence = Text::new(self.alloc);
+        add_mistake(&mut sentence, mistake);
+        self.fault(text, sentence.end()?.as_slice())
     }
 
     /// Adds a sentence on what went wrong to the text.
@@ -168,8 +170,7 @@ impl<M: Machine> Play<'_, M> {
             return self.fault(text, sentence.as_slice());
         };
         if self.kernel().state(pid) != State::Runnable {
-            let mut sentence = Vec::new(self.alloc);
-            add_why(self.alloc, &mut sentence, &self.teller, pid)?;
+            let sentence = self.why(pid)?;
             return self.fault(text, sentence.as_slice());
         }
         let pace = if goes_on {
@@ -181,50 +182,64 @@ impl<M: Machine> Play<'_, M> {
         self.answer_told(told, text)
     }
 
-    // What turns did, and how it stands after them.
-    fn answer_told(&self, told: Told, text: Vec<u8>) -> Result<Vec<u8>, PlayFault> {
-        let mut text = text;
-        if self.is_json {
-            add_records(&mut text, told.records.as_slice())?;
-            add(&mut text, ",\"turns\":")?;
-            add_number(self.alloc, &mut text, told.turns as u64)?;
-            add(&mut text, ",\"stands\":\"")?;
-            add(&mut text, self.standing())?;
-            add(&mut text, "\"")?;
-            self.add_marks(told.is_cut, &mut text)?;
-            add(&mut text, "}\n")?;
-            return Ok(text);
-        }
-        text.extend_from_slice(told.text.as_slice())?;
-        if self.is_apart() {
-            add(&mut text, APART)?;
-        }
-        if told.is_cut {
-            add_count(self.alloc, &mut text, told.turns, "turn")?;
-            add(&mut text, " are the most of one command\n")?;
-        }
-        match self.standing() {
-            "finished" => add(&mut text, "the run is finished: only init is left\n")?,
-            "stuck" => add(
-                &mut text,
-                "nobody is runnable, and the run isn't finished\n",
-            )?,
-            _ => {}
-        }
-        Ok(text)
+    // Why the process can't take a turn, in a sentence.
+    fn why(&self, pid: Pid) -> Result<Vec<u8>, AllocError> {
+        let mut sentence = Text::new(self.alloc);
+        add_why(&mut sentence, &self.teller, pid);
+        sentence.end()
     }
 
-    // The fields that say that turns ended because there were too many, and what was full.
-    fn add_marks(&self, is_cut: bool, text: &mut Vec<u8>) -> Result<(), AllocError> {
+    // What turns did, and how it stands after them.
+    fn answer_told(&self, told: Told, text: Vec<u8>) -> Result<Vec<u8>, PlayFault> {
+        let mut text = Text::behind(self.alloc, text);
+        if self.is_json {
+            self.add_turns_object(&mut text, told.records.as_slice(), told.turns, told.is_cut);
+            return Ok(text.end()?);
+        }
+        text.bytes(told.text.end()?.as_slice());
+        self.add_standing(&mut text, told.turns, told.is_cut);
+        Ok(text.end()?)
+    }
+
+    // The object of turns: their records, how many they are, how the run stands, that they ended because there were too many, and
+    // what was full.
+    fn add_turns_object(&self, text: &mut Text, records: &[u8], turns: usize, is_cut: bool) {
+        add_records(text, records);
+        text.add(",\"turns\":");
+        text.number(turns as u64);
+        text.add(",\"stands\":\"");
+        text.add(self.standing());
+        text.byte(b'"');
         if is_cut {
-            add(text, ",\"cut\":true")?;
+            text.add(",\"cut\":true");
         }
+        self.add_full(text);
+        text.add("}\n");
+    }
+
+    // What was full, as a field.
+    fn add_full(&self, text: &mut Text) {
         if let Some(full) = self.kernel().full() {
-            add(text, ",\"full\":\"")?;
-            add(text, full_word(full))?;
-            text.push(b'"')?;
+            text.add(",\"full\":\"");
+            text.add(full_word(full));
+            text.byte(b'"');
         }
-        Ok(())
+    }
+
+    // How the run stands after turns.
+    fn add_standing(&self, text: &mut Text, turns: usize, is_cut: bool) {
+        if self.is_apart() {
+            text.add(APART);
+        }
+        if is_cut {
+            text.count(turns, "turn");
+            text.add(" are the most of one command\n");
+        }
+        text.add(match self.standing() {
+            "finished" => "the run is finished: only init is left\n",
+            "stuck" => "nobody is runnable, and the run isn't finished\n",
+            _ => "",
+        });
     }
 
     // How the run stands: it is finished, somebody is Runnable, or nobody is.
@@ -240,22 +255,20 @@ impl<M: Machine> Play<'_, M> {
 
     fn answer_back(&mut self, turns: u64, text: Vec<u8>) -> Result<Vec<u8>, PlayFault> {
         let alloc = self.alloc;
-        let mut sentence = Vec::new(alloc);
         let is_back = self.back(turns)?;
         if self.is_json && is_back {
             let mut line = begin(alloc, "back", text)?;
             line.count("turns", self.turns() as u64)?;
             return Ok(line.end()?);
         }
-        add_count(alloc, &mut sentence, self.turns(), "turn")?;
-        if !is_back {
-            add(&mut sentence, " can be taken back, and no more")?;
-            return self.fault(text, sentence.as_slice());
-        }
-        add(&mut sentence, " left\n")?;
-        let mut text = text;
-        text.extend_from_slice(sentence.as_slice())?;
-        Ok(text)
+        let mut sentence = Text::new(alloc);
+        sentence.count(self.turns(), "turn");
+        sentence.add(if is_back {
+            " left"
+        } else {
+            " can be taken back, and no more"
+        });
+        self.fault(text, sentence.end()?.as_slice())
     }
 
     // The process of this number, if there is one.
@@ -279,9 +292,9 @@ impl<M: Machine> Play<'_, M> {
             write_fds(&mut line, self.kernel(), pid)?;
             return Ok(line.end()?);
         }
-        let mut text = text;
-        add_fds(alloc, &mut text, self.kernel(), pid)?;
-        Ok(text)
+        let mut text = Text::behind(alloc, text);
+        add_fds(&mut text, self.kernel(), pid);
+        Ok(text.end()?)
     }
 
     fn answer_why(&self, number: u64, text: Vec<u8>) -> Result<Vec<u8>, PlayFault> {
@@ -290,8 +303,7 @@ impl<M: Machine> Play<'_, M> {
             let sentence = no_process(alloc, number)?;
             return self.fault(text, sentence.as_slice());
         };
-        let mut sentence = Vec::new(alloc);
-        add_why(alloc, &mut sentence, &self.teller, pid)?;
+        let sentence = self.why(pid)?;
         if self.is_json {
             let mut line = begin(alloc, "why", text)?;
             line.pid("pid", pid)?;
@@ -314,9 +326,9 @@ impl<M: Machine> Play<'_, M> {
             write_rest(&mut line, &found, taken)?;
             return Ok(line.end()?);
         }
-        let mut text = text;
-        add_rest(self.alloc, &mut text, &found, taken)?;
-        Ok(text)
+        let mut text = Text::behind(self.alloc, text);
+        add_rest(&mut text, &found, taken);
+        Ok(text.end()?)
     }
 
     // What is looked at, and nothing is done.
@@ -324,22 +336,18 @@ impl<M: Machine> Play<'_, M> {
         if self.is_json {
             return Ok(self.object_of(command, text)?);
         }
-        let alloc = self.alloc;
-        let mut text = text;
+        let mut text = Text::behind(self.alloc, text);
         match command {
-            Command::Ps => add_ps(alloc, &mut text, &self.teller)?,
-            Command::Pipes => add_pipes(alloc, &mut text, self.kernel())?,
-            Command::Files => add_files(alloc, &mut text, self.kernel())?,
-            Command::Out => add_out(alloc, &mut text, self.kernel())?,
-            Command::Schedule => {
-                let events = schedule_text(alloc, self.kernel().schedule())?;
-                text.extend_from_slice(events.as_slice())?;
-            }
-            Command::Help => add_help(&mut text)?,
-            Command::Save(_) => add(&mut text, "the schedule is written\n")?,
+            Command::Ps => add_ps(&mut text, &self.teller),
+            Command::Pipes => add_pipes(&mut text, self.kernel())?,
+            Command::Files => add_files(&mut text, self.kernel()),
+            Command::Out => add_out(&mut text, self.kernel()),
+            Command::Schedule => text.bytes(self.schedule()?.as_slice()),
+            Command::Help => add_help(&mut text),
+            Command::Save(_) => text.add("the schedule is written\n"),
             _ => {}
         }
-        Ok(text)
+        Ok(text.end()?)
     }
 
     fn object_of(&self, command: &Command<'_>, text: Vec<u8>) -> Result<Vec<u8>, AllocError> {
@@ -365,11 +373,11 @@ impl<M: Machine> Play<'_, M> {
 
     /// Adds the processes to the text, of more lines than so many the first and how many are left out.
     pub fn add_view(&self, most: usize, text: Vec<u8>) -> Result<Vec<u8>, PlayFault> {
-        let mut whole = Vec::new(self.alloc);
-        add_ps(self.alloc, &mut whole, &self.teller)?;
-        let mut text = text;
-        add_first_lines(self.alloc, &mut text, whole.as_slice(), most)?;
-        Ok(text)
+        let mut whole = Text::new(self.alloc);
+        add_ps(&mut whole, &self.teller);
+        let mut text = Text::behind(self.alloc, text);
+        add_first_lines(&mut text, whole.end()?.as_slice(), most);
+        Ok(text.end()?)
     }
 
     /// The schedule so far, as `replay` takes it.
@@ -379,27 +387,21 @@ impl<M: Machine> Play<'_, M> {
 }
 
 // Adds the first lines of these, so many, and how many are left out.
-fn add_first_lines(
-    alloc: Global,
-    text: &mut Vec<u8>,
-    whole: &[u8],
-    most: usize,
-) -> Result<(), AllocError> {
+fn add_first_lines(text: &mut Text, whole: &[u8], most: usize) {
     let mut lines: usize = 0;
     for byte in whole {
         if lines < most {
-            text.push(*byte)?;
+            text.byte(*byte);
         }
         if *byte == b'\n' {
             lines = lines.saturating_add(1);
         }
     }
     if most < lines {
-        add(text, "and ")?;
-        add_number(alloc, text, (lines - most) as u64)?;
-        add(text, " more\n")?;
+        text.add("and ");
+        text.number((lines - most) as u64);
+        text.add(" more\n");
     }
-    Ok(())
 }
 
 // What the answer to a command is called.

@@ -1,9 +1,8 @@
 //! What a process did by its call, in words.
 
 use crate::teller::Teller;
-use crate::words::{
-    add, add_count, add_data, add_name, add_number, add_process, add_short, purpose, thing_of,
-};
+use crate::text::Text;
+use crate::words::{add_data, add_name, add_process, add_short, add_thing, purpose};
 use proc_table::{PROCS, Pid};
 use std::alloc::{AllocError, Global};
 use user_calls::{CallKind, CallSlot, Machine, Mode, ReplyKind};
@@ -20,6 +19,25 @@ pub struct Plan {
     program: Vec<u8>,
 }
 
+// What the descriptor of a call has open, in words; nothing where it has none.
+fn add_thing_of<M: Machine>(text: &mut Text, teller: &Teller<'_, M>, pid: Pid, call: CallKind) {
+    match call {
+        CallKind::Read(fd, _) | CallKind::Write(fd) | CallKind::Close(fd) | CallKind::Dup(fd) => {
+            add_thing(text, teller.kernel(), pid, fd);
+        }
+        _ => {}
+    }
+}
+
+// The name of the program that the process runs by its next call.
+fn add_program<M: Machine>(text: &mut Text, teller: &Teller<'_, M>, pid: Pid) {
+    if let Some(words) = teller.doing(pid).words() {
+        if let Some(name) = words.as_slice().first() {
+            add_short(text, name.as_slice());
+        }
+    }
+}
+
 // The call that the process on hart 0 makes.
 pub(crate) fn plan_of<M: Machine>(
     alloc: Global,
@@ -29,241 +47,187 @@ pub(crate) fn plan_of<M: Machine>(
     let kernel = teller.kernel();
     let mut call = CallSlot::new();
     kernel.ask(0, pid.index(), &mut call);
-    let thing = match call.kind() {
-        CallKind::Read(fd, _) | CallKind::Write(fd) | CallKind::Close(fd) | CallKind::Dup(fd) => {
-            thing_of(alloc, kernel, pid, fd)?
-        }
-        _ => Vec::new(alloc),
-    };
     let is_there = kernel.files().get(call.bytes()).is_some();
-    let mut program = Vec::new(alloc);
-    if let Some(words) = teller.doing(pid).words() {
-        if let Some(name) = words.as_slice().first() {
-            add_short(&mut program, name.as_slice())?;
-        }
-    }
+    let mut thing = Text::new(alloc);
+    add_thing_of(&mut thing, teller, pid, call.kind());
+    let mut program = Text::new(alloc);
+    add_program(&mut program, teller, pid);
     Ok(Plan {
         call,
-        thing,
+        thing: thing.end()?,
         is_there,
-        program,
+        program: program.end()?,
     })
 }
 
 // The words before and after what is acted on.
-fn around(text: &mut Vec<u8>, before: &str, thing: &[u8], after: &str) -> Result<(), AllocError> {
-    add(text, before)?;
-    text.extend_from_slice(thing)?;
-    add(text, after)
+fn around(text: &mut Text, before: &str, thing: &[u8], after: &str) {
+    text.add(before);
+    text.bytes(thing);
+    text.add(after);
 }
 
-fn add_read<M: Machine>(
-    alloc: Global,
-    text: &mut Vec<u8>,
-    teller: &Teller<'_, M>,
-    pid: Pid,
-    thing: &[u8],
-) -> Result<(), AllocError> {
+fn add_read<M: Machine>(text: &mut Text, teller: &Teller<'_, M>, pid: Pid, thing: &[u8]) {
     if teller.is_asleep(pid) {
-        return around(text, "found ", thing, " empty and sleeps");
-    }
-    if !teller.is_done(pid) {
-        return around(text, "couldn't read ", thing, "");
-    }
-    match teller.kernel().reply(pid) {
-        Some(reply) if !reply.bytes().is_empty() => {
-            add(text, "read ")?;
-            add_count(alloc, text, reply.bytes().len(), "byte")?;
-            around(text, " of ", thing, ": ")?;
-            add_data(text, reply.bytes())
+        around(text, "found ", thing, " empty and sleeps");
+    } else if !teller.is_done(pid) {
+        around(text, "couldn't read ", thing, "");
+    } else {
+        match teller.kernel().reply(pid) {
+            Some(reply) if !reply.bytes().is_empty() => {
+                add_moved(text, "read ", reply.bytes(), " of ", thing);
+            }
+            _ => around(text, "found ", thing, " at its end"),
         }
-        _ => around(text, "found ", thing, " at its end"),
     }
 }
 
-fn add_write<M: Machine>(
-    alloc: Global,
-    text: &mut Vec<u8>,
-    teller: &Teller<'_, M>,
-    pid: Pid,
-    plan: &Plan,
-) -> Result<(), AllocError> {
+// Bytes that were moved, how many and which.
+fn add_moved(text: &mut Text, verb: &str, bytes: &[u8], toward: &str, thing: &[u8]) {
+    text.add(verb);
+    text.count(bytes.len(), "byte");
+    around(text, toward, thing, ": ");
+    add_data(text, bytes);
+}
+
+fn add_write<M: Machine>(text: &mut Text, teller: &Teller<'_, M>, pid: Pid, plan: &Plan) {
     let thing = plan.thing.as_slice();
     if teller.is_asleep(pid) {
-        return around(text, "found ", thing, " full and sleeps");
+        around(text, "found ", thing, " full and sleeps");
+    } else if !teller.is_done(pid) {
+        around(text, "couldn't write to ", thing, "");
+    } else {
+        add_moved(text, "wrote ", plan.call.bytes(), " to ", thing);
     }
-    if !teller.is_done(pid) {
-        return around(text, "couldn't write to ", thing, "");
-    }
-    add(text, "wrote ")?;
-    add_count(alloc, text, plan.call.bytes().len(), "byte")?;
-    around(text, " to ", thing, ": ")?;
-    add_data(text, plan.call.bytes())
 }
 
 fn add_open<M: Machine>(
-    alloc: Global,
-    text: &mut Vec<u8>,
+    text: &mut Text,
     teller: &Teller<'_, M>,
     pid: Pid,
     plan: &Plan,
     mode: Mode,
-) -> Result<(), AllocError> {
-    let mut name = Vec::new(alloc);
-    add_name(&mut name, plan.call.bytes())?;
-    let name = name.as_slice();
-    if !teller.is_done(pid) {
-        return around(text, "couldn't open ", name, "");
+) {
+    let is_done = teller.is_done(pid);
+    text.add(match (is_done, mode, plan.is_there) {
+        (false, _, _) => "couldn't open ",
+        (true, Mode::Input, _) | (true, _, true) => "opened ",
+        (true, _, false) => "made ",
+    });
+    add_name(text, plan.call.bytes());
+    if is_done {
+        text.add(purpose(mode));
+        add_descriptors(text, teller, pid);
     }
-    match (mode, plan.is_there) {
-        (Mode::Input, _) | (_, true) => around(text, "opened ", name, purpose(mode))?,
-        (_, false) => around(text, "made ", name, purpose(mode))?,
-    }
-    match teller.kernel().reply(pid) {
-        Some(reply) => add_descriptor(alloc, text, reply.kind()),
-        None => Ok(()),
+}
+
+// The descriptors that the process got, if it got any.
+fn add_descriptors<M: Machine>(text: &mut Text, teller: &Teller<'_, M>, pid: Pid) {
+    if let Some(reply) = teller.kernel().reply(pid) {
+        add_descriptor(text, reply.kind());
     }
 }
 
 // The descriptor that a reply gives, if it gives one.
-fn add_descriptor(alloc: Global, text: &mut Vec<u8>, reply: ReplyKind) -> Result<(), AllocError> {
+fn add_descriptor(text: &mut Text, reply: ReplyKind) {
     match reply {
         ReplyKind::Fd(fd) => {
-            add(text, ": descriptor ")?;
-            add_number(alloc, text, fd as u64)
+            text.add(": descriptor ");
+            text.number(fd as u64);
         }
         ReplyKind::Ends(reader, writer) => {
-            add(text, ": descriptors ")?;
-            add_number(alloc, text, reader as u64)?;
-            add(text, " to read and ")?;
-            add_number(alloc, text, writer as u64)?;
-            add(text, " to write")
+            text.add(": descriptors ");
+            text.number(reader as u64);
+            text.add(" to read and ");
+            text.number(writer as u64);
+            text.add(" to write");
         }
-        _ => Ok(()),
+        _ => {}
     }
 }
 
-fn add_fork<M: Machine>(
-    alloc: Global,
-    text: &mut Vec<u8>,
-    teller: &Teller<'_, M>,
-) -> Result<(), AllocError> {
-    let Some(child) = teller.child() else {
-        return add(text, "couldn't fork");
-    };
-    add(text, "forked ")?;
-    add_process(alloc, text, child, teller.doing(child))
+fn add_fork<M: Machine>(text: &mut Text, teller: &Teller<'_, M>) {
+    match teller.child() {
+        Some(child) => {
+            text.add("forked ");
+            add_process(text, child, teller.doing(child));
+        }
+        None => text.add("couldn't fork"),
+    }
 }
 
-fn add_wait<M: Machine>(
-    alloc: Global,
-    text: &mut Vec<u8>,
-    teller: &Teller<'_, M>,
-    pid: Pid,
-) -> Result<(), AllocError> {
+fn add_wait<M: Machine>(text: &mut Text, teller: &Teller<'_, M>, pid: Pid) {
     if teller.is_asleep(pid) {
-        return add(text, "sleeps until a child exits");
+        text.add("sleeps until a child exits");
+        return;
     }
     match teller.gone() {
         Some(gone) => {
-            add(text, "learned that process ")?;
-            add_number(alloc, text, gone.index() as u64)?;
-            add(text, " has exited")
+            text.add("learned that process ");
+            text.number(gone.index() as u64);
+            text.add(" has exited");
         }
-        None => add(text, "has no child to wait for"),
+        None => text.add("has no child to wait for"),
     }
 }
 
 // The pipe that was made has the number of this event.
-fn add_pipe<M: Machine>(
-    alloc: Global,
-    text: &mut Vec<u8>,
-    teller: &Teller<'_, M>,
-    pid: Pid,
-) -> Result<(), AllocError> {
+fn add_pipe<M: Machine>(text: &mut Text, teller: &Teller<'_, M>, pid: Pid) {
     if !teller.is_done(pid) {
-        return add(text, "couldn't make a pipe");
+        text.add("couldn't make a pipe");
+        return;
     }
-    add(text, "made pipe ")?;
-    add_number(alloc, text, teller.kernel().schedule().len() as u64)?;
-    match teller.kernel().reply(pid) {
-        Some(reply) => add_descriptor(alloc, text, reply.kind()),
-        None => Ok(()),
-    }
+    text.add("made pipe ");
+    text.number(teller.kernel().schedule().len() as u64);
+    add_descriptors(text, teller, pid);
 }
 
-fn add_dup<M: Machine>(
-    alloc: Global,
-    text: &mut Vec<u8>,
-    teller: &Teller<'_, M>,
-    pid: Pid,
-    thing: &[u8],
-) -> Result<(), AllocError> {
+fn add_dup<M: Machine>(text: &mut Text, teller: &Teller<'_, M>, pid: Pid, thing: &[u8]) {
     if !teller.is_done(pid) {
-        return around(text, "couldn't duplicate ", thing, "");
+        around(text, "couldn't duplicate ", thing, "");
+        return;
     }
-    around(text, "duplicated ", thing, "")?;
-    match teller.kernel().reply(pid) {
-        Some(reply) => add_descriptor(alloc, text, reply.kind()),
-        None => Ok(()),
-    }
+    around(text, "duplicated ", thing, "");
+    add_descriptors(text, teller, pid);
 }
 
 // Who was woken.
-fn add_woken<M: Machine>(
-    alloc: Global,
-    text: &mut Vec<u8>,
-    teller: &Teller<'_, M>,
-) -> Result<(), AllocError> {
+fn add_woken<M: Machine>(text: &mut Text, teller: &Teller<'_, M>) {
     let mut before = ", and woke process ";
     for index in 0..PROCS {
         if let Some(pid) = Pid::new(index) {
             if teller.tracer().is_woken(pid) {
-                add(text, before)?;
-                add_number(alloc, text, index as u64)?;
+                text.add(before);
+                text.number(index as u64);
                 before = ", ";
             }
         }
     }
-    Ok(())
 }
 
 // Adds what the call did.
-fn add_call<M: Machine>(
-    alloc: Global,
-    text: &mut Vec<u8>,
-    teller: &Teller<'_, M>,
-    pid: Pid,
-    plan: &Plan,
-) -> Result<(), AllocError> {
+fn add_call<M: Machine>(text: &mut Text, teller: &Teller<'_, M>, pid: Pid, plan: &Plan) {
     let thing = plan.thing.as_slice();
     match plan.call.kind() {
-        CallKind::Fork => add_fork(alloc, text, teller),
+        CallKind::Fork => add_fork(text, teller),
         CallKind::Exec(true) => around(text, "became the program ", plan.program.as_slice(), ""),
         CallKind::Exec(false) => around(text, "found no program ", plan.program.as_slice(), ""),
-        CallKind::Exit => add(text, "exited"),
-        CallKind::Wait => add_wait(alloc, text, teller, pid),
-        CallKind::MakePipe => add_pipe(alloc, text, teller, pid),
-        CallKind::Read(_, _) => add_read(alloc, text, teller, pid, thing),
-        CallKind::Write(_) => add_write(alloc, text, teller, pid, plan),
-        CallKind::OpenFile(mode) => add_open(alloc, text, teller, pid, plan, mode),
+        CallKind::Exit => text.add("exited"),
+        CallKind::Wait => add_wait(text, teller, pid),
+        CallKind::MakePipe => add_pipe(text, teller, pid),
+        CallKind::Read(_, _) => add_read(text, teller, pid, thing),
+        CallKind::Write(_) => add_write(text, teller, pid, plan),
+        CallKind::OpenFile(mode) => add_open(text, teller, pid, plan, mode),
         CallKind::Close(_) => around(text, "closed ", thing, ""),
-        CallKind::Dup(_) => add_dup(alloc, text, teller, pid, thing),
+        CallKind::Dup(_) => add_dup(text, teller, pid, thing),
     }
 }
 
 // Adds what the call did, whom it woke, and what was full for the first time.
-pub(crate) fn add_deed<M: Machine>(
-    alloc: Global,
-    text: &mut Vec<u8>,
-    teller: &Teller<'_, M>,
-    pid: Pid,
-    plan: &Plan,
-) -> Result<(), AllocError> {
-    add_call(alloc, text, teller, pid, plan)?;
-    add_woken(alloc, text, teller)?;
+pub(crate) fn add_deed<M: Machine>(text: &mut Text, teller: &Teller<'_, M>, pid: Pid, plan: &Plan) {
+    add_call(text, teller, pid, plan);
+    add_woken(text, teller);
     if teller.tracer().full().is_some() {
-        add(text, "; something was full")?;
+        text.add("; something was full");
     }
-    Ok(())
 }

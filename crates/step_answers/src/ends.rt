@@ -19,7 +19,7 @@ pub(crate) fn all_pids(alloc: Global) -> Result<Vec<Pid>, AllocError> {
 }
 
 // Whether the process holds this end of the pipe.
-fn holds<M: Machine>(kernel: &Kernel<M, Global>, pid: Pid, name: u64, end: End) -> bool {
+pub(crate) fn holds<M: Machine>(kernel: &Kernel<M, Global>, pid: Pid, name: u64, end: End) -> bool {
     for fd in 0..DESCRIPTORS {
         if pipe_end(kernel, pid, fd) == Some((name, end)) {
             return true;
@@ -75,19 +75,10 @@ pub(crate) fn names_of<M: Machine>(
     Ok(names)
 }
 
-// The children of the process.
-pub(crate) fn children<M: Machine>(
-    alloc: Global,
-    kernel: &Kernel<M, Global>,
-    parent: Pid,
-) -> Result<Vec<Pid>, AllocError> {
-    let mut pids = Vec::new(alloc);
-    for index in 0..PROCS {
-        if let Some(pid) = Pid::new(index) {
-            if pid != parent && kernel.parent(pid) == Some(parent) {
-                pids.push(pid)?;
-            }
-        }
+// Whether the process in this slot is a child of the parent.
+pub(crate) fn is_child<M: Machine>(kernel: &Kernel<M, Global>, index: usize, parent: Pid) -> bool {
+    match Pid::new(index) {
+        Some(pid) => pid != parent && kernel.parent(pid) == Some(parent),
+        None => false,
     }
-    Ok(pids)
 }

@@ -14,6 +14,7 @@ mod rest;
 mod scene;
 mod sleeps;
 mod teller;
+mod text;
 mod views;
 mod words;
 

@@ -1,7 +1,8 @@
 //! What a process does next, in words.
 
 use crate::teller::Teller;
-use crate::words::{add, add_command, add_count, add_number, add_short, purpose, thing_of};
+use crate::text::Text;
+use crate::words::{add_command, add_short, add_thing, purpose};
 use command_text::{Doing, append_command};
 use proc_table::Pid;
 use script_load::{Line, Script};
@@ -9,136 +10,106 @@ use std::alloc::{AllocError, Global};
 use user_calls::{CallKind, CallSlot, Machine};
 
 // A call on a descriptor, with what that has open.
-fn add_on<M: Machine>(
-    alloc: Global,
-    text: &mut Vec<u8>,
-    teller: &Teller<'_, M>,
-    pid: Pid,
-    fd: usize,
-) -> Result<(), AllocError> {
-    add(text, " descriptor ")?;
-    add_number(alloc, text, fd as u64)?;
-    let thing = thing_of(alloc, teller.kernel(), pid, fd)?;
-    add(text, " (")?;
-    text.extend_from_slice(thing.as_slice())?;
-    text.push(b')')?;
-    Ok(())
+fn add_on<M: Machine>(text: &mut Text, verb: &str, teller: &Teller<'_, M>, pid: Pid, fd: usize) {
+    text.add(verb);
+    text.add(" descriptor ");
+    text.number(fd as u64);
+    text.add(" (");
+    add_thing(text, teller.kernel(), pid, fd);
+    text.byte(b')');
 }
 
 // The program that a shell calls.
-fn add_exec<M: Machine>(
-    text: &mut Vec<u8>,
-    teller: &Teller<'_, M>,
-    pid: Pid,
-) -> Result<(), AllocError> {
-    add(text, "exec ")?;
+fn add_exec<M: Machine>(text: &mut Text, teller: &Teller<'_, M>, pid: Pid) {
+    text.add("exec ");
     if let Some(words) = teller.doing(pid).words() {
         if let Some(name) = words.as_slice().first() {
-            return add_short(text, name.as_slice());
+            add_short(text, name.as_slice());
         }
     }
-    Ok(())
 }
 
-fn add_call<M: Machine>(
-    alloc: Global,
-    text: &mut Vec<u8>,
+fn add_write<M: Machine>(
+    text: &mut Text,
     teller: &Teller<'_, M>,
     pid: Pid,
-    call: &CallSlot,
-) -> Result<(), AllocError> {
+    fd: usize,
+    size: usize,
+) {
+    text.add("write ");
+    text.count(size, "byte");
+    add_on(text, " to", teller, pid, fd);
+}
+
+fn add_call<M: Machine>(text: &mut Text, teller: &Teller<'_, M>, pid: Pid, call: &CallSlot) {
     match call.kind() {
-        CallKind::Fork => add(text, "fork"),
+        CallKind::Fork => text.add("fork"),
         CallKind::Exec(_) => add_exec(text, teller, pid),
-        CallKind::Exit => add(text, "exit"),
-        CallKind::Wait => add(text, "wait"),
-        CallKind::MakePipe => add(text, "pipe"),
-        CallKind::Read(fd, _) => {
-            add(text, "read")?;
-            add_on(alloc, text, teller, pid, fd)
-        }
-        CallKind::Write(fd) => {
-            add(text, "write ")?;
-            add_count(alloc, text, call.bytes().len(), "byte")?;
-            add(text, " to")?;
-            add_on(alloc, text, teller, pid, fd)
-        }
+        CallKind::Exit => text.add("exit"),
+        CallKind::Wait => text.add("wait"),
+        CallKind::MakePipe => text.add("pipe"),
+        CallKind::Read(fd, _) => add_on(text, "read", teller, pid, fd),
+        CallKind::Write(fd) => add_write(text, teller, pid, fd, call.bytes().len()),
         CallKind::OpenFile(mode) => {
-            add(text, "open ")?;
-            text.extend_from_slice(call.bytes())?;
-            add(text, purpose(mode))
+            text.add("open ");
+            text.bytes(call.bytes());
+            text.add(purpose(mode));
         }
-        CallKind::Close(fd) => {
-            add(text, "close")?;
-            add_on(alloc, text, teller, pid, fd)
-        }
-        CallKind::Dup(fd) => {
-            add(text, "dup")?;
-            add_on(alloc, text, teller, pid, fd)
+        CallKind::Close(fd) => add_on(text, "close", teller, pid, fd),
+        CallKind::Dup(fd) => add_on(text, "dup", teller, pid, fd),
+    }
+}
+
+// The text of a line of a script.
+fn append_line(line: &Line<Global>, text: &mut Vec<u8>) -> Result<(), AllocError> {
+    match line {
+        Line::Tree(tree) => append_command(tree, text),
+        Line::Bad(_, bad) => text.extend_from_slice(bad.as_slice()),
+        Line::Cd(place) => {
+            text.extend_from_slice(b"cd ".as_slice())?;
+            text.extend_from_slice(place.as_slice())
         }
     }
 }
 
 // A line of the script, by its number.
-fn add_script_line(
-    alloc: Global,
-    text: &mut Vec<u8>,
-    script: &Script<Global>,
-    number: usize,
-) -> Result<(), AllocError> {
-    let mut command = Vec::new(alloc);
-    match script.lines.as_slice().get(number.saturating_sub(1)) {
-        Some(Line::Tree(tree)) => append_command(tree, &mut command)?,
-        Some(Line::Bad(_, bad)) => command.extend_from_slice(bad.as_slice())?,
-        Some(Line::Cd(place)) => {
-            add(&mut command, "cd ")?;
-            command.extend_from_slice(place.as_slice())?;
-        }
-        None => return Ok(()),
+fn add_script_line(text: &mut Text, script: &Script<Global>, number: usize) {
+    let Some(line) = script.lines.as_slice().get(number.saturating_sub(1)) else {
+        return;
+    };
+    let mut command = Vec::new(text.alloc());
+    if append_line(line, &mut command).is_err() {
+        text.refuse();
     }
-    add(text, " for line ")?;
-    add_number(alloc, text, number as u64)?;
-    add(text, " `")?;
-    add_short(text, command.as_slice())?;
-    text.push(b'`')?;
-    Ok(())
+    text.add(" for line ");
+    text.number(number as u64);
+    text.add(" `");
+    add_short(text, command.as_slice());
+    text.byte(b'`');
 }
 
 // The line of the script, and the command of it, that a process carries out; of the first shell only the line that it forks for.
-fn add_line<M: Machine>(
-    alloc: Global,
-    text: &mut Vec<u8>,
-    teller: &Teller<'_, M>,
-    pid: Pid,
-    call: CallKind,
-) -> Result<(), AllocError> {
+fn add_line<M: Machine>(text: &mut Text, teller: &Teller<'_, M>, pid: Pid, call: CallKind) {
     let doing = teller.doing(pid);
     if let Doing::Script(number) = doing {
-        return match call {
-            CallKind::Fork => add_script_line(alloc, text, teller.script(), number),
-            _ => Ok(()),
-        };
+        if let CallKind::Fork = call {
+            add_script_line(text, teller.script(), number);
+        }
+        return;
     }
     if let Some(line) = doing.line() {
-        add(text, " for line ")?;
-        add_number(alloc, text, line as u64)?;
-        text.push(b' ')?;
-        add_command(alloc, text, doing)?;
+        text.add(" for line ");
+        text.number(line as u64);
+        text.byte(b' ');
+        let _has_command = add_command(text, doing);
     }
-    Ok(())
 }
 
 // Adds what the process does by its next call, if there is one.
-pub(crate) fn add_plan<M: Machine>(
-    alloc: Global,
-    text: &mut Vec<u8>,
-    teller: &Teller<'_, M>,
-    pid: Pid,
-) -> Result<(), AllocError> {
+pub(crate) fn add_plan<M: Machine>(text: &mut Text, teller: &Teller<'_, M>, pid: Pid) {
     let mut call = CallSlot::new();
-    if !teller.next_call(pid, &mut call) {
-        return Ok(());
+    if teller.next_call(pid, &mut call) {
+        add_call(text, teller, pid, &call);
+        add_line(text, teller, pid, call.kind());
     }
-    add_call(alloc, text, teller, pid, &call)?;
-    add_line(alloc, text, teller, pid, call.kind())
 }

@@ -3,7 +3,8 @@
 use crate::deeds::{add_deed, plan_of};
 use crate::scene::Scene;
 use crate::teller::Teller;
-use crate::words::{add, add_number, add_process};
+use crate::text::Text;
+use crate::words::add_process;
 use kernel_events::{Event, Kernel};
 use proc_table::{Pid, State};
 use session_outcomes::{Exploration, RestFault, Unwatched, outcomes_from};
@@ -44,7 +45,7 @@ pub enum Pace {
 // What is told of turns: text, or the records of a trace, a line each; and how many turns there were.
 #[derive(Drop)]
 pub struct Told {
-    pub text: Vec<u8>,
+    pub text: Text,
     pub records: Vec<u8>,
     pub turns: usize,
     // Whether the turns ended because there were too many.
@@ -165,9 +166,9 @@ impl<'t, M: Machine> Play<'t, M> {
         }
         let alloc = self.alloc;
         let first = self.teller.kernel().schedule().len() as u64;
-        add_event_numbers(alloc, &mut told.text, first)?;
-        add_process(alloc, &mut told.text, pid, self.teller.doing(pid))?;
-        add(&mut told.text, " ")?;
+        add_event_numbers(&mut told.text, first);
+        add_process(&mut told.text, pid, self.teller.doing(pid));
+        told.text.byte(b' ');
         if self.teller.dispatch(pid, Vec::new(alloc))?.is_none() {
             return Err(PlayFault::Memory);
         }
@@ -175,8 +176,8 @@ impl<'t, M: Machine> Play<'t, M> {
         if self.teller.trap(pid, Vec::new(alloc))?.is_none() {
             return Err(PlayFault::Memory);
         }
-        add_deed(alloc, &mut told.text, &self.teller, pid, &plan)?;
-        add(&mut told.text, "\n")?;
+        add_deed(&mut told.text, &self.teller, pid, &plan);
+        told.text.byte(b'\n');
         Ok(())
     }
 
@@ -271,7 +272,7 @@ impl<'t, M: Machine> Play<'t, M> {
     // Takes turns, as far as that can be done, and tells each.
     pub(crate) fn take_turns(&mut self, pace: Pace) -> Result<Told, PlayFault> {
         let mut told = Told {
-            text: Vec::new(self.alloc),
+            text: Text::new(self.alloc),
             records: Vec::new(self.alloc),
             turns: 0,
             is_cut: false,
@@ -288,12 +289,12 @@ pub(crate) fn pid_of(number: u64) -> Option<Pid> {
 }
 
 // Which events come behind so many.
-fn add_event_numbers(alloc: Global, text: &mut Vec<u8>, first: u64) -> Result<(), AllocError> {
-    add(text, "event ")?;
-    add_number(alloc, text, first.saturating_add(1))?;
-    text.push(b'-')?;
-    add_number(alloc, text, first.saturating_add(2))?;
-    add(text, ": ")
+fn add_event_numbers(text: &mut Text, first: u64) {
+    text.add("event ");
+    text.number(first.saturating_add(1));
+    text.byte(b'-');
+    text.number(first.saturating_add(2));
+    text.add(": ");
 }
 
 // Lets an event happen in the teller's kernel, with its record; `None` where it can't.

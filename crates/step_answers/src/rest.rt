@@ -1,11 +1,12 @@
 //! What can still come out, in every order of the processes.
 
 use crate::objects::write_files;
+use crate::text::Text;
 use crate::views::add_all_files;
-use crate::words::{add, add_count, add_number, add_quoted};
+use crate::words::add_quoted;
 use result_json::full_word;
 use session_outcomes::{Exploration, Outcome};
-use std::alloc::{AllocError, Global};
+use std::alloc::AllocError;
 use trace_lines::Line;
 
 // How many states are tried where no number is given (own).
@@ -37,95 +38,81 @@ fn behind(pids: &[u8], taken: usize) -> &[u8] {
 }
 
 // How many outcomes there are, and whether every order was tried.
-fn add_head(alloc: Global, text: &mut Vec<u8>, found: &Exploration) -> Result<(), AllocError> {
-    add_count(alloc, text, found.outcomes.len(), "outcome")?;
-    let tried = if found.whole {
+fn add_head(text: &mut Text, found: &Exploration) {
+    text.count(found.outcomes.len(), "outcome");
+    text.add(if found.whole {
         ", every order from here was tried ("
     } else {
         " so far, not every order from here was tried ("
-    };
-    add(text, tried)?;
-    add_count(alloc, text, found.states, "state")?;
-    add(text, ")\n")
+    });
+    text.count(found.states, "state");
+    text.add(")\n");
 }
 
 // The turns of these processes, of more than 60 the first 60 and how many there are.
-fn add_turns(alloc: Global, text: &mut Vec<u8>, pids: &[u8]) -> Result<(), AllocError> {
+fn add_turns(text: &mut Text, pids: &[u8]) {
     if pids.is_empty() {
-        return add(text, "without a turn");
+        text.add("without a turn");
+        return;
     }
-    add(text, "by turns of")?;
+    text.add("by turns of");
     for pid in &pids[..pids.len().min(SHOWN_TURNS)] {
-        text.push(b' ')?;
-        add_number(alloc, text, u64::from(*pid))?;
+        text.byte(b' ');
+        text.number(u64::from(*pid));
     }
     if SHOWN_TURNS < pids.len() {
-        add(text, " .. (")?;
-        add_count(alloc, text, pids.len(), "turn")?;
-        text.push(b')')?;
+        text.add(" .. (");
+        text.count(pids.len(), "turn");
+        text.byte(b')');
     }
-    Ok(())
+}
+
+// What was told in an outcome and what was full, if anything.
+fn add_marks(text: &mut Text, outcome: &Outcome) {
+    if !outcome.diag.is_empty() {
+        text.add("\n   diagnostics ");
+        add_quoted(text, outcome.diag.as_slice(), usize::MAX);
+    }
+    if let Some(full) = outcome.full {
+        text.add("\n   something was full: ");
+        text.add(full_word(full));
+    }
 }
 
 // The lines of an outcome: its output and the turns to it; what was told and what was full, if anything; and its files.
-fn add_outcome(
-    alloc: Global,
-    text: &mut Vec<u8>,
-    number: usize,
-    outcome: &Outcome,
-    taken: usize,
-) -> Result<(), AllocError> {
-    add_number(alloc, text, number as u64)?;
-    add(text, ": output ")?;
-    add_quoted(text, outcome.out.as_slice(), usize::MAX)?;
-    add(text, ", ")?;
-    add_turns(alloc, text, behind(outcome.pids.as_slice(), taken))?;
-    if !outcome.diag.is_empty() {
-        add(text, "\n   diagnostics ")?;
-        add_quoted(text, outcome.diag.as_slice(), usize::MAX)?;
-    }
-    if let Some(full) = outcome.full {
-        add(text, "\n   something was full: ")?;
-        add(text, full_word(full))?;
-    }
-    text.push(b'\n')?;
-    add_all_files(alloc, text, &outcome.files, "   ")
+fn add_outcome(text: &mut Text, number: usize, outcome: &Outcome, taken: usize) {
+    text.number(number as u64);
+    text.add(": output ");
+    add_quoted(text, outcome.out.as_slice(), usize::MAX);
+    text.add(", ");
+    add_turns(text, behind(outcome.pids.as_slice(), taken));
+    add_marks(text, outcome);
+    text.byte(b'\n');
+    add_all_files(text, &outcome.files, "   ");
 }
 
 // The outcomes, of more than 20 the first 20.
-fn add_outcomes(
-    alloc: Global,
-    text: &mut Vec<u8>,
-    outcomes: &[Outcome],
-    taken: usize,
-) -> Result<(), AllocError> {
+fn add_outcomes(text: &mut Text, outcomes: &[Outcome], taken: usize) {
     let shown = outcomes.len().min(SHOWN_OUTCOMES);
     for (place, outcome) in outcomes[..shown].iter().enumerate() {
-        add_outcome(alloc, text, place.saturating_add(1), outcome, taken)?;
+        add_outcome(text, place.saturating_add(1), outcome, taken);
     }
     if shown < outcomes.len() {
-        add(text, "and ")?;
-        add_number(alloc, text, (outcomes.len() - shown) as u64)?;
-        add(text, " more\n")?;
+        text.add("and ");
+        text.number((outcomes.len() - shown) as u64);
+        text.add(" more\n");
     }
-    Ok(())
 }
 
 // Adds what can still come out, after so many turns that were taken.
-pub(crate) fn add_rest(
-    alloc: Global,
-    text: &mut Vec<u8>,
-    found: &Exploration,
-    taken: usize,
-) -> Result<(), AllocError> {
-    add_head(alloc, text, found)?;
-    add_outcomes(alloc, text, found.outcomes.as_slice(), taken)?;
+pub(crate) fn add_rest(text: &mut Text, found: &Exploration, taken: usize) {
+    add_head(text, found);
+    add_outcomes(text, found.outcomes.as_slice(), taken);
     if let Some(pids) = &found.stuck {
-        add(text, "every process sleeps for ever ")?;
-        add_turns(alloc, text, behind(pids.as_slice(), taken))?;
-        text.push(b'\n')?;
+        text.add("every process sleeps for ever ");
+        add_turns(text, behind(pids.as_slice(), taken));
+        text.byte(b'\n');
     }
-    Ok(())
 }
 
 fn write_turns(line: &mut Line, key: &str, pids: &[u8]) -> Result<(), AllocError> {

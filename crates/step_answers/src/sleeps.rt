@@ -1,85 +1,104 @@
 //! Why a process can't take a turn, in words.
 
-use crate::ends::{children, holders};
+use crate::ends::{holds, is_child};
 use crate::teller::Teller;
-use crate::words::{add, add_number, add_process};
+use crate::text::Text;
+use crate::words::add_process;
 use kernel_events::Kernel;
-use proc_table::{Channel, Pid, State};
+use proc_table::{Channel, PROCS, Pid, State};
 use run_trace::End;
-use std::alloc::{AllocError, Global};
+use std::alloc::Global;
 use user_calls::Machine;
 
-// Processes by their numbers; `nobody` where there is none.
-pub(crate) fn add_pids(alloc: Global, text: &mut Vec<u8>, pids: &[Pid]) -> Result<(), AllocError> {
-    if pids.is_empty() {
-        return add(text, "nobody");
-    }
+// The number of a process behind those that stand there already.
+fn add_pid(text: &mut Text, before: &str, index: usize) {
+    text.add(before);
+    text.number(index as u64);
+}
+
+// The processes that hold this end of a pipe, by their numbers; `nobody` where there is none.
+pub(crate) fn add_holders<M: Machine>(
+    text: &mut Text,
+    kernel: &Kernel<M, Global>,
+    name: u64,
+    end: End,
+) {
     let mut before = "";
-    for pid in pids {
-        add(text, before)?;
-        add_number(alloc, text, pid.index() as u64)?;
-        before = ", ";
+    for index in 0..PROCS {
+        if let Some(pid) = Pid::new(index) {
+            if holds(kernel, pid, name, end) {
+                add_pid(text, before, index);
+                before = ", ";
+            }
+        }
     }
-    Ok(())
+    if before.is_empty() {
+        text.add("nobody");
+    }
+}
+
+// The children of a process, in the same way.
+fn add_children<M: Machine>(text: &mut Text, kernel: &Kernel<M, Global>, parent: Pid) {
+    let mut before = "";
+    for index in 0..PROCS {
+        if is_child(kernel, index, parent) {
+            add_pid(text, before, index);
+            before = ", ";
+        }
+    }
+    if before.is_empty() {
+        text.add("nobody");
+    }
 }
 
 // What a process sleeps on.
 pub(crate) fn add_sleep<M: Machine>(
-    alloc: Global,
-    text: &mut Vec<u8>,
+    text: &mut Text,
     kernel: &Kernel<M, Global>,
     pid: Pid,
     channel: Channel,
-) -> Result<(), AllocError> {
+) {
     match channel {
         Channel::Children(_) => {
-            let pids = children(alloc, kernel, pid)?;
-            add(text, "waits until a child exits: ")?;
-            add_pids(alloc, text, pids.as_slice())
+            text.add("waits until a child exits: ");
+            add_children(text, kernel, pid);
         }
         Channel::PipeBytes(name) => {
-            add(text, "reads pipe ")?;
-            add_number(alloc, text, name)?;
-            add(text, ", empty, written by ")?;
-            let pids = holders(alloc, kernel, name, End::Write)?;
-            add_pids(alloc, text, pids.as_slice())
+            text.add("reads pipe ");
+            text.number(name);
+            text.add(", empty, written by ");
+            add_holders(text, kernel, name, End::Write);
         }
         Channel::PipeRoom(name) => {
-            add(text, "writes pipe ")?;
-            add_number(alloc, text, name)?;
-            add(text, ", full, read by ")?;
-            let pids = holders(alloc, kernel, name, End::Read)?;
-            add_pids(alloc, text, pids.as_slice())
+            text.add("writes pipe ");
+            text.number(name);
+            text.add(", full, read by ");
+            add_holders(text, kernel, name, End::Read);
         }
     }
 }
 
 // Adds a sentence on why the process in this slot can't take a turn, or that it can.
-pub(crate) fn add_why<M: Machine>(
-    alloc: Global,
-    text: &mut Vec<u8>,
-    teller: &Teller<'_, M>,
-    pid: Pid,
-) -> Result<(), AllocError> {
+pub(crate) fn add_why<M: Machine>(text: &mut Text, teller: &Teller<'_, M>, pid: Pid) {
     let kernel = teller.kernel();
     if let State::Free = kernel.state(pid) {
-        add(text, "there is no process ")?;
-        return add_number(alloc, text, pid.index() as u64);
+        text.add("there is no process ");
+        text.number(pid.index() as u64);
+        return;
     }
-    add_process(alloc, text, pid, teller.doing(pid))?;
+    add_process(text, pid, teller.doing(pid));
     match kernel.state(pid) {
-        State::Free => Ok(()),
-        State::Runnable => add(text, " is runnable"),
-        State::Running(_) => add(text, " is running"),
+        State::Free => {}
+        State::Runnable => text.add(" is runnable"),
+        State::Running(_) => text.add(" is running"),
         State::Asleep(channel) => {
-            add(text, " sleeps: ")?;
-            add_sleep(alloc, text, kernel, pid, channel)
+            text.add(" sleeps: ");
+            add_sleep(text, kernel, pid, channel);
         }
         State::Zombie => {
-            add(text, " is a zombie: it has exited, and process ")?;
-            let parent = kernel.parent(pid).unwrap_or(Pid::init());
-            add_number(alloc, text, parent.index() as u64)?;
-            add(text, " hasn't waited for it yet")
+            text.add(" is a zombie: it has exited, and process ");
+            text.number(kernel.parent(pid).unwrap_or(Pid::init()).index() as u64);
+            text.add(" hasn't waited for it yet");
         }
     }
 }

@@ -1,14 +1,15 @@
 //! What there is of processes, pipes, descriptors and files, as text.
 
-use crate::ends::{all_pids, holders, names_of};
+use crate::ends::names_of;
 use crate::plans::add_plan;
-use crate::sleeps::{add_pids, add_sleep};
+use crate::sleeps::{add_holders, add_sleep};
 use crate::teller::Teller;
-use crate::words::{add, add_column, add_count, add_name, add_number, add_object, add_quoted};
+use crate::text::Text;
+use crate::words::{add_column, add_name, add_object, add_quoted};
 use fd_table::{DESCRIPTORS, Object};
 use kernel_events::Kernel;
 use mem_files::Files;
-use proc_table::{Pid, State};
+use proc_table::{PROCS, Pid, State};
 use run_trace::End;
 use std::alloc::{AllocError, Global};
 use user_calls::Machine;
@@ -17,183 +18,144 @@ use user_calls::Machine;
 const PIPE_SIZE: &str = " of 512 bytes";
 
 // The state of a process, with what it does next or sleeps on.
-fn add_state<M: Machine>(
-    alloc: Global,
-    text: &mut Vec<u8>,
-    teller: &Teller<'_, M>,
-    pid: Pid,
-) -> Result<(), AllocError> {
+fn add_state<M: Machine>(text: &mut Text, teller: &Teller<'_, M>, pid: Pid) {
     let kernel = teller.kernel();
     match kernel.state(pid) {
-        State::Free => add(text, "free"),
-        State::Zombie => add(text, "zombie"),
+        State::Free => text.add("free"),
+        State::Zombie => text.add("zombie"),
         State::Asleep(channel) => {
-            add(text, "asleep     ")?;
-            add_sleep(alloc, text, kernel, pid, channel)
+            text.add("asleep     ");
+            add_sleep(text, kernel, pid, channel);
         }
         State::Runnable | State::Running(_) => {
-            add(text, "runnable   next: ")?;
-            add_plan(alloc, text, teller, pid)
+            text.add("runnable   next: ");
+            add_plan(text, teller, pid);
         }
     }
+}
+
+// A process, on a line.
+fn add_process_line<M: Machine>(text: &mut Text, teller: &Teller<'_, M>, pid: Pid) {
+    let begin = text.len();
+    text.number(pid.index() as u64);
+    add_column(text, begin, 3);
+    text.bytes(teller.doing(pid).program());
+    add_column(text, begin, 13);
+    add_state(text, teller, pid);
+    text.byte(b'\n');
 }
 
 // The processes, a line each.
-pub(crate) fn add_ps<M: Machine>(
-    alloc: Global,
-    text: &mut Vec<u8>,
-    teller: &Teller<'_, M>,
-) -> Result<(), AllocError> {
-    for pid in &all_pids(alloc)? {
-        if teller.kernel().parent(*pid).is_some() {
-            let begin = text.len();
-            add_number(alloc, text, pid.index() as u64)?;
-            add_column(text, begin, 3)?;
-            text.extend_from_slice(teller.doing(*pid).program())?;
-            add_column(text, begin, 13)?;
-            add_state(alloc, text, teller, *pid)?;
-            text.push(b'\n')?;
+pub(crate) fn add_ps<M: Machine>(text: &mut Text, teller: &Teller<'_, M>) {
+    for index in 0..PROCS {
+        if let Some(pid) = Pid::new(index) {
+            if teller.kernel().parent(pid).is_some() {
+                add_process_line(text, teller, pid);
+            }
         }
     }
-    Ok(())
 }
 
-// The holders of an end of a pipe, or that it is closed.
-fn add_end<M: Machine>(
-    alloc: Global,
-    text: &mut Vec<u8>,
-    kernel: &Kernel<M, Global>,
-    name: u64,
-    end: End,
-) -> Result<(), AllocError> {
-    let pids = holders(alloc, kernel, name, end)?;
-    add(
-        text,
-        match end {
-            End::Read => ", read by ",
-            End::Write => ", written by ",
-        },
-    )?;
-    add_pids(alloc, text, pids.as_slice())
+// The holders of the ends of a pipe, and how full it is, on a line.
+fn add_pipe<M: Machine>(text: &mut Text, kernel: &Kernel<M, Global>, name: u64) {
+    let held = match kernel.pipe(name) {
+        Some(status) => status.held,
+        None => 0,
+    };
+    text.add("pipe ");
+    text.number(name);
+    text.add(": ");
+    text.number(held as u64);
+    text.add(PIPE_SIZE);
+    text.add(", read by ");
+    add_holders(text, kernel, name, End::Read);
+    text.add(", written by ");
+    add_holders(text, kernel, name, End::Write);
+    text.byte(b'\n');
 }
 
 // The pipes, a line each.
 pub(crate) fn add_pipes<M: Machine>(
-    alloc: Global,
-    text: &mut Vec<u8>,
+    text: &mut Text,
     kernel: &Kernel<M, Global>,
 ) -> Result<(), AllocError> {
-    let names = names_of(alloc, kernel)?;
+    let names = names_of(text.alloc(), kernel)?;
     if names.is_empty() {
-        return add(text, "there is no pipe\n");
+        text.add("there is no pipe\n");
     }
     for name in &names {
-        add(text, "pipe ")?;
-        add_number(alloc, text, *name)?;
-        add(text, ": ")?;
-        let held = match kernel.pipe(*name) {
-            Some(status) => status.held,
-            None => 0,
-        };
-        add_number(alloc, text, held as u64)?;
-        add(text, PIPE_SIZE)?;
-        add_end(alloc, text, kernel, *name, End::Read)?;
-        add_end(alloc, text, kernel, *name, End::Write)?;
-        text.push(b'\n')?;
+        add_pipe(text, kernel, *name);
     }
     Ok(())
 }
 
 // Where what a descriptor has open goes on, of a file.
-fn add_offset(
-    alloc: Global,
-    text: &mut Vec<u8>,
-    object: &Object,
-    offset: Option<u64>,
-) -> Result<(), AllocError> {
-    match (object, offset) {
-        (Object::File(_, _), Some(offset)) => {
-            add(text, ", at byte ")?;
-            add_number(alloc, text, offset)
-        }
-        _ => Ok(()),
+fn add_offset(text: &mut Text, object: &Object, offset: Option<u64>) {
+    if let (Object::File(_, _), Some(offset)) = (object, offset) {
+        text.add(", at byte ");
+        text.number(offset);
     }
 }
 
 // The open descriptors of a process, a line each.
-pub(crate) fn add_fds<M: Machine>(
-    alloc: Global,
-    text: &mut Vec<u8>,
-    kernel: &Kernel<M, Global>,
-    pid: Pid,
-) -> Result<(), AllocError> {
+pub(crate) fn add_fds<M: Machine>(text: &mut Text, kernel: &Kernel<M, Global>, pid: Pid) {
     let begin = text.len();
     for fd in 0..DESCRIPTORS {
         if let Some(object) = kernel.object(pid, fd) {
-            add_number(alloc, text, fd as u64)?;
-            add(text, ": ")?;
-            add_object(alloc, text, object)?;
-            add_offset(alloc, text, object, kernel.offset(pid, fd))?;
-            text.push(b'\n')?;
+            text.number(fd as u64);
+            text.add(": ");
+            add_object(text, object);
+            add_offset(text, object, kernel.offset(pid, fd));
+            text.byte(b'\n');
         }
     }
     if text.len() == begin {
-        add(text, "it has nothing open\n")?;
+        text.add("it has nothing open\n");
     }
-    Ok(())
 }
 
 // How many bytes of a file are shown.
 const HEAD_SIZE: usize = 32;
 
 // The files, a line each.
-pub(crate) fn add_files<M: Machine>(
-    alloc: Global,
-    text: &mut Vec<u8>,
-    kernel: &Kernel<M, Global>,
-) -> Result<(), AllocError> {
+pub(crate) fn add_files<M: Machine>(text: &mut Text, kernel: &Kernel<M, Global>) {
     if kernel.files().count() == 0 {
-        return add(text, "there is no file\n");
+        text.add("there is no file\n");
     }
-    add_all_files(alloc, text, kernel.files(), "")
+    add_all_files(text, kernel.files(), "");
+}
+
+// A file on a line.
+fn add_file(text: &mut Text, name: &[u8], bytes: &[u8]) {
+    add_name(text, name);
+    text.add(": ");
+    text.count(bytes.len(), "byte");
+    text.add(", ");
+    add_quoted(text, bytes, HEAD_SIZE);
+    text.byte(b'\n');
 }
 
 // The files, a line each, behind these blanks.
-pub(crate) fn add_all_files(
-    alloc: Global,
-    text: &mut Vec<u8>,
-    files: &Files<Global>,
-    blanks: &str,
-) -> Result<(), AllocError> {
+pub(crate) fn add_all_files(text: &mut Text, files: &Files<Global>, blanks: &str) {
     for at in 0..files.count() {
         if let Some(name) = files.name_at(at) {
-            let bytes = files.get(name).unwrap_or(&[]);
-            add(text, blanks)?;
-            add_name(text, name)?;
-            add(text, ": ")?;
-            add_count(alloc, text, bytes.len(), "byte")?;
-            add(text, ", ")?;
-            add_quoted(text, bytes, HEAD_SIZE)?;
-            text.push(b'\n')?;
+            text.add(blanks);
+            add_file(text, name, files.get(name).unwrap_or(&[]));
         }
     }
-    Ok(())
+}
+
+// Bytes that were written, how many and which.
+fn add_written(text: &mut Text, what: &str, bytes: &[u8]) {
+    text.add(what);
+    text.count(bytes.len(), "byte");
+    text.add(", ");
+    add_quoted(text, bytes, usize::MAX);
+    text.byte(b'\n');
 }
 
 // The output and the diagnostics so far.
-pub(crate) fn add_out<M: Machine>(
-    alloc: Global,
-    text: &mut Vec<u8>,
-    kernel: &Kernel<M, Global>,
-) -> Result<(), AllocError> {
-    add(text, "output: ")?;
-    add_count(alloc, text, kernel.out().len(), "byte")?;
-    add(text, ", ")?;
-    add_quoted(text, kernel.out(), usize::MAX)?;
-    add(text, "\ndiagnostics: ")?;
-    add_count(alloc, text, kernel.diag().len(), "byte")?;
-    add(text, ", ")?;
-    add_quoted(text, kernel.diag(), usize::MAX)?;
-    text.push(b'\n')?;
-    Ok(())
+pub(crate) fn add_out<M: Machine>(text: &mut Text, kernel: &Kernel<M, Global>) {
+    add_written(text, "output: ", kernel.out());
+    add_written(text, "diagnostics: ", kernel.diag());
 }
