@@ -5,3 +5,4 @@ mod capped;
 mod needs;
 
 pub use capped::MAX_COUNT;
+pub use needs::most_processes;
