@@ -41,9 +41,22 @@ class Row:
     def all(self, name):
         return [value for found, value in self.fields if found == name]
 
+    def check(self, once, many):
+        """Tells of a field with a name that is in neither set, and of one that stands twice where it may stand once."""
+        for name, _ in self.fields:
+            if name not in once | many:
+                raise Wrong(f"there is no field {name!r} here")
+            if name in once and len(self.all(name)) > 1:
+                raise Wrong(f"the field {name!r} stands twice")
+
     def placed(self, name):
-        """Returns the paths of the fields of this name, each with what stands behind it."""
-        return {path: rest for path, _, rest in (value.partition(" ") for value in self.all(name))}
+        """Returns the paths of the fields of this name, each with what stands behind it. A path may stand once."""
+        found = {}
+        for path, _, rest in (value.partition(" ") for value in self.all(name)):
+            if path in found:
+                raise Wrong(f"the field {name!r} stands twice for {path}")
+            found[path] = rest
+        return found
 
 
 def rows_of(path):
