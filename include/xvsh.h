@@ -282,7 +282,8 @@ static inline uint32_t xvsh_explain(const xvsh_task *task, xvsh_answer *answer) 
 /* Tries every order of the script's processes, as `xvsh explore --json`, of at most `states` states of the kernel, from 1 to
  * XVSH_MAX_STATES, for each of which memory is kept. A settled script none of whose files is soft has one outcome, and is explored
  * only with `thorough` other than 0. Gives that object as json, fine where all outcomes that were found have one output and one set of
- * files, and whole where every order was tried, or what it leaves is known without. */
+ * files, and whole where every order was tried, or what it leaves is known without. Where something was full, or some order never ends,
+ * the object's `status` and `code` say so. */
 static inline uint32_t xvsh_explore(const xvsh_task *task, uint64_t states, uint32_t thorough, xvsh_answer *answer) {
   xvsh_safe_task_ safe;
   if (xvsh_begin_(task, &safe, answer)) xvsh_explore_call(&safe.task, states, thorough, answer);

@@ -25,6 +25,7 @@ pub fn check_of(alloc: Global, task: &Task<'_>, is_strict: bool) -> Result<AskAn
         script: STDIN,
         files: &[],
         counts_turns: false,
+        tells_room: false,
         is_strict,
         is_json: true,
     };

@@ -1,11 +1,11 @@
 -- What every order of a task's processes leaves, and why it isn't told.
-use Rattle.std.specs.Prelude.{◌≡◌, ◌⊎◌, ◌<◌, ℕ, Bool, List}
+use Rattle.std.specs.Prelude.{◌≡◌, ◌⊎◌, ◌↔◌, ◌<◌, ℕ, Bool, IsTrue, List}
 use Rattle.mem_files.specs.Name.{Name, Bytes}
 use Rattle.script_load.specs.Line.{ScriptLine}
 use Rattle.xvsh_read.specs.declared.fault.Fault.{Fault}
 use Rattle.xvsh_read.specs.declared.fault.Fault.TheVariants.{Unreadable as unreadable, TooLong as too_long, LineTooLong as line_too_long, ByteZero as byte_zero, BadName as bad_name, TakenName as taken_name, TooManyFiles as too_many_files, TooLarge as too_large, Memory as refused}
 use Rattle.xvsh_explores.specs.declared.request.TheConstants.{MAX_STATES}
-use Rattle.xvsh_explores.specs.Explores.{Told}
+use Rattle.script_outcomes.specs.Found.{IsFound, IsSingle, is_whole}
 use Rattle.embed_task.specs.declared.task.Task.{Task}
 use Rattle.embed_task.specs.declared.fault.StartFault.{StartFault}
 use Rattle.embed_task.specs.declared.fault.EmbedFault.{EmbedFault}
@@ -26,14 +26,17 @@ explored_fault too_many_files = Memory
 explored_fault too_large = TooLarge
 explored_fault refused = Memory
 
--- the answer tells the outcomes of the task's script, by whether all orders are tried of a settled one too
-pub record IsExploreAnswer (task : Task) (thorough : Bool) (answer : ExploreAnswer) : Type 0 where
+-- the answer is what was found of the task's script, where at most so many states were to be kept, and with all orders tried of a settled
+-- script too or not
+pub record IsExploreAnswer (task : Task) (states : ℕ) (thorough : Bool) (answer : ExploreAnswer) : Type 0 where
   pub lines : List ScriptLine
   pub given : List (Name × Bytes)
   pub starts : Starts task lines given
-  pub told : Told (profile_by task.appends) lines task.stdin.now given thorough answer.is_whole answer.is_single
+  pub found : IsFound (profile_by task.appends) lines task.stdin.now given states thorough answer.found
+  pub whole : answer.is_whole ≡ is_whole answer.found
+  pub single : IsTrue answer.is_single ↔ IsSingle answer.found
 
--- why they aren't told, of at most so many states: these are out of range, the runs can't begin, one has more turns than can be
+-- why nothing was found, of at most so many states: these are out of range, the runs can't begin, one has more turns than can be
 -- counted, or memory was refused
 pub data IsExploreRefusal (task : Task) (states : ℕ) : EmbedFault → Type 0 where
   bad_states : (states ≡ 0) ⊎ (MAX_STATES < states) → IsExploreRefusal task states BadStates

@@ -5,6 +5,7 @@ ghost use Rattle.embed_task.specs.declared.fault.EmbedFault.TheVariants.{Memory}
 
 use closed_search::Unwatched;
 use embed_task::{Begun, EmbedFault, Task, begin, profile_by};
+use script_outcomes::{Found, is_single, is_whole};
 use std::alloc::Global;
 use xvsh_explores::{ExploreRequest, MAX_STATES, explore_start};
 use xvsh_read::{Fault, STDIN, Source, Start};
@@ -12,11 +13,13 @@ use xvsh_read::{Fault, STDIN, Source, Start};
 /// What every order of a script leaves.
 #[derive(Drop)]
 pub struct ExploreAnswer {
-    /// An object of JSON, and LF.
+    /// What was found.
+    pub found: Found,
+    /// The object of JSON that lists it, and LF.
     pub json: Vec<u8>,
     /// Whether every order was tried, or what it leaves is known without.
     pub is_whole: bool,
-    /// Whether there is an outcome, and all that were found have one output and one set of files.
+    /// Whether something was found, and all that was has one output and one set of files.
     pub is_single: bool,
 }
 
@@ -60,7 +63,7 @@ pub fn explore_of(
     states: u64,
     is_thorough: bool,
 ) -> Result<ExploreAnswer, EmbedFault>
-    ensures told { IfOk result (IsExploreAnswer task.now is_thorough) }
+    ensures found { IfOk result (IsExploreAnswer task.now states is_thorough) }
     ensures fault { IfErr result (IsExploreRefusal task.now states) }
 {
     if states == 0 {
@@ -93,9 +96,10 @@ pub fn explore_of(
     };
     match explore_start(alloc, &start, &request, &mut Unwatched) {
         Ok(explored) => Ok(ExploreAnswer {
+            is_whole: is_whole(&explored.found),
+            is_single: is_single(&explored.found),
+            found: explored.found,
             json: explored.text,
-            is_whole: explored.is_whole,
-            is_single: explored.is_single,
         }),
         Err(fault) => Err(of_explored(fault)),
     }

@@ -52,21 +52,18 @@ impl Bounds {
 }
 
 // Says which events are left out, if some are.
-pub(crate) fn add_left_out<A: Allocator>(
-    page: &mut Page<A>,
-    span: Span,
-    events: usize,
-) -> Result<(), AllocError> {
+pub(crate) fn add_left_out<A: Allocator>(page: &mut Page<A>, span: Span, events: usize) {
     let drawn = span.count();
     if drawn >= events {
-        return Ok(());
+        return;
     }
     if drawn == 0 {
-        return page.add(&[
+        page.add(&[
             Mark("<p class=\"note\"><b>No event is drawn</b>: there are "),
             Num(events),
             Mark(", and <code>--from</code> and <code>--to</code> name none of them.</p>\n"),
         ]);
+        return;
     }
     page.add(&[
         Mark("<p class=\"note\"><b>Events "),
@@ -78,17 +75,17 @@ pub(crate) fn add_left_out<A: Allocator>(
         Mark("</b>: the other "),
         Num(events.saturating_sub(drawn)),
         Mark(" are left out. <code>--from</code> and <code>--to</code> draw others.</p>\n"),
-    ])
+    ]);
 }
 
 // Says how many events are folded, if some are.
-fn add_folded<A: Allocator>(page: &mut Page<A>, folds: &[Fold]) -> Result<(), AllocError> {
+fn add_folded<A: Allocator>(page: &mut Page<A>, folds: &[Fold]) {
     let mut folded: usize = 0;
     for fold in folds {
         folded = folded.saturating_add(fold.count());
     }
     if folded == 0 {
-        return Ok(());
+        return;
     }
     page.add(&[
         Mark("<p class=\"note\"><b>"),
@@ -96,7 +93,7 @@ fn add_folded<A: Allocator>(page: &mut Page<A>, folds: &[Fold]) -> Result<(), Al
         Mark(
             " events are folded</b>, in shaded columns with how many there are: reads and writes like those before them. The table has each.</p>\n",
         ),
-    ])
+    ]);
 }
 
 // The figure of these events, which the run passes.
@@ -107,7 +104,7 @@ pub(crate) fn add_figure<A: Allocator + Copy>(
     span: Span,
 ) -> Result<(), AllocError> {
     let folds = folds_of(alloc, run, (span.first, span.past))?;
-    add_folded(page, folds.as_slice())?;
+    add_folded(page, folds.as_slice());
     let window = Window::new(span.first, span.past, folds.as_slice());
     add_strips(alloc, page, run, window)
 }
@@ -129,19 +126,19 @@ pub fn run_page<A: Allocator + Copy>(
         &mut page,
         "A run of a script",
         trace.text(trace.head.script),
-    )?;
-    add_facts(&mut page, &run)?;
-    page.mark("<h2>What happened</h2>\n")?;
-    add_story(&mut page, &run, span)?;
+    );
+    add_facts(&mut page, &run);
+    page.mark("<h2>What happened</h2>\n");
+    add_story(&mut page, &run, span);
     page.mark(
         "<h2>Processes, pipes and output</h2>\n<p class=\"note\">Events go from left to right.</p>\n",
-    )?;
-    add_left_out(&mut page, span, trace.events.len())?;
-    page.mark(KEY)?;
+    );
+    add_left_out(&mut page, span, trace.events.len());
+    page.mark(KEY);
     run.pass(1, span.first);
     add_figure(alloc, &mut page, &mut run, span)?;
-    page.mark("<h2>Each call</h2>\n")?;
-    add_table(&mut page, &run, span)?;
-    page.mark("</main>\n</body>\n</html>\n")?;
-    Ok(page.into_text())
+    page.mark("<h2>Each call</h2>\n");
+    add_table(&mut page, &run, span);
+    page.mark("</main>\n</body>\n</html>\n");
+    page.end()
 }

@@ -45,28 +45,24 @@ fn deed_of(events: &[Event], number: usize) -> Option<&Event> {
 }
 
 // What comes at an event in a run.
-fn add_deed<A: Allocator + Copy>(
-    page: &mut Page<A>,
-    run: &Run<'_, A>,
-    number: usize,
-) -> Result<(), AllocError> {
+fn add_deed<A: Allocator + Copy>(page: &mut Page<A>, run: &Run<'_, A>, number: usize) {
     let events = run.trace.events.as_slice();
     if let Some(event) = deed_of(events, number) {
-        page.mark("<p>Process ")?;
-        add_process(page, run, event, ROOM)?;
-        page.mark("</p>")?;
+        page.mark("<p>Process ");
+        add_process(page, run, event, ROOM);
+        page.mark("</p>");
         if let Some(trap) = &event.trap {
-            page.mark("<p>")?;
-            add_sentence(page, run, event, trap)?;
-            page.mark("</p>")?;
+            page.mark("<p>");
+            add_sentence(page, run, event, trap);
+            page.mark("</p>");
         }
-        return Ok(());
+        return;
     }
     match events.get(number.wrapping_sub(1)) {
         None => page.mark("<p>The run has ended.</p>"),
         Some(event) => {
-            page.mark("<p>Process ")?;
-            add_process(page, run, event, ROOM)?;
+            page.mark("<p>Process ");
+            add_process(page, run, event, ROOM);
             page.mark(" begins to run</p>")
         }
     }
@@ -78,16 +74,16 @@ fn add_card<A: Allocator + Copy>(
     run: &Run<'_, A>,
     name: &'static str,
     number: usize,
-) -> Result<(), AllocError> {
+) {
     page.add(&[
         Mark("<div class=\"card\"><b>In "),
         Mark(name),
         Mark(", event "),
         Num(number),
         Mark("</b>"),
-    ])?;
-    add_deed(page, run, number)?;
-    page.mark("</div>\n")
+    ]);
+    add_deed(page, run, number);
+    page.mark("</div>\n");
 }
 
 // Where the two part, in a sentence, and what comes then in each.
@@ -96,10 +92,11 @@ fn add_parting<A: Allocator + Copy>(
     one: &Run<'_, A>,
     other: &Run<'_, A>,
     count: usize,
-) -> Result<(), AllocError> {
-    page.mark("<h2>Where they part</h2>\n")?;
+) {
+    page.mark("<h2>Where they part</h2>\n");
     if count == one.trace.events.len() && count == other.trace.events.len() {
-        return page.mark("<p>Nowhere: the events of both are the same.</p>\n");
+        page.mark("<p>Nowhere: the events of both are the same.</p>\n");
+        return;
     }
     let number = count.saturating_add(1);
     page.add(&[
@@ -108,47 +105,39 @@ fn add_parting<A: Allocator + Copy>(
         Mark(" events. They part at event "),
         Num(number),
         Mark(", where another process comes next.</p>\n<div class=\"two\">\n"),
-    ])?;
-    add_card(page, one, "run 1", number)?;
-    add_card(page, other, "run 2", number)?;
-    page.mark("</div>\n")
+    ]);
+    add_card(page, one, "run 1", number);
+    add_card(page, other, "run 2", number);
+    page.mark("</div>\n");
 }
 
 // What a run told as diagnostics, if it told something.
-fn add_messages<A: Allocator + Copy>(
-    page: &mut Page<A>,
-    name: &'static str,
-    trace: &Trace<A>,
-) -> Result<(), AllocError> {
+fn add_messages<A: Allocator + Copy>(page: &mut Page<A>, name: &'static str, trace: &Trace<A>) {
     let told = trace.text(trace.end.diag);
     if told.is_empty() {
-        return Ok(());
+        return;
     }
-    add_printed(page, name, told)
+    add_printed(page, name, told);
 }
 
 // What both runs printed and left.
-fn add_both_facts<A: Allocator + Copy>(
-    page: &mut Page<A>,
-    one: &Run<'_, A>,
-    other: &Run<'_, A>,
-) -> Result<(), AllocError> {
-    page.mark("<dl class=\"facts\">\n")?;
-    add_printed(page, "Run 1 prints", one.trace.text(one.trace.end.out))?;
-    add_printed(page, "Run 2 prints", other.trace.text(other.trace.end.out))?;
-    add_messages(page, "Messages of run 1", one.trace)?;
-    add_messages(page, "Messages of run 2", other.trace)?;
-    add_files(page, "Files before", one.trace, one.trace.head.files)?;
-    add_files(page, "Files after run 1", one.trace, one.trace.end.files)?;
+fn add_both_facts<A: Allocator + Copy>(page: &mut Page<A>, one: &Run<'_, A>, other: &Run<'_, A>) {
+    page.mark("<dl class=\"facts\">\n");
+    add_printed(page, "Run 1 prints", one.trace.text(one.trace.end.out));
+    add_printed(page, "Run 2 prints", other.trace.text(other.trace.end.out));
+    add_messages(page, "Messages of run 1", one.trace);
+    add_messages(page, "Messages of run 2", other.trace);
+    add_files(page, "Files before", one.trace, one.trace.head.files);
+    add_files(page, "Files after run 1", one.trace, one.trace.end.files);
     add_files(
         page,
         "Files after run 2",
         other.trace,
         other.trace.end.files,
-    )?;
-    add_size(page, "Run 1", one)?;
-    add_size(page, "Run 2", other)?;
-    page.mark("</dl>\n")
+    );
+    add_size(page, "Run 1", one);
+    add_size(page, "Run 2", other);
+    page.mark("</dl>\n");
 }
 
 // The part of these events before an event, or from it on.
@@ -175,11 +164,12 @@ fn add_rest<A: Allocator + Copy>(
         Mark(", from event "),
         Num(span.first),
         Mark(" on</h2>\n"),
-    ])?;
-    add_story(page, run, span)?;
+    ]);
+    add_story(page, run, span);
     run.pass(1, span.first);
     add_figure(alloc, page, run, span)?;
-    add_table(page, run, span)
+    add_table(page, run, span);
+    Ok(())
 }
 
 /// The page of two runs of one script: what both printed and left, the event at which they part, what both begin with once, and
@@ -197,20 +187,20 @@ pub fn pair_page<A: Allocator + Copy>(
     let mut second = Run::new(alloc, other)?;
     let count = shared(one.events.as_slice(), other.events.as_slice());
     let parting = count.saturating_add(1);
-    add_head(&mut page, "Two runs of a script", one.text(one.head.script))?;
-    add_both_facts(&mut page, &first, &second)?;
-    add_parting(&mut page, &first, &second, count)?;
+    add_head(&mut page, "Two runs of a script", one.text(one.head.script));
+    add_both_facts(&mut page, &first, &second);
+    add_parting(&mut page, &first, &second, count);
     let span = bounds.span(one.events.len());
-    page.mark("<h2>What both begin with</h2>\n")?;
-    add_left_out(&mut page, span, one.events.len())?;
-    page.mark(KEY)?;
+    page.mark("<h2>What both begin with</h2>\n");
+    add_left_out(&mut page, span, one.events.len());
+    page.mark(KEY);
     first.pass(1, span.first);
     add_figure(alloc, &mut page, &mut first, cut(span, parting, true))?;
-    add_table(&mut page, &first, cut(span, parting, true))?;
+    add_table(&mut page, &first, cut(span, parting, true));
     let rest = cut(span, parting, false);
     add_rest(alloc, &mut page, &mut first, "Run 1", rest)?;
     let rest = cut(bounds.span(other.events.len()), parting, false);
     add_rest(alloc, &mut page, &mut second, "Run 2", rest)?;
-    page.mark("</main>\n</body>\n</html>\n")?;
-    Ok(page.into_text())
+    page.mark("</main>\n</body>\n</html>\n");
+    page.end()
 }

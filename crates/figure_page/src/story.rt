@@ -4,7 +4,7 @@ use crate::page::Span;
 use Piece::{Mark, Num};
 use figure_words::{Run, add_process, add_sentence, events_of};
 use page_markup::{Page, Piece};
-use std::alloc::{AllocError, Allocator};
+use std::alloc::Allocator;
 use trace_data::{Call, Channel, Event, Mode, Reply, State, Trap};
 
 // How many calls are told at most, and how many columns a command takes.
@@ -90,32 +90,23 @@ fn is_told<A: Allocator>(run: &Run<'_, A>, event: &Event, trap: &Trap) -> bool {
 }
 
 // The sentence of a call, with its event and its process before it.
-fn add_item<A: Allocator + Copy>(
-    page: &mut Page<A>,
-    run: &Run<'_, A>,
-    event: &Event,
-    trap: &Trap,
-) -> Result<(), AllocError> {
+fn add_item<A: Allocator + Copy>(page: &mut Page<A>, run: &Run<'_, A>, event: &Event, trap: &Trap) {
     page.add(&[
         Mark("<li><span class=\"note\">"),
         Num(event.number),
         Mark("</span> "),
-    ])?;
-    add_process(page, run, event, ROOM)?;
-    page.mark(" ")?;
-    add_sentence(page, run, event, trap)?;
-    page.mark("</li>\n")
+    ]);
+    add_process(page, run, event, ROOM);
+    page.mark(" ");
+    add_sentence(page, run, event, trap);
+    page.mark("</li>\n");
 }
 
 /// What happened at these events: the calls that make pipes, run programs, change files, end lines of the output, close ends of
 /// pipes, meet the end of a file, tell diagnostics or find something full, the first sleep of each process on each end of a pipe, and
 /// the first refused call of each process; the first `MOST` of them.
-pub(crate) fn add_story<A: Allocator + Copy>(
-    page: &mut Page<A>,
-    run: &Run<'_, A>,
-    span: Span,
-) -> Result<(), AllocError> {
-    page.mark("<ol class=\"story\">\n")?;
+pub(crate) fn add_story<A: Allocator + Copy>(page: &mut Page<A>, run: &Run<'_, A>, span: Span) {
+    page.mark("<ol class=\"story\">\n");
     let mut told: usize = 0;
     for event in events_of(run.trace, span.first, span.past) {
         let Some(trap) = &event.trap else {
@@ -124,17 +115,16 @@ pub(crate) fn add_story<A: Allocator + Copy>(
         if is_told(run, event, trap) {
             told = told.saturating_add(1);
             if told <= MOST {
-                add_item(page, run, event, trap)?;
+                add_item(page, run, event, trap);
             }
         }
     }
-    page.mark("</ol>\n")?;
+    page.mark("</ol>\n");
     if told > MOST {
         page.add(&[
             Mark("<p class=\"note\">and "),
             Num(told.saturating_sub(MOST)),
             Mark(" more such calls, in the table below</p>\n"),
-        ])?;
+        ]);
     }
-    Ok(())
 }

@@ -2,6 +2,7 @@
 
 use crate::geometry::{BAND, FILL, Fold, LETTER, TIME, Window};
 use crate::labels::{add_label, add_text};
+use crate::shapes::{add_line, add_rect};
 use crate::strip::{Strip, states_of};
 use Piece::{Bits, Mark, Num};
 use figure_words::{Run, events_of};
@@ -53,26 +54,19 @@ fn add_fill<A: Allocator>(
     held: usize,
     is_new: bool,
     (left, right, top): (usize, usize, usize),
-) -> Result<(), AllocError> {
+) {
     let wide = right.saturating_sub(left);
     let high = fill_height(held);
     let base = top.saturating_add(FILL_TOP + FILL);
     if held > 0 {
-        page.fill(
-            "<rect class=\"fill\" x=\"%\" y=\"%\" width=\"%\" height=\"%\"/>",
-            &[
-                Num(left),
-                Num(base.saturating_sub(high)),
-                Num(wide),
-                Num(high),
-            ],
-        )?;
+        let corner = (left, base.saturating_sub(high));
+        add_rect(page, "fill", corner, (wide, high));
     }
     if !is_new || wide < digits(held).saturating_add(1).saturating_mul(LETTER) {
-        return Ok(());
+        return;
     }
     let place = (left.saturating_add(2), number_line(base, high));
-    add_text(page, "small left", place, &[Num(held)])
+    add_text(page, "small left", place, &[Num(held)]);
 }
 
 // Who holds an end from one event to another.
@@ -81,33 +75,26 @@ fn add_rail<A: Allocator>(
     bits: u64,
     is_new: bool,
     (left, right, at): (usize, usize, usize),
-) -> Result<(), AllocError> {
+) {
     if bits == 0 {
-        return Ok(());
+        return;
     }
-    page.fill(
-        "<path class=\"rail\" d=\"M% %H%\"/>",
-        &[Num(left), Num(at), Num(right)],
-    )?;
+    add_line(page, "rail", (left, right), at);
     let columns = bits_width(bits);
     let needed = columns.saturating_add(2).saturating_mul(LETTER);
     if !is_new || right.saturating_sub(left) < needed {
-        return Ok(());
+        return;
     }
     let place = (left.saturating_add(6), at.saturating_add(4));
-    add_label(page, "small left", place, columns, &[Bits(bits)])
+    add_label(page, "small left", place, columns, &[Bits(bits)]);
 }
 
 // A cross where an end is closed.
-fn add_cross<A: Allocator>(
-    page: &mut Page<A>,
-    end: &'static str,
-    (left, at): (usize, usize),
-) -> Result<(), AllocError> {
+fn add_cross<A: Allocator>(page: &mut Page<A>, end: &'static str, (left, at): (usize, usize)) {
     let left = left.saturating_sub(3).min(TIME - CLOSED * LETTER);
     let place = (left, at.saturating_add(4));
     let text = [Mark("× "), Mark(end), Mark(" end closed")];
-    add_label(page, "small left alert", place, 1, &text)
+    add_label(page, "small left alert", place, 1, &text);
 }
 
 // What of a pipe is to be told: what is another than before, and all where the strip begins.
@@ -141,18 +128,17 @@ fn add_ends<A: Allocator>(
     news: News,
     (left, right, top): (usize, usize, usize),
     is_here: bool,
-) -> Result<(), AllocError> {
+) {
     let low = top.saturating_add(WRITE_RAIL);
-    add_rail(page, state.writers, news.writers, (left, right, low))?;
+    add_rail(page, state.writers, news.writers, (left, right, low));
     if is_here && state.closes_write {
-        add_cross(page, "write", (left, low))?;
+        add_cross(page, "write", (left, low));
     }
     let low = top.saturating_add(READ_RAIL);
-    add_rail(page, state.readers, news.readers, (left, right, low))?;
+    add_rail(page, state.readers, news.readers, (left, right, low));
     if is_here && state.closes_read {
-        add_cross(page, "read", (left, low))?;
+        add_cross(page, "read", (left, low));
     }
-    Ok(())
 }
 
 // A pipe's state, from its event to the next one's.
@@ -162,7 +148,7 @@ fn add_state<A: Allocator>(
     (before, state): (Option<PipeState>, &PipeState),
     right: usize,
     top: usize,
-) -> Result<(), AllocError> {
+) {
     let is_here = window.has(state.event);
     let left = if is_here {
         window.right(state.event)
@@ -171,9 +157,9 @@ fn add_state<A: Allocator>(
     };
     let news = news_of(before, state, is_here);
     if state.readers != 0 || state.writers != 0 {
-        add_fill(page, state.held, news.held, (left, right, top))?;
+        add_fill(page, state.held, news.held, (left, right, top));
     }
-    add_ends(page, state, news, (left, right, top), is_here)
+    add_ends(page, state, news, (left, right, top), is_here);
 }
 
 // Where a state ends in the strip: where the next one begins.
@@ -190,16 +176,15 @@ fn add_states<A: Allocator>(
     window: Window<'_>,
     states: &[PipeState],
     top: usize,
-) -> Result<(), AllocError> {
+) {
     let mut before = None;
     let mut next: usize = 1;
     for state in states {
         let right = end_of(window, states.get(next));
-        add_state(page, window, (before, state), right, top)?;
+        add_state(page, window, (before, state), right, top);
         before = Some(*state);
         next = next.saturating_add(1);
     }
-    Ok(())
 }
 
 // What is told of a call on a pipe: that it met the end, or was refused.
@@ -220,7 +205,7 @@ fn add_alerts<A: Allocator>(
     window: Window<'_>,
     pipe: usize,
     top: usize,
-) -> Result<(), AllocError> {
+) {
     let low = top.saturating_add(FILL_TOP + FILL / 2 + 4);
     for event in events_of(run.trace, window.first, window.past) {
         if let Some(trap) = &event.trap {
@@ -228,12 +213,11 @@ fn add_alerts<A: Allocator>(
                 if window.fold_of(event.number).is_none() {
                     let place = (window.middle(event.number).saturating_sub(8), low);
                     let columns = if trap.is_at_end { 3 } else { 2 };
-                    add_label(page, "small left alert", place, columns, &[Mark(text)])?;
+                    add_label(page, "small left alert", place, columns, &[Mark(text)]);
                 }
             }
         }
     }
-    Ok(())
 }
 
 // The least and the most bytes that a pipe holds after events of a fold; `None` where none of them changes it.
@@ -255,20 +239,14 @@ fn add_range<A: Allocator>(
     fold: Fold,
     (low, high): (usize, usize),
     top: usize,
-) -> Result<(), AllocError> {
+) {
     let (left, right) = (window.left(fold.first), window.right(fold.first));
-    page.fill(
-        "<rect class=\"folded\" x=\"%\" y=\"%\" width=\"%\" height=\"%\"/>",
-        &[
-            Num(left),
-            Num(top.saturating_add(FILL_TOP - 2)),
-            Num(right.saturating_sub(left)),
-            Num(FILL + 2),
-        ],
-    )?;
+    let corner = (left, top.saturating_add(FILL_TOP - 2));
+    let wide = right.saturating_sub(left);
+    add_rect(page, "folded", corner, (wide, FILL + 2));
     let low_line = top.saturating_add(FILL_TOP + FILL / 2 + 4);
     let place = (window.middle(fold.first), low_line);
-    add_text(page, "small", place, &[Num(low), Mark(" to "), Num(high)])
+    add_text(page, "small", place, &[Num(low), Mark(" to "), Num(high)]);
 }
 
 // The same of each fold.
@@ -277,13 +255,12 @@ fn add_ranges<A: Allocator>(
     window: Window<'_>,
     states: &[PipeState],
     top: usize,
-) -> Result<(), AllocError> {
+) {
     for fold in window.folds {
         if let Some(range) = range_in(states, *fold) {
-            add_range(page, window, *fold, range, top)?;
+            add_range(page, window, *fold, range, top);
         }
     }
-    Ok(())
 }
 
 // The band of a pipe with these states.
@@ -292,13 +269,11 @@ fn add_band<A: Allocator>(
     window: Window<'_>,
     states: &[PipeState],
     top: usize,
-) -> Result<(), AllocError> {
-    page.fill(
-        "<path class=\"base\" d=\"M0 %H%\"/>",
-        &[Num(top.saturating_add(FILL_TOP + FILL)), Num(window.end())],
-    )?;
-    add_states(page, window, states, top)?;
-    add_ranges(page, window, states, top)
+) {
+    let base = top.saturating_add(FILL_TOP + FILL);
+    add_line(page, "base", (0, window.end()), base);
+    add_states(page, window, states, top);
+    add_ranges(page, window, states, top);
 }
 
 /// The bands of a strip.
@@ -311,8 +286,8 @@ pub fn add_bands<A: Allocator + Copy>(
     let mut top = strip.below;
     for band in strip.bands.as_slice() {
         let states = states_of(alloc, run, strip.window, band.pipe)?;
-        add_band(page, strip.window, states.as_slice(), top)?;
-        add_alerts(page, run, strip.window, band.pipe, top)?;
+        add_band(page, strip.window, states.as_slice(), top);
+        add_alerts(page, run, strip.window, band.pipe, top);
         top = top.saturating_add(BAND);
     }
     Ok(())

@@ -1,12 +1,14 @@
 //! The boxes of a strip: where processes run, what they call, and what that came to.
 
 use crate::geometry::{CAP, LETTER, Row, Window};
+use crate::labels::{add_text, begin_text};
 use crate::outcomes::{add_outcome, outcome_class};
+use crate::shapes::add_rect;
 use crate::strip::row_of;
 use Piece::{Mark, Num};
 use figure_words::{Run, call_name, events_of};
 use page_markup::{Page, Piece};
-use std::alloc::{AllocError, Allocator};
+use std::alloc::Allocator;
 use trace_data::{Event, Trap};
 
 // Where a box is.
@@ -36,45 +38,25 @@ impl Place {
 }
 
 // The name of the hart on a box, where there are several.
-fn add_cap<A: Allocator>(
-    page: &mut Page<A>,
-    (harts, hart): (u8, u8),
-    place: Place,
-) -> Result<(), AllocError> {
+fn add_cap<A: Allocator>(page: &mut Page<A>, (harts, hart): (u8, u8), place: Place) {
     if harts < 2 {
-        return Ok(());
+        return;
     }
     let word = if place.wide >= 7 * LETTER {
         "hart "
     } else {
         ""
     };
-    page.fill(
-        "<rect class=\"cap\" x=\"%\" y=\"%\" width=\"%\" height=\"%\"/><text class=\"cap\" x=\"%\" y=\"%\">%%</text>",
-        &[
-            Num(place.left),
-            Num(place.top),
-            Num(place.wide),
-            Num(CAP),
-            Num(place.middle()),
-            Num(place.top.saturating_add(10)),
-            Mark(word),
-            Num(hart as usize),
-        ],
-    )
+    let corner = (place.left, place.top);
+    add_rect(page, "cap", corner, (place.wide, CAP));
+    let at = (place.middle(), place.top.saturating_add(10));
+    add_text(page, "cap", at, &[Mark(word), Num(hart as usize)]);
 }
 
 // The frame of a box.
-fn add_body<A: Allocator>(page: &mut Page<A>, place: Place) -> Result<(), AllocError> {
-    page.fill(
-        "<rect class=\"body\" x=\"%\" y=\"%\" width=\"%\" height=\"%\"/>",
-        &[
-            Num(place.left),
-            Num(place.top),
-            Num(place.wide),
-            Num(place.high),
-        ],
-    )
+fn add_body<A: Allocator>(page: &mut Page<A>, place: Place) {
+    let corner = (place.left, place.top);
+    add_rect(page, "body", corner, (place.wide, place.high));
 }
 
 // What stands in a box, below a place: the call, and what it came to.
@@ -83,20 +65,13 @@ fn add_box_text<A: Allocator>(
     run: &Run<'_, A>,
     trap: &Trap,
     (middle, wide, top): (usize, usize, usize),
-) -> Result<(), AllocError> {
-    page.fill(
-        "<text class=\"call\" x=\"%\" y=\"%\">%</text><text class=\"%\" x=\"%\" y=\"%\">",
-        &[
-            Num(middle),
-            Num(top.saturating_add(12)),
-            Mark(call_name(trap.call)),
-            Mark(outcome_class(trap)),
-            Num(middle),
-            Num(top.saturating_add(24)),
-        ],
-    )?;
-    add_outcome(page, run, trap, wide / LETTER)?;
-    page.mark("</text></g>")
+) {
+    let name = Mark(call_name(trap.call));
+    add_text(page, "call", (middle, top.saturating_add(12)), &[name]);
+    let below = (middle, top.saturating_add(24));
+    begin_text(page, outcome_class(trap), below);
+    add_outcome(page, run, trap, wide / LETTER);
+    page.mark("</text></g>");
 }
 
 // What a box says to who points at it, or can't see it.
@@ -106,7 +81,7 @@ fn add_box_title<A: Allocator>(
     number: usize,
     pid: u8,
     name: &'static str,
-) -> Result<(), AllocError> {
+) {
     let hart = hart as usize;
     page.fill(
         "<g class=\"box h%\"><title>event %, hart %, process %: %</title>",
@@ -117,7 +92,7 @@ fn add_box_title<A: Allocator>(
             Num(pid as usize),
             Mark(name),
         ],
-    )
+    );
 }
 
 // The box of a call on a lane: from the event by which the process began to run to that of its call.
@@ -136,7 +111,7 @@ fn add_box<A: Allocator>(
     run: &Run<'_, A>,
     (event, trap): (&Event, &Trap),
     place: Place,
-) -> Result<(), AllocError> {
+) {
     let harts = run.trace.head.harts;
     add_box_title(
         page,
@@ -144,12 +119,12 @@ fn add_box<A: Allocator>(
         event.number,
         event.process.pid,
         call_name(trap.call),
-    )?;
-    add_body(page, place)?;
-    add_cap(page, (harts, event.hart), place)?;
+    );
+    add_body(page, place);
+    add_cap(page, (harts, event.hart), place);
     let cap = if harts > 1 { CAP } else { 0 };
     let top = place.top.saturating_add(cap);
-    add_box_text(page, run, trap, (place.middle(), place.wide, top))
+    add_box_text(page, run, trap, (place.middle(), place.wide, top));
 }
 
 // Whether a call among these events ends what the event of this number began.
@@ -165,12 +140,7 @@ fn is_ended(events: &[Event], number: usize) -> bool {
 }
 
 // A box that goes on behind the strip.
-fn add_open_box<A: Allocator>(
-    page: &mut Page<A>,
-    harts: u8,
-    event: &Event,
-    place: Place,
-) -> Result<(), AllocError> {
+fn add_open_box<A: Allocator>(page: &mut Page<A>, harts: u8, event: &Event, place: Place) {
     let hart = event.hart as usize;
     page.fill(
         "<g class=\"box open h%\"><title>event %, hart %: process % runs on</title>",
@@ -180,10 +150,10 @@ fn add_open_box<A: Allocator>(
             Num(hart),
             Num(event.process.pid as usize),
         ],
-    )?;
-    add_body(page, place)?;
-    add_cap(page, (harts, event.hart), place)?;
-    page.mark("</g>")
+    );
+    add_body(page, place);
+    add_cap(page, (harts, event.hart), place);
+    page.mark("</g>");
 }
 
 // The box of an event on its lane; none of one that a later call of the strip ends.
@@ -193,7 +163,7 @@ fn add_event_box<A: Allocator>(
     window: Window<'_>,
     row: &Row,
     event: &Event,
-) -> Result<(), AllocError> {
+) {
     match &event.trap {
         Some(trap) => {
             let place = place_of(window, row, trap.from, event.number);
@@ -204,7 +174,7 @@ fn add_event_box<A: Allocator>(
                 events_of(run.trace, event.number, window.past),
                 event.number,
             ) {
-                return Ok(());
+                return;
             }
             let place = Place::between(row, window.left(event.number), window.end());
             add_open_box(page, run.trace.head.harts, event, place)
@@ -218,13 +188,12 @@ pub fn add_boxes<A: Allocator>(
     run: &Run<'_, A>,
     window: Window<'_>,
     rows: &[Row],
-) -> Result<(), AllocError> {
+) {
     for event in events_of(run.trace, window.first, window.past) {
         if let Some(row) = row_of(rows, event.process) {
             if window.fold_of(event.number).is_none() {
-                add_event_box(page, run, window, row, event)?;
+                add_event_box(page, run, window, row, event);
             }
         }
     }
-    Ok(())
 }

@@ -15,11 +15,7 @@ use page_markup::{Page, Piece};
 use std::alloc::{AllocError, Allocator};
 
 // The frame of the time of a strip, and its title.
-fn begin_time<A: Allocator>(
-    page: &mut Page<A>,
-    window: Window<'_>,
-    height: usize,
-) -> Result<(), AllocError> {
+fn begin_time<A: Allocator>(page: &mut Page<A>, window: Window<'_>, height: usize) {
     let last = window.past.saturating_sub(1);
     page.fill(
         "<div class=\"time\"><svg role=\"img\" viewBox=\"0 0 % %\" width=\"%\" height=\"%\"><title>Events % to %; the table below has each of them</title>",
@@ -31,21 +27,17 @@ fn begin_time<A: Allocator>(
             Num(window.first),
             Num(last),
         ],
-    )
+    );
 }
 
 // What a strip's events wrote.
-fn add_output<A: Allocator>(
-    page: &mut Page<A>,
-    run: &Run<'_, A>,
-    strip: &Strip<'_, A>,
-) -> Result<(), AllocError> {
+fn add_output<A: Allocator>(page: &mut Page<A>, run: &Run<'_, A>, strip: &Strip<'_, A>) {
     let top = strip.output_top();
     if strip.has_output {
-        add_fold_outputs(page, run, strip.window, top)?;
+        add_fold_outputs(page, run, strip.window, top);
     }
-    add_written(page, run, strip.window, top, true)?;
-    add_written(page, run, strip.window, strip.message_top(), false)
+    add_written(page, run, strip.window, top, true);
+    add_written(page, run, strip.window, strip.message_top(), false);
 }
 
 // The time of a strip.
@@ -55,13 +47,14 @@ fn add_time<A: Allocator + Copy>(
     run: &Run<'_, A>,
     strip: &Strip<'_, A>,
 ) -> Result<(), AllocError> {
-    begin_time(page, strip.window, strip.height)?;
-    add_axis(page, strip.window, strip.height)?;
-    add_lanes(page, run, strip.window, strip.rows.as_slice())?;
+    begin_time(page, strip.window, strip.height);
+    add_axis(page, strip.window, strip.height);
+    add_lanes(page, run, strip.window, strip.rows.as_slice());
     add_bands(alloc, page, run, strip)?;
     add_files(alloc, page, run, strip)?;
-    add_output(page, run, strip)?;
-    page.mark("</svg></div>")
+    add_output(page, run, strip);
+    page.mark("</svg></div>");
+    Ok(())
 }
 
 // The strip of these events.
@@ -73,10 +66,11 @@ fn add_strip<A: Allocator + Copy>(
 ) -> Result<(), AllocError> {
     run.pass(window.first, window.past);
     let strip = Strip::new(alloc, run, window)?;
-    page.mark("<div class=\"strip\">")?;
-    add_names(page, run, &strip)?;
+    page.mark("<div class=\"strip\">");
+    add_names(page, run, &strip);
     add_time(alloc, page, run, &strip)?;
-    page.mark("</div>\n")
+    page.mark("</div>\n");
+    Ok(())
 }
 
 /// Adds these events to the page, in as many strips as they need; the run passes them. Each strip has the lanes of the processes

@@ -1,11 +1,12 @@
 //! What goes from a lane of a strip to others: forks, wake-ups, and waits that take a process out.
 
 use crate::geometry::Row;
+use crate::shapes::{add_rect, add_upright};
 use crate::strip::row_of;
 use Piece::Num;
 use page_markup::{Page, Piece};
 use run_figure::Bar;
-use std::alloc::{AllocError, Allocator};
+use std::alloc::Allocator;
 use trace_data::{Event, Process, Trap};
 
 // Where an edge leaves the box of a row, the middle of the other row, and whether that is below.
@@ -38,47 +39,39 @@ fn edge_of(rows: &[Row], from: Process, to: Process) -> Option<Edge> {
 }
 
 // A fork: a line to a ring on the child's lane.
-fn add_fork<A: Allocator>(page: &mut Page<A>, at: usize, edge: Edge) -> Result<(), AllocError> {
+fn add_fork<A: Allocator>(page: &mut Page<A>, at: usize, edge: Edge) {
+    add_upright(page, "fork", at, (edge.from, edge.to));
     page.fill(
-        "<path class=\"fork\" d=\"M% %V%\"/><circle class=\"fork\" cx=\"%\" cy=\"%\" r=\"3\"/>",
-        &[Num(at), Num(edge.from), Num(edge.to), Num(at), Num(edge.to)],
-    )
+        "<circle class=\"fork\" cx=\"%\" cy=\"%\" r=\"3\"/>",
+        &[Num(at), Num(edge.to)],
+    );
 }
 
 // A wait that takes a zombie out: dots from a square on its lane.
-fn add_reaped<A: Allocator>(page: &mut Page<A>, at: usize, edge: Edge) -> Result<(), AllocError> {
+fn add_reaped<A: Allocator>(page: &mut Page<A>, at: usize, edge: Edge) {
+    add_upright(page, "reap", at, (edge.from, edge.to));
+    let corner = (at.saturating_sub(3), edge.to.saturating_sub(3));
+    add_rect(page, "reap", corner, (6, 6));
+}
+
+// An arrow's head, with its base, and its tip at a place.
+fn add_tip<A: Allocator>(page: &mut Page<A>, at: usize, base: usize, tip: usize) {
+    let (left, right) = (at.saturating_sub(4), at.saturating_add(4));
     page.fill(
-        "<path class=\"reap\" d=\"M% %V%\"/><rect class=\"reap\" x=\"%\" y=\"%\" width=\"6\" height=\"6\"/>",
-        &[
-            Num(at),
-            Num(edge.from),
-            Num(edge.to),
-            Num(at.saturating_sub(3)),
-            Num(edge.to.saturating_sub(3)),
-        ],
-    )
+        "<path class=\"tip\" d=\"M% %H%L% %Z\"/>",
+        &[Num(left), Num(base), Num(right), Num(at), Num(tip)],
+    );
 }
 
 // A wake-up: a dashed line with an arrow's head, which points up or down.
-fn add_wake<A: Allocator>(page: &mut Page<A>, at: usize, edge: Edge) -> Result<(), AllocError> {
+fn add_wake<A: Allocator>(page: &mut Page<A>, at: usize, edge: Edge) {
     let base = if edge.goes_down {
         edge.to.saturating_sub(7)
     } else {
         edge.to.saturating_add(7)
     };
-    page.fill(
-        "<path class=\"wake\" d=\"M% %V%\"/><path class=\"tip\" d=\"M% %H%L% %Z\"/>",
-        &[
-            Num(at),
-            Num(edge.from),
-            Num(base),
-            Num(at.saturating_sub(4)),
-            Num(base),
-            Num(at.saturating_add(4)),
-            Num(at),
-            Num(edge.to),
-        ],
-    )
+    add_upright(page, "wake", at, (edge.from, base));
+    add_tip(page, at, base, edge.to);
 }
 
 // The bars that end at an event: those of the processes that it woke.
@@ -88,15 +81,14 @@ fn add_wakes<A: Allocator>(
     rows: &[Row],
     (number, process): (usize, Process),
     at: usize,
-) -> Result<(), AllocError> {
+) {
     for bar in bars {
         if bar.to == Some(number) {
             if let Some(edge) = edge_of(rows, process, bar.process) {
-                add_wake(page, at, edge)?;
+                add_wake(page, at, edge);
             }
         }
     }
-    Ok(())
 }
 
 // The edge of a fork, and that of a wait which takes a process out.
@@ -126,16 +118,16 @@ pub fn add_edges<A: Allocator>(
     rows: &[Row],
     (event, trap): (&Event, &Trap),
     at: usize,
-) -> Result<(), AllocError> {
+) {
     let (fork, wait) = family_edges(rows, event, trap);
     if let Some(edge) = fork {
-        add_fork(page, at, edge)?;
+        add_fork(page, at, edge);
     }
     if let Some(edge) = wait {
-        add_reaped(page, at, edge)?;
+        add_reaped(page, at, edge);
     }
     if trap.woken == 0 {
-        return Ok(());
+        return;
     }
-    add_wakes(page, bars, rows, (event.number, event.process), at)
+    add_wakes(page, bars, rows, (event.number, event.process), at);
 }

@@ -2,6 +2,7 @@
 
 use crate::geometry::{FILE, LETTER, Window};
 use crate::labels::add_text;
+use crate::shapes::add_rect;
 use crate::strip::Strip;
 use Piece::{Mark, Num, Short};
 use figure_words::{Run, events_of};
@@ -83,32 +84,21 @@ fn states_of<A: Allocator + Copy>(
     Ok(states)
 }
 
-// What a file holds, from one place to another.
-fn add_frame<A: Allocator>(
-    page: &mut Page<A>,
-    class: &'static str,
-    (left, wide, top): (usize, usize, usize),
-) -> Result<(), AllocError> {
-    page.fill(
-        "<rect class=\"%\" x=\"%\" y=\"%\" width=\"%\" height=\"%\"/>",
-        &[Mark(class), Num(left), Num(top), Num(wide), Num(HIGH)],
-    )
-}
-
-// The same in words, in so many columns.
+// What a file holds, in words, in so many columns.
 fn add_head<A: Allocator>(
     page: &mut Page<A>,
     head: &[u8],
     is_empty: bool,
     room: usize,
     place: (usize, usize),
-) -> Result<(), AllocError> {
+) {
     if is_empty {
         let word = if room < 5 { "∅" } else { "empty" };
-        return add_text(page, "small left", place, &[Mark(word)]);
+        add_text(page, "small left", place, &[Mark(word)]);
+        return;
     }
     let shown = Short(head, room.saturating_sub(2));
-    add_text(page, "small left", place, &[Mark("“"), shown, Mark("”")])
+    add_text(page, "small left", place, &[Mark("“"), shown, Mark("”")]);
 }
 
 // What a file holds from one place to another: this many bytes, which begin so.
@@ -117,19 +107,19 @@ fn add_state<A: Allocator>(
     length: usize,
     head: &[u8],
     (left, right, top): (usize, usize, usize),
-) -> Result<(), AllocError> {
+) {
     let wide = right.saturating_sub(left);
     if wide == 0 {
-        return Ok(());
+        return;
     }
     let class = if length == 0 { "file empty" } else { "file" };
-    add_frame(page, class, (left, wide, top))?;
+    add_rect(page, class, (left, top), (wide, HIGH));
     let room = wide.saturating_sub(6) / LETTER;
     if room < 3 {
-        return Ok(());
+        return;
     }
     let place = (left.saturating_add(4), top.saturating_add(12));
-    add_head(page, head, length == 0, room, place)
+    add_head(page, head, length == 0, room, place);
 }
 
 // Where a state begins in the strip, and where it ends: where the next one begins.
@@ -152,15 +142,14 @@ fn add_states<A: Allocator>(
     window: Window<'_>,
     states: &[FileState],
     top: usize,
-) -> Result<(), AllocError> {
+) {
     let mut next: usize = 1;
     for state in states {
         let (left, right) = ends_of(window, state.event, states.get(next));
         let head = run.trace.text(state.head);
-        add_state(page, state.length, head, (left, right, top))?;
+        add_state(page, state.length, head, (left, right, top));
         next = next.saturating_add(1);
     }
-    Ok(())
 }
 
 // Whether an event touches the file of this name.
@@ -178,16 +167,15 @@ fn add_touches<A: Allocator>(
     window: Window<'_>,
     name: Part,
     top: usize,
-) -> Result<(), AllocError> {
+) {
     for event in events_of(run.trace, window.first, window.past) {
         if touches(run, event, name) && window.fold_of(event.number).is_none() {
             page.fill(
                 "<path class=\"tick\" d=\"M% %v5\"/>",
                 &[Num(window.middle(event.number)), Num(top)],
-            )?;
+            );
         }
     }
-    Ok(())
 }
 
 /// The bands of the strip's files.
@@ -201,8 +189,8 @@ pub fn add_files<A: Allocator + Copy>(
     for name in strip.files.as_slice() {
         let states = states_of(alloc, run, strip.window, *name)?;
         let low = top.saturating_add(TOP);
-        add_states(page, run, strip.window, states.as_slice(), low)?;
-        add_touches(page, run, strip.window, *name, top.saturating_add(1))?;
+        add_states(page, run, strip.window, states.as_slice(), low);
+        add_touches(page, run, strip.window, *name, top.saturating_add(1));
         top = top.saturating_add(FILE);
     }
     Ok(())

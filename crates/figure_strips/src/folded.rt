@@ -2,10 +2,11 @@
 
 use crate::geometry::{Row, Window};
 use crate::labels::add_text;
+use crate::shapes::add_rect;
 use Piece::{Mark, Num};
 use figure_words::{Run, events_of};
 use page_markup::{Page, Piece};
-use std::alloc::{AllocError, Allocator};
+use std::alloc::Allocator;
 use trace_data::{Call, Event, Process};
 
 // How many of the events are reads of a process, and how many are its writes.
@@ -31,11 +32,11 @@ fn add_fold_line<A: Allocator>(
     count: usize,
     what: &'static str,
     place: (usize, usize),
-) -> Result<(), AllocError> {
+) {
     if count == 0 {
-        return Ok(());
+        return;
     }
-    add_text(page, "small", place, &[Num(count), Mark("× "), Mark(what)])
+    add_text(page, "small", place, &[Num(count), Mark("× "), Mark(what)]);
 }
 
 // Where the lines of reads and of writes are, of a lane with this middle.
@@ -47,24 +48,6 @@ fn lines_at(middle: usize, (reads, writes): (usize, usize)) -> (usize, usize) {
     }
 }
 
-// The frame of the box of folded calls, from a place to another.
-fn add_frame<A: Allocator>(
-    page: &mut Page<A>,
-    row: &Row,
-    left: usize,
-    right: usize,
-) -> Result<(), AllocError> {
-    page.fill(
-        "<rect class=\"folded\" x=\"%\" y=\"%\" width=\"%\" height=\"%\"/>",
-        &[
-            Num(left),
-            Num(row.top.saturating_add(3)),
-            Num(right.saturating_sub(left)),
-            Num(row.height.saturating_sub(6)),
-        ],
-    )
-}
-
 // The calls of a process that are folded, of which the first event is this one, as one box.
 fn add_fold_box<A: Allocator>(
     page: &mut Page<A>,
@@ -72,17 +55,19 @@ fn add_fold_box<A: Allocator>(
     row: &Row,
     first: usize,
     (reads, writes): (usize, usize),
-) -> Result<(), AllocError> {
+) {
     if reads == 0 && writes == 0 {
-        return Ok(());
+        return;
     }
     let left = window.left(first).saturating_add(1);
     let right = window.right(first).saturating_sub(1);
-    add_frame(page, row, left, right)?;
+    let corner = (left, row.top.saturating_add(3));
+    let size = (right.saturating_sub(left), row.height.saturating_sub(6));
+    add_rect(page, "folded", corner, size);
     let middle = window.middle(first);
     let (high, low) = lines_at(row.middle(), (reads, writes));
-    add_fold_line(page, reads, "read", (middle, high))?;
-    add_fold_line(page, writes, "write", (middle, low))
+    add_fold_line(page, reads, "read", (middle, high));
+    add_fold_line(page, writes, "write", (middle, low));
 }
 
 /// The folds of a strip.
@@ -91,13 +76,12 @@ pub fn add_folds<A: Allocator>(
     run: &Run<'_, A>,
     window: Window<'_>,
     rows: &[Row],
-) -> Result<(), AllocError> {
+) {
     for fold in window.folds {
         let events = events_of(run.trace, fold.first, fold.past);
         for row in rows {
             let calls = calls_in(events, row.life.lane.process);
-            add_fold_box(page, window, row, fold.first, calls)?;
+            add_fold_box(page, window, row, fold.first, calls);
         }
     }
-    Ok(())
 }

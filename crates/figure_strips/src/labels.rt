@@ -1,20 +1,17 @@
 //! Texts in a picture.
 
 use crate::geometry::LETTER;
+use crate::shapes::add_rect;
 use Piece::{Mark, Num};
 use page_markup::{Page, Piece};
-use std::alloc::{AllocError, Allocator};
+use std::alloc::Allocator;
 
 /// Begins a text at a place.
-pub fn begin_text<A: Allocator>(
-    page: &mut Page<A>,
-    class: &'static str,
-    (x, y): (usize, usize),
-) -> Result<(), AllocError> {
+pub fn begin_text<A: Allocator>(page: &mut Page<A>, class: &'static str, (x, y): (usize, usize)) {
     page.fill(
         "<text class=\"%\" x=\"%\" y=\"%\">",
         &[Mark(class), Num(x), Num(y)],
-    )
+    );
 }
 
 /// A text at a place.
@@ -23,10 +20,10 @@ pub fn add_text<A: Allocator>(
     class: &'static str,
     place: (usize, usize),
     pieces: &[Piece<'_>],
-) -> Result<(), AllocError> {
-    begin_text(page, class, place)?;
-    page.add(pieces)?;
-    page.mark("</text>")
+) {
+    begin_text(page, class, place);
+    page.add(pieces);
+    page.mark("</text>");
 }
 
 /// A text that takes so many columns, with nothing to be seen below it.
@@ -36,15 +33,9 @@ pub fn add_label<A: Allocator>(
     (x, y): (usize, usize),
     columns: usize,
     pieces: &[Piece<'_>],
-) -> Result<(), AllocError> {
+) {
     let wide = columns.saturating_mul(LETTER).saturating_add(4);
-    page.fill(
-        "<rect class=\"under\" x=\"%\" y=\"%\" width=\"%\" height=\"12\"/>",
-        &[
-            Num(x.saturating_sub(2)),
-            Num(y.saturating_sub(9)),
-            Num(wide),
-        ],
-    )?;
-    add_text(page, class, (x, y), pieces)
+    let corner = (x.saturating_sub(2), y.saturating_sub(9));
+    add_rect(page, "under", corner, (wide, 12));
+    add_text(page, class, (x, y), pieces);
 }

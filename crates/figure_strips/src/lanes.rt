@@ -7,18 +7,13 @@ use crate::geometry::{Row, Window};
 use crate::lives::{add_bars, add_life};
 use figure_words::{Run, events_of};
 use page_markup::Page;
-use std::alloc::{AllocError, Allocator};
+use std::alloc::Allocator;
 
 // The lives of a strip's processes.
-fn add_lives<A: Allocator>(
-    page: &mut Page<A>,
-    window: Window<'_>,
-    rows: &[Row],
-) -> Result<(), AllocError> {
+fn add_lives<A: Allocator>(page: &mut Page<A>, window: Window<'_>, rows: &[Row]) {
     for row in rows {
-        add_life(page, window, row)?;
+        add_life(page, window, row);
     }
-    Ok(())
 }
 
 // What goes from the processes of a strip's calls to others.
@@ -27,17 +22,16 @@ fn add_all_edges<A: Allocator>(
     run: &Run<'_, A>,
     window: Window<'_>,
     rows: &[Row],
-) -> Result<(), AllocError> {
+) {
     let bars = run.bars.as_slice();
     for event in events_of(run.trace, window.first, window.past) {
         if let Some(trap) = &event.trap {
             if window.fold_of(event.number).is_none() {
                 let at = window.middle(event.number);
-                add_edges(page, bars, rows, (event, trap), at)?;
+                add_edges(page, bars, rows, (event, trap), at);
             }
         }
     }
-    Ok(())
 }
 
 /// The lanes of a strip.
@@ -46,10 +40,10 @@ pub fn add_lanes<A: Allocator + Copy>(
     run: &Run<'_, A>,
     window: Window<'_>,
     rows: &[Row],
-) -> Result<(), AllocError> {
-    add_lives(page, window, rows)?;
-    add_bars(page, run, window, rows)?;
-    add_all_edges(page, run, window, rows)?;
-    add_boxes(page, run, window, rows)?;
-    add_folds(page, run, window, rows)
+) {
+    add_lives(page, window, rows);
+    add_bars(page, run, window, rows);
+    add_all_edges(page, run, window, rows);
+    add_boxes(page, run, window, rows);
+    add_folds(page, run, window, rows);
 }

@@ -17,6 +17,7 @@ mod lanes;
 mod lives;
 mod names;
 mod outcomes;
+mod shapes;
 mod strip;
 mod written;
 

@@ -2,33 +2,17 @@
 
 use crate::geometry::{LETTER, Row, Window};
 use crate::labels::add_label;
+use crate::shapes::{add_line, add_rect};
 use crate::strip::row_of;
 use Piece::{Mark, Num, Pipe};
 use figure_words::{Run, add_channel};
 use page_markup::{Page, Piece};
 use run_figure::Bar;
-use std::alloc::{AllocError, Allocator};
+use std::alloc::Allocator;
 use trace_data::Channel;
 
 // How high a bar is.
 const BAR: usize = 14;
-
-// A line along a lane.
-fn add_line<A: Allocator>(
-    page: &mut Page<A>,
-    class: &'static str,
-    from: usize,
-    to: usize,
-    at: usize,
-) -> Result<(), AllocError> {
-    if from >= to {
-        return Ok(());
-    }
-    page.fill(
-        "<path class=\"%\" d=\"M% %H%\"/>",
-        &[Mark(class), Num(from), Num(at), Num(to)],
-    )
-}
 
 // Where the line of a process begins that is made by this event.
 fn begin_of(window: Window<'_>, born: usize) -> usize {
@@ -58,16 +42,16 @@ fn gone_at(window: Window<'_>, event: usize) -> usize {
 }
 
 /// The life of a process: it can run, and after its end it is a zombie until it is taken out.
-pub fn add_life<A: Allocator>(
-    page: &mut Page<A>,
-    window: Window<'_>,
-    row: &Row,
-) -> Result<(), AllocError> {
+pub fn add_life<A: Allocator>(page: &mut Page<A>, window: Window<'_>, row: &Row) {
     let from = begin_of(window, row.life.lane.process.born);
     let ended = end_of(window, row.life.ended);
     let gone = gone_at(window, row.life.gone);
-    add_line(page, "alive", from, ended, row.middle())?;
-    add_line(page, "zombie", ended, gone, row.middle())
+    if from < ended {
+        add_line(page, "alive", (from, ended), row.middle());
+    }
+    if ended < gone {
+        add_line(page, "zombie", (ended, gone), row.middle());
+    }
 }
 
 // The class of a bar.
@@ -97,9 +81,9 @@ fn add_bar_text<A: Allocator>(
     run: &Run<'_, A>,
     channel: Channel,
     (left, wide, low): (usize, usize, usize),
-) -> Result<(), AllocError> {
+) {
     if wide < 9 * LETTER {
-        return Ok(());
+        return;
     }
     let (words, columns) = bar_words(channel, wide >= 38 * LETTER);
     let place = (left.saturating_add(5), low);
@@ -107,7 +91,7 @@ fn add_bar_text<A: Allocator>(
         Channel::Children => Mark(""),
         Channel::PipeBytes(pipe) | Channel::PipeRoom(pipe) => Pipe(run.pipe(pipe)),
     };
-    add_label(page, "left", place, columns, &[Mark(words), name])
+    add_label(page, "left", place, columns, &[Mark(words), name]);
 }
 
 // Where a bar begins and ends.
@@ -124,13 +108,9 @@ fn bar_ends(window: Window<'_>, bar: &Bar) -> (usize, usize) {
 }
 
 // What a bar says to who points at it, or can't see it.
-fn add_bar_title<A: Allocator + Copy>(
-    page: &mut Page<A>,
-    run: &Run<'_, A>,
-    bar: &Bar,
-) -> Result<(), AllocError> {
-    page.fill("<title>% sleeps ", &[Num(bar.process.pid as usize)])?;
-    add_channel(page, run, bar.channel)?;
+fn add_bar_title<A: Allocator + Copy>(page: &mut Page<A>, run: &Run<'_, A>, bar: &Bar) {
+    page.fill("<title>% sleeps ", &[Num(bar.process.pid as usize)]);
+    add_channel(page, run, bar.channel);
     match bar.to {
         Some(to) => page.fill(
             ", from event % to event %</title>",
@@ -147,27 +127,19 @@ fn add_bar<A: Allocator + Copy>(
     window: Window<'_>,
     bar: &Bar,
     middle: usize,
-) -> Result<(), AllocError> {
+) {
     let (left, right) = bar_ends(window, bar);
     let wide = right.saturating_sub(left);
     if wide == 0 {
-        return Ok(());
+        return;
     }
-    page.mark("<g>")?;
-    add_bar_title(page, run, bar)?;
-    page.fill(
-        "<rect class=\"%\" x=\"%\" y=\"%\" width=\"%\" height=\"%\"/>",
-        &[
-            Mark(bar_class(bar.channel)),
-            Num(left),
-            Num(middle.saturating_sub(BAR / 2)),
-            Num(wide),
-            Num(BAR),
-        ],
-    )?;
+    page.mark("<g>");
+    add_bar_title(page, run, bar);
+    let corner = (left, middle.saturating_sub(BAR / 2));
+    add_rect(page, bar_class(bar.channel), corner, (wide, BAR));
     let low = middle.saturating_add(4);
-    add_bar_text(page, run, bar.channel, (left, wide, low))?;
-    page.mark("</g>")
+    add_bar_text(page, run, bar.channel, (left, wide, low));
+    page.mark("</g>");
 }
 
 /// The sleeps of a strip.
@@ -176,13 +148,12 @@ pub fn add_bars<A: Allocator + Copy>(
     run: &Run<'_, A>,
     window: Window<'_>,
     rows: &[Row],
-) -> Result<(), AllocError> {
+) {
     for bar in run.bars.as_slice() {
         if window.meets(bar.from, bar.to.unwrap_or(usize::MAX)) {
             if let Some(row) = row_of(rows, bar.process) {
-                add_bar(page, run, window, bar, row.middle())?;
+                add_bar(page, run, window, bar, row.middle());
             }
         }
     }
-    Ok(())
 }

@@ -3,7 +3,7 @@
 use Piece::{Mark, Num, Pipe, Short};
 use figure_words::Run;
 use page_markup::{Page, Piece, shown_width};
-use std::alloc::{AllocError, Allocator};
+use std::alloc::Allocator;
 use trace_data::{Call, Object, Part, Reply, State, Trap};
 
 // What a read or a write was about.
@@ -41,11 +41,7 @@ fn bytes_read<A: Allocator>(run: &Run<'_, A>, trap: &Trap, reply: Reply) -> Opti
 }
 
 // A read of a file whose name has no room, and how many bytes it returned, if it did.
-fn add_long_read<A: Allocator>(
-    page: &mut Page<A>,
-    count: Option<usize>,
-    is_at_end: bool,
-) -> Result<(), AllocError> {
+fn add_long_read<A: Allocator>(page: &mut Page<A>, count: Option<usize>, is_at_end: bool) {
     match count {
         Some(count) => page.fill("% B", &[Num(count)]),
         None => page.mark(if is_at_end { "EOF" } else { "−1" }),
@@ -58,7 +54,7 @@ fn add_read_of<A: Allocator>(
     object: Piece<'_>,
     count: Option<usize>,
     is_at_end: bool,
-) -> Result<(), AllocError> {
+) {
     match count {
         Some(count) => page.fill("%→%", &[object, Num(count)]),
         None if is_at_end => page.fill("%→EOF", &[object]),
@@ -73,22 +69,18 @@ fn add_read<A: Allocator>(
     trap: &Trap,
     reply: Reply,
     room: usize,
-) -> Result<(), AllocError> {
+) {
     let count = bytes_read(run, trap, reply);
     if is_long(run, trap.object, room) {
-        return add_long_read(page, count, trap.is_at_end);
+        add_long_read(page, count, trap.is_at_end);
+        return;
     }
     let object = short_object(run, trap.object, room);
-    add_read_of(page, object, count, trap.is_at_end)
+    add_read_of(page, object, count, trap.is_at_end);
 }
 
 // What a write of so many bytes to this came to.
-fn add_write<A: Allocator>(
-    page: &mut Page<A>,
-    object: Piece<'_>,
-    size: usize,
-    reply: Reply,
-) -> Result<(), AllocError> {
+fn add_write<A: Allocator>(page: &mut Page<A>, object: Piece<'_>, size: usize, reply: Reply) {
     match reply {
         Reply::Refused => page.fill("→% −1", &[object]),
         _ => page.fill("%→%", &[Num(size), object]),
@@ -96,11 +88,7 @@ fn add_write<A: Allocator>(
 }
 
 // A process that was made, or taken out.
-fn add_pid<A: Allocator>(
-    page: &mut Page<A>,
-    word: &'static str,
-    pid: Option<u8>,
-) -> Result<(), AllocError> {
+fn add_pid<A: Allocator>(page: &mut Page<A>, word: &'static str, pid: Option<u8>) {
     match pid {
         Some(pid) => page.fill("%%", &[Mark(word), Num(pid as usize)]),
         None => page.mark("−1"),
@@ -124,18 +112,14 @@ fn reaped_of(trap: &Trap) -> Option<u8> {
 }
 
 // A descriptor that a call is about or returned.
-fn add_descriptor<A: Allocator>(
-    page: &mut Page<A>,
-    call: Call,
-    reply: Reply,
-) -> Result<(), AllocError> {
+fn add_descriptor<A: Allocator>(page: &mut Page<A>, call: Call, reply: Reply) {
     match (reply, call) {
         (Reply::Refused, _) => page.mark("−1"),
         (Reply::Ends(reader, writer), _) => page.fill("%, %", &[Num(reader), Num(writer)]),
         (Reply::Fd(new), Call::Dup(fd)) => page.fill("%→%", &[Num(fd), Num(new)]),
         (Reply::Fd(new), _) => page.fill("fd %", &[Num(new)]),
         (_, Call::Close(fd)) => page.fill("fd %", &[Num(fd)]),
-        _ => Ok(()),
+        _ => {}
     }
 }
 
@@ -146,11 +130,11 @@ fn add_exec<A: Allocator>(
     words: Part,
     reply: Reply,
     room: usize,
-) -> Result<(), AllocError> {
+) {
     match (reply, run.trace.words.as_slice().get(words.first)) {
         (Reply::Refused, _) => page.mark("−1"),
         (_, Some(word)) => page.add(&[Short(run.trace.text(*word), room)]),
-        (_, None) => Ok(()),
+        (_, None) => {}
     }
 }
 
@@ -161,7 +145,7 @@ fn add_reply<A: Allocator>(
     trap: &Trap,
     reply: Reply,
     room: usize,
-) -> Result<(), AllocError> {
+) {
     match trap.call {
         Call::Read(_, _) => add_read(page, run, trap, reply, room),
         Call::Write(_, bytes) => {
@@ -176,15 +160,10 @@ fn add_reply<A: Allocator>(
 }
 
 /// What a call came to.
-pub fn add_outcome<A: Allocator>(
-    page: &mut Page<A>,
-    run: &Run<'_, A>,
-    trap: &Trap,
-    room: usize,
-) -> Result<(), AllocError> {
+pub fn add_outcome<A: Allocator>(page: &mut Page<A>, run: &Run<'_, A>, trap: &Trap, room: usize) {
     match trap.state {
         State::Asleep(_) => page.mark("sleep"),
-        State::Zombie => Ok(()),
+        State::Zombie => {}
         State::Runnable(reply) => add_reply(page, run, trap, reply, room),
     }
 }

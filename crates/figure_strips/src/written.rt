@@ -1,12 +1,17 @@
 //! What the events of a strip wrote, below it.
 
 use crate::geometry::{Fold, LETTER, TIME, Window};
-use crate::labels::begin_text;
-use Piece::{Mark, Num, Short};
+use crate::labels::{add_text, begin_text};
+use Piece::{Num, Short};
 use figure_words::{Run, events_of};
 use page_markup::{Page, Piece, shown_width};
-use std::alloc::{AllocError, Allocator};
+use std::alloc::Allocator;
 use trace_data::{Event, Part};
+
+// A stroke down from a place.
+fn add_tick<A: Allocator>(page: &mut Page<A>, x: usize, y: usize) {
+    page.fill("<path class=\"tick\" d=\"M% %v4\"/>", &[Num(x), Num(y)]);
+}
 
 // What an event wrote, below it; there is room up to the next that wrote too.
 fn add_piece<A: Allocator>(
@@ -14,19 +19,11 @@ fn add_piece<A: Allocator>(
     bytes: &[u8],
     class: &'static str,
     (left, right, top): (usize, usize, usize),
-) -> Result<(), AllocError> {
+) {
     let room = right.saturating_sub(left).saturating_sub(4) / (LETTER + 1);
-    page.fill(
-        "<path class=\"tick\" d=\"M% %v4\"/><text class=\"%\" x=\"%\" y=\"%\">%</text>",
-        &[
-            Num(left),
-            Num(top.saturating_add(2)),
-            Mark(class),
-            Num(left),
-            Num(top.saturating_add(16)),
-            Short(bytes, room),
-        ],
-    )
+    add_tick(page, left, top.saturating_add(2));
+    let place = (left, top.saturating_add(16));
+    add_text(page, class, place, &[Short(bytes, room)]);
 }
 
 // What an event wrote to the output, or to the diagnostics.
@@ -45,28 +42,22 @@ pub fn add_written<A: Allocator>(
     window: Window<'_>,
     top: usize,
     is_output: bool,
-) -> Result<(), AllocError> {
+) {
     let class = if is_output { "out" } else { "out alert" };
     let mut right = window.end().max(TIME);
     for event in events_of(run.trace, window.first, window.past).iter().rev() {
         if let Some(part) = part_of(event, is_output) {
             if window.fold_of(event.number).is_none() {
                 let left = window.middle(event.number);
-                add_piece(page, run.trace.text(part), class, (left, right, top))?;
+                add_piece(page, run.trace.text(part), class, (left, right, top));
                 right = left;
             }
         }
     }
-    Ok(())
 }
 
 // What events of a fold wrote to the output, in so many columns.
-fn add_texts<A: Allocator>(
-    page: &mut Page<A>,
-    run: &Run<'_, A>,
-    fold: Fold,
-    columns: usize,
-) -> Result<(), AllocError> {
+fn add_texts<A: Allocator>(page: &mut Page<A>, run: &Run<'_, A>, fold: Fold, columns: usize) {
     let mut room = columns;
     for event in events_of(run.trace, fold.first, fold.past) {
         if let Some(part) = part_of(event, true) {
@@ -74,11 +65,10 @@ fn add_texts<A: Allocator>(
                 break;
             }
             let bytes = run.trace.text(part);
-            page.add(&[Short(bytes, room)])?;
+            page.add(&[Short(bytes, room)]);
             room = room.saturating_sub(shown_width(bytes));
         }
     }
-    Ok(())
 }
 
 // What the events of a fold wrote to the output, below it.
@@ -87,11 +77,11 @@ fn add_folded<A: Allocator>(
     run: &Run<'_, A>,
     fold: Fold,
     (left, right, low): (usize, usize, usize),
-) -> Result<(), AllocError> {
+) {
     let room = right.saturating_sub(left).saturating_sub(8) / (LETTER + 1);
-    begin_text(page, "out", (left.saturating_add(4), low))?;
-    add_texts(page, run, fold, room)?;
-    page.mark("</text>")
+    begin_text(page, "out", (left.saturating_add(4), low));
+    add_texts(page, run, fold, room);
+    page.mark("</text>");
 }
 
 /// The output of the folds of a strip, in a line with this top.
@@ -100,11 +90,10 @@ pub fn add_fold_outputs<A: Allocator>(
     run: &Run<'_, A>,
     window: Window<'_>,
     top: usize,
-) -> Result<(), AllocError> {
+) {
     let low = top.saturating_add(16);
     for fold in window.folds {
         let (left, right) = (window.left(fold.first), window.right(fold.first));
-        add_folded(page, run, *fold, (left, right, low))?;
+        add_folded(page, run, *fold, (left, right, low));
     }
-    Ok(())
 }

@@ -4,7 +4,7 @@ use crate::run::Run;
 use crate::words::full_name;
 use Piece::{Bits, Count, Mark, Num, Pipe, Short};
 use page_markup::{Page, Piece};
-use std::alloc::{AllocError, Allocator};
+use std::alloc::Allocator;
 use trace_data::{Call, Channel, Event, Full, Mode, Object, Part, PipeState, Reply, State, Trap};
 
 // How many columns bytes take in a sentence at most.
@@ -31,11 +31,7 @@ fn object_words<'a, A: Allocator>(
 }
 
 // What a process waits for that sleeps.
-fn add_reason<A: Allocator>(
-    page: &mut Page<A>,
-    run: &Run<'_, A>,
-    channel: Channel,
-) -> Result<(), AllocError> {
+fn add_reason<A: Allocator>(page: &mut Page<A>, run: &Run<'_, A>, channel: Channel) {
     match channel {
         Channel::Children => page.mark("sleeps: no child has ended"),
         Channel::PipeBytes(pipe) => {
@@ -51,20 +47,15 @@ fn add_sleep<A: Allocator>(
     run: &Run<'_, A>,
     moved: Option<usize>,
     channel: Channel,
-) -> Result<(), AllocError> {
+) {
     if let Some(moved) = moved {
-        page.fill("writes %, and ", &[Count(moved)])?;
+        page.fill("writes %, and ", &[Count(moved)]);
     }
-    add_reason(page, run, channel)
+    add_reason(page, run, channel);
 }
 
 // A read that returned.
-fn add_read<A: Allocator>(
-    page: &mut Page<A>,
-    run: &Run<'_, A>,
-    trap: &Trap,
-    reply: Reply,
-) -> Result<(), AllocError> {
+fn add_read<A: Allocator>(page: &mut Page<A>, run: &Run<'_, A>, trap: &Trap, reply: Reply) {
     let (what, name) = object_words(run, trap.object);
     match reply {
         _ if trap.is_at_end => page.fill(
@@ -89,7 +80,7 @@ fn add_write<A: Allocator>(
     object: Option<Object>,
     bytes: Part,
     reply: Reply,
-) -> Result<(), AllocError> {
+) {
     let (what, name) = object_words(run, object);
     match reply {
         Reply::Refused => page.fill("can’t write to %%%", &[what, name, Mark(REFUSED)]),
@@ -114,12 +105,7 @@ fn purpose(mode: Mode) -> &'static str {
 }
 
 // An open that returned.
-fn add_open<A: Allocator>(
-    page: &mut Page<A>,
-    name: &[u8],
-    mode: Mode,
-    reply: Reply,
-) -> Result<(), AllocError> {
+fn add_open<A: Allocator>(page: &mut Page<A>, name: &[u8], mode: Mode, reply: Reply) {
     let name = Short(name, ROOM);
     match reply {
         Reply::Fd(fd) => page.fill("opens file %%%", &[name, Mark(purpose(mode)), Num(fd)]),
@@ -136,11 +122,7 @@ fn program_name<'a, A: Allocator>(run: &Run<'a, A>, words: Part) -> Piece<'a> {
 }
 
 // A program that a process becomes, or doesn't.
-fn add_exec<A: Allocator>(
-    page: &mut Page<A>,
-    name: Piece<'_>,
-    reply: Reply,
-) -> Result<(), AllocError> {
+fn add_exec<A: Allocator>(page: &mut Page<A>, name: Piece<'_>, reply: Reply) {
     match reply {
         Reply::Refused => page.fill("can’t become the program %%", &[name, Mark(REFUSED)]),
         _ => page.fill("becomes the program %", &[name]),
@@ -153,7 +135,7 @@ fn add_descriptor<'p, A: Allocator>(
     (what, name): (Piece<'p>, Piece<'p>),
     fd: usize,
     reply: Reply,
-) -> Result<(), AllocError> {
+) {
     match reply {
         Reply::Fd(new) => page.fill(
             "makes descriptor % the same as %, %%",
@@ -168,12 +150,7 @@ fn add_descriptor<'p, A: Allocator>(
 }
 
 // A pipe that a call makes, or what a call can't make or wait for.
-fn add_pipe<A: Allocator>(
-    page: &mut Page<A>,
-    pipe: Piece<'_>,
-    call: Call,
-    reply: Reply,
-) -> Result<(), AllocError> {
+fn add_pipe<A: Allocator>(page: &mut Page<A>, pipe: Piece<'_>, call: Call, reply: Reply) {
     match (reply, call) {
         (Reply::Ends(reader, writer), _) => page.fill(
             "makes pipe %: descriptor % to read, % to write",
@@ -192,7 +169,7 @@ fn add_made<A: Allocator>(
     number: usize,
     trap: &Trap,
     reply: Reply,
-) -> Result<(), AllocError> {
+) {
     match (&trap.child, trap.reaped) {
         (Some(child), _) => page.fill("makes process %", &[Num(child.pid as usize)]),
         (None, Some(reaped)) => page.fill(
@@ -210,7 +187,7 @@ fn add_returned<A: Allocator>(
     number: usize,
     trap: &Trap,
     reply: Reply,
-) -> Result<(), AllocError> {
+) {
     match trap.call {
         Call::Exit => page.mark("ends"),
         Call::Fork | Call::Wait | Call::Pipe => add_made(page, run, number, trap, reply),
@@ -225,69 +202,51 @@ fn add_returned<A: Allocator>(
 }
 
 // The processes that a call woke or gave to init.
-fn add_processes<A: Allocator>(
-    page: &mut Page<A>,
-    adopted: u64,
-    woken: u64,
-) -> Result<(), AllocError> {
+fn add_processes<A: Allocator>(page: &mut Page<A>, adopted: u64, woken: u64) {
     if adopted != 0 {
-        page.fill("; init gets %", &[Bits(adopted)])?;
+        page.fill("; init gets %", &[Bits(adopted)]);
     }
     if woken == 0 {
-        return Ok(());
+        return;
     }
-    page.fill("; <b class=\"wakes\">wakes %</b>", &[Bits(woken)])
+    page.fill("; <b class=\"wakes\">wakes %</b>", &[Bits(woken)]);
 }
 
 // The ends of a pipe with this place that a call closed for good.
-fn add_closed<A: Allocator>(
-    page: &mut Page<A>,
-    state: &PipeState,
-    place: usize,
-) -> Result<(), AllocError> {
+fn add_closed<A: Allocator>(page: &mut Page<A>, state: &PipeState, place: usize) {
     if state.closes_read {
         page.fill(
             "; <b class=\"alert\">nobody can read % any more</b>",
             &[Pipe(place)],
-        )?;
+        );
     }
     if !state.closes_write {
-        return Ok(());
+        return;
     }
     page.fill(
         "; <b class=\"alert\">nobody can write to % any more</b>",
         &[Pipe(place)],
-    )
+    );
 }
 
 // The ends of pipes that a call closed for good.
-fn add_all_closed<A: Allocator>(
-    page: &mut Page<A>,
-    run: &Run<'_, A>,
-    pipes: Part,
-) -> Result<(), AllocError> {
+fn add_all_closed<A: Allocator>(page: &mut Page<A>, run: &Run<'_, A>, pipes: Part) {
     let states = run.trace.pipes.as_slice().get(pipes.first..pipes.past);
     for state in states.unwrap_or(&[]) {
-        add_closed(page, state, run.pipe(state.pipe))?;
+        add_closed(page, state, run.pipe(state.pipe));
     }
-    Ok(())
 }
 
 // What was full.
-fn add_full<A: Allocator>(page: &mut Page<A>, full: Option<Full>) -> Result<(), AllocError> {
+fn add_full<A: Allocator>(page: &mut Page<A>, full: Option<Full>) {
     match full {
         Some(full) => page.fill("; <b class=\"alert\">full: %</b>", &[Mark(full_name(full))]),
-        None => Ok(()),
+        None => {}
     }
 }
 
 // What the call of an event did.
-fn add_deed<A: Allocator>(
-    page: &mut Page<A>,
-    run: &Run<'_, A>,
-    number: usize,
-    trap: &Trap,
-) -> Result<(), AllocError> {
+fn add_deed<A: Allocator>(page: &mut Page<A>, run: &Run<'_, A>, number: usize, trap: &Trap) {
     match trap.state {
         State::Zombie => page.mark("ends"),
         State::Asleep(channel) => add_sleep(page, run, trap.moved, channel),
@@ -302,9 +261,9 @@ pub fn add_sentence<A: Allocator + Copy>(
     run: &Run<'_, A>,
     event: &Event,
     trap: &Trap,
-) -> Result<(), AllocError> {
-    add_deed(page, run, event.number, trap)?;
-    add_processes(page, trap.adopted, trap.woken)?;
-    add_all_closed(page, run, trap.pipes)?;
-    add_full(page, trap.full)
+) {
+    add_deed(page, run, event.number, trap);
+    add_processes(page, trap.adopted, trap.woken);
+    add_all_closed(page, run, trap.pipes);
+    add_full(page, trap.full);
 }

@@ -3,7 +3,7 @@
 use crate::run::Run;
 use Piece::{Mark, Num, Pipe, Short};
 use page_markup::{Page, Piece};
-use std::alloc::{AllocError, Allocator};
+use std::alloc::Allocator;
 use trace_data::{Call, Channel, Doing, Event, Full, Mode, Node, Part, Trace, Trap};
 
 // How many columns bytes take in a table at most.
@@ -83,54 +83,41 @@ pub fn add_doing<A: Allocator + Copy>(
     run: &Run<'_, A>,
     doing: &Doing,
     room: usize,
-) -> Result<(), AllocError> {
+) {
     let (shell, text, room) = doing_words(run, doing, room);
-    page.add(&[shell, Short(text, room)])
+    page.add(&[shell, Short(text, room)]);
 }
 
 /// What a shell carries out, in words; nothing of another process.
-pub fn add_node<A: Allocator>(page: &mut Page<A>, doing: &Doing) -> Result<(), AllocError> {
+pub fn add_node<A: Allocator>(page: &mut Page<A>, doing: &Doing) {
     if let Some(node) = doing.node {
-        page.fill(", %", &[Mark(node_name(node))])?;
+        page.fill(", %", &[Mark(node_name(node))]);
     }
     match doing.line {
         Some(line) => page.fill(", line %", &[Num(line)]),
-        None => Ok(()),
+        None => {}
     }
 }
 
 // The words of a command, with commas between.
-fn add_words<A: Allocator>(
-    page: &mut Page<A>,
-    trace: &Trace<A>,
-    words: &[Part],
-) -> Result<(), AllocError> {
+fn add_words<A: Allocator>(page: &mut Page<A>, trace: &Trace<A>, words: &[Part]) {
     let mut comma = "";
     for word in words {
-        page.fill("%“%”", &[Mark(comma), Short(trace.text(*word), TABLE_ROOM)])?;
+        page.fill("%“%”", &[Mark(comma), Short(trace.text(*word), TABLE_ROOM)]);
         comma = ", ";
     }
-    Ok(())
 }
 
 // An exec with the words of its command.
-fn add_exec<A: Allocator>(
-    page: &mut Page<A>,
-    trace: &Trace<A>,
-    words: Part,
-) -> Result<(), AllocError> {
+fn add_exec<A: Allocator>(page: &mut Page<A>, trace: &Trace<A>, words: Part) {
     let words = trace.words.as_slice().get(words.first..words.past);
-    page.mark("exec(")?;
-    add_words(page, trace, words.unwrap_or(&[]))?;
-    page.mark(")")
+    page.mark("exec(");
+    add_words(page, trace, words.unwrap_or(&[]));
+    page.mark(")");
 }
 
 /// A call with its arguments, as a program would write it: `read(3, 512)`. Of a write the count of the bytes stands there.
-pub fn add_call<A: Allocator + Copy>(
-    page: &mut Page<A>,
-    run: &Run<'_, A>,
-    trap: &Trap,
-) -> Result<(), AllocError> {
+pub fn add_call<A: Allocator + Copy>(page: &mut Page<A>, run: &Run<'_, A>, trap: &Trap) {
     let name = call_name(trap.call);
     match trap.call {
         Call::Fork | Call::Exit | Call::Wait | Call::Pipe => page.fill("%()", &[Mark(name)]),
@@ -153,11 +140,7 @@ pub fn add_call<A: Allocator + Copy>(
 }
 
 /// What a process sleeps on.
-pub fn add_channel<A: Allocator + Copy>(
-    page: &mut Page<A>,
-    run: &Run<'_, A>,
-    channel: Channel,
-) -> Result<(), AllocError> {
+pub fn add_channel<A: Allocator + Copy>(page: &mut Page<A>, run: &Run<'_, A>, channel: Channel) {
     match channel {
         Channel::Children => page.mark("until a child exits"),
         Channel::PipeBytes(pipe) => page.fill("until pipe % has bytes", &[Pipe(run.pipe(pipe))]),
@@ -171,7 +154,7 @@ pub fn add_process<A: Allocator + Copy>(
     run: &Run<'_, A>,
     event: &Event,
     room: usize,
-) -> Result<(), AllocError> {
-    page.fill("<b>%</b> ", &[Num(event.process.pid as usize)])?;
-    add_doing(page, run, &event.doing, room)
+) {
+    page.fill("<b>%</b> ", &[Num(event.process.pid as usize)]);
+    add_doing(page, run, &event.doing, room);
 }

@@ -1,11 +1,12 @@
 -- What runs of a script in every way leave.
-use Rattle.std.specs.Prelude.{◌≡◌, ◌≤◌, ℕ, true, List, None, All, length}
+use Rattle.std.specs.Prelude.{◌≡◌, ◌≤◌, ℕ, true, List, [], ◌∷◌, None, All, length}
 use Rattle.mem_files.specs.Name.{Bytes}
 use Rattle.script_load.specs.Line.{ScriptLine}
 use Rattle.script_load.specs.Script.{IsScript}
 use Rattle.kernel_model.specs.declared.events.Event.{Event}
 use Rattle.run_model.specs.ScriptRun.{IsSpentFrom}
 use Rattle.order_model.specs.Outcome.{outcome_of}
+use Rattle.kernel_runs.specs.declared.ordering.Order.TheVariants.{Kernel, Lowest, Highest, Eager, Starving, Drawn}
 use Rattle.kernel_events.specs.declared.report.Report.{Report}
 use Rattle.kernel_events.specs.Harts.{is_of_hart}
 use Rattle.kernel_events.specs.Reports.{IsRunFrom}
@@ -16,7 +17,12 @@ use Rattle.grade_verdicts.specs.declared.expected.Task.{Task}
 use Rattle.grade_verdicts.specs.declared.verdict.Verdict.{Verdict}
 use Rattle.grade_ways.specs.declared.ways.Way.{Way}
 use Rattle.grade_ways.specs.declared.ways.Way.TheVariants.{InOrder, OnHarts}
-use Rattle.grade_ways.specs.declared.ways.TheConstants.{WAYS}
+
+-- every way: on one hart in nine orders, and on one, two and eight harts
+abbrev pub every_way : List Way
+every_way =
+    InOrder Kernel ∷ InOrder Lowest ∷ InOrder Highest ∷ InOrder Eager ∷ InOrder (Starving 1) ∷ InOrder (Starving 2) ∷ InOrder (Drawn 1) ∷ InOrder (Drawn 2) ∷ InOrder (Drawn 3)
+    ∷ OnHarts 1 ∷ OnHarts 2 ∷ OnHarts 8 ∷ []
 
 -- the report is that of a finished run of the script, of no more events
 pub record IsRunOf {A : _} (t : Task) (lines : List ScriptLine) (report : Report A) : Type 0 where
@@ -62,7 +68,7 @@ pub record IsNoPass (t : Task) (lines : List ScriptLine) (verdict : Verdict) : T
 pub record RunsInEveryWay (t : Task) (bytes : Bytes) : Type 0 where
   pub lines : List ScriptLine
   pub script : IsScript bytes lines
-  pub ways : All (RunsRight t lines) WAYS
+  pub ways : All (RunsRight t lines) every_way
 
 -- so it is where the verdict is a pass
 abbrev pub RunsRightInEveryWay : Task → Bytes → Verdict → Type 0

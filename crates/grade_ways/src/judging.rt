@@ -3,8 +3,7 @@
 ghost use Rattle.std.specs.Prelude.{◌≡◌, ◌≢◌, IfOk, IfSome, None, Ok, All};
 ghost use Rattle.script_load.specs.Line.{lines_of};
 ghost use Rattle.grade_verdicts.specs.Judged.{IsInTime, IsJudged, IsPass, IsVerdict};
-ghost use Rattle.grade_ways.specs.Ways.{AllRunsAgree, IsNoPass, IsRunOf, LeavesRight, RunsRight, RunsRightInEveryWay};
-ghost use Rattle.grade_ways.specs.declared.ways.TheConstants.{WAYS};
+ghost use Rattle.grade_ways.specs.Ways.{AllRunsAgree, IsNoPass, IsRunOf, LeavesRight, RunsRight, RunsRightInEveryWay, every_way};
 
 use crate::runs::{WayFault, run_again, run_way};
 use crate::ways::{WAYS, Way};
@@ -111,7 +110,7 @@ fn judge_all_ways<R: Threads + Wait + Clock + Sync>(
     requires { script.now.profile ≡ task.now.profile }
     ensures verdict { IfOk result (IsVerdict task.now (lines_of script.now.lines)) }
     ensures time { IfOk result (IsInTime task.now (lines_of script.now.lines)) }
-    ensures ways { IfOk result (λ verdict. IsPass verdict → All (RunsRight task.now (lines_of script.now.lines)) WAYS) }
+    ensures ways { IfOk result (λ verdict. IsPass verdict → All (RunsRight task.now (lines_of script.now.lines)) every_way) }
 {
     let verdict = judge_script(alloc, task, script)?;
     if !passes(&verdict) {

@@ -11,7 +11,7 @@ ghost use Rattle.kernel_threads.specs.Boots.{number_of};
 ghost use Rattle.kernel_threads.specs.Events.{AreOfHarts};
 ghost use Rattle.kernel_threads.specs.Reports.{IsReportSoFar};
 ghost use Rattle.kernel_threads.specs.Seats.{all_events};
-ghost use Rattle.kernel_core.specs.Answer.{IsAnswerIfSettled};
+ghost use Rattle.kernel_core.specs.Answer.{IsAnswerIfRoomy, IsAnswerIfSettled};
 
 use kernel_events::Report;
 use kernel_threads::{Run, Seat, Shared};
@@ -39,6 +39,7 @@ pub fn close<'t, N: Run, L: Naming, A: Allocator, B: Allocator, C: Allocator>(
     ensures so_far { IsReportSoFar user_code call_of next_of (script_kernel script.now.profile (lines_of script.now.lines) stdin.now files.now) result }
     ensures run { IsTrue result.finished → IsRunFrom (script_kernel script.now.profile (lines_of script.now.lines) stdin.now files.now) result }
     ensures answer { IsTrue result.finished → IsAnswerIfSettled script.now.profile (lines_of script.now.lines) stdin.now files.now result }
+    ensures roomy { IsTrue result.finished → IsAnswerIfRoomy script.now.profile (lines_of script.now.lines) stdin.now files.now result }
     ensures events { length result.schedule ≡ all_events seats.items }
     ensures by_hart { AreCounts result.by_hart result.schedule }
     ensures harts { AreOfHarts N.harts result.schedule }

@@ -8,7 +8,7 @@ ghost use Rattle.script_load.specs.declared.limits.TheConstants.{MAX_TURNS};
 ghost use Rattle.run_model.specs.ScriptRun.{IsOutOfTurnsIfRoomy, IsSpentFrom, script_kernel};
 ghost use Rattle.kernel_events.specs.Harts.{is_of_hart};
 ghost use Rattle.kernel_events.specs.Reports.{IsRunFrom};
-ghost use Rattle.kernel_core.specs.Answer.{IsAnswerIfSettled};
+ghost use Rattle.kernel_core.specs.Answer.{IsAnswerIfRoomy, IsAnswerIfSettled};
 
 use kernel_events::Report;
 use kernel_runs::{Order, RunOneFault};
@@ -36,6 +36,7 @@ pub fn run_one<A: Allocator + Copy, B: Allocator, C: Allocator>(
 ) -> Result<Report<A>, RunOneFault>
     ensures run { IfOk result (IsRunFrom (script_kernel script.now.profile (lines_of script.now.lines) stdin.now files.now)) }
     ensures answer { IfOk result (IsAnswerIfSettled script.now.profile (lines_of script.now.lines) stdin.now files.now) }
+    ensures roomy { IfOk result (IsAnswerIfRoomy script.now.profile (lines_of script.now.lines) stdin.now files.now) }
     ensures hart { IfOk result (λ report. All (λ event. is_of_hart 0 event ≡ true) report.schedule) }
     ensures turns { IfOk result (λ report. length report.schedule ≤ turns) }
     ensures bad_turns { (result ≡ Err RunOneFault.BadTurns) ↔ ((turns ≡ 0) ⊎ (MAX_TURNS < turns)) }
@@ -48,7 +49,7 @@ pub fn run_one<A: Allocator + Copy, B: Allocator, C: Allocator>(
 
 /// The same in this order: whichever of the Runnable processes takes each turn, the report of a settled script in which nothing was
 /// full has the output and the files of the script's meaning (`answer`).
-#[tactic(auto, using(crate::proofs::Answers::answered))]
+#[tactic(auto, using(crate::proofs::Answers::answered, crate::proofs::Answers::roomy_answered))]
 pub fn run_in_order<A: Allocator + Copy, B: Allocator, C: Allocator>(
     alloc: A,
     script: &Script<B>,
@@ -59,6 +60,7 @@ pub fn run_in_order<A: Allocator + Copy, B: Allocator, C: Allocator>(
 ) -> Result<Report<A>, RunOneFault>
     ensures run { IfOk result (IsRunFrom (script_kernel script.now.profile (lines_of script.now.lines) stdin.now files.now)) }
     ensures answer { IfOk result (IsAnswerIfSettled script.now.profile (lines_of script.now.lines) stdin.now files.now) }
+    ensures roomy { IfOk result (IsAnswerIfRoomy script.now.profile (lines_of script.now.lines) stdin.now files.now) }
     ensures hart { IfOk result (λ report. All (λ event. is_of_hart 0 event ≡ true) report.schedule) }
     ensures turns { IfOk result (λ report. length report.schedule ≤ turns) }
     ensures bad_turns { (result ≡ Err RunOneFault.BadTurns) ↔ ((turns ≡ 0) ⊎ (MAX_TURNS < turns)) }

@@ -4,12 +4,13 @@ ghost use Rattle.mem_files.specs.Files.{files};
 ghost use Rattle.conflict_check.specs.Clear.{IsClear, has_back};
 ghost use Rattle.script_load.specs.Line.{lines_of};
 ghost use Rattle.meaning_model.specs.Meaning.{script_tree};
-ghost use Rattle.kernel_core.specs.Answer.{IsAnswerIfSettled};
+ghost use Rattle.kernel_core.specs.Answer.{IsAnswerIfRoomy, IsAnswerIfSettled};
 ghost use Rattle.kernel_events.specs.Reports.{IsRunFrom};
 ghost use Rattle.run_model.specs.ScriptRun.{script_kernel};
 ghost use Rattle.script_load.specs.declared.limits.TheConstants.{MAX_TURNS};
+ghost use Rattle.room_model.specs.Roomy.{IsRoomyScript};
 ghost use Rattle.step_bounds.specs.Most.{most_events};
-ghost use Rattle.kernel_core.specs.Filled.{IsFilledFrom};
+ghost use Rattle.kernel_core.specs.Filled.{IsFilledFrom, IsRefusedFrom};
 
 use crate::run::run_one;
 use kernel_events::Report;
@@ -45,9 +46,13 @@ pub fn run_whole<A: Allocator + Copy, B: Allocator, C: Allocator>(
 ) -> Result<Report<A>, RunOneFault>
     ensures run { IfOk result (IsRunFrom (script_kernel script.now.profile (lines_of script.now.lines) stdin.now store.now)) }
     ensures answer { IfOk result (IsAnswerIfSettled script.now.profile (lines_of script.now.lines) stdin.now store.now) }
+    ensures roomy { IfOk result (IsAnswerIfRoomy script.now.profile (lines_of script.now.lines) stdin.now store.now) }
     ensures bad_turns { result ≢ Err RunOneFault.BadTurns }
     ensures spent { result ≡ Err RunOneFault.Spent → has_back (script_tree (lines_of script.now.lines)) ≡ false → IsClear (script_tree (lines_of script.now.lines))
         → most_events (lines_of script.now.lines) stdin.now (files store.now) + 2 ≤ MAX_TURNS → IsFilledFrom (script_kernel script.now.profile (lines_of script.now.lines) stdin.now store.now) }
+    ensures ends { result ≡ Err RunOneFault.Spent → has_back (script_tree (lines_of script.now.lines)) ≡ false → IsClear (script_tree (lines_of script.now.lines))
+        → IsRoomyScript (lines_of script.now.lines) stdin.now store.now → most_events (lines_of script.now.lines) stdin.now (files store.now) + 2 ≤ MAX_TURNS
+        → IsRefusedFrom (script_kernel script.now.profile (lines_of script.now.lines) stdin.now store.now) }
 {
     are_files(store);
     let turns = turns_for(script, stdin, store);

@@ -1,5 +1,5 @@
 -- A finished run of a settled script prints the script's meaning.
-use Rattle.std.proofs.Common.{◌≡◌, Bool, List, Option, None, sym, ap, ◌∙◌, append-nil}
+use Rattle.std.proofs.Common.{◌≡◌, ◌⊎◌, inl, inr, Bool, List, Option, Some, None, sym, ap, ◌∙◌, append-nil}
 use Rattle.std.specs.Borrow.{Bor}
 use Rattle.mem_files.specs.Name.{Name, Bytes}
 use Rattle.mem_files.specs.Files.{files}
@@ -17,6 +17,10 @@ use Rattle.kernel_model.specs.declared.events.Event.{Event}
 use Rattle.law_kernel.proofs.SoundRuns.{every_run_has_files}
 use Rattle.law_standing.proofs.RunsEnd.{finished_means}
 use Rattle.run_model.specs.ScriptRun.{script_kernel}
+use Rattle.kernel_model.specs.declared.events.Full.{Full}
+use Rattle.kernel_model.specs.declared.events.Full.TheVariants.{Memory}
+use Rattle.room_model.specs.Roomy.{IsRoomyScript}
+use Rattle.law_room.proofs.Roomy.{only_memory}
 use Rattle.xvsh_read.specs.Path.{Path}
 use Rattle.xvsh_read.specs.Starting.{Starts}
 use Rattle.xvsh_runs.specs.Lists.{Prints, run_text}
@@ -41,3 +45,14 @@ module _ (profile : Profile) (lines : List ScriptLine) (stdin : Bytes) (given : 
   -- whatever the host states, and whether standard input was taken before
   pub means : (input : Option Bytes) (file : Path → Option Bytes) (is_taken : Bool) (script : Path) (paths : List (Bor Path)) → Starts input file is_taken script paths lines given stdin → IsValueText (script_meaning profile lines stdin (files given)) lists events text
   means input file is_taken script paths starts = value_text starts.are (script_short starts.loaded.bytes lines starts.loaded.cut)
+
+-- where the script also has room, nothing but memory was full
+pub only_memory_was_full : (profile : Profile) (lines : List ScriptLine) (stdin : Bytes) (given : List (Name × Bytes)) → IsSettledScript profile lines stdin (files given) → IsRoomyScript lines stdin given
+    → (events : List Event) (lists : Lists) (full : Option Full) (text diag : Bytes) → Prints (script_kernel profile lines stdin given) events lists full text diag
+    → (input : Option Bytes) (file : Path → Option Bytes) (is_taken : Bool) (script : Path) (paths : List (Bor Path)) → Starts input file is_taken script paths lines given stdin → (full ≡ None) ⊎ (full ≡ Some Memory)
+only_memory_was_full profile lines stdin given settled roomy events lists full text diag gave input file is_taken script paths starts =
+    by (only_memory profile lines stdin given starts.are roomy events gave.notes gave.last gave.runs (record { no_back = settled.0; clear = settled.1; short = script_short starts.loaded.bytes lines starts.loaded.cut }))
+  where
+    by : (gave.last.full ≡ None) ⊎ (gave.last.full ≡ Some Memory) → (full ≡ None) ⊎ (full ≡ Some Memory)
+    by (inl none) = inl (gave.marked ∙ none)
+    by (inr memory) = inr (gave.marked ∙ memory)

@@ -9,7 +9,7 @@ use Rattle.script_load.specs.declared.profile.Profile.{Profile}
 use Rattle.script_load.specs.Line.{ScriptLine}
 use Rattle.reason_sentences.specs.Whys.{IsWhy}
 use Rattle.xvsh_read.specs.Path.{Path}
-use Rattle.xvsh_ends.specs.Ends.{verdict_text, Asked, asks_plain, asks_diagnosed, asks_run, asks_strict, asks_check, asks_turns, asks_explain, asks_whys, asks_explore, asks_traced, asks_witnessed, asks_filed, asks_lined, asks_json, asks_draw, drawn, undrawn, asks_input, verdict_status, help, misuse, How, by_schedule, RanBy, Due, plain_ran, no_plain, diagnosed, not_diagnosed, ran, no_run, ran_strict, no_strict, checked, no_check, counted, not_counted, explained, not_explained, whys_told, no_whys_told, explored, not_explored, traced, untraced, witnessed, unwitnessed, filed, unfiled, lined, valued, unvalued, unread, helped, misused, no_memory, Writes, whole, out_stopped, err_stopped, Ends}
+use Rattle.xvsh_ends.specs.Ends.{verdict_text, Asked, asks_plain, asks_diagnosed, asks_run, asks_strict, asks_check, asks_turns, asks_room, asks_explain, asks_whys, asks_explore, asks_traced, asks_witnessed, asks_filed, asks_lined, asks_json, asks_draw, drawn, undrawn, asks_input, verdict_status, help, misuse, How, by_schedule, RanBy, Due, plain_ran, no_plain, diagnosed, not_diagnosed, ran, no_run, ran_strict, no_strict, checked, no_check, counted, not_counted, room_told, no_room_told, explained, not_explained, whys_told, no_whys_told, explored, not_explored, traced, untraced, witnessed, unwitnessed, filed, unfiled, lined, valued, unvalued, unread, helped, misused, no_memory, Writes, whole, out_stopped, err_stopped, Ends}
 use Rattle.xvsh_plain.specs.Running.{RanPlain}
 use Rattle.xvsh_runs.specs.Strict.{RanStrict}
 use Rattle.xvsh_ends.proofs.Dues.{some_status, some_run_status}
@@ -43,6 +43,7 @@ module _ (input : Option Bytes) (file : Path → Option Bytes) where
   DidRun (asks_strict profile script paths harts turns lists) text told = (why : Bytes) × (diag : Bytes) × RanStrict input file profile script paths harts turns lists None true why text diag
   DidRun (asks_check script strict) text told = Unit {0}
   DidRun (asks_turns script paths strict) text told = Unit {0}
+  DidRun (asks_room script paths strict) text told = Unit {0}
   DidRun (asks_explain script) text told = Unit {0}
   DidRun (asks_whys profile script paths) text told = Unit {0}
   DidRun (asks_explore profile script paths states all) text told = Unit {0}
@@ -71,11 +72,13 @@ module _ (input : Option Bytes) (file : Path → Option Bytes) where
   due_well request text told status (no_check fault why) zero = tt
   due_well request text told status (counted is_harmless gave) zero = tt
   due_well request text told status (not_counted fault why) zero = tt
+  due_well request text told status (room_told is_fine gave) zero = tt
+  due_well request text told status (no_room_told fault why) zero = tt
   due_well request text told status (explained is_fine gave) zero = tt
   due_well request text told status (not_explained fault why) zero = tt
   due_well request text told status (whys_told is_fine gave) zero = tt
   due_well request text told status (no_whys_told fault why) zero = tt
-  due_well request text told status (explored is_whole is_single gave) zero = tt
+  due_well request text told status (explored found conclusion gave concludes) zero = tt
   due_well request text told status (not_explored fault why) zero = tt
   due_well request text told status (traced due) zero = tt
   due_well request text told status untraced zero = tt

@@ -1,12 +1,15 @@
 //! Laws of runs of the program: each function's contract is the law, and its body is empty. Each is of both profiles, and says
 //! nothing of writers of which it isn't known what they hold.
 
-ghost use Rattle.std.specs.Prelude.{◌≡◌, ℕ, Bool, List, ◌++◌, true, Some, None, codes};
+ghost use Rattle.std.specs.Prelude.{◌≡◌, ◌⊎◌, ℕ, Bool, List, ◌++◌, Option, true, Some, None, codes};
 ghost use Rattle.clap.specs.Walk.{Row};
 ghost use Rattle.mem_files.specs.Files.{files};
 ghost use Rattle.mem_files.specs.Name.{Bytes};
 ghost use Rattle.meaning_model.specs.Meaning.{script_meaning};
 ghost use Rattle.meaning_model.specs.Settled.{IsSettledScript};
+ghost use Rattle.kernel_model.specs.declared.events.Full.{Full};
+ghost use Rattle.kernel_model.specs.declared.events.Full.TheVariants.{Memory};
+ghost use Rattle.room_model.specs.Roomy.{IsRoomyScript};
 ghost use Rattle.xvsh_read.specs.Console.{Known};
 ghost use Rattle.xvsh_read.specs.Path.{Path};
 ghost use Rattle.xvsh_runs.specs.Runs.{RanReplay, RanRun};
@@ -25,6 +28,15 @@ pub fn a_run_prints_the_meaning()
         → IsSettledScript s.profile r.lines r.stdin (files r.given) → IsValueText (script_meaning s.profile r.lines r.stdin (files r.given)) lists r.on.events text }
     ensures replay { (s : Setting) (schedule : Path) (lists : Lists) (text diag : Bytes) (r : RanReplay s.input s.file s.profile s.script s.paths schedule lists None text diag)
         → IsSettledScript s.profile r.lines r.stdin (files r.given) → IsValueText (script_meaning s.profile r.lines r.stdin (files r.given)) lists r.events text }
+{}
+
+/// And where such a script has room in xv6's tables by its bounds, nothing but memory is full in any run of `run` or `replay` that is
+/// printed: so what it prints is the meaning, unless it reports that memory was refused.
+pub fn a_printed_run_of_a_roomy_script_fills_nothing_but_memory()
+    ensures run { (s : Setting) (harts turns : ℕ) (lists : Lists) (full : Option Full) (text diag : Bytes) (r : RanRun s.input s.file s.profile s.script s.paths harts turns lists full text diag)
+        → IsSettledScript s.profile r.lines r.stdin (files r.given) → IsRoomyScript r.lines r.stdin r.given → (full ≡ None) ⊎ (full ≡ Some Memory) }
+    ensures replay { (s : Setting) (schedule : Path) (lists : Lists) (full : Option Full) (text diag : Bytes) (r : RanReplay s.input s.file s.profile s.script s.paths schedule lists full text diag)
+        → IsSettledScript s.profile r.lines r.stdin (files r.given) → IsRoomyScript r.lines r.stdin r.given → (full ≡ None) ⊎ (full ≡ Some Memory) }
 {}
 
 /// So two runs of one script, under one profile and on the same files, print the same on standard output, where nothing was full

@@ -126,6 +126,40 @@ fn follow(
     }
 }
 
+// The turns of another way, with the next one of this process brought forward to the place where it goes with the first way past
+// that; `None` where they don't lead to its outcome.
+fn moved_with(
+    alloc: Global,
+    scene: &Scene<'_>,
+    first: &Way<'_>,
+    other: &Way<'_>,
+    (place, pid): (usize, u8),
+) -> Result<Option<Vec<u8>>, AllocError> {
+    let pids = other.pids.as_slice();
+    if shared(first.pids.as_slice(), pids) <= place {
+        return Ok(Some(Vec::from_slice(alloc, pids)?));
+    }
+    moved(alloc, scene, other, place, pid)
+}
+
+// The same of each of the other ways.
+fn all_moved(
+    alloc: Global,
+    scene: &Scene<'_>,
+    first: &Way<'_>,
+    others: &[Way<'_>],
+    (place, pid): (usize, u8),
+) -> Result<Option<Vec<Vec<u8>>>, AllocError> {
+    let mut made = Vec::new(alloc);
+    for other in others {
+        match moved_with(alloc, scene, first, other, (place, pid))? {
+            Some(pids) => made.push(pids)?,
+            None => return Ok(None),
+        }
+    }
+    Ok(Some(made))
+}
+
 // Has the first way take the turn of this process at the place, and all ways that go with it past the place, if each leads to
 // its outcome then, and returns whether they do.
 fn lead(
@@ -138,22 +172,12 @@ fn lead(
     let Some(pids) = moved(alloc, scene, first, place, pid)? else {
         return Ok(false);
     };
-    let mut made = Vec::new(alloc);
-    for other in others.iter() {
-        if shared(first.pids.as_slice(), other.pids.as_slice()) <= place {
-            made.push(None)?;
-            continue;
-        }
-        match moved(alloc, scene, other, place, pid)? {
-            Some(pids) => made.push(Some(pids))?,
-            None => return Ok(false),
-        }
-    }
+    let Some(made) = all_moved(alloc, scene, first, others, (place, pid))? else {
+        return Ok(false);
+    };
     first.pids = pids;
-    for (other, found) in others.iter_mut().zip(made) {
-        if let Some(pids) = found {
-            other.pids = pids;
-        }
+    for (other, pids) in others.iter_mut().zip(made) {
+        other.pids = pids;
     }
     Ok(true)
 }

@@ -18,12 +18,28 @@ struct Plan {
     program: Vec<u8>,
 }
 
+// The name of the program that the process runs, if it runs one.
+fn program_of<M: Machine>(
+    alloc: Global,
+    turner: &Turner<'_, M>,
+    pid: Pid,
+) -> Result<Vec<u8>, AllocError> {
+    let mut program = Vec::new(alloc);
+    if let Some(words) = turner.doing(pid).words() {
+        if let Some(name) = words.as_slice().first() {
+            add_short(&mut program, name.as_slice())?;
+        }
+    }
+    Ok(program)
+}
+
 // The call that the process on hart 0 makes.
 fn plan_of<M: Machine>(
     alloc: Global,
     turner: &Turner<'_, M>,
     pid: Pid,
 ) -> Result<Plan, AllocError> {
+    let program = program_of(alloc, turner, pid)?;
     let kernel = turner.tracer().kernel();
     let mut call = CallSlot::new();
     kernel.ask(0, pid.index(), &mut call);
@@ -34,12 +50,6 @@ fn plan_of<M: Machine>(
         _ => Vec::new(alloc),
     };
     let is_there = kernel.files().get(call.bytes()).is_some();
-    let mut program = Vec::new(alloc);
-    if let Some(words) = turner.doing(pid).words() {
-        if let Some(name) = words.as_slice().first() {
-            add_short(&mut program, name.as_slice())?;
-        }
-    }
     Ok(Plan {
         call,
         thing,
@@ -170,6 +180,21 @@ fn add_deed<M: Machine>(
     }
 }
 
+// Lets the process make its call, and adds what it did; whether it could.
+fn trap<M: Machine>(
+    alloc: Global,
+    text: &mut Vec<u8>,
+    turner: &mut Turner<'_, M>,
+    pid: Pid,
+    plan: &Plan,
+) -> Result<bool, AllocError> {
+    if !turner.trap(pid)? {
+        return Ok(false);
+    }
+    add_deed(alloc, text, turner, pid, plan)?;
+    Ok(true)
+}
+
 /// Lets the process take its turn, and returns in words which process it is and what it does; `None` where it can't.
 pub(crate) fn deed_of<M: Machine>(
     alloc: Global,
@@ -179,13 +204,10 @@ pub(crate) fn deed_of<M: Machine>(
     if !turner.dispatch(pid)? {
         return Ok(None);
     }
+    let plan = plan_of(alloc, turner, pid)?;
     let mut text = Vec::new(alloc);
     add_process(alloc, &mut text, pid.index(), turner.doing(pid))?;
     text.push(b' ')?;
-    let plan = plan_of(alloc, turner, pid)?;
-    if !turner.trap(pid)? {
-        return Ok(None);
-    }
-    add_deed(alloc, &mut text, turner, pid, &plan)?;
-    Ok(Some(text))
+    let is_made = trap(alloc, &mut text, turner, pid, &plan)?;
+    Ok(is_made.then_some(text))
 }

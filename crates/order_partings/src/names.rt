@@ -19,6 +19,29 @@ pub(crate) fn add_short(text: &mut Vec<u8>, bytes: &[u8]) -> Result<(), AllocErr
     Ok(())
 }
 
+// Adds the number of a process.
+fn add_number(alloc: Global, text: &mut Vec<u8>, pid: usize) -> Result<(), AllocError> {
+    let number = format!(in alloc; "process {pid}")?;
+    text.extend_from_slice(number.as_bytes())
+}
+
+// Adds a command between two quotes.
+fn add_quoted(text: &mut Vec<u8>, command: &[u8]) -> Result<(), AllocError> {
+    text.extend_from_slice(b" `".as_slice())?;
+    add_short(text, command)?;
+    Ok(text.push(b'`')?)
+}
+
+// Adds the command that is carried out, and returns whether one is.
+fn add_command(alloc: Global, text: &mut Vec<u8>, doing: Doing<'_>) -> Result<bool, AllocError> {
+    let mut command = Vec::new(alloc);
+    let is_there = doing.append_text(&mut command)?;
+    if is_there {
+        add_quoted(text, command.as_slice())?;
+    }
+    Ok(is_there)
+}
+
 /// Adds a process with the command that it carries out.
 pub(crate) fn add_process(
     alloc: Global,
@@ -26,13 +49,8 @@ pub(crate) fn add_process(
     pid: usize,
     doing: Doing<'_>,
 ) -> Result<(), AllocError> {
-    let number = format!(in alloc; "process {pid}")?;
-    text.extend_from_slice(number.as_bytes())?;
-    let mut command = Vec::new(alloc);
-    if doing.append_text(&mut command)? {
-        text.extend_from_slice(b" `".as_slice())?;
-        add_short(text, command.as_slice())?;
-        text.push(b'`')?;
+    add_number(alloc, text, pid)?;
+    if add_command(alloc, text, doing)? {
         return Ok(());
     }
     let name = match doing {

@@ -42,7 +42,35 @@ fn lead<M: Machine>(turner: &mut Turner<'_, M>, pids: &[u8]) -> Result<bool, All
     Ok(true)
 }
 
-// What happens at a turn of a schedule, in a run of the script that `N` names.
+// What happens at a turn of a schedule, of a kernel at its start.
+fn told_by<M: Machine>(
+    alloc: Global,
+    turner: &mut Turner<'_, M>,
+    pids: &[u8],
+    place: usize,
+) -> Result<Option<Vec<u8>>, AllocError> {
+    let Some(pid) = pid_at(pids, place) else {
+        return Ok(None);
+    };
+    if !lead(turner, &pids[..place.min(pids.len())])? {
+        return Ok(None);
+    }
+    deed_of(alloc, turner, pid)
+}
+
+// The same of a kernel that nothing follows yet.
+fn told_of<M: Machine>(
+    alloc: Global,
+    scene: &Scene<'_>,
+    kernel: Kernel<M, Global>,
+    pids: &[u8],
+    place: usize,
+) -> Result<Option<Vec<u8>>, AllocError> {
+    let mut turner = Turner::new(kernel, scene.script);
+    told_by(alloc, &mut turner, pids, place)
+}
+
+// The same of a run of the script that `N` names.
 fn told_named<N: Naming>(
     alloc: Global,
     scene: &Scene<'_>,
@@ -51,17 +79,10 @@ fn told_named<N: Naming>(
 ) -> Result<Option<Vec<u8>>, AllocError>
     requires { lines_of scene.now.script.now.lines ≡ N.script }
 {
-    let Some(pid) = pid_at(pids, place) else {
-        return Ok(None);
-    };
     let init = User::<Global, N>::init();
     let shell = User::shell(scene.script);
     let kernel = Kernel::boot(alloc, init, shell, scene.stdin, scene.files)?;
-    let mut turner = Turner::new(kernel, scene.script);
-    if !lead(&mut turner, &pids[..place.min(pids.len())])? {
-        return Ok(None);
-    }
-    deed_of(alloc, &mut turner, pid)
+    told_of(alloc, scene, kernel, pids, place)
 }
 
 // What happens at a turn of a schedule.

@@ -42,9 +42,15 @@ impl<'t, M: Machine> Turner<'t, M> {
 
     // Lets the process on hart 0 make its call, if it runs there, and returns whether it did.
     pub(crate) fn trap(&mut self, pid: Pid) -> Result<bool, AllocError> {
-        if !self.tracer.happen(Event::Trap(0, pid.index() as u32))? {
-            return Ok(false);
+        let is_made = self.tracer.happen(Event::Trap(0, pid.index() as u32))?;
+        if is_made {
+            self.follow(pid);
         }
+        Ok(is_made)
+    }
+
+    // Follows what the process did by its call, which was just made.
+    fn follow(&mut self, pid: Pid) {
         let kind = self.tracer.call().kind();
         let child = self.child();
         let is_done = match kind {
@@ -52,7 +58,6 @@ impl<'t, M: Machine> Turner<'t, M> {
             _ => self.is_done(pid),
         };
         self.followed.follow(pid, kind, is_done, child);
-        Ok(true)
     }
 
     // The process that the last event made, if it made one.

@@ -1,8 +1,11 @@
 //! The text of a page, as it is written.
 
+ghost use Rattle.std.specs.Prelude.{◌≡◌, true, false, IfOk, IfErr};
+
 use bstr::decode_utf8;
 use itoa::Buffer;
 use std::alloc::{AllocError, Allocator};
+use std::marker::Model;
 use unicode::properties::GeneralCategory;
 use unicode_width::UnicodeWidthChar;
 
@@ -30,10 +33,20 @@ pub enum Piece<'a> {
     Bits(u64),
 }
 
-/// A page that is being written.
+/// A page that is being written. That memory was refused to a piece is kept, and told at the end: so no piece needs a look at how the
+/// one before it went. In a clause it stands for whether memory was refused.
 #[derive(Drop)]
 pub struct Page<A: Allocator> {
     text: Vec<u8, A>,
+    is_refused: bool,
+}
+
+impl<A: Allocator> Model for Page<A> {
+    ghost use Rattle.std.specs.Prelude.{Bool};
+
+    ghost Value = { Bool };
+
+    ghost view = { λ page. page.is_refused };
 }
 
 // Whether a character is shown as it is: it isn't one that controls, formats, separates lines, or has no meaning of its own.
@@ -131,44 +144,69 @@ fn digit(value: u8) -> u8 {
 
 impl<A: Allocator> Page<A> {
     /// An empty page.
-    pub fn new(alloc: A) -> Self {
+    pub fn new(alloc: A) -> Self
+        ensures { result ≡ false }
+    {
         Page {
             text: Vec::new(alloc),
+            is_refused: false,
         }
     }
 
     /// The text.
-    pub fn into_text(self) -> Vec<u8, A> {
-        self.text
+    ///
+    /// `AllocError` where memory was refused to one of the pieces.
+    pub fn end(self) -> Result<Vec<u8, A>, AllocError>
+        ensures whole { IfOk result (λ _. self ≡ false) }
+        ensures refused { IfErr result (λ _. self ≡ true) }
+    {
+        if self.is_refused {
+            return Err(AllocError);
+        }
+        Ok(self.text)
+    }
+
+    fn put(&mut self, bytes: &[u8])
+        ensures kept { self.old ≡ true → self.new ≡ true }
+    {
+        if self.text.extend_from_slice(bytes).is_err() {
+            self.is_refused = true;
+        }
     }
 
     /// Writes all pieces, in order.
-    pub fn add(&mut self, pieces: &[Piece<'_>]) -> Result<(), AllocError> {
+    pub fn add(&mut self, pieces: &[Piece<'_>])
+        ensures kept { self.old ≡ true → self.new ≡ true }
+    {
         for piece in pieces {
-            self.add_one(*piece)?;
+            self.add_one(*piece);
         }
-        Ok(())
     }
 
     /// Writes HTML of the page's own, with the pieces, in order, in place of each `%`.
-    pub fn fill(&mut self, form: &'static str, pieces: &[Piece<'_>]) -> Result<(), AllocError> {
+    pub fn fill(&mut self, form: &'static str, pieces: &[Piece<'_>])
+        ensures kept { self.old ≡ true → self.new ≡ true }
+    {
         let mut rest = pieces;
         for part in form.split('%') {
-            self.mark(part)?;
+            self.mark(part);
             if let [piece, behind @ ..] = rest {
-                self.add_one(*piece)?;
+                self.add_one(*piece);
                 rest = behind;
             }
         }
-        Ok(())
     }
 
     /// Writes HTML of the page's own.
-    pub fn mark(&mut self, mark: &'static str) -> Result<(), AllocError> {
-        self.text.extend_from_slice(mark.as_bytes())
+    pub fn mark(&mut self, mark: &'static str)
+        ensures kept { self.old ≡ true → self.new ≡ true }
+    {
+        self.put(mark.as_bytes());
     }
 
-    fn add_one(&mut self, piece: Piece<'_>) -> Result<(), AllocError> {
+    fn add_one(&mut self, piece: Piece<'_>)
+        ensures kept { self.old ≡ true → self.new ≡ true }
+    {
         match piece {
             Piece::Mark(mark) => self.mark(mark),
             Piece::Num(number) => self.add_number(number),
@@ -181,19 +219,25 @@ impl<A: Allocator> Page<A> {
         }
     }
 
-    fn add_number(&mut self, number: usize) -> Result<(), AllocError> {
+    fn add_number(&mut self, number: usize)
+        ensures kept { self.old ≡ true → self.new ≡ true }
+    {
         let mut buffer = Buffer::new();
         let digits = buffer.format(number);
-        self.text.extend_from_slice(digits.as_bytes())
+        self.put(digits.as_bytes());
     }
 
-    fn add_count(&mut self, number: usize) -> Result<(), AllocError> {
-        self.add_number(number)?;
-        self.mark(if number == 1 { " byte" } else { " bytes" })
+    fn add_count(&mut self, number: usize)
+        ensures kept { self.old ≡ true → self.new ≡ true }
+    {
+        self.add_number(number);
+        self.mark(if number == 1 { " byte" } else { " bytes" });
     }
 
     // A byte as text: what HTML gives a meaning is its entity, and what isn't printable ASCII an escape.
-    fn add_byte(&mut self, byte: u8) -> Result<(), AllocError> {
+    fn add_byte(&mut self, byte: u8)
+        ensures kept { self.old ≡ true → self.new ≡ true }
+    {
         match byte {
             b'&' => self.mark("&amp;"),
             b'<' => self.mark("&lt;"),
@@ -204,34 +248,32 @@ impl<A: Allocator> Page<A> {
             b'\n' => self.mark("\\n"),
             b'\r' => self.mark("\\r"),
             b'\t' => self.mark("\\t"),
-            b' '..=b'~' => Ok(self.text.push(byte)?),
+            b' '..=b'~' => self.put(&[byte]),
             _ => {
-                self.mark("\\x")?;
-                self.text.push(digit(byte / 16))?;
-                Ok(self.text.push(digit(byte % 16))?)
+                self.mark("\\x");
+                self.put(&[digit(byte / 16), digit(byte % 16)]);
             }
         }
     }
 
     // What bytes begin with.
-    fn add_glyph(&mut self, bytes: &[u8], glyph: Glyph) -> Result<(), AllocError> {
+    fn add_glyph(&mut self, bytes: &[u8], glyph: Glyph)
+        ensures kept { self.old ≡ true → self.new ≡ true }
+    {
         let bytes = bytes.get(..glyph.bytes).unwrap_or(bytes);
         if glyph.is_shown {
-            return self.text.extend_from_slice(bytes);
+            self.put(bytes);
+            return;
         }
         for byte in bytes {
-            self.add_byte(*byte)?;
+            self.add_byte(*byte);
         }
-        Ok(())
     }
 
-    // The beginning of bytes that takes at most so many columns; returns how many bytes that is. LF are new lines or escapes.
-    fn add_within(
-        &mut self,
-        bytes: &[u8],
-        room: usize,
-        has_lines: bool,
-    ) -> Result<usize, AllocError> {
+    // The beginning of bytes that takes at most so many columns. LF are new lines or escapes.
+    fn add_within(&mut self, bytes: &[u8], room: usize, has_lines: bool)
+        ensures kept { self.old ≡ true → self.new ≡ true }
+    {
         let mut left = room;
         let mut rest = bytes;
         for _glyph in 0..bytes.len() {
@@ -244,57 +286,64 @@ impl<A: Allocator> Page<A> {
             }
             left = left.saturating_sub(glyph.columns);
             if has_lines && rest.first() == Some(&b'\n') {
-                self.text.push(b'\n')?;
+                self.put(b"\n");
             } else {
-                self.add_glyph(rest, glyph)?;
+                self.add_glyph(rest, glyph);
             }
             rest = rest.get(glyph.bytes..).unwrap_or(&[]);
         }
-        Ok(bytes.len().saturating_sub(rest.len()))
     }
 
-    fn add_text(&mut self, bytes: &[u8]) -> Result<(), AllocError> {
-        self.add_within(bytes, usize::MAX, false)?;
-        Ok(())
+    fn add_text(&mut self, bytes: &[u8])
+        ensures kept { self.old ≡ true → self.new ≡ true }
+    {
+        self.add_within(bytes, usize::MAX, false);
     }
 
-    fn add_lines(&mut self, bytes: &[u8]) -> Result<(), AllocError> {
-        self.add_within(bytes, usize::MAX, true)?;
-        Ok(())
+    fn add_lines(&mut self, bytes: &[u8])
+        ensures kept { self.old ≡ true → self.new ≡ true }
+    {
+        self.add_within(bytes, usize::MAX, true);
     }
 
-    fn add_short(&mut self, bytes: &[u8], room: usize) -> Result<(), AllocError> {
+    fn add_short(&mut self, bytes: &[u8], room: usize)
+        ensures kept { self.old ≡ true → self.new ≡ true }
+    {
         if shown_width(bytes) <= room {
-            return self.add_text(bytes);
+            self.add_text(bytes);
+            return;
         }
-        self.add_within(bytes, room.saturating_sub(1), false)?;
-        self.mark("…")
+        self.add_within(bytes, room.saturating_sub(1), false);
+        self.mark("…");
     }
 
     // A letter, and behind the first 26 a number too.
-    fn add_pipe(&mut self, place: usize) -> Result<(), AllocError> {
+    fn add_pipe(&mut self, place: usize)
+        ensures kept { self.old ≡ true → self.new ≡ true }
+    {
         let letter = match u8::try_from(place % 26) {
             Ok(letter) => letter.saturating_add(b'A'),
             Err(_) => b'?',
         };
-        self.text.push(letter)?;
+        self.put(&[letter]);
         if place < 26 {
-            return Ok(());
+            return;
         }
-        self.add_number(place / 26)
+        self.add_number(place / 26);
     }
 
-    fn add_bits(&mut self, bits: u64) -> Result<(), AllocError> {
+    fn add_bits(&mut self, bits: u64)
+        ensures kept { self.old ≡ true → self.new ≡ true }
+    {
         let mut is_first = true;
         for number in 0..64u32 {
             if (bits >> number) % 2 == 1 {
                 if !is_first {
-                    self.text.push(b' ')?;
+                    self.put(b" ");
                 }
-                self.add_number(number as usize)?;
+                self.add_number(number as usize);
                 is_first = false;
             }
         }
-        Ok(())
     }
 }

@@ -2,10 +2,11 @@
 
 use crate::head::begin_result;
 use crate::words::clash_word;
+use room_bounds::{Lack, Room, Table};
 use sh_tree::ParseFault;
 use std::alloc::{AllocError, Global};
 use trace_lines::Line;
-use xvsh_checks::{Finding, Findings};
+use xvsh_checks::{Finding, Findings, RoomFound};
 
 // The number, the name and the place of a fault, as `check` reports them.
 fn parts_of(fault: ParseFault) -> (u64, &'static str, usize) {
@@ -58,13 +59,25 @@ fn write_findings(object: &mut Line, findings: &[Finding]) -> Result<(), AllocEr
     object.end_list()
 }
 
-// The object of a check, up to its turns.
-fn begin(alloc: Global, findings: &Findings, code: u8) -> Result<Line, AllocError> {
-    let status = if findings.is_harmless {
+// Whether all is fine, in a word.
+fn status_word(findings: &Findings) -> &'static str {
+    if findings.is_harmless {
         "harmless"
     } else {
         "not harmless"
-    };
+    }
+}
+
+// The same where the room is told.
+fn room_status(findings: &Findings, found: &RoomFound) -> &'static str {
+    match found {
+        RoomFound::Known { lack: Some(_), .. } => "without room",
+        RoomFound::Known { lack: None, .. } | RoomFound::Unknown => status_word(findings),
+    }
+}
+
+// The object of a check, up to its turns or its room.
+fn begin(alloc: Global, findings: &Findings, status: &str, code: u8) -> Result<Line, AllocError> {
     let mut object = begin_result(alloc, "check", status, code)?;
     write_findings(&mut object, findings.list.as_slice())?;
     Ok(object)
@@ -78,7 +91,7 @@ fn begin(alloc: Global, findings: &Findings, code: u8) -> Result<Line, AllocErro
 /// Bytes are a string where they are UTF-8, else an object whose member `base64` is their base64. `AllocError` where memory for
 /// the text is refused.
 pub fn check_result(alloc: Global, findings: &Findings, code: u8) -> Result<Vec<u8>, AllocError> {
-    let object = begin(alloc, findings, code)?;
+    let object = begin(alloc, findings, status_word(findings), code)?;
     object.end()
 }
 
@@ -92,10 +105,85 @@ pub fn counted_result(
     turns: Option<u64>,
     code: u8,
 ) -> Result<Vec<u8>, AllocError> {
-    let mut object = begin(alloc, findings, code)?;
+    let mut object = begin(alloc, findings, status_word(findings), code)?;
     match turns {
         Some(turns) => object.count("turns", turns)?,
         None => object.nothing("turns")?,
+    }
+    object.end()
+}
+
+// The name of a table.
+fn table_word(table: Table) -> &'static str {
+    match table {
+        Table::Processes => "processes",
+        Table::Entries => "open_files",
+        Table::Descriptors => "descriptors",
+        Table::Files => "files",
+        Table::Size => "size",
+    }
+}
+
+// A number, or `null` where it is more than is counted.
+fn write_need(object: &mut Line, key: &str, need: Option<u64>) -> Result<(), AllocError> {
+    match need {
+        Some(need) => object.count(key, need),
+        None => object.nothing(key),
+    }
+}
+
+// What a script needs of a table, and how much there is.
+fn write_table(object: &mut Line, table: Table, need: Option<u64>) -> Result<(), AllocError> {
+    object.begin_object(table_word(table))?;
+    write_need(object, "need", need)?;
+    object.count("most", table.most())?;
+    object.end_object()
+}
+
+// What a script needs of each table.
+fn write_room(object: &mut Line, room: &Room) -> Result<(), AllocError> {
+    object.begin_object("room")?;
+    write_table(object, Table::Processes, room.processes)?;
+    write_table(object, Table::Entries, room.entries)?;
+    write_table(object, Table::Descriptors, room.descriptors)?;
+    write_table(object, Table::Files, room.files)?;
+    write_table(object, Table::Size, room.size)?;
+    object.end_object()
+}
+
+// With which line first it may need too much, and of what; `line` is left out where no line does.
+fn write_lack(object: &mut Line, lack: &Lack) -> Result<(), AllocError> {
+    object.begin_object("lack")?;
+    if lack.line > 0 {
+        object.count("line", lack.line as u64)?;
+    }
+    object.word("table", table_word(lack.table))?;
+    write_need(object, "need", lack.need)?;
+    object.count("most", lack.table.most())?;
+    object.end_object()
+}
+
+/// The same of a check that tells the room that the script needs (own): beside it `room`, which has a member of each of `processes`,
+/// `open_files`, `descriptors`, `files` and `size`: how much of it the script may `need` at most, `null` where that is more than
+/// 1,000,000, and how much there is at `most`; and where it may not have room `lack`, with the `line`, the `table`, the `need` up to
+/// that line and the `most`; `status` is then `without room`. `room` is `null` where a line has a clash or a `&`.
+///
+/// `AllocError` where memory for the text is refused.
+pub fn room_result(
+    alloc: Global,
+    findings: &Findings,
+    found: &RoomFound,
+    code: u8,
+) -> Result<Vec<u8>, AllocError> {
+    let mut object = begin(alloc, findings, room_status(findings, found), code)?;
+    match found {
+        RoomFound::Known { room, lack } => {
+            write_room(&mut object, room)?;
+            if let Some(lack) = lack {
+                write_lack(&mut object, lack)?;
+            }
+        }
+        RoomFound::Unknown => object.nothing("room")?,
     }
     object.end()
 }

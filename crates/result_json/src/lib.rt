@@ -12,7 +12,7 @@ mod reasons;
 mod run;
 mod words;
 
-pub use check::{check_result, counted_result};
+pub use check::{check_result, counted_result, room_result};
 pub use explain::{ExplainValues, explain_result};
 pub use faults::{FaultPlace, FaultValues, fault_result, told_fault_result};
 pub use files::write_files;

@@ -1,1 +1,3 @@
-pub mod Lines
+mod Largest
+mod Beginnings
+mod Rooms

@@ -1,1 +1,4 @@
 pub mod Capped
+pub mod Needs
+pub mod Given
+pub mod Room

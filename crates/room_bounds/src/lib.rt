@@ -1,8 +1,15 @@
-//! How many processes, open-file entries and descriptors a script needs at most, computed.
+//! What a script needs at most of the tables of a kernel, whether that is there, and with which line first it may not be, computed.
 #![tactic(auto)]
 
+mod beginning;
 mod capped;
+mod given;
+mod lack;
 mod needs;
+mod room;
+mod table;
 
 pub use capped::MAX_COUNT;
-pub use needs::most_processes;
+pub use lack::{Lack, first_without_room, is_roomy};
+pub use room::{Room, room_of};
+pub use table::{MOST_BYTES, MOST_DESCRIPTORS, MOST_ENTRIES, MOST_FILES, MOST_PROCESSES, Table};

@@ -1,4 +1,5 @@
 mod Exec
-mod Growing
+pub mod Growing
 mod Costs
 mod Lines
+mod Grown

@@ -25,3 +25,7 @@ IsCost more bytes steps (Some cost) = (cost.bytes ≡ bytes) × (cost.steps ≡ 
 -- that of a command on so many bytes of input, where files have grown by so many bytes
 abbrev pub IsCostOf : Tree → ℕ → List (Name × Bytes) → ℕ → Option Cost → Type 0
 IsCostOf tree input list more cost = IsCost more (tree_bytes tree input (sizes_grown list more)) (tree_steps tree input (sizes_grown list more)) cost
+
+-- by so many bytes files have grown at most once a command has run on so many bytes of input, where they have grown by so many before
+abbrev pub IsGrownBy : Tree → ℕ → List (Name × Bytes) → ℕ → Option ℕ → Type 0
+IsGrownBy tree input list more after = IsCapped (more + tree_bytes tree input (sizes_grown list more)) after

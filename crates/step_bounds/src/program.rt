@@ -60,8 +60,12 @@ fn echo_bytes<A: Allocator>(arguments: &[Bytes<A>]) -> Option<u64>
     }
 }
 
-// How many bytes the program writes that reads so many.
-fn program_bytes<A: Allocator>(program: Program, arguments: &[Bytes<A>], reads: u64) -> Option<u64>
+/// How many bytes the program writes that reads so many.
+pub fn program_bytes<A: Allocator>(
+    program: Program,
+    arguments: &[Bytes<A>],
+    reads: u64,
+) -> Option<u64>
     ensures { IsCapped (begin_bytes program arguments.now reads) result }
 {
     let inputs = arguments.len() as u64 + 1;
@@ -97,8 +101,8 @@ fn program_cost<A: Allocator>(program: Program, arguments: &[Bytes<A>], reads: u
     }
 }
 
-// How many bytes a simple command reads at most: its input, if it reads that, and its files.
-fn reads_ahead<A: Allocator, B: Allocator>(
+/// How many bytes a simple command reads at most: its input, if it reads that, and its files.
+pub fn reads_ahead<A: Allocator, B: Allocator>(
     words: &[Bytes<A>],
     input: u64,
     files: &Files<B>,

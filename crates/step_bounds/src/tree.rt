@@ -16,8 +16,8 @@ use script_load::Line;
 use sh_tree::{Cmd, Mode};
 use std::alloc::Allocator;
 
-// The input of a redirection's body: the file under `<`.
-fn input_under(mode: Mode, input: u64, size: u64) -> u64
+/// The input of a redirection's body: the file under `<`.
+pub fn input_under(mode: Mode, input: u64, size: u64) -> u64
     ensures { result ≡ input_under mode input size }
 {
     match mode {

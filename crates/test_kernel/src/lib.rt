@@ -1,9 +1,6 @@
-//! Tests alone, but for the machine `walker`: a kernel takes the run of a task once, and one of its requests for memory is refused, each
-//! in turn.
+//! Tests alone, but for the machine `walker`: a kernel of which one of its requests for memory is refused, each in turn.
 #![tactic(auto)]
 
-#[cfg(test)]
-mod driven;
 #[cfg(test)]
 mod memory;
 pub mod walker;

@@ -20,7 +20,7 @@ use std::sync::ledger::Blank;
 use std::test::Fail;
 use user_calls::Machine;
 
-// The turns of two seats, up to one that finds the run finished or spent.
+// The turns of two seats, one after the other, up to the first that is no step.
 fn take_turns<N: Run, M: Machine, R: Wait>(
     rt: &R,
     shared: &Shared<N, M>,
@@ -28,9 +28,9 @@ fn take_turns<N: Run, M: Machine, R: Wait>(
 ) -> Result<Turn, AllocError>
     requires { length seats.old ≡ 2 }
 {
-    for i in 0..1_000 {
+    for i in 0..500 {
         match shared.turn(rt, &mut seats[i % 2], &OpenGate)? {
-            Turn::Stepped | Turn::Idle => {}
+            Turn::Stepped => {}
             turn => return Ok(turn),
         }
     }
@@ -58,7 +58,7 @@ fn run_by_seats<'t, N: Run, L: Naming, R: Wait>(
     let (shared, mut seats) = Shared::<N, User<'t, Global, L>>::start(
         alloc, blank, kernel, 2, 1_000,
     )?;
-    let Ok(_) = take_turns(rt, &shared, seats.as_mut_slice()) else {
+    let Ok(Turn::Finished) = take_turns(rt, &shared, seats.as_mut_slice()) else {
         return Err(RunFault::Memory);
     };
     Ok(close(shared, seats, script, &[], files))

@@ -1,4 +1,4 @@
-//! Files that scripts are given, and in how many turns they run.
+//! A file that scripts are given, and in how many turns they run.
 
 use mem_files::Files;
 use std::alloc::Global;
@@ -11,13 +11,5 @@ pub(crate) const TURNS: u64 = 10_000_000;
 pub(crate) fn file_of(alloc: Global, name: &str, bytes: &[u8]) -> Result<Files<Global>, Fail> {
     let mut files = Files::new(alloc);
     files.put(name.as_bytes(), bytes)?;
-    Ok(files)
-}
-
-/// A file of four lines, and one of a hundred, whose 1,300 bytes are more than a pipe holds.
-pub(crate) fn files_of(alloc: Global) -> Result<Files<Global>, Fail> {
-    let big = "0123456789ab\n".repeat(alloc, 100)?;
-    let mut files = file_of(alloc, "big", big.as_bytes())?;
-    files.put(b"p", b"b\naab\naabc\ncb\n")?;
     Ok(files)
 }

@@ -1,11 +1,13 @@
-//! A meaning, a run and a replay of which one request for memory is refused, each in turn: that is told, and no memory is kept.
+//! A meaning, a run and a replay of which one request for memory is refused, each in turn: that is told, and no memory is kept. The
+//! lines of the script stand in an arena of the caller.
 
 use crate::given::{TURNS, file_of};
+use bumpalo::Bump;
 use kernel_events::{Event, Full, Report};
-use kernel_runs::{ReplayFault, RunOneFault, replay, run_one};
+use kernel_runs::{RunOneFault, replay, run_one};
 use linked_list_allocator::LocalHeap;
 use mem_files::Files;
-use plain_run::{Plain, PlainFault, plain};
+use plain_run::{PlainFault, plain};
 use script_load::{Script, load};
 use std::alloc::{Allocator, Global};
 use std::test::Fail;
@@ -24,102 +26,75 @@ const SCRIPT: &str =
 // What it writes.
 const WRITTEN: &[u8] = b"one two three\nfive\np\n2 2 7 g\nfive\n";
 
-// What is called: the script's meaning, its run on one hart, or its replay by the schedule of such a run.
-#[derive(Clone, Copy, PartialEq, Eq)]
-enum Called {
-    Meaning,
-    Run,
-    Replay,
-}
-
 // What is called: a script, with the file that it is given, and the events of a run of it.
 #[derive(Drop)]
-struct Trial {
-    script: Script<Global>,
-    files: Files<Global>,
-    events: Vec<Event>,
+struct Trial<'a, S: Allocator> {
+    script: &'a Script<S>,
+    files: &'a Files<Global>,
+    events: &'a [Event],
 }
 
-fn trial_of(alloc: Global) -> Result<Trial, Fail> {
-    let script = load(alloc, SCRIPT.as_bytes())?;
-    let files = file_of(alloc, "p", b"p\n")?;
-    let report = run_one(alloc, &script, b"in", &files, TURNS)?;
-    let events = Vec::from_slice(alloc, report.schedule.as_slice())?;
-    Ok(Trial {
-        script,
-        files,
-        events,
-    })
-}
+// What a call came to: all that the script means, or that memory was refused; nothing where it came to something else.
+type Came = Option<bool>;
 
-// Whether a meaning is told to lack memory where it was refused, and else is the script's.
-fn is_meant<A: Allocator>(outcome: &Result<Plain<A>, PlainFault>, is_refused: bool) -> bool {
-    match outcome {
-        Ok(means) => !is_refused && means.out.as_slice() == WRITTEN,
-        Err(fault) => is_refused && *fault == PlainFault::Memory,
+fn report_came<A: Allocator>(report: &Report<A>) -> Came {
+    match report.full {
+        _ if !report.finished => None,
+        Some(Full::Memory) => Some(false),
+        None if report.out.as_slice() == WRITTEN => Some(true),
+        _ => None,
     }
 }
 
-// Whether a report is whole: it is marked where memory was refused, and else is the script's.
-fn is_whole<A: Allocator>(report: &Report<A>, is_refused: bool) -> bool {
-    let is_right = if is_refused {
-        report.full == Some(Full::Memory)
-    } else {
-        report.full.is_none() && report.out.as_slice() == WRITTEN
-    };
-    report.finished && is_right
-}
-
-fn is_run<A: Allocator>(outcome: &Result<Report<A>, RunOneFault>, is_refused: bool) -> bool {
-    match outcome {
-        Ok(report) => is_whole(report, is_refused),
-        Err(fault) => is_refused && *fault == RunOneFault::Memory,
+fn meaning_came<A: Allocator + Copy, S: Allocator>(memory: A, trial: &Trial<'_, S>) -> Came {
+    match plain(memory, trial.script, b"in", trial.files) {
+        Ok(means) if means.out.as_slice() == WRITTEN => Some(true),
+        Err(PlainFault::Memory) => Some(false),
+        _ => None,
     }
 }
 
-// The same of a replay; where a call is refused memory, its process goes another way than the schedule, which then may not fit.
-fn is_replayed<A: Allocator>(outcome: &Result<Report<A>, ReplayFault>, is_refused: bool) -> bool {
-    match outcome {
-        Ok(report) => is_whole(report, is_refused),
-        Err(_) => is_refused,
+fn run_came<A: Allocator + Copy, S: Allocator>(memory: A, trial: &Trial<'_, S>) -> Came {
+    match run_one(memory, trial.script, b"in", trial.files, TURNS) {
+        Ok(report) => report_came(&report),
+        Err(RunOneFault::Memory) => Some(false),
+        Err(_) => None,
     }
 }
 
-// Makes the call with memory of this heap, and tells whether it came to what it has to.
-fn calls<A: Allocator + Copy>(
+// Where a call of a replay is refused memory, its process goes another way than the schedule, which then may not fit.
+fn replay_came<A: Allocator + Copy, S: Allocator>(memory: A, trial: &Trial<'_, S>) -> Came {
+    match replay(memory, trial.script, b"in", trial.files, trial.events) {
+        Ok(report) => report_came(&report),
+        Err(_) => Some(false),
+    }
+}
+
+fn call_came<A: Allocator + Copy, S: Allocator>(
     memory: A,
-    heap: &RefusingHeap<&LocalHeap>,
-    trial: &Trial,
-    called: Called,
-) -> bool {
-    let Trial {
-        script,
-        files,
-        events,
-    } = trial;
+    trial: &Trial<'_, S>,
+    called: &str,
+) -> Came {
     match called {
-        Called::Meaning => {
-            let outcome = plain(memory, script, b"in", files);
-            is_meant(&outcome, !heap.is_due())
-        }
-        Called::Run => {
-            let outcome = run_one(memory, script, b"in", files, TURNS);
-            is_run(&outcome, !heap.is_due())
-        }
-        Called::Replay => {
-            let outcome = replay(memory, script, b"in", files, events.as_slice());
-            is_replayed(&outcome, !heap.is_due())
-        }
+        "meaning" => meaning_came(memory, trial),
+        "run" => run_came(memory, trial),
+        _ => replay_came(memory, trial),
     }
 }
 
-// Whether the call asks for more memory than so often; the request after these is refused.
-fn is_refused(alloc: Global, trial: &Trial, called: Called, granted: u64) -> Result<bool, Fail> {
+// Whether the call asks for more memory than so often; the request after these is refused, and it is told exactly then.
+fn is_refused<S: Allocator>(
+    alloc: Global,
+    trial: &Trial<'_, S>,
+    called: &str,
+    granted: u64,
+) -> Result<bool, Fail> {
     let room = LocalHeap::new(alloc, ROOM)?;
     let heap = RefusingHeap::new(&room);
     heap.refuse_after(granted);
-    if !calls(&heap, &heap, trial, called) {
-        return Err(Fail::from("a refused call comes to something else"));
+    let came = call_came(&heap, trial, called);
+    if came != Some(heap.is_due()) {
+        return Err(Fail::from("a call comes to something else"));
     }
     if room.used() != 0 {
         return Err(Fail::from("memory is kept"));
@@ -128,7 +103,7 @@ fn is_refused(alloc: Global, trial: &Trial, called: Called, granted: u64) -> Res
 }
 
 // How many requests the call makes, each of which is refused in turn.
-fn refusals(alloc: Global, trial: &Trial, called: Called) -> Result<u64, Fail> {
+fn refusals<S: Allocator>(alloc: Global, trial: &Trial<'_, S>, called: &str) -> Result<u64, Fail> {
     for granted in 0..MOST {
         if !is_refused(alloc, trial, called, granted)? {
             return Ok(granted);
@@ -137,12 +112,27 @@ fn refusals(alloc: Global, trial: &Trial, called: Called) -> Result<u64, Fail> {
     Ok(MOST)
 }
 
-#[test]
-fn each_request_is_refused_in_turn(rt: HostRuntime) -> Result<(), Fail> {
-    let trial = trial_of(rt.alloc())?;
-    for called in [Called::Meaning, Called::Run, Called::Replay] {
-        let refused = refusals(rt.alloc(), &trial, called)?;
-        assert!(&rt; 20 < refused && refused < MOST, "{refused}");
+// Fails where the script's meaning, its run or its replay makes too few requests, or one that is refused isn't told.
+fn are_refused<S: Allocator>(alloc: Global, script: &Script<S>) -> Result<(), Fail> {
+    let files = file_of(alloc, "p", b"p\n")?;
+    let report = run_one(alloc, script, b"in", &files, TURNS)?;
+    let trial = Trial {
+        script,
+        files: &files,
+        events: report.schedule.as_slice(),
+    };
+    for called in ["meaning", "run", "replay"] {
+        let refused = refusals(alloc, &trial, called)?;
+        if refused <= 20 || MOST <= refused {
+            return Err(Fail::from(called));
+        }
     }
     Ok(())
+}
+
+#[test]
+fn each_request_is_refused_in_turn(rt: HostRuntime) -> Result<(), Fail> {
+    let arena = Bump::new(rt.alloc());
+    let script = load(&arena, SCRIPT.as_bytes())?;
+    are_refused(rt.alloc(), &script)
 }

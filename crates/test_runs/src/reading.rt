@@ -1,20 +1,15 @@
 //! Reading to the end: within the limit, past it, and where a read fails or is interrupted.
 
 use std::io::{self, Read};
+use std::process::Abort;
 use std::test::Fail;
 use xvsh_read::{HostFault, read_all};
 
-// A reader that gives so many bytes, one a read, and then fails.
-#[derive(Drop)]
-struct Breaking {
-    reads: usize,
-    kind: io::ErrorKind,
-}
-
-// A reader that gives one byte a read for as long as there are some, and counts how often it is asked.
+// A reader that gives one byte a read for as long as there are some, and then ends, or fails so; it counts how often it is asked.
 #[derive(Drop)]
 struct Counting<'a> {
     left: usize,
+    fault: Option<io::ErrorKind>,
     asked: &'a mut usize,
 }
 
@@ -22,7 +17,10 @@ impl Read for Counting<'_> {
     fn read(&mut self, buf: &mut [u8]) -> io::Result<usize> {
         *self.asked = self.asked.saturating_add(1);
         if self.left == 0 || buf.is_empty() {
-            return Ok(0);
+            return match self.fault {
+                Some(kind) => Err(io::Error::from(kind)),
+                None => Ok(0),
+            };
         }
         self.left -= 1;
         buf[0] = b'x';
@@ -30,46 +28,38 @@ impl Read for Counting<'_> {
     }
 }
 
-impl Read for Breaking {
-    fn read(&mut self, buf: &mut [u8]) -> io::Result<usize> {
-        if self.reads == 0 || buf.is_empty() {
-            return Err(io::Error::from(self.kind));
-        }
-        self.reads -= 1;
-        buf[0] = b'x';
-        Ok(1)
-    }
+// How many bytes may be read.
+const LIMIT: usize = 5;
+
+// What is read of so many bytes is told, and the reader is asked once more than that, or than the limit.
+fn is_read<R: Abort + AllocGlobal>(rt: &R, left: usize, fault: Option<io::ErrorKind>) {
+    let mut asked = 0;
+    let reader = Counting {
+        left,
+        fault,
+        asked: &mut asked,
+    };
+    let told = match read_all(rt.alloc(), reader, LIMIT) {
+        Ok(bytes) => bytes.as_slice() == b"xxxxx".get(..left).unwrap_or(b"?") && fault.is_none(),
+        Err(HostFault::Unreadable) => left <= LIMIT && fault.is_some(),
+        Err(HostFault::TooLong) => LIMIT < left,
+        Err(_) => false,
+    };
+    assert!(rt; told, "{left} bytes");
+    assert_eq!(rt; asked, left.min(LIMIT) + 1);
 }
 
 #[test]
-fn reads_up_to_the_limit(rt: HostRuntime) -> Result<(), Fail> {
-    let all = read_all(rt.alloc(), b"abc".as_slice(), 3);
-    assert!(rt; matches!(&all, Ok(bytes) if bytes.as_slice() == b"abc".as_slice()));
-    let over = read_all(rt.alloc(), b"abcd".as_slice(), 3);
-    assert!(rt; matches!(over, Err(HostFault::TooLong)));
-    for reads in 0..3 {
-        for kind in [io::ErrorKind::Other, io::ErrorKind::Interrupted] {
-            let broken = read_all(rt.alloc(), Breaking { reads, kind }, 9);
-            assert!(rt; matches!(broken, Err(HostFault::Unreadable)));
-        }
-    }
-    Ok(())
-}
-
-#[test]
-fn asks_once_more_than_the_limit_at_most(rt: HostRuntime) -> Result<(), Fail> {
+fn what_is_read_is_told(rt: HostRuntime) -> Result<(), Fail> {
+    let faults = [
+        None,
+        Some(io::ErrorKind::Other),
+        Some(io::ErrorKind::Interrupted),
+    ];
     for left in 0..9 {
-        let mut asked = 0;
-        let read = read_all(
-            rt.alloc(),
-            Counting {
-                left,
-                asked: &mut asked,
-            },
-            5,
-        );
-        assert!(rt; read.is_ok() == (left <= 5));
-        assert_eq!(rt; asked, left.min(5) + 1);
+        for fault in faults {
+            is_read(&rt, left, fault);
+        }
     }
     Ok(())
 }

@@ -1,11 +1,10 @@
 //! That harts are threads, of which none is left, and that user code of two overlaps.
 
-use crate::faults::run_text;
-use crate::given::{TURNS, files_of};
-use kernel_runs::replay;
-use kernel_threads::{Gate, OpenGate, run_harts};
+use crate::given::{TURNS, file_of};
+use kernel_events::Report;
+use kernel_threads::{Gate, run_harts};
 use proc_table::Pid;
-use script_load::{Script, load};
+use script_load::load;
 use std::alloc::Global;
 use std::hint::spin_loop;
 use std::process::Abort;
@@ -20,7 +19,8 @@ use std::{fs, io, thread};
 // So often a hart looks whether another one comes.
 const LOOKS: u64 = 100_000_000;
 
-// Holds the hart on which process 3 or 4 makes its first step, whichever comes first, until a step begins on another.
+// Holds the hart on which process 3 or 4 makes its first step, whichever comes first, until a step begins on another; and counts the
+// steps that begin.
 #[derive(Drop)]
 struct TwoInside {
     // The hart that is held, or was, and one more; 0 before.
@@ -29,6 +29,7 @@ struct TwoInside {
     met: AtomicBool,
     // None came while it was looked for.
     missed: AtomicBool,
+    begun: AtomicU64,
 }
 
 impl TwoInside {
@@ -37,6 +38,7 @@ impl TwoInside {
             held: AtomicU64::new(0),
             met: AtomicBool::new(false),
             missed: AtomicBool::new(false),
+            begun: AtomicU64::new(0),
         }
     }
 
@@ -65,6 +67,7 @@ impl TwoInside {
 
 impl Gate for TwoInside {
     fn enter<R: Wait>(&self, _rt: &R, hart: u8, pid: Pid) {
+        self.begun.fetch_add(1, Ordering::SeqCst);
         let own = hart as u64 + 1;
         if self.is_first(own, pid) {
             self.look();
@@ -77,51 +80,26 @@ impl Gate for TwoInside {
     }
 }
 
-// Two harts were inside at one time, and the run wrote this.
-fn have_met<R: Abort>(rt: &R, gate: &TwoInside, out: &[u8]) {
+// Runs `cat big | wc` on a file whose 1,300 bytes are more than a pipe holds.
+fn run<R: Threads + Wait + Clock + Sync + AllocGlobal>(
+    rt: &R,
+    harts: u8,
+    gate: &TwoInside,
+) -> Result<Report<Global>, Fail> {
+    let alloc = rt.alloc();
+    let script = load(alloc, b"cat big | wc")?;
+    let big = "0123456789ab\n".repeat(alloc, 100)?;
+    let given = file_of(alloc, "big", big.as_bytes())?;
+    Ok(run_harts(rt, alloc, &script, &[], &given, harts, TURNS, gate)?)
+}
+
+// Two harts were inside at one time, as many steps began as there are dispatches, and the run wrote what it means.
+fn have_met<R: Abort>(rt: &R, gate: &TwoInside, report: &Report<Global>) {
     assert!(rt; gate.met.load(Ordering::SeqCst));
     assert!(rt; !gate.missed.load(Ordering::SeqCst));
-    assert_eq!(rt; out, b"100 100 1300 \n".as_slice());
-}
-
-#[test]
-fn two_inside(rt: HostRuntime) -> Result<(), Fail> {
-    for harts in [2, 8] {
-        let gate = TwoInside::new();
-        let report = run_text(&rt, "cat big | wc", harts, &gate)?;
-        have_met(&rt, &gate, report.out.as_slice());
-    }
-    Ok(())
-}
-
-// Counts the steps that begin.
-#[derive(Drop)]
-struct Counting {
-    begun: AtomicU64,
-}
-
-impl Gate for Counting {
-    fn enter<R: Wait>(&self, _rt: &R, _hart: u8, _pid: Pid) {
-        self.begun.fetch_add(1, Ordering::SeqCst);
-    }
-}
-
-// As many steps began as there are dispatches, and none begins later.
-fn are_dispatches<R: Abort + Clock>(rt: &R, begun: &AtomicU64, events: usize) {
-    let dispatches = events as u64 / 2;
-    assert_eq!(rt; begun.load(Ordering::SeqCst), dispatches);
-    thread::sleep(rt, Duration::from_millis(20));
-    assert_eq!(rt; begun.load(Ordering::SeqCst), dispatches);
-}
-
-#[test]
-fn each_dispatch_passes_the_gate_once_and_none_comes_later(rt: HostRuntime) -> Result<(), Fail> {
-    let gate = Counting {
-        begun: AtomicU64::new(0),
-    };
-    let report = run_text(&rt, "cat big | (head -2; wc)", 8, &gate)?;
-    are_dispatches(&rt, &gate.begun, report.schedule.as_slice().len());
-    Ok(())
+    assert_eq!(rt; report.out.as_slice(), b"100 100 1300 \n".as_slice());
+    let dispatches = report.schedule.as_slice().len() as u64 / 2;
+    assert_eq!(rt; gate.begun.load(Ordering::SeqCst), dispatches);
 }
 
 // How many threads this process has, after what the system tells of it.
@@ -135,32 +113,28 @@ fn threads_here<R: Files + Alloc>(rt: &R) -> io::Result<u64> {
     Ok(0)
 }
 
-// Runs a script so often, and each run is finished.
-fn runs_often<R: AllocGlobal + Abort + Threads + Wait + Clock + Sync>(
-    rt: &R,
-    count: usize,
-) -> Result<(), Fail> {
-    for _run in 0..count {
-        let report = run_text(rt, "cat p | grep b | wc", 8, &OpenGate)?;
-        assert!(rt; report.finished);
+// Whether there are so many threads; the system may need a moment to take others away.
+fn are_threads<R: Files + Alloc + Clock>(rt: &R, count: u64) -> io::Result<bool> {
+    for _look in 0..1_000 {
+        if threads_here(rt)? == count {
+            return Ok(true);
+        }
+        thread::sleep(rt, Duration::from_millis(1));
     }
-    Ok(())
+    Ok(false)
 }
 
+// The threads of the harts overlap, no step begins but those that are dispatched, and none of the threads is left.
 #[test]
-fn no_thread_is_left(rt: HostRuntime) -> Result<(), Fail> {
+fn harts_are_threads(rt: HostRuntime) -> Result<(), Fail> {
     let before = threads_here(&rt)?;
     assert!(&rt; 0 < before);
-    runs_often(&rt, 10)?;
-    // The system may need a moment to take the last threads away.
-    let mut after = threads_here(&rt)?;
-    for _look in 0..1_000 {
-        if after == before {
-            break;
-        }
-        thread::sleep(&rt, Duration::from_millis(1));
-        after = threads_here(&rt)?;
+    for harts in [2, 8] {
+        let gate = TwoInside::new();
+        let report = run(&rt, harts, &gate)?;
+        have_met(&rt, &gate, &report);
+        assert!(&rt; are_threads(&rt, before)?);
+        have_met(&rt, &gate, &report);
     }
-    assert_eq!(&rt; after, before);
     Ok(())
 }

@@ -29,13 +29,17 @@ are_given rows one other = is_given one rows && is_given other rows
 abbrev pub is_alone : List Row → List ℕ → List ℕ → Bool
 is_alone rows one needed = is_given one rows && not (is_given needed rows)
 
+-- this is among the words of a check that counts no turns and tells no room
+abbrev pub is_without : List Row → List ℕ → Bool
+is_without rows one = is_alone rows one (codes "turns") && not (is_given (codes "room") rows)
+
 -- of each command, whether words stand beside each other that can't: a number of harts, a seed and an order; lines' numbers, or
--- diagnostics, and an object; files or an input of a check that counts no turns; two forms of a report
+-- diagnostics, and an object; turns and room of a check, or files or an input of one without both; two forms of a report
 abbrev pub run_conflicts : List Row → Bool
 run_conflicts rows = are_given rows (codes "harts") (codes "seed") || (are_given rows (codes "harts") (codes "order") || (are_given rows (codes "seed") (codes "order") || are_given rows (codes "lines") (codes "json")))
 
 abbrev pub check_conflicts : List Row → Bool
-check_conflicts rows = is_alone rows (codes "paths") (codes "turns") || is_alone rows (codes "input") (codes "turns")
+check_conflicts rows = are_given rows (codes "turns") (codes "room") || (is_without rows (codes "paths") || is_without rows (codes "input"))
 
 abbrev pub grade_conflicts : List Row → Bool
 grade_conflicts rows = are_given rows (codes "json") (codes "tap") || (are_given rows (codes "json") (codes "gradescope") || are_given rows (codes "tap") (codes "gradescope"))

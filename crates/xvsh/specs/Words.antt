@@ -137,6 +137,7 @@ pub record IsCheckOf (found : Found) (request : CheckRequest) : Type 0 where
   pub script : IsScriptOf found request.script.now
   pub files : ArePaths found (codes "paths") request.files.now
   pub turns : IsFlag found (codes "turns") request.counts_turns
+  pub room : IsFlag found (codes "room") request.tells_room
   pub strict : IsFlag found (codes "strict") request.is_strict
   pub json : IsFlag found (codes "json") request.is_json
 

@@ -12,7 +12,7 @@ ghost use Rattle.xvsh_read.specs.declared.fault.Fault.TheVariants.{Memory};
 ghost use Rattle.xvsh_read.specs.Path.{Path};
 ghost use Rattle.xvsh_read.specs.Writing.{out_text};
 ghost use Rattle.xvsh_ends.specs.Ends.{IsDue, Tells, help, misuse, told_text};
-ghost use Rattle.xvsh.specs.Parsing.{IsParse, IsUnparsed, are_apart, are_given, check_conflicts, conflicts, grade_conflicts, is_alone, is_shown, own_program, run_conflicts};
+ghost use Rattle.xvsh.specs.Parsing.{IsParse, IsUnparsed, are_apart, are_given, check_conflicts, conflicts, grade_conflicts, is_alone, is_shown, is_without, own_program, run_conflicts};
 
 use clap::error::ErrorKind;
 use clap::parser::ValueSource;
@@ -64,6 +64,12 @@ fn is_alone(words: &ArgMatches<'_>, one: &str, needed: &str) -> bool
     is_given(words, one) && !is_given(words, needed)
 }
 
+fn is_without(words: &ArgMatches<'_>, one: &str) -> bool
+    ensures { result ≡ is_without (rows_of (found_of words.now)) one.now }
+{
+    is_alone(words, one, "turns") && !is_given(words, "room")
+}
+
 fn run_conflicts(words: &ArgMatches<'_>) -> bool
     ensures { result ≡ run_conflicts (rows_of (found_of words.now)) }
 {
@@ -76,7 +82,7 @@ fn run_conflicts(words: &ArgMatches<'_>) -> bool
 fn check_conflicts(words: &ArgMatches<'_>) -> bool
     ensures { result ≡ check_conflicts (rows_of (found_of words.now)) }
 {
-    is_alone(words, "paths", "turns") || is_alone(words, "input", "turns")
+    are_given(words, "turns", "room") || is_without(words, "paths") || is_without(words, "input")
 }
 
 fn grade_conflicts(words: &ArgMatches<'_>) -> bool

@@ -235,6 +235,7 @@ fn check_of<'m>(words: &'m ArgMatches<'_>) -> CheckRequest<'m>
         script: script_of(words),
         files: files_of(words),
         counts_turns: flag_of(words, "turns"),
+        tells_room: flag_of(words, "room"),
         is_strict: flag_of(words, "strict"),
         is_json: flag_of(words, "json"),
     }

@@ -19,4 +19,4 @@ pub record TellsExplored (answer : Answer) (told : ExploreAnswer) : Type 0 where
 -- a call of `xvsh_explore_call` left this answer
 abbrev pub ExploreCall : Task → ℕ → ℕ → Answer → Type 0
 ExploreCall task states thorough answer =
-    ((told : ExploreAnswer) × IsExploreAnswer task (is_on thorough) told × TellsExplored answer told) ⊎ ((fault : EmbedFault) × IsExploreRefusal task states fault × TellsFault answer fault)
+    ((told : ExploreAnswer) × IsExploreAnswer task states (is_on thorough) told × TellsExplored answer told) ⊎ ((fault : EmbedFault) × IsExploreRefusal task states fault × TellsFault answer fault)

@@ -3,3 +3,4 @@ pub mod Nothing
 pub mod Sentences
 pub mod Telling
 pub mod Reasoned
+mod RoomTold

@@ -1,5 +1,6 @@
 pub mod Check
 pub mod Explain
+pub mod Room
 pub mod Turns
 pub mod Values
 pub mod Whys

@@ -148,7 +148,7 @@ fn check_line(
 pub struct Checked {
     /// The lines that are printed.
     pub text: Vec<u8>,
-    /// No line holds a `&` or a clash, and strictly each is a command.
+    /// No line holds a `&` or a clash, and strictly each is a command; and where its room is asked for, the script has room.
     pub is_harmless: bool,
 }
 

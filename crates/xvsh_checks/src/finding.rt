@@ -87,7 +87,7 @@ fn find_in_line(
 pub struct Findings {
     /// What is told of its lines, in order.
     pub list: Vec<Finding>,
-    /// No line holds a `&` or a clash, and strictly each is a command.
+    /// No line holds a `&` or a clash, and strictly each is a command; and where its room is asked for, the script has room.
     pub is_harmless: bool,
 }
 

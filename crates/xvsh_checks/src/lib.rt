@@ -8,6 +8,8 @@ mod finding;
 mod found;
 mod noting;
 mod request;
+mod room_found;
+mod rooms;
 mod turns;
 mod whys;
 
@@ -18,5 +20,7 @@ pub use finding::{Findings, run_find};
 pub use found::Finding;
 pub use noting::{Noted, run_note};
 pub use request::{CheckRequest, ExplainRequest};
+pub use room_found::RoomFound;
+pub use rooms::{RoomFindings, run_find_room, run_room};
 pub use turns::run_turns;
 pub use whys::{NotedWhys, run_note_whys, run_whys};

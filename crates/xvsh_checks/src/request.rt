@@ -7,10 +7,12 @@ use xvsh_read::Source;
 pub struct CheckRequest<'a> {
     /// The path of the script; `-` is standard input.
     pub script: &'a str,
-    /// The paths of the script's files, in order. They count where turns are written.
+    /// The paths of the script's files, in order. They count where turns or room are written.
     pub files: &'a [&'a str],
     /// Write last in how many turns the script runs to its end.
     pub counts_turns: bool,
+    /// Write last how much of xv6's tables the script needs, unless turns are written.
+    pub tells_room: bool,
     /// End with status 3 for a line that is no command, too.
     pub is_strict: bool,
     /// Print one object of JSON in place of the text.

@@ -13,7 +13,9 @@ use Rattle.xvsh_read.specs.Writing.{out_text}
 use Rattle.xvsh_runs.specs.declared.fault.ProcessFault.{ProcessFault}
 use Rattle.xvsh_runs.specs.declared.fault.ProcessFault.TheVariants.{Common, BadHarts, BadTurns, BadOrder, Spent, SharedInput, NoEvent, NotRunnable, NotRunning, Unfinished}
 use Rattle.xvsh_runs.specs.Status.{run_status}
-use Rattle.xvsh_ends.specs.Ends.{Asked, asks_plain, asks_diagnosed, asks_run, asks_strict, asks_check, asks_turns, asks_explain, asks_whys, asks_explore, help, misuse, verdict_status, check_status, explore_status, full_status, told_text, Due, plain_ran, no_plain, diagnosed, not_diagnosed, ran, no_run, ran_strict, no_strict, checked, no_check, counted, not_counted, explained, not_explained, whys_told, no_whys_told, explored, not_explored, helped, misused, no_memory, IsDue, Tells, TellsOr, tells, lacks_memory, asks_traced, traced, untraced, beside_trace, asks_witnessed, asks_filed, asks_lined, asks_json, asks_draw, drawn, undrawn, asks_input, unread, witnessed, unwitnessed, filed, unfiled, lined, valued, unvalued, IsObjectStatus, PrintsAlone}
+use Rattle.script_outcomes.specs.declared.concluding.Conclusion.{Conclusion}
+use Rattle.script_outcomes.specs.declared.concluding.Conclusion.TheVariants.{OneOutput, SeveralOutputs, Stuck, Full as Filled, Part}
+use Rattle.xvsh_ends.specs.Ends.{Asked, asks_plain, asks_diagnosed, asks_run, asks_strict, asks_check, asks_turns, asks_room, asks_explain, asks_whys, asks_explore, help, misuse, verdict_status, check_status, explore_status, full_status, told_text, Due, plain_ran, no_plain, diagnosed, not_diagnosed, ran, no_run, ran_strict, no_strict, checked, no_check, counted, not_counted, room_told, no_room_told, explained, not_explained, whys_told, no_whys_told, explored, not_explored, helped, misused, no_memory, IsDue, Tells, TellsOr, tells, lacks_memory, asks_traced, traced, untraced, beside_trace, asks_witnessed, asks_filed, asks_lined, asks_json, asks_draw, drawn, undrawn, asks_input, unread, witnessed, unwitnessed, filed, unfiled, lined, valued, unvalued, IsObjectStatus, PrintsAlone}
 use Rattle.std.specs.Borrow.{Bor}
 use Rattle.xvsh_ends.specs.Requests.{UnlessPrinted, witnessed_asked, json_asked}
 use Rattle.xvsh_ends.specs.declared.ending.Ending.{Ending}
@@ -87,10 +89,12 @@ check_prints : {X : Type 0} (is : Bool) → check_status is ≢ 0 → check_stat
 check_prints true some three = absurd (some refl)
 check_prints false some three = absurd (three refl)
 
-explore_prints : {X : Type 0} (is_whole is_single : Bool) → explore_status is_whole is_single ≢ 0 → explore_status is_whole is_single ≢ 3 → explore_status is_whole is_single ≢ 4 → X
-explore_prints false is_single some three four = absurd (four refl)
-explore_prints true false some three four = absurd (three refl)
-explore_prints true true some three four = absurd (some refl)
+explore_prints : {X : Type 0} (conclusion : Conclusion) → explore_status conclusion ≢ 0 → explore_status conclusion ≢ 3 → explore_status conclusion ≢ 4 → X
+explore_prints OneOutput some three four = absurd (some refl)
+explore_prints SeveralOutputs some three four = absurd (three refl)
+explore_prints Stuck some three four = absurd (three refl)
+explore_prints Filled some three four = absurd (four refl)
+explore_prints Part some three four = absurd (four refl)
 
 unless : (asked : Asked) (status : ℕ) (same : Type 0) → same → UnlessPrinted asked status same
 unless (asks_plain profile script paths lists strict) status same is = λ some three. is
@@ -99,6 +103,7 @@ unless (asks_run profile script paths how lists) status same is = λ some four. 
 unless (asks_strict profile script paths harts turns lists) status same is = λ some three four. is
 unless (asks_check script strict) status same is = λ some three. is
 unless (asks_turns script paths strict) status same is = λ some three. is
+unless (asks_room script paths strict) status same is = λ some three. is
 unless (asks_explain script) status same is = λ some three. is
 unless (asks_whys profile script paths) status same is = λ some three. is
 unless (asks_explore profile script paths states all) status same is = λ some three four. is
@@ -119,6 +124,7 @@ unless_implied (asks_run profile script paths how lists) status same other impli
 unless_implied (asks_strict profile script paths harts turns lists) status same other implies is = λ some three four. implies (is some three four)
 unless_implied (asks_check script strict) status same other implies is = λ some three. implies (is some three)
 unless_implied (asks_turns script paths strict) status same other implies is = λ some three. implies (is some three)
+unless_implied (asks_room script paths strict) status same other implies is = λ some three. implies (is some three)
 unless_implied (asks_explain script) status same other implies is = λ some three. implies (is some three)
 unless_implied (asks_whys profile script paths) status same other implies is = λ some three. implies (is some three)
 unless_implied (asks_explore profile script paths states all) status same other implies is = λ some three four. implies (is some three four)
@@ -140,6 +146,7 @@ unless_any (asks_run profile script paths how lists) status same is some one thr
 unless_any (asks_strict profile script paths harts turns lists) status same is some one three four = is some three four
 unless_any (asks_check script strict) status same is some one three four = is some three
 unless_any (asks_turns script paths strict) status same is some one three four = is some three
+unless_any (asks_room script paths strict) status same is some one three four = is some three
 unless_any (asks_explain script) status same is some one three four = is some three
 unless_any (asks_whys profile script paths) status same is some one three four = is some three
 unless_any (asks_explore profile script paths states all) status same is some one three four = is some three four
@@ -180,11 +187,13 @@ module _ (input : Option Bytes) (file : Path → Option Bytes) where
   nothing_due asked text told status (no_check fault why) = λ some three. refl
   nothing_due asked text told status (counted is_harmless gave) = λ some three. check_prints is_harmless some three
   nothing_due asked text told status (not_counted fault why) = λ some three. refl
+  nothing_due asked text told status (room_told is_fine gave) = λ some three. check_prints is_fine some three
+  nothing_due asked text told status (no_room_told fault why) = λ some three. refl
   nothing_due asked text told status (explained is_fine gave) = λ some three. check_prints is_fine some three
   nothing_due asked text told status (not_explained fault why) = λ some three. refl
   nothing_due asked text told status (whys_told is_fine gave) = λ some three. check_prints is_fine some three
   nothing_due asked text told status (no_whys_told fault why) = λ some three. refl
-  nothing_due asked text told status (explored is_whole is_single gave) = λ some three four. explore_prints is_whole is_single some three four
+  nothing_due asked text told status (explored found conclusion gave concludes) = λ some three four. explore_prints conclusion some three four
   nothing_due asked text told status (not_explored fault why) = λ some three four. refl
   nothing_due asked text told status (traced {what = what} {path = path} {text = inner} due) = unless_implied what status (inner ≡ []) (beside_trace path inner ≡ []) (beside_nothing (bytes_eq path (codes "-")) inner) (nothing_due what inner told status due)
   nothing_due asked text told status (untraced {what = what}) = unless what 1 ([] ≡ []) refl

@@ -27,7 +27,12 @@ use Rattle.xvsh_diagnoses.specs.Telling.{told}
 use Rattle.xvsh_checks.specs.Check.{RanCheck, IsCheckFault}
 use Rattle.xvsh_checks.specs.Explain.{RanExplain}
 use Rattle.xvsh_checks.specs.Turns.{RanTurns, IsTurnsFault}
+use Rattle.xvsh_checks.specs.Room.{RanRoom, IsRoomFault}
 use Rattle.xvsh_checks.specs.Whys.{RanWhys, IsWhysFault}
+use Rattle.script_outcomes.specs.declared.concluding.Conclusion.{Conclusion}
+use Rattle.script_outcomes.specs.declared.concluding.Conclusion.TheVariants.{OneOutput, SeveralOutputs, Stuck, Full as Filled, Part}
+use Rattle.script_outcomes.specs.declared.finding.Found.{Found}
+use Rattle.script_outcomes.specs.Found.{Concludes}
 use Rattle.xvsh_explores.specs.Explores.{RanExplore, IsExploreFault}
 use Rattle.xvsh_runs.specs.Strict.{RanStrict, IsStrictFault}
 use Rattle.xvsh_traces.specs.Lined.{IsLined}
@@ -53,6 +58,8 @@ pub data Asked : Type 0 where
   asks_strict : Profile → Path → List (Bor Path) → ℕ → ℕ → Lists → Asked
   asks_check : Path → Bool → Asked
   asks_turns : Path → List (Bor Path) → Bool → Asked
+  -- the same with the room that it needs
+  asks_room : Path → List (Bor Path) → Bool → Asked
   asks_explain : Path → Asked
   asks_whys : Profile → Path → List (Bor Path) → Asked
   asks_explore : Profile → Path → List (Bor Path) → ℕ → Bool → Asked
@@ -90,11 +97,14 @@ abbrev pub check_status : Bool → ℕ
 check_status true = 0
 check_status false = 3
 
--- the status of an exploration, by whether every order was tried, and whether all outcomes have one output and one set of files
-abbrev pub explore_status : Bool → Bool → ℕ
-explore_status false is_single = 4
-explore_status true false = 3
-explore_status true true = 0
+-- the status of an exploration, by what was found as a whole: 0 where each order leaves one output and one set of files and ends with
+-- nothing full
+abbrev pub explore_status : Conclusion → ℕ
+explore_status OneOutput = 0
+explore_status SeveralOutputs = 3
+explore_status Stuck = 3
+explore_status Filled = 4
+explore_status Part = 4
 
 -- what is reported of what was full in a run, and its status: 4, or this one where nothing was
 abbrev pub full_text : Option Full → Bytes
@@ -159,6 +169,9 @@ module _ (input : Option Bytes) (file : Path → Option Bytes) where
     -- the same with its turns after its lines
     counted : {script : Path} {paths : List (Bor Path)} {strict : Bool} {text : Bytes} (is_harmless : Bool) → RanTurns input file script paths strict is_harmless text → Due (asks_turns script paths strict) text [] (check_status is_harmless)
     not_counted : {script : Path} {paths : List (Bor Path)} {strict : Bool} (fault : Fault) → IsTurnsFault input file script paths fault → Due (asks_turns script paths strict) [] (fault_told fault) (status_of fault)
+    -- the same with its room after its lines, by whether it has room, too
+    room_told : {script : Path} {paths : List (Bor Path)} {strict : Bool} {text : Bytes} (is_fine : Bool) → RanRoom input file script paths strict is_fine text → Due (asks_room script paths strict) text [] (check_status is_fine)
+    no_room_told : {script : Path} {paths : List (Bor Path)} {strict : Bool} (fault : Fault) → IsRoomFault input file script paths fault → Due (asks_room script paths strict) [] (fault_told fault) (status_of fault)
     -- the notes on a script in sentences; or why there are none
     explained : {script : Path} {text : Bytes} (is_fine : Bool) → RanExplain input file script is_fine text → Due (asks_explain script) text [] (check_status is_fine)
     not_explained : {script : Path} (fault : Fault) → IsCheckFault input file script fault → Due (asks_explain script) [] (fault_told fault) (status_of fault)
@@ -166,7 +179,7 @@ module _ (input : Option Bytes) (file : Path → Option Bytes) where
     whys_told : {profile : Profile} {script : Path} {paths : List (Bor Path)} {text : Bytes} (is_fine : Bool) → RanWhys input file profile script paths is_fine text → Due (asks_whys profile script paths) text [] (check_status is_fine)
     no_whys_told : {profile : Profile} {script : Path} {paths : List (Bor Path)} (fault : Fault) → IsWhysFault input file profile script paths fault → Due (asks_whys profile script paths) [] (fault_told fault) (status_of fault)
     -- the outcomes in every order; or why none is told
-    explored : {profile : Profile} {script : Path} {paths : List (Bor Path)} {states : ℕ} {all : Bool} {text : Bytes} (is_whole is_single : Bool) → RanExplore input file profile script paths all is_whole is_single → Due (asks_explore profile script paths states all) text [] (explore_status is_whole is_single)
+    explored : {profile : Profile} {script : Path} {paths : List (Bor Path)} {states : ℕ} {all : Bool} {text : Bytes} (found : Found) (conclusion : Conclusion) → RanExplore input file profile script paths states all found → Concludes found conclusion → Due (asks_explore profile script paths states all) text [] (explore_status conclusion)
     not_explored : {profile : Profile} {script : Path} {paths : List (Bor Path)} {states : ℕ} {all : Bool} (fault : Fault) → IsExploreFault input file script paths fault → Due (asks_explore profile script paths states all) [] (fault_told fault) (status_of fault)
     -- the same of a request with a trace or a page, beside this; or that it can't be written
     traced : {what : Asked} {path : Path} {text told : Bytes} {status : ℕ} → Due what text told status → Due (asks_traced what path) (beside_trace path text) told status

@@ -11,7 +11,7 @@ use Rattle.xvsh_checks.specs.declared.request.ExplainRequest.{ExplainRequest}
 use Rattle.xvsh_explores.specs.declared.request.ExploreRequest.{ExploreRequest}
 use Rattle.xvsh_ends.specs.declared.request.Request.{Request}
 use Rattle.xvsh_ends.specs.declared.request.Request.TheVariants.{Run, Replay, Plain, Check, Explain, Explore, Draw}
-use Rattle.xvsh_ends.specs.Ends.{Asked, asks_plain, asks_diagnosed, asks_run, asks_strict, asks_check, asks_turns, asks_explain, asks_whys, asks_explore, help, misuse, on_harts, by_schedule, Ends, asks_traced, asks_witnessed, asks_filed, asks_lined, asks_json, asks_draw, asks_input}
+use Rattle.xvsh_ends.specs.Ends.{Asked, asks_plain, asks_diagnosed, asks_run, asks_strict, asks_check, asks_turns, asks_room, asks_explain, asks_whys, asks_explore, help, misuse, on_harts, by_schedule, Ends, asks_traced, asks_witnessed, asks_filed, asks_lined, asks_json, asks_draw, asks_input}
 
 -- a run by processes, strictly or not
 abbrev pub run_asked : Bool → RunRequest → Asked
@@ -38,10 +38,11 @@ abbrev pub plain_told_asked : Bool → PlainRequest → Asked
 plain_told_asked false request = diagnosed_asked request.tells_diagnostics request
 plain_told_asked true request = asks_json (plain_asked request)
 
--- a check, with its turns or without
-abbrev pub check_asked : Bool → CheckRequest → Asked
-check_asked false request = asks_check request.script.now request.is_strict
-check_asked true request = asks_turns request.script.now request.files.now request.is_strict
+-- a check, with its turns, with its room or with neither
+abbrev pub check_asked : Bool → Bool → CheckRequest → Asked
+check_asked false false request = asks_check request.script.now request.is_strict
+check_asked false true request = asks_room request.script.now request.files.now request.is_strict
+check_asked true room request = asks_turns request.script.now request.files.now request.is_strict
 
 -- notes, with why the script is settled or without
 abbrev pub explain_asked : Bool → ExplainRequest → Asked
@@ -88,7 +89,7 @@ abbrev pub asked : Request → Asked
 asked (Run request) = traced_asked request.trace (traced_asked request.schedule_to (filed_asked request.files_to (lined_asked request.is_lined (json_asked request.is_json (run_asked request.is_strict request)))))
 asked (Replay request) = traced_asked request.trace (filed_asked request.files_to (lined_asked request.is_lined (json_asked request.is_json (replay_asked request))))
 asked (Plain request) = filed_asked request.files_to (plain_told_asked request.is_json request)
-asked (Check request) = json_asked request.is_json (check_asked request.counts_turns request)
+asked (Check request) = json_asked request.is_json (check_asked request.counts_turns request.tells_room request)
 asked (Explain request) = json_asked request.is_json (explain_asked request.tells_why request)
 asked (Explore request) = explore_asked request
 asked (Draw request) = asks_draw
@@ -117,6 +118,7 @@ UnlessPrinted (asks_run profile script paths how lists) status same = status ≢
 UnlessPrinted (asks_strict profile script paths harts turns lists) status same = status ≢ 0 → status ≢ 3 → status ≢ 4 → same
 UnlessPrinted (asks_check script strict) status same = status ≢ 0 → status ≢ 3 → same
 UnlessPrinted (asks_turns script paths strict) status same = status ≢ 0 → status ≢ 3 → same
+UnlessPrinted (asks_room script paths strict) status same = status ≢ 0 → status ≢ 3 → same
 UnlessPrinted (asks_explain script) status same = status ≢ 0 → status ≢ 3 → same
 UnlessPrinted (asks_whys profile script paths) status same = status ≢ 0 → status ≢ 3 → same
 UnlessPrinted (asks_explore profile script paths states all) status same = status ≢ 0 → status ≢ 3 → status ≢ 4 → same

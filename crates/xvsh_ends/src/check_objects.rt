@@ -1,14 +1,18 @@
 //! Checks and explanations as objects of JSON.
-ghost use Rattle.std.specs.Prelude.{◌≡◌, true, false};
+ghost use Rattle.std.specs.Prelude.{◌≡◌, Bool, true, false};
 ghost use Rattle.xvsh_ends.specs.Ends.{IsDue, asks_json, check_status};
 ghost use Rattle.xvsh_ends.specs.Requests.{check_asked, explain_asked, json_asked};
 
 use crate::checks::{check_ending, explain_ending};
 use crate::ending::Ending;
 use crate::values::print_made;
-use result_json::{ExplainValues, check_result, counted_result, explain_result, fault_result};
+use result_json::{
+    ExplainValues, check_result, counted_result, explain_result, fault_result, room_result,
+};
 use std::alloc::Global;
-use xvsh_checks::{CheckRequest, ExplainRequest, run_count, run_find, run_note, run_note_whys};
+use xvsh_checks::{
+    CheckRequest, ExplainRequest, run_count, run_find, run_find_room, run_note, run_note_whys,
+};
 use xvsh_read::Host;
 
 // The status where all is fine, and else.
@@ -20,7 +24,7 @@ fn code_of(is_fine: bool) -> u8
 
 // Checks a script, and returns what is found as one object of JSON, or why nothing is as another.
 fn lines_json<H: Host>(alloc: Global, request: &CheckRequest<'_>, host: &mut H) -> Ending
-    ensures { IsDue (H.input host.old) (H.file host.old) (asks_json (check_asked false request.now)) result }
+    ensures { IsDue (H.input host.old) (H.file host.old) (asks_json (check_asked false false request.now)) result }
 {
     match run_find(alloc, request, host) {
         Ok(found) => {
@@ -37,7 +41,7 @@ fn lines_json<H: Host>(alloc: Global, request: &CheckRequest<'_>, host: &mut H) 
 
 // The same, with the turns.
 fn turns_json<H: Host>(alloc: Global, request: &CheckRequest<'_>, host: &mut H) -> Ending
-    ensures { IsDue (H.input host.old) (H.file host.old) (asks_json (check_asked true request.now)) result }
+    ensures { (room : Bool) → IsDue (H.input host.old) (H.file host.old) (asks_json (check_asked true room request.now)) result }
 {
     match run_count(alloc, request, host) {
         Ok(counted) => {
@@ -52,12 +56,31 @@ fn turns_json<H: Host>(alloc: Global, request: &CheckRequest<'_>, host: &mut H) 
     }
 }
 
-// A check as one object, with its turns if they are requested.
+// The same, with the room that it needs.
+fn room_json<H: Host>(alloc: Global, request: &CheckRequest<'_>, host: &mut H) -> Ending
+    ensures { IsDue (H.input host.old) (H.file host.old) (asks_json (check_asked false true request.now)) result }
+{
+    match run_find_room(alloc, request, host) {
+        Ok(room) => {
+            let code = code_of(room.findings.is_harmless);
+            let made = room_result(alloc, &room.findings, &room.found, code);
+            print_made(alloc, made, code)
+        }
+        Err(fault) => {
+            let made = fault_result(alloc, "check", fault);
+            print_made(alloc, made, fault.status())
+        }
+    }
+}
+
+// A check as one object, with its turns or its room if they are requested.
 fn check_json<H: Host>(alloc: Global, request: &CheckRequest<'_>, host: &mut H) -> Ending
-    ensures { IsDue (H.input host.old) (H.file host.old) (asks_json (check_asked request.now.counts_turns request.now)) result }
+    ensures { IsDue (H.input host.old) (H.file host.old) (asks_json (check_asked request.now.counts_turns request.now.tells_room request.now)) result }
 {
     if request.counts_turns {
         turns_json(alloc, request, host)
+    } else if request.tells_room {
+        room_json(alloc, request, host)
     } else {
         lines_json(alloc, request, host)
     }
@@ -118,10 +141,10 @@ fn explain_json<H: Host>(alloc: Global, request: &ExplainRequest<'_>, host: &mut
     }
 }
 
-/// Checks a script, with its turns if they are requested, and returns the report, or why there is none; as one object of JSON, if
+/// Checks a script, with its turns or its room if they are requested, and returns the report, or why there is none; as one object of JSON, if
 /// that is requested.
 pub fn check_told<H: Host>(alloc: Global, request: &CheckRequest<'_>, host: &mut H) -> Ending
-    ensures { IsDue (H.input host.old) (H.file host.old) (json_asked request.now.is_json (check_asked request.now.counts_turns request.now)) result }
+    ensures { IsDue (H.input host.old) (H.file host.old) (json_asked request.now.is_json (check_asked request.now.counts_turns request.now.tells_room request.now)) result }
 {
     if request.is_json {
         check_json(alloc, request, host)

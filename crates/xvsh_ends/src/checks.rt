@@ -1,5 +1,5 @@
 //! How a check ends, and notes in sentences.
-ghost use Rattle.std.specs.Prelude.{◌≡◌, [], true, false};
+ghost use Rattle.std.specs.Prelude.{◌≡◌, [], Bool, true, false};
 ghost use Rattle.xvsh_read.specs.Writing.{out_text};
 ghost use Rattle.xvsh_ends.specs.Ends.{IsDue, check_status, told_text};
 ghost use Rattle.xvsh_ends.specs.Requests.{check_asked, explain_asked};
@@ -7,7 +7,9 @@ ghost use Rattle.xvsh_ends.specs.Requests.{check_asked, explain_asked};
 use crate::ending::{Ending, Line, no_output, report_fault};
 use sh_lexer::Bytes;
 use std::alloc::Global;
-use xvsh_checks::{CheckRequest, ExplainRequest, run_check, run_explain, run_turns, run_whys};
+use xvsh_checks::{
+    CheckRequest, ExplainRequest, run_check, run_explain, run_room, run_turns, run_whys,
+};
 use xvsh_read::{Host, Output};
 
 // Prints this text, with status 0 where all is fine, and else 3.
@@ -31,7 +33,7 @@ fn prints(alloc: Global, text: Vec<u8>, is_fine: bool) -> Ending
 
 // Checks a script, and returns the report, or why there is none.
 fn lines_ending<H: Host>(alloc: Global, request: &CheckRequest<'_>, host: &mut H) -> Ending
-    ensures { IsDue (H.input host.old) (H.file host.old) (check_asked false request.now) result }
+    ensures { IsDue (H.input host.old) (H.file host.old) (check_asked false false request.now) result }
 {
     match run_check(alloc, request, host) {
         Ok(checked) => prints(alloc, checked.text, checked.is_harmless),
@@ -41,7 +43,7 @@ fn lines_ending<H: Host>(alloc: Global, request: &CheckRequest<'_>, host: &mut H
 
 // Checks a script and counts its turns, and returns the report, or why there is none.
 fn turns_ending<H: Host>(alloc: Global, request: &CheckRequest<'_>, host: &mut H) -> Ending
-    ensures { IsDue (H.input host.old) (H.file host.old) (check_asked true request.now) result }
+    ensures { (room : Bool) → IsDue (H.input host.old) (H.file host.old) (check_asked true room request.now) result }
 {
     match run_turns(alloc, request, host) {
         Ok(checked) => prints(alloc, checked.text, checked.is_harmless),
@@ -49,12 +51,24 @@ fn turns_ending<H: Host>(alloc: Global, request: &CheckRequest<'_>, host: &mut H
     }
 }
 
-/// Checks a script, with its turns if they are requested, and returns the report, or why there is none.
+// Checks a script and what room it needs, and returns the report, or why there is none.
+fn room_ending<H: Host>(alloc: Global, request: &CheckRequest<'_>, host: &mut H) -> Ending
+    ensures { IsDue (H.input host.old) (H.file host.old) (check_asked false true request.now) result }
+{
+    match run_room(alloc, request, host) {
+        Ok(checked) => prints(alloc, checked.text, checked.is_harmless),
+        Err(fault) => report_fault(alloc, fault),
+    }
+}
+
+/// Checks a script, with its turns or its room if they are requested, and returns the report, or why there is none.
 pub fn check_ending<H: Host>(alloc: Global, request: &CheckRequest<'_>, host: &mut H) -> Ending
-    ensures { IsDue (H.input host.old) (H.file host.old) (check_asked request.now.counts_turns request.now) result }
+    ensures { IsDue (H.input host.old) (H.file host.old) (check_asked request.now.counts_turns request.now.tells_room request.now) result }
 {
     if request.counts_turns {
         turns_ending(alloc, request, host)
+    } else if request.tells_room {
+        room_ending(alloc, request, host)
     } else {
         lines_ending(alloc, request, host)
     }

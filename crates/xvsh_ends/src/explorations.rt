@@ -2,6 +2,8 @@
 ghost use Rattle.std.specs.Prelude.{◌≡◌, ℕ, List, [], Option};
 ghost use Rattle.xvsh_read.specs.Path.{Path};
 ghost use Rattle.xvsh_read.specs.Writing.{out_text};
+ghost use Rattle.script_outcomes.specs.declared.concluding.Conclusion.{Conclusion};
+ghost use Rattle.script_outcomes.specs.Found.{Concludes};
 ghost use Rattle.xvsh_ends.specs.Ends.{Asked, Due, IsDue, asks_json, asks_witnessed, explore_status, told_text};
 ghost use Rattle.xvsh_ends.specs.Requests.{explore_asked, explore_told_asked, json_asked, witnessed_asked};
 
@@ -12,35 +14,34 @@ use crate::witnesses::{WitnessFault, write_schedules};
 use result_json::fault_result;
 use sh_lexer::Bytes;
 use std::alloc::Global;
-use xvsh_explores::{ExploreRequest, Explored, Watch, run_explore};
+use xvsh_explores::{Conclusion, ExploreRequest, Explored, Watch, concluded, run_explore};
 use xvsh_read::{Host, Output};
 use xvsh_traces::Traces;
 
-// The status, by whether every order was tried, and whether all outcomes have one output and one set of files.
-fn status_of(is_whole: bool, is_single: bool) -> u8
-    ensures { result ≡ explore_status is_whole is_single }
+// The status, by what was found as a whole.
+fn status_of(conclusion: Conclusion) -> u8
+    ensures { result ≡ explore_status conclusion }
 {
-    match (is_whole, is_single) {
-        (false, _) => 4,
-        (true, false) => 3,
-        (true, true) => 0,
+    match conclusion {
+        Conclusion::OneOutput => 0,
+        Conclusion::SeveralOutputs | Conclusion::Stuck => 3,
+        Conclusion::Full | Conclusion::Part => 4,
     }
 }
 
-// Prints what is told.
-fn prints(alloc: Global, explored: Explored) -> Ending
+// Prints what is shown, with the status of this conclusion.
+fn prints(alloc: Global, explored: Explored, conclusion: Conclusion) -> Ending
     ensures out { out_text result.output ≡ explored.text.items }
     ensures told { told_text result ≡ [] }
-    ensures status { result.status ≡ explore_status explored.is_whole explored.is_single }
+    ensures status { result.status ≡ explore_status conclusion }
 {
-    let status = status_of(explored.is_whole, explored.is_single);
     Ending {
         output: Output {
             out: Bytes::from_vec(explored.text),
             ..no_output(alloc)
         },
         line: Line::Fixed(""),
-        status,
+        status: status_of(conclusion),
         recording: None,
         left: None,
         hint: "",
@@ -54,20 +55,26 @@ fn written<T: Traces>(
     witness: Option<&str>,
     traces: &mut T,
 ) -> Ending
-    ensures { (input : Option (List ℕ)) (file : Path → Option (List ℕ)) (what : Asked) → ((text : List ℕ) → Due input file what text [] (explore_status explored.is_whole explored.is_single)) → IsDue input file (witnessed_asked witness.entry what) result }
+    ensures { (input : Option (List ℕ)) (file : Path → Option (List ℕ)) (what : Asked) → ((text : List ℕ) (conclusion : Conclusion) → Concludes explored.found conclusion → Due input file what text [] (explore_status conclusion)) → IsDue input file (witnessed_asked witness.entry what) result }
 {
     match witness {
         Some(folder) => written_at(alloc, explored, folder, traces),
-        None => prints(alloc, explored),
+        None => {
+            let conclusion = concluded(&explored.found);
+            prints(alloc, explored, conclusion)
+        }
     }
 }
 
 // Writes the schedules in the folder at this path, and returns how the program ends then.
 fn written_at<T: Traces>(alloc: Global, explored: Explored, folder: &str, traces: &mut T) -> Ending
-    ensures { (input : Option (List ℕ)) (file : Path → Option (List ℕ)) (what : Asked) → ((text : List ℕ) → Due input file what text [] (explore_status explored.is_whole explored.is_single)) → IsDue input file (asks_witnessed what folder.now) result }
+    ensures { (input : Option (List ℕ)) (file : Path → Option (List ℕ)) (what : Asked) → ((text : List ℕ) (conclusion : Conclusion) → Concludes explored.found conclusion → Due input file what text [] (explore_status conclusion)) → IsDue input file (asks_witnessed what folder.now) result }
 {
     match write_schedules(alloc, traces, folder, explored.schedules.as_slice()) {
-        Ok(()) => prints(alloc, explored),
+        Ok(()) => {
+            let conclusion = concluded(&explored.found);
+            prints(alloc, explored, conclusion)
+        }
         Err(WitnessFault::Unwritten(place)) => report_untraced(alloc, place.as_str()),
         Err(WitnessFault::Memory) => report_no_memory(alloc),
     }

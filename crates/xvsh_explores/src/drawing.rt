@@ -2,41 +2,31 @@
 
 use crate::findings::Findings;
 use crate::request::ExploreRequest;
-use every_order::Outcome;
 use order_partings::{Scene, Way, align, events_of};
+use script_outcomes::Outcome;
 use std::alloc::{AllocError, Global};
 use xvsh_draws::draw_runs;
 use xvsh_read::Start;
 
-// The outcome with this place in the order.
-fn at<'o>(outcomes: &'o [Outcome], order: &[usize], place: usize) -> Option<&'o Outcome> {
-    outcomes.get(*order.get(place)?)
-}
-
 // The place of the outcome that is drawn beside the first: the next one with another output, or else the second.
-fn other_place(outcomes: &[Outcome], order: &[usize]) -> usize {
-    let Some(first) = at(outcomes, order, 0) else {
+fn other_place(outcomes: &[Outcome]) -> usize {
+    let Some(first) = outcomes.first() else {
         return 1;
     };
-    for place in 1..order.len() {
-        if let Some(other) = at(outcomes, order, place) {
-            if other.out.as_slice() != first.out.as_slice() {
-                return place;
-            }
-        }
-    }
-    1
+    let out = first.out.as_slice();
+    let differs = |outcome: &Outcome| outcome.out.as_slice() != out;
+    outcomes.iter().position(differs).unwrap_or(1)
 }
 
-// The way to the outcome with this place in the order.
+// The way to the outcome at this place.
 fn way_at<'o>(
     alloc: Global,
     outcomes: &'o [Outcome],
     findings: &Findings,
     place: usize,
 ) -> Result<Option<Way<'o>>, AllocError> {
-    let found = at(outcomes, findings.order.as_slice(), place);
-    let (Some(outcome), Some(pids)) = (found, findings.ways.as_slice().get(place)) else {
+    let ways = findings.ways.as_slice();
+    let (Some(outcome), Some(pids)) = (outcomes.get(place), ways.get(place)) else {
         return Ok(None);
     };
     Ok(Some(Way {
@@ -119,7 +109,7 @@ pub fn page_of(
     if request.draw.is_none() {
         return Ok(None);
     }
-    let place = other_place(outcomes, findings.order.as_slice());
+    let place = other_place(outcomes);
     let mut ways = two_ways(alloc, outcomes, findings, place)?;
     page_of_ways(
         alloc,

@@ -1,17 +1,14 @@
-//! What was found, in the order in which it is told.
+//! Schedules that lead to the outcomes, and where these part.
 
 use crate::request::ExploreRequest;
-use crate::sorting::order_of;
-use every_order::Outcome;
 use order_partings::{Parting, Scene, Way, align, events_of, part};
 use schedule_lines::schedule_text;
+use script_outcomes::Outcome;
 use std::alloc::{AllocError, Global};
 
-/// What was found, by the numbers that outcomes have where they are told, of which the first is 1 and has place 0.
+/// How the outcomes are reached, in their order.
 #[derive(Drop)]
 pub struct Findings {
-    /// The place of each among the outcomes.
-    pub order: Vec<usize>,
     /// A schedule of each: the processes in the order of their turns.
     pub ways: Vec<Vec<u8>>,
     /// Where the schedule of the first and that of each part, where that is told.
@@ -33,16 +30,10 @@ fn way_to<'o>(alloc: Global, outcome: &'o Outcome) -> Result<Way<'o>, AllocError
 }
 
 // The ways to the outcomes, in their order.
-fn ways_to<'o>(
-    alloc: Global,
-    outcomes: &'o [Outcome],
-    order: &[usize],
-) -> Result<Vec<Way<'o>>, AllocError> {
+fn ways_to<'o>(alloc: Global, outcomes: &'o [Outcome]) -> Result<Vec<Way<'o>>, AllocError> {
     let mut ways = Vec::new(alloc);
-    for place in order {
-        if let Some(outcome) = outcomes.get(*place) {
-            ways.push(way_to(alloc, outcome)?)?;
-        }
+    for outcome in outcomes {
+        ways.push(way_to(alloc, outcome)?)?;
     }
     Ok(ways)
 }
@@ -75,24 +66,19 @@ fn part_all(
     Ok(partings)
 }
 
-/// The outcomes in their order, with a schedule of each, and where these part.
+/// A schedule of each outcome, and where these part.
 pub fn findings_of(
     alloc: Global,
     scene: &Scene<'_>,
     outcomes: &[Outcome],
 ) -> Result<Findings, AllocError> {
-    let order = order_of(alloc, outcomes)?;
-    let mut found = ways_to(alloc, outcomes, order.as_slice())?;
+    let mut found = ways_to(alloc, outcomes)?;
     let partings = part_all(alloc, scene, found.as_mut_slice())?;
     let mut ways = Vec::new(alloc);
     for way in found {
         ways.push(way.pids)?;
     }
-    Ok(Findings {
-        order,
-        ways,
-        partings,
-    })
+    Ok(Findings { ways, partings })
 }
 
 /// The schedule of each outcome as text, where the request asks for them; else none.

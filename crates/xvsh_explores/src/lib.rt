@@ -8,9 +8,8 @@ mod findings;
 mod objects;
 mod replays;
 mod request;
-mod sorting;
 mod telling;
 
-pub use every_order::Watch;
 pub use exploring::{Explored, explore_start, run_explore};
 pub use request::{ExploreRequest, MAX_STATES};
+pub use script_outcomes::{Conclusion, Found, Tried, Watch, concluded};

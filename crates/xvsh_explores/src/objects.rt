@@ -1,20 +1,21 @@
 //! What was found as one object of JSON.
 
 use crate::findings::Findings;
-use every_order::{Exploration, Outcome};
-use mem_files::Files;
 use order_partings::Parting;
+use plain_run::Plain;
 use result_json::{begin_result, full_word, write_files};
+use script_outcomes::{Conclusion, Outcome, Tried};
 use std::alloc::{AllocError, Global};
 use trace_lines::Line;
 
-// The status in words, and the one with which the program ends, by whether every order was tried, and whether all outcomes have
-// one output and one set of files.
-fn status_of(is_whole: bool, is_single: bool) -> (&'static str, u8) {
-    match (is_whole, is_single) {
-        (false, _) => ("not every order tried", 4),
-        (true, false) => ("several outputs", 3),
-        (true, true) => ("one output", 0),
+// The status in words, and the one with which the program ends.
+fn status_of(conclusion: Conclusion) -> (&'static str, u8) {
+    match conclusion {
+        Conclusion::OneOutput => ("one output", 0),
+        Conclusion::SeveralOutputs => ("several outputs", 3),
+        Conclusion::Stuck => ("some order never ends", 3),
+        Conclusion::Full => ("something was full", 4),
+        Conclusion::Part => ("not every order tried", 4),
     }
 }
 
@@ -65,35 +66,32 @@ fn write_outcomes(
     findings: &Findings,
 ) -> Result<(), AllocError> {
     line.begin_list("outcomes")?;
-    for (i, place) in findings.order.iter().enumerate() {
-        if let Some(outcome) = outcomes.get(*place) {
-            let pids = match findings.ways.as_slice().get(i) {
-                Some(pids) => pids.as_slice(),
-                None => &[],
-            };
-            let parting = match findings.partings.as_slice().get(i) {
-                Some(Some(parting)) => Some(parting),
-                _ => None,
-            };
-            write_outcome(line, i.saturating_add(1), outcome, pids, parting)?;
-        }
+    for (i, outcome) in outcomes.iter().enumerate() {
+        let pids = match findings.ways.as_slice().get(i) {
+            Some(pids) => pids.as_slice(),
+            None => &[],
+        };
+        let parting = match findings.partings.as_slice().get(i) {
+            Some(Some(parting)) => Some(parting),
+            _ => None,
+        };
+        write_outcome(line, i.saturating_add(1), outcome, pids, parting)?;
     }
     line.end_list()
 }
 
-/// The object of an exploration, by whether all its outcomes have one output and one set of files, and how many runs in a few orders
-/// ended, and LF.
+/// The object of what trying orders found, with this conclusion, and LF.
 pub fn object_of(
     alloc: Global,
-    found: &Exploration,
+    tried: &Tried,
     findings: &Findings,
-    is_single: bool,
-    runs: usize,
+    conclusion: Conclusion,
 ) -> Result<Vec<u8>, AllocError> {
-    let (status, code) = status_of(found.whole, is_single);
+    let (status, code) = status_of(conclusion);
+    let found = &tried.found;
     let mut line = begin_result(alloc, "explore", status, code)?;
     line.count("states", found.states as u64)?;
-    line.count("runs", runs as u64)?;
+    line.count("runs", tried.runs as u64)?;
     line.truth("every_order_tried", found.whole)?;
     match &found.stuck {
         Some(pids) => write_pids(&mut line, "stuck", pids.as_slice())?,
@@ -104,11 +102,7 @@ pub fn object_of(
 }
 
 /// The object of a settled script, whose output and files are the same in every order, and LF.
-pub fn object_of_settled(
-    alloc: Global,
-    out: &[u8],
-    files: &Files<Global>,
-) -> Result<Vec<u8>, AllocError> {
+pub fn object_of_settled(alloc: Global, value: &Plain<Global>) -> Result<Vec<u8>, AllocError> {
     let mut line = begin_result(alloc, "explore", "settled", 0)?;
     line.count("states", 0)?;
     line.count("runs", 0)?;
@@ -117,8 +111,8 @@ pub fn object_of_settled(
     line.begin_list("outcomes")?;
     line.begin_raw_object()?;
     line.count("number", 1)?;
-    line.bytes("output", out)?;
-    write_files(&mut line, files, None)?;
+    line.bytes("output", value.out.as_slice())?;
+    write_files(&mut line, &value.files, None)?;
     line.end_object()?;
     line.end_list()?;
     line.end()

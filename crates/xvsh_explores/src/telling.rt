@@ -4,8 +4,8 @@ use crate::escaping::{add_bytes, add_escaped};
 use crate::findings::Findings;
 use crate::replays::add_replay;
 use crate::request::ExploreRequest;
-use every_order::{Exploration, Outcome};
 use result_json::full_word;
+use script_outcomes::{Outcome, Tried};
 use std::alloc::{AllocError, Global};
 
 // `1 output`, `4 outputs`.
@@ -20,37 +20,30 @@ fn add_count(
     text.extend_from_slice(made.as_bytes())
 }
 
-// How many of the outcomes, in this order, have another output than the one before.
-fn outputs_of(outcomes: &[Outcome], order: &[usize]) -> usize {
+// How many of the outcomes have another output than the one before.
+fn outputs_of(outcomes: &[Outcome]) -> usize {
     let mut count: usize = 0;
     let mut last: Option<&[u8]> = None;
-    for place in order {
-        if let Some(outcome) = outcomes.get(*place) {
-            if last != Some(outcome.out.as_slice()) {
-                count = count.saturating_add(1);
-            }
-            last = Some(outcome.out.as_slice());
+    for outcome in outcomes {
+        if last != Some(outcome.out.as_slice()) {
+            count = count.saturating_add(1);
         }
+        last = Some(outcome.out.as_slice());
     }
     count
 }
 
 // Of how many runs and states the outcomes are, and whether every order was tried.
-fn add_tried(
-    alloc: Global,
-    text: &mut Vec<u8>,
-    found: &Exploration,
-    runs: usize,
-) -> Result<(), AllocError> {
-    if found.whole {
+fn add_tried(alloc: Global, text: &mut Vec<u8>, tried: &Tried) -> Result<(), AllocError> {
+    if tried.found.whole {
         text.extend_from_slice(b", every order tried (".as_slice())?;
-        add_count(alloc, text, found.states, "state")?;
+        add_count(alloc, text, tried.found.states, "state")?;
         return text.extend_from_slice(b")\n".as_slice());
     }
     text.extend_from_slice(b" so far (of ".as_slice())?;
-    add_count(alloc, text, runs, "run")?;
+    add_count(alloc, text, tried.runs, "run")?;
     text.extend_from_slice(b" and ".as_slice())?;
-    add_count(alloc, text, found.states, "state")?;
+    add_count(alloc, text, tried.found.states, "state")?;
     text.extend_from_slice(b"), not every order was tried\n".as_slice())
 }
 
@@ -58,19 +51,19 @@ fn add_tried(
 fn add_head(
     alloc: Global,
     text: &mut Vec<u8>,
-    found: &Exploration,
+    tried: &Tried,
     outputs: usize,
-    runs: usize,
 ) -> Result<(), AllocError> {
+    let outcomes = tried.found.outcomes.len();
     add_count(alloc, text, outputs, "output")?;
-    if outputs < found.outcomes.len() {
+    if outputs < outcomes {
         text.extend_from_slice(b", ".as_slice())?;
-        add_count(alloc, text, found.outcomes.len(), "outcome")?;
+        add_count(alloc, text, outcomes, "outcome")?;
     }
-    add_tried(alloc, text, found, runs)
+    add_tried(alloc, text, tried)
 }
 
-// A line for each file, one for the diagnostics, and one for what was full.
+// A line for each file, and one for the diagnostics.
 fn add_more(alloc: Global, text: &mut Vec<u8>, outcome: &Outcome) -> Result<(), AllocError> {
     for place in 0..outcome.files.count() {
         let name = outcome.files.name_at(place).unwrap_or(&[]);
@@ -85,6 +78,11 @@ fn add_more(alloc: Global, text: &mut Vec<u8>, outcome: &Outcome) -> Result<(), 
         add_bytes(alloc, text, outcome.diag.as_slice())?;
         text.push(b'\n')?;
     }
+    Ok(())
+}
+
+// A line for what was full first, if something was.
+fn add_full(alloc: Global, text: &mut Vec<u8>, outcome: &Outcome) -> Result<(), AllocError> {
     if let Some(full) = outcome.full {
         let line = format!(in alloc; "     full {}\n", full_word(full))?;
         text.extend_from_slice(line.as_bytes())?;
@@ -112,21 +110,19 @@ fn add_outcome(
     Ok(())
 }
 
-// Adds each outcome in this order, with its files and the rest where some outputs have more than one.
+// Adds each outcome, with its files and its diagnostics where some outputs have more than one.
 fn add_outcomes(
     alloc: Global,
     text: &mut Vec<u8>,
     outcomes: &[Outcome],
-    order: &[usize],
     shows_more: bool,
 ) -> Result<(), AllocError> {
-    for (i, place) in order.iter().enumerate() {
-        if let Some(outcome) = outcomes.get(*place) {
-            add_outcome(alloc, text, i.saturating_add(1), outcome)?;
-            if shows_more {
-                add_more(alloc, text, outcome)?;
-            }
+    for (i, outcome) in outcomes.iter().enumerate() {
+        add_outcome(alloc, text, i.saturating_add(1), outcome)?;
+        if shows_more {
+            add_more(alloc, text, outcome)?;
         }
+        add_full(alloc, text, outcome)?;
     }
     Ok(())
 }
@@ -149,8 +145,8 @@ fn add_partings(alloc: Global, text: &mut Vec<u8>, findings: &Findings) -> Resul
 }
 
 // A line where every process may come to sleep for ever.
-fn add_stuck(alloc: Global, text: &mut Vec<u8>, found: &Exploration) -> Result<(), AllocError> {
-    if let Some(pids) = &found.stuck {
+fn add_stuck(alloc: Global, text: &mut Vec<u8>, tried: &Tried) -> Result<(), AllocError> {
+    if let Some(pids) = &tried.found.stuck {
         let events = pids.len().saturating_mul(2);
         let line = format!(in alloc;
             "after {events} events of some order every process sleeps for ever\n"
@@ -161,25 +157,22 @@ fn add_stuck(alloc: Global, text: &mut Vec<u8>, found: &Exploration) -> Result<(
 }
 
 /// The text of an exploration: a line on how many outputs there are and whether every order was tried, and then a line an
-/// outcome, by output, files and diagnostics, with the events of a run to it. Where outcomes differ in more than the
-/// output, each has its files, its diagnostics and what was full below it. Then comes where the schedule of the first outcome
+/// outcome, with the events of a run to it, and one for what was full in it. Where outcomes differ in more than the
+/// output, each has its files and its diagnostics below it. Then comes where the schedule of the first outcome
 /// and those of others part, and, where schedules are written, how to replay one. Bytes that aren't printable ASCII are shown by
-/// their escapes. Where not every order was tried, `runs` is how many runs in a few orders ended.
+/// their escapes.
 pub fn told(
     alloc: Global,
     request: &ExploreRequest<'_>,
-    found: &Exploration,
+    tried: &Tried,
     findings: &Findings,
-    runs: usize,
 ) -> Result<Vec<u8>, AllocError> {
     let mut text = Vec::new(alloc);
-    let outcomes = found.outcomes.as_slice();
-    let order = findings.order.as_slice();
-    let outputs = outputs_of(outcomes, order);
-    add_head(alloc, &mut text, found, outputs, runs)?;
-    let shows_more = outputs < outcomes.len();
-    add_outcomes(alloc, &mut text, outcomes, order, shows_more)?;
-    add_stuck(alloc, &mut text, found)?;
+    let outcomes = tried.found.outcomes.as_slice();
+    let outputs = outputs_of(outcomes);
+    add_head(alloc, &mut text, tried, outputs)?;
+    add_outcomes(alloc, &mut text, outcomes, outputs < outcomes.len())?;
+    add_stuck(alloc, &mut text, tried)?;
     add_partings(alloc, &mut text, findings)?;
     if !outcomes.is_empty() {
         add_replay(&mut text, request)?;

@@ -58,26 +58,79 @@ impl Marking<'_> {
         Ok(())
     }
 
+    // Marks what the call of this process added, which was just made.
+    fn note_call<M: Machine>(
+        &mut self,
+        tracer: &Tracer<M, Global>,
+        pid: Pid,
+    ) -> Result<(), AllocError> {
+        let line = line_of(self.followed.doing(pid));
+        let noted = self.add(line, tracer.diag());
+        follow(&mut self.followed, tracer, pid, tracer.call().kind());
+        noted
+    }
+
     // Marks what the event added that just happened.
     fn note<M: Machine>(
         &mut self,
         tracer: &Tracer<M, Global>,
         event: Event,
     ) -> Result<(), AllocError> {
-        let Event::Trap(_, number) = event else {
-            return Ok(());
-        };
-        let Some(pid) = Pid::new(number as usize) else {
-            return Ok(());
-        };
-        let line = line_of(self.followed.doing(pid));
-        self.add(line, tracer.diag())?;
-        follow(&mut self.followed, tracer, pid, tracer.call().kind());
-        Ok(())
+        match event {
+            Event::Trap(_, number) => match Pid::new(number as usize) {
+                Some(pid) => self.note_call(tracer, pid),
+                None => Ok(()),
+            },
+            _ => Ok(()),
+        }
     }
 }
 
-// The marks of the diagnostics of a run of the script that `N` names, which is made again by its schedule.
+// Lets an event happen, and marks what it adds to the diagnostics.
+fn mark_event<M: Machine>(
+    tracer: &mut Tracer<M, Global>,
+    marking: &mut Marking<'_>,
+    event: Event,
+) -> Result<(), TraceFault> {
+    let is_made = tracer.happen(event)?;
+    if is_made {
+        Ok(marking.note(tracer, event)?)
+    } else {
+        Err(TraceFault::Memory)
+    }
+}
+
+// Lets the events happen, and marks what they add.
+fn mark_all<M: Machine>(
+    tracer: &mut Tracer<M, Global>,
+    marking: &mut Marking<'_>,
+    schedule: &[Event],
+) -> Result<(), TraceFault> {
+    for event in schedule {
+        mark_event(tracer, marking, *event)?;
+    }
+    Ok(())
+}
+
+// The marks of the diagnostics of a run of this kernel, which is at its start.
+fn marks_by<M: Machine>(
+    alloc: Global,
+    start: &Start,
+    kernel: Kernel<M, Global>,
+    schedule: &[Event],
+) -> Result<Vec<Mark>, TraceFault> {
+    let mut tracer = Tracer::new(kernel);
+    let mut marking = Marking {
+        followed: Followed::new(&start.script),
+        marks: Vec::new(alloc),
+        count: 0,
+        is_inside: false,
+    };
+    mark_all(&mut tracer, &mut marking, schedule)?;
+    Ok(marking.marks)
+}
+
+// The same of a run of the script that `N` names, which is made again by its schedule.
 fn marks_of<N: Naming>(
     alloc: Global,
     start: &Start,
@@ -88,20 +141,7 @@ fn marks_of<N: Naming>(
     let init = User::<Global, N>::init();
     let shell = User::shell(&start.script);
     let kernel = Kernel::boot(alloc, init, shell, start.stdin.as_slice(), &start.files)?;
-    let mut tracer = Tracer::new(kernel);
-    let mut marking = Marking {
-        followed: Followed::new(&start.script),
-        marks: Vec::new(alloc),
-        count: 0,
-        is_inside: false,
-    };
-    for event in schedule {
-        if !tracer.happen(*event)? {
-            return Err(TraceFault::Memory);
-        }
-        marking.note(&tracer, *event)?;
-    }
-    Ok(marking.marks)
+    marks_by(alloc, start, kernel, schedule)
 }
 
 // Adds `line N: `.

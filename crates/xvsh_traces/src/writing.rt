@@ -33,6 +33,19 @@ pub(crate) fn write_run<T: Traces>(
     write_named::<Brand, T>(alloc, start, schedule, harts, to)
 }
 
+// The first line of a trace.
+fn first_line(alloc: Global, start: &Start, harts: u8) -> Result<Vec<u8>, AllocError> {
+    let script = script_text(alloc, &start.script)?;
+    let head = Head {
+        script: script.as_slice(),
+        profile: start.script.profile,
+        harts,
+        input: start.stdin.as_slice(),
+        files: &start.files,
+    };
+    head_line(alloc, &head, Vec::new(alloc))
+}
+
 // The trace of a run of the script that `N` names.
 fn write_named<N: Naming, T: Traces>(
     alloc: Global,
@@ -43,25 +56,54 @@ fn write_named<N: Naming, T: Traces>(
 ) -> Result<(), TraceFault>
     requires { lines_of start.now.script.lines ≡ N.script }
 {
-    let script = script_text(alloc, &start.script)?;
-    let head = Head {
-        script: script.as_slice(),
-        profile: start.script.profile,
-        harts,
-        input: start.stdin.as_slice(),
-        files: &start.files,
-    };
-    let text = head_line(alloc, &head, Vec::new(alloc))?;
     let init = User::<Global, N>::init();
     let shell = User::shell(&start.script);
     let kernel = Kernel::boot(alloc, init, shell, start.stdin.as_slice(), &start.files)?;
+    write_booted(kernel, start, schedule, harts, to)
+}
+
+// The trace of a run of this kernel, which is at its start.
+fn write_booted<M: Machine, T: Traces>(
+    kernel: Kernel<M, Global>,
+    start: &Start,
+    schedule: &[Event],
+    harts: u8,
+    to: &mut T,
+) -> Result<(), TraceFault> {
     let mut tracer = Tracer::new(kernel);
+    write_traced(&mut tracer, start, schedule, harts, to)
+}
+
+// The same of the kernel that is traced.
+fn write_traced<M: Machine, T: Traces>(
+    tracer: &mut Tracer<M, Global>,
+    start: &Start,
+    schedule: &[Event],
+    harts: u8,
+    to: &mut T,
+) -> Result<(), TraceFault> {
+    let alloc = *start.stdin.allocator();
+    let first = first_line(alloc, start, harts)?;
     let lines = TraceLines::new(alloc, &start.script);
-    let text = write_events(lines, &mut tracer, schedule, text, to)?;
+    let text = write_events(lines, tracer, schedule, first, to)?;
     write_end(alloc, tracer.kernel(), harts, text, to)
 }
 
-// Lets the events happen and writes their lines behind the text; the last lines are left.
+// Lets an event happen and writes its lines behind the text; the last lines are left.
+fn write_event<M: Machine, T: Traces>(
+    lines: &mut TraceLines<'_>,
+    tracer: &mut Tracer<M, Global>,
+    event: Event,
+    text: Vec<u8>,
+    to: &mut T,
+) -> Result<Vec<u8>, TraceFault> {
+    match lines.happen(tracer, event, text)? {
+        Some(text) => write_chunk(text, to),
+        None => Err(TraceFault::Memory),
+    }
+}
+
+// The same of all events.
 fn write_events<M: Machine, T: Traces>(
     mut lines: TraceLines<'_>,
     tracer: &mut Tracer<M, Global>,
@@ -71,14 +113,16 @@ fn write_events<M: Machine, T: Traces>(
 ) -> Result<Vec<u8>, TraceFault> {
     let mut text = first;
     for event in schedule {
-        text = match lines.happen(tracer, *event, text)? {
-            Some(text) => text,
-            None => return Err(TraceFault::Memory),
-        };
-        if text.len() >= CHUNK_SIZE {
-            to.write_trace(text.as_slice())?;
-            text.clear();
-        }
+        text = write_event(&mut lines, tracer, *event, text, to)?;
+    }
+    Ok(text)
+}
+
+// Writes the text and leaves none of it, where it is long.
+fn write_chunk<T: Traces>(mut text: Vec<u8>, to: &mut T) -> Result<Vec<u8>, TraceFault> {
+    if text.len() >= CHUNK_SIZE {
+        to.write_trace(text.as_slice())?;
+        text.clear();
     }
     Ok(text)
 }
@@ -105,19 +149,24 @@ fn write_end<M: Machine, T: Traces>(
     Ok(())
 }
 
-// The lines of a script as text, each with LF: commands as `append_command` writes them, and other lines as they were.
+// A line of a script as text: a command as `append_command` writes it, and another line as it was.
+fn add_line(line: &Line<Global>, text: &mut Vec<u8>) -> Result<(), AllocError> {
+    match line {
+        Line::Tree(tree) => append_command(tree, text)?,
+        Line::Bad(_, bad) => text.extend_from_slice(bad.as_slice())?,
+        Line::Cd(place) => {
+            text.extend_from_slice(b"cd ".as_slice())?;
+            text.extend_from_slice(place.as_slice())?;
+        }
+    }
+    Ok(text.push(b'\n')?)
+}
+
+// The lines of a script as text, each with LF.
 fn script_text(alloc: Global, script: &Script<Global>) -> Result<Vec<u8>, AllocError> {
     let mut text = Vec::new(alloc);
     for line in script.lines.as_slice() {
-        match line {
-            Line::Tree(tree) => append_command(tree, &mut text)?,
-            Line::Bad(_, bad) => text.extend_from_slice(bad.as_slice())?,
-            Line::Cd(place) => {
-                text.extend_from_slice(b"cd ".as_slice())?;
-                text.extend_from_slice(place.as_slice())?;
-            }
-        }
-        text.push(b'\n')?;
+        add_line(line, &mut text)?;
     }
     Ok(text)
 }

@@ -59,7 +59,7 @@ plain_shape = record (new_shape (codes "plain")) {
 
 abbrev pub check_shape : Shape
 check_shape = record (new_shape (codes "check")) {
-  rules = flag_rule (codes "turns") ∷ flag_rule (codes "strict") ∷ flag_rule (codes "json") ∷ input_rule ∷ text_rule ∷ word_rule (codes "script") ∷ files_rule ∷ [];
+  rules = flag_rule (codes "turns") ∷ flag_rule (codes "room") ∷ flag_rule (codes "strict") ∷ flag_rule (codes "json") ∷ input_rule ∷ text_rule ∷ word_rule (codes "script") ∷ files_rule ∷ [];
 }
 
 -- `explore` by the most states that it may keep

@@ -72,7 +72,9 @@ NAME` where two of its commands may come upon each other at a file: at the two
 sides of a pipe (PipeSides), or inside a redirection (Enclosing). `check
 --turns` ends with a line `turns N`: with `run --turns N` the script runs to
 its end, whatever the order of its processes, if it has no clash and no `&` and
-nothing is full.
+nothing is full. `check --room` ends with a line that tells how many processes,
+open files, descriptors, files and bytes of a file the script needs at most, and
+with one more that names the first line which may need more than xv6 has.
 
 `xvsh explain SCRIPT` tells the same in sentences, and more: a `#` or a quote
 that is a letter here, a command that is no program, a name that no file can
@@ -373,13 +375,19 @@ const CHECKED_STRICT_HELP: &str = "End with status 3 for a line that is no comma
 const COUNTED_HELP: &str =
     "Write last in how many turns the script runs to its end on the FILEs and its input";
 
+const ROOM_HELP: &str =
+    "Write last how much of xv6's tables the script needs on the FILEs and its input";
+
 fn check_command<'a>(alloc: Global, is_strict: bool) -> Result<Command<'a>, AllocError>
     ensures { is_strict ≡ false → IfOk result (IsCommand check_shape) }
 {
     let files = needing(file_words(alloc), "turns", is_strict)?;
     let input = needing(input_option(alloc), "turns", is_strict)?;
+    let flagged = flag(alloc, "room", ROOM_HELP);
+    let room = apart(flagged, "turns", is_strict)?;
     let args = vec![in alloc;
         flag(alloc, "turns", COUNTED_HELP),
+        room,
         flag(alloc, "strict", CHECKED_STRICT_HELP),
         flag(alloc, "json", JSON_HELP),
         input,

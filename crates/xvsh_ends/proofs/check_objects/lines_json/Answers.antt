@@ -12,7 +12,7 @@ returns-in-Ok g c =
     let input = g.H.Host.input c.args.host.now in
     let file = g.H.Host.file c.args.host.now in
     let is_fine = c.in-Ok.found.is_harmless in
-    due_valued input file (check_asked false c.args.request.now) c.check_result-made.result (λ text. text.items) _ [] (check_status is_fine) c.print_made.result
+    due_valued input file (check_asked false false c.args.request.now) c.check_result-made.result (λ text. text.items) _ [] (check_status is_fine) c.print_made.result
     (subst (λ n. MatchResult c.check_result-made.result (λ text. PrintsAlone text.items n c.print_made.result) (λ _. Tells (fault_told Memory) 4 c.print_made.result)) c.code_of-code.ensures c.print_made.ensures)
     (check_is_printed is_fine) (checked is_fine c.in-Ok.ensures.ran)
 
@@ -21,6 +21,6 @@ returns-in-Err g c =
     let input = g.H.Host.input c.args.host.now in
     let file = g.H.Host.file c.args.host.now in
     let fault = c.in-Err.fault in
-    due_valued input file (check_asked false c.args.request.now) c.fault_result-made.result (λ text. text.items) [] (fault_told fault) (status_of fault) c.print_made-in-Err.result
+    due_valued input file (check_asked false false c.args.request.now) c.fault_result-made.result (λ text. text.items) [] (fault_told fault) (status_of fault) c.print_made-in-Err.result
     (subst (λ n. MatchResult c.fault_result-made.result (λ text. PrintsAlone text.items n c.print_made-in-Err.result) (λ _. Tells (fault_told Memory) 4 c.print_made-in-Err.result)) c.status.ensures c.print_made-in-Err.ensures)
     (fault_is_printed fault) (no_check fault c.in-Err.ensures.fault)

@@ -6,7 +6,7 @@ use Rattle.xvsh_ends.proofs.checks.lines_ending.Goals as goal
 
 pub returns-in-Ok : goal.returns-in-Ok
 returns-in-Ok g c =
-    due_by (g.H.Host.input c.args.host.now) (g.H.Host.file c.args.host.now) (check_asked false c.args.request.now) _ _ _ c.prints.result c.prints.ensures.out c.prints.ensures.told c.prints.ensures.status (checked c.in-Ok.checked.is_harmless c.in-Ok.ensures.ran)
+    due_by (g.H.Host.input c.args.host.now) (g.H.Host.file c.args.host.now) (check_asked false false c.args.request.now) _ _ _ c.prints.result c.prints.ensures.out c.prints.ensures.told c.prints.ensures.status (checked c.in-Ok.checked.is_harmless c.in-Ok.ensures.ran)
 
 pub returns-in-Err : goal.returns-in-Err
-returns-in-Err g c = due_told (g.H.Host.input c.args.host.now) (g.H.Host.file c.args.host.now) (check_asked false c.args.request.now) _ _ c.report_fault.result c.report_fault.ensures (no_check c.in-Err.fault c.in-Err.ensures.fault)
+returns-in-Err g c = due_told (g.H.Host.input c.args.host.now) (g.H.Host.file c.args.host.now) (check_asked false false c.args.request.now) _ _ c.report_fault.result c.report_fault.ensures (no_check c.in-Err.fault c.in-Err.ensures.fault)

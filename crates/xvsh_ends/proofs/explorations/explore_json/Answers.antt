@@ -8,7 +8,7 @@ returns-in-Ok g c =
     let input = g.H.Host.input c.args.host.now in
     let file = g.H.Host.file c.args.host.now in
     c.valued.ensures input file (explore_told_asked c.args.request.now)
-    (c.written-ending.ensures input file (explore_plainly_asked c.args.request.now) (λ text. explored c.in-Ok.explored.is_whole c.in-Ok.explored.is_single c.in-Ok.ensures.ran))
+    (c.written-ending.ensures input file (explore_plainly_asked c.args.request.now) (λ text conclusion concludes. explored c.in-Ok.explored.found conclusion c.in-Ok.ensures.ran concludes))
 
 pub returns-in-Err : goal.returns-in-Err
 returns-in-Err g c =

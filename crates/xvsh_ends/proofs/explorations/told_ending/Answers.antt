@@ -5,7 +5,7 @@ use Rattle.xvsh_ends.proofs.explorations.told_ending.Goals as goal
 
 pub returns-in-Ok : goal.returns-in-Ok
 returns-in-Ok g c =
-    c.written-ending.ensures (g.H.Host.input c.args.host.now) (g.H.Host.file c.args.host.now) (explore_plainly_asked c.args.request.now) (λ text. explored c.in-Ok.explored.is_whole c.in-Ok.explored.is_single c.in-Ok.ensures.ran)
+    c.written-ending.ensures (g.H.Host.input c.args.host.now) (g.H.Host.file c.args.host.now) (explore_plainly_asked c.args.request.now) (λ text conclusion concludes. explored c.in-Ok.explored.found conclusion c.in-Ok.ensures.ran concludes)
 
 pub returns-in-Err : goal.returns-in-Err
 returns-in-Err g c =

@@ -52,7 +52,7 @@ returns-in-Check-clause-nothing g c =
     let request = c.in-Check.check in
     let ending = c.check_told.result in
     subst (λ r. UnlessPrinted (asked r) ending.status (out_text ending.output ≡ [])) (sym c.in-Check.is)
-    (nothing_due (g.H.Host.input c.args.host.now) (g.H.Host.file c.args.host.now) (json_asked request.is_json (check_asked request.counts_turns request)) _ _ _ c.check_told.ensures)
+    (nothing_due (g.H.Host.input c.args.host.now) (g.H.Host.file c.args.host.now) (json_asked request.is_json (check_asked request.counts_turns request.tells_room request)) _ _ _ c.check_told.ensures)
 
 pub returns-in-Explain-clause-nothing : goal.returns-in-Explain-clause-nothing
 returns-in-Explain-clause-nothing g c =

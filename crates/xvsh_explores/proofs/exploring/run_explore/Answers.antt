@@ -1,7 +1,8 @@
 use Rattle.std.proofs.Common.{subst}
 use Rattle.script_load.specs.Line.{lines_of}
 use Rattle.xvsh_read.proofs.Faults.{at_fault}
-use Rattle.xvsh_explores.specs.Explores.{Told, no_start}
+use Rattle.script_outcomes.specs.Found.{IsFound}
+use Rattle.xvsh_explores.specs.Explores.{no_start}
 use Rattle.xvsh_explores.proofs.Known.{told_faults}
 use Rattle.xvsh_explores.proofs.exploring.run_explore.Goals as goal
 
@@ -23,5 +24,5 @@ returns-clause-ran g c =
       given = start.files;
       stdin = start.stdin.items;
       starts = c.in_ok-start.ensures.prepared;
-      told = subst (λ profile. Told profile (lines_of start.script.lines) start.stdin.items start.files c.args.request.now.is_thorough explored.is_whole explored.is_single) c.in_ok-start.ensures.profile c.in_ok-explored.ensures.told;
+      is = subst (λ profile. IsFound profile (lines_of start.script.lines) start.stdin.items start.files c.args.request.now.states c.args.request.now.is_thorough explored.found) c.in_ok-start.ensures.profile c.in_ok-explored.ensures.found;
     }

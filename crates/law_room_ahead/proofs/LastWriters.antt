@@ -1,0 +1,130 @@
+-- The close of a last write end, and the turn of another process, in kernels of a script that fits the tables.
+use Rattle.std.proofs.Common.{◌≡◌, ◌≢◌, ◌⊎◌, ℕ, List, [], ◌∷◌, Bool, true, false, Option, Some, None, inl, inr, refl, sym, ap, ◌∙◌}
+use Rattle.std.proofs.lemmas.Bool.{eq-eqb, eqb-true}
+use Rattle.user_calls.specs.declared.calls.Call.{Call}
+use Rattle.user_calls.specs.declared.calls.Call.TheVariants.{Fork, Exec, Exit, Wait, MakePipe, Read, Write, OpenFile, Close, Dup}
+use Rattle.user_calls.specs.declared.calls.Reply.{Reply}
+use Rattle.byte_pipe.specs.PipeState.{PipeState}
+use Rattle.fd_table.specs.declared.names.Object.{Object}
+use Rattle.fd_table.specs.declared.names.Object.TheVariants.{Input, Out, Diag, File, PipeRead, PipeWrite}
+use Rattle.fd_table.specs.Entries.{OpenFile as Opened}
+use Rattle.fd_table.specs.Descriptors.{entry_of}
+use Rattle.mem_files.specs.Name.{Name, Bytes}
+use Rattle.mem_files.specs.Listing.{AreFiles}
+use Rattle.script_load.specs.Line.{ScriptLine}
+use Rattle.script_load.specs.declared.profile.Profile.{Profile}
+use Rattle.proc_table.specs.Slots.{Slot, Process, at}
+use Rattle.kernel_model.specs.KernelState.{KernelState, file_at}
+use Rattle.kernel_model.specs.Pipes.{pipe_of}
+use Rattle.run_model.specs.ScriptRun.{script_kernel}
+use Rattle.sh_machine.specs.State.{User}
+use Rattle.sh_machine.specs.Turn.{call_of, next_of}
+use Rattle.order_model.specs.Begun.{IsBegun}
+use Rattle.order_model.specs.Turns.{after_turn, IsReachedFrom}
+use Rattle.law_kernel.specs.Ends.{reads_pipe}
+use Rattle.law_private_turns.proofs.Begun.{begun_on}
+use Rattle.law_every_outcome.proofs.Scripts.{script_begun}
+use Rattle.law_write_ends.specs.Writers.{ClosesLastWriter, FindsBytesNext, ReadsEmptyNext, InEitherOrderAwake, IsDoneAlready}
+use Rattle.law_write_ends.proofs.Runs.{still, ends, fresh}
+use Rattle.law_write_ends.proofs.Turned.{writer_either, empty_read}
+use Rattle.law_room_ahead.specs.Ahead.{FitsTables}
+use Rattle.law_room_ahead.proofs.NextCalls.{readers_put_nothing}
+use Rattle.law_room_ahead.proofs.Fitting.{room_ahead}
+
+reads_is : (id : ℕ) (object : Object) → reads_pipe id object ≡ true → object ≡ PipeRead id
+reads_is id Input is = absurd (let z : ⊥ = cc in z)
+reads_is id Out is = absurd (let z : ⊥ = cc in z)
+reads_is id Diag is = absurd (let z : ⊥ = cc in z)
+reads_is id (File name mode) is = absurd (let z : ⊥ = cc in z)
+reads_is id (PipeRead other) is = ap PipeRead (sym (eqb-true id other is))
+reads_is id (PipeWrite other) is = absurd (let z : ⊥ = cc in z)
+
+module _ {S : Type 0} (call : S → Reply → Call) (next : S → Reply → S) (k : KernelState S) (b : IsBegun call next k) (id q : ℕ) where
+  abbrev Either : Type 0
+  Either = FindsBytesNext call next k id q ⊎ ReadsEmptyNext call next k id q
+
+  module _ (y : Process S) (there : at k.table q ≡ Some y) where
+    it : (z : Process S) → at k.table q ≡ Some z → y ≡ z
+    it z is = let both : Some y ≡ Some z = sym there ∙ is in let same : y ≡ z = cc in same
+
+    its_call : (z : Process S) → at k.table q ≡ Some z → call y.machine y.reply ≡ call z.machine z.reply
+    its_call z is = ap (λ (w : Process S). call w.machine w.reply) (it z is)
+
+    other_call : (c : Call) → call y.machine y.reply ≡ c → ((fd n : ℕ) → c ≡ Read fd n → ⊥) → Either
+    other_call c calls unread = inl (λ z fd n f pipe is reads held object named empty. unread fd n (sym calls ∙ (its_call z is ∙ reads)))
+
+    module _ (fd most : ℕ) (calls : call y.machine y.reply ≡ Read fd most) where
+      -- what it reads
+      its_file : (z : Process S) (d n : ℕ) (o : Option Opened) → at k.table q ≡ Some z → call z.machine z.reply ≡ Read d n → file_at k.entries (entry_of z.fds d) ≡ o → file_at k.entries (entry_of y.fds fd) ≡ o
+      its_file z d n o is reads held =
+          let both : Read fd most ≡ Read d n = sym calls ∙ (its_call z is ∙ reads) in
+          let same : fd ≡ d = cc in
+          (λ i. file_at k.entries (entry_of (it z is i).fds (same i))) ∙ held
+
+      by_bytes : (f : Opened) → file_at k.entries (entry_of y.fds fd) ≡ Some f → f.object ≡ PipeRead id → (pipe : PipeState) → pipe_of k.pipes id ≡ Some pipe → (bytes : List ℕ) → pipe.bytes ≡ bytes → Either
+      by_bytes f held reads pipe named [] empty = inr (record {
+        process = y;
+        there = there;
+        put = readers_put_nothing call next k b q y there fd most calls;
+        fd = fd;
+        most = most;
+        calls = calls;
+        file = f;
+        holds = held;
+        reads = reads;
+        pipe = pipe;
+        named = named;
+        empty = empty;
+      })
+      by_bytes f held reads pipe named (x ∷ xs) some = inl (λ z d n g other is asks has object known empty.
+          let both : Some pipe ≡ Some other = sym named ∙ known in
+          let same : pipe ≡ other = cc in
+          let clash : x ∷ xs ≡ [] = sym some ∙ (ap (λ (p : PipeState). p.bytes) same ∙ empty) in
+          let no_way : ⊥ = cc in no_way)
+
+      by_pipe : (f : Opened) → file_at k.entries (entry_of y.fds fd) ≡ Some f → f.object ≡ PipeRead id → (o : Option PipeState) → pipe_of k.pipes id ≡ o → Either
+      by_pipe f held reads None gone = inl (λ z d n g other is asks has object known empty. let clash : None ≡ Some other = sym gone ∙ known in let no_way : ⊥ = cc in no_way)
+      by_pipe f held reads (Some pipe) named = by_bytes f held reads pipe named pipe.bytes refl
+
+      by_object : (f : Opened) → file_at k.entries (entry_of y.fds fd) ≡ Some f → (r : Bool) → reads_pipe id f.object ≡ r → Either
+      by_object f held true is = by_pipe f held (reads_is id f.object is) (pipe_of k.pipes id) refl
+      by_object f held false not = inl (λ z d n g other is asks has object known empty.
+          let both : Some f ≡ Some g = sym held ∙ its_file z d n (Some g) is asks has in
+          let same : f ≡ g = cc in
+          let clash : false ≡ true = sym not ∙ (ap (λ (e : Opened). reads_pipe id e.object) same ∙ (ap (reads_pipe id) object ∙ eq-eqb id id refl)) in
+          let no_way : ⊥ = cc in no_way)
+
+      by_file : (o : Option Opened) → file_at k.entries (entry_of y.fds fd) ≡ o → Either
+      by_file None none = inl (λ z d n g other is asks has object known empty. let clash : None ≡ Some g = sym none ∙ its_file z d n (Some g) is asks has in let no_way : ⊥ = cc in no_way)
+      by_file (Some f) held = by_object f held (reads_pipe id f.object) refl
+
+    by_call : (c : Call) → call y.machine y.reply ≡ c → Either
+    by_call Fork calls = other_call Fork calls (λ fd n is. let z : ⊥ = cc in z)
+    by_call (Exec found) calls = other_call (Exec found) calls (λ fd n is. let z : ⊥ = cc in z)
+    by_call Exit calls = other_call Exit calls (λ fd n is. let z : ⊥ = cc in z)
+    by_call Wait calls = other_call Wait calls (λ fd n is. let z : ⊥ = cc in z)
+    by_call MakePipe calls = other_call MakePipe calls (λ fd n is. let z : ⊥ = cc in z)
+    by_call (Read fd most) calls = by_file fd most calls (file_at k.entries (entry_of y.fds fd)) refl
+    by_call (Write fd bytes) calls = other_call (Write fd bytes) calls (λ d n is. let z : ⊥ = cc in z)
+    by_call (OpenFile name mode) calls = other_call (OpenFile name mode) calls (λ fd n is. let z : ⊥ = cc in z)
+    by_call (Close fd) calls = other_call (Close fd) calls (λ d n is. let z : ⊥ = cc in z)
+    by_call (Dup fd) calls = other_call (Dup fd) calls (λ d n is. let z : ⊥ = cc in z)
+
+  by_slot : (x : Slot S) → at k.table q ≡ x → Either
+  by_slot None free = inl (λ z d n g other is asks has object known empty. let clash : None ≡ Some z = sym free ∙ is in let no_way : ⊥ = cc in no_way)
+  by_slot (Some y) there = by_call y there (call y.machine y.reply) refl
+
+  pub finds_or_put_nothing : FindsBytesNext call next k id q ⊎ ReadsEmptyNext call next k id q
+  finds_or_put_nothing = by_slot (at k.table q) refl
+
+module _ (profile : Profile) (lines : List ScriptLine) (input : Bytes) (list : List (Name × Bytes)) (are : AreFiles list) (fits : FitsTables profile lines input list) where
+  pub writers_either : (k a l : KernelState User) (p q : ℕ) → IsReachedFrom call_of next_of (script_kernel profile lines input list) k → ClosesLastWriter call_of next_of k p → q ≢ p
+      → after_turn call_of next_of k p ≡ Some a → after_turn call_of next_of k q ≡ Some l → InEitherOrderAwake call_of next_of a l p q ⊎ IsDoneAlready call_of next_of a l p
+  writers_either k a l p q reached e other first second = by (finds_or_put_nothing call_of next_of k begun e.pipe q) where
+    begun : IsBegun call_of next_of k
+    begun = begun_on call_of next_of (script_kernel profile lines input list) k reached.pids (script_begun profile lines input list are) reached.turns
+
+    by : FindsBytesNext call_of next_of k e.pipe q ⊎ ReadsEmptyNext call_of next_of k e.pipe q → InEitherOrderAwake call_of next_of a l p q ⊎ IsDoneAlready call_of next_of a l p
+    by (inl finds) =
+        inl (writer_either call_of next_of k a l p q (still call_of next_of k begun) (ends call_of next_of k begun) (fresh call_of next_of k begun) e other (room_ahead profile lines input list are fits k reached [] k q refl) finds first second)
+    by (inr reads) = inr (empty_read call_of next_of k a l p q (still call_of next_of k begun) (ends call_of next_of k begun) (fresh call_of next_of k begun) e other reads first second)

@@ -1,0 +1,5 @@
+pub mod NextCalls
+pub mod NoMemory
+pub mod Entries
+pub mod Fitting
+pub mod LastWriters

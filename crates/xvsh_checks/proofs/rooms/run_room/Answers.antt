@@ -1,0 +1,33 @@
+use Rattle.std.proofs.Common.{◌++◌, ap, ◌∙◌, subst}
+use Rattle.script_load.specs.Line.{lines_of}
+use Rattle.xvsh_read.proofs.Faults.{at_fault}
+use Rattle.xvsh_checks.specs.Room.{IsRoomFound, no_room_start, room_not_told}
+use Rattle.xvsh_checks.proofs.RoomTold.{ran_room}
+use Rattle.xvsh_checks.proofs.rooms.run_room.Goals as goal
+
+pub returns-in_err-start-clause-fault : goal.returns-in_err-start-clause-fault
+returns-in_err-start-clause-fault g c =
+    at_fault c.from_residual.result _ _ c.from_residual.ensures.1 (no_room_start c.in_err-start.ensures.fault)
+
+pub returns-in_err-checked-clause-fault : goal.returns-in_err-checked-clause-fault
+returns-in_err-checked-clause-fault g c =
+    at_fault c.from_residual-in_err-checked.result _ _ c.from_residual-in_err-checked.ensures.1 room_not_told
+
+pub returns-in_err-told-clause-fault : goal.returns-in_err-told-clause-fault
+returns-in_err-told-clause-fault g c =
+    at_fault c.from_residual-in_err-told.result _ _ c.from_residual-in_err-told.ensures.1 room_not_told
+
+pub returns-in_err-extend_from_slice-clause-fault : goal.returns-in_err-extend_from_slice-clause-fault
+returns-in_err-extend_from_slice-clause-fault g c =
+    at_fault c.from_residual-in_err-extend_from_slice.result _ _ c.from_residual-in_err-extend_from_slice.ensures.1 room_not_told
+
+pub returns-clause-ran : goal.returns-clause-ran
+returns-clause-ran g c =
+    let request = c.args.request.now in
+    let start = c.in_ok-start.start in
+    let lines = lines_of start.script.lines in
+    let checked = c.in_ok-checked.checked in
+    let room = subst (λ s. IsRoomFound lines s start.files c.room_found-found.result) c.as_slice.ensures.value c.room_found-found.ensures in
+    let whole = c.in_ok-extend_from_slice.ensures.items ∙ ap (λ t. checked.text.items ++ t) (c.as_slice-2.ensures.value ∙ c.in_ok-told.ensures) in
+    ran_room (g.H.Host.input c.args.host.now) (g.H.Host.file c.args.host.now) request.script.now request.files.now lines start.files start.stdin.items checked.text.items _ request.is_strict c.is_fine.result c.room_found-found.result
+    c.in_ok-start.ensures.start c.in_ok-checked.ensures.told room whole (c.is_fine.ensures request.is_strict lines start.stdin.items start.files c.in_ok-checked.ensures.harmless room)
