@@ -17,7 +17,7 @@ use Rattle.order_model.specs.Alike.{HasNamesUpTo, IsStill}
 use Rattle.order_model.specs.Outcome.{SameOutcome, outcome_of}
 use Rattle.law_orders.proofs.Entries.{entry_renamed}
 use Rattle.law_orders.proofs.Tables.{map_swap, count_map}
-use Rattle.law_entry_numbers.specs.Numbers.{Numbering, AreRenumbered, SameButNumbers, renumbered, renumbered_place, renumbered_fds, renumbered_slot, renumbered_table}
+use Rattle.order_model.specs.Numbers.{Numbering, AreRenumbered, SameButNumbers, renumbered, renumbered_place, renumbered_fds, renumbered_slot, renumbered_table}
 use Rattle.law_entry_numbers.proofs.Tables.{same_holders, slot_fds, slot_running, slot_zombie, at_slot, table_fds}
 
 -- ---- the outcome
@@ -74,7 +74,7 @@ module _ {S : Type 0} (n : Numbering) (t : Table S) (E F : Entries) (are : AreRe
 
 -- ---- names of pipes
 
-idle_so : {S : Type 0} (to name : ℕ → ℕ) (x : Slot S) → idle_slot name (renumbered_slot to x) ≡ renumbered_slot to (idle_slot name x)
+pub idle_so : {S : Type 0} (to name : ℕ → ℕ) (x : Slot S) → idle_slot name (renumbered_slot to x) ≡ renumbered_slot to (idle_slot name x)
 idle_so to name None = refl
 idle_so to name (Some p) = refl
 

@@ -18,7 +18,7 @@ use Rattle.order_model.specs.Alike.{IsStill}
 use Rattle.order_model.specs.Turns.{Turn, by_turns, turn_events, turn_notes}
 use Rattle.law_orders.proofs.Back.{could_turn}
 use Rattle.law_orders.proofs.Follow.{given_0, after_turn, given_happens, turn_happens, turn_still}
-use Rattle.law_entry_numbers.specs.Numbers.{SameButNumbers, renumbered_slot, renumbered_fds}
+use Rattle.order_model.specs.Numbers.{SameButNumbers, renumbered_slot, renumbered_fds}
 use Rattle.law_entry_numbers.specs.Taken.{IsTakenToo}
 use Rattle.law_entry_numbers.proofs.Acted.{acted_same}
 use Rattle.law_entry_numbers.proofs.Numberings.{same_back}

@@ -6,7 +6,7 @@ use Rattle.kernel_model.specs.KernelState.{KernelState}
 use Rattle.order_model.specs.Alike.{IsStill}
 use Rattle.order_model.specs.Outcome.{SameOutcome}
 use Rattle.order_model.specs.Turns.{Turn, by_turns}
-use Rattle.law_entry_numbers.specs.Numbers.{SameButNumbers}
+use Rattle.order_model.specs.Numbers.{SameButNumbers}
 
 module _ {S : Type 0} (call : S → Reply → Call) (next : S → Reply → S) where
   -- these turns can be taken from l too, and lead to a kernel that is m but for numbers, is still, and has the same outcome

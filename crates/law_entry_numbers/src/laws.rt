@@ -9,7 +9,7 @@ ghost use Rattle.kernel_model.specs.Sound.{IsMid};
 ghost use Rattle.order_model.specs.Alike.{IsStill};
 ghost use Rattle.order_model.specs.Outcome.{SameOutcome};
 ghost use Rattle.order_model.specs.Turns.{Turn, by_turns};
-ghost use Rattle.law_entry_numbers.specs.Numbers.{SameButNumbers, renumbered_slot};
+ghost use Rattle.order_model.specs.Numbers.{SameButNumbers, renumbered_slot};
 ghost use Rattle.law_entry_numbers.specs.Taken.{IsTakenToo};
 
 use user_calls::Machine;

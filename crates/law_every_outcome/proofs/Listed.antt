@@ -12,14 +12,14 @@ use Rattle.kernel_model.proofs.Quiet.{run_quiet}
 use Rattle.order_model.specs.Outcome.{RunOutcome, SameOutcome, outcome_of}
 use Rattle.order_model.specs.Turns.{after_turn, after_turns, callers, IsReachedFrom}
 use Rattle.order_model.specs.Privately.{Privately}
-use Rattle.order_model.specs.Woke.{SameKeyAwake}
 use Rattle.order_model.specs.Reduced.{IsLed, listed, private_turn, GoesOn, IsReduced, IsEnding}
-use Rattle.order_model.specs.Begun.{IsBegun, DoesAwake, itself, likened, PrivatelyBegun}
+use Rattle.order_model.specs.Begun.{IsBegun, PrivatelyBegun}
+use Rattle.order_model.specs.Anyhow.{SameKeyAnyhow, DoesAnyhow, itself, likened}
 use Rattle.order_model.specs.Explored.{AreEnough, Explored, AreAllOutcomes}
 use Rattle.law_orders.proofs.Matching.{quiet_matched}
 use Rattle.law_private_turns.proofs.Begun.{begun_on, begun_still}
-use Rattle.law_private_turns.proofs.Awake.{awake_back, one_key_awake, outcome_awake, following_awake}
-use Rattle.law_private_turns.proofs.Safe.{privates_safe_awake}
+use Rattle.law_last_closes.proofs.Anyhow.{anyhow_back, key_anyhow, outcome_anyhow, following_anyhow}
+use Rattle.law_last_closes.proofs.Safe.{privates_safe_anyhow}
 use Rattle.law_every_outcome.proofs.Moved.{of_all, any_more, every_ending}
 use Rattle.law_every_outcome.proofs.Runs.{folded, of_run}
 
@@ -35,9 +35,9 @@ outcome_back : {S : Type 0} (k l : KernelState S) → SameOutcome k l → SameOu
 outcome_back k l a = record { outcome = sym a.outcome; input = sym a.input; finished = (a.finished.1, a.finished.0) }
 
 module _ {S : Type 0} (call : S → Reply → Call) (next : S → Reply → S) where
-  pub does_outcome : (k m : KernelState S) → DoesAwake call next k m → SameOutcome k m
+  pub does_outcome : (k m : KernelState S) → DoesAnyhow call next k m → SameOutcome k m
   does_outcome k m (itself j) = record { outcome = refl; input = refl; finished = (λ is. is, λ is. is) }
-  does_outcome k m (likened i j n b d alike rest) = outcome_on i j m (outcome_awake i j alike) (does_outcome j m rest)
+  does_outcome k m (likened i j n b d alike rest) = outcome_on i j m (outcome_anyhow i j alike) (does_outcome j m rest)
 
   -- whose turn is private isn't gone
   not_over : (k m : KernelState S) (p : ℕ) → Privately call k p → SameOutcome k m → IsFinished m → ⊥
@@ -47,19 +47,19 @@ module _ {S : Type 0} (call : S → Reply → Call) (next : S → Reply → S) w
       let z : ⊥ = cc in
       z
 
-  finished_ends : (m : KernelState S) → IsFinished m → IsEnding (after_turn call next) (DoesAwake call next) (PrivatelyBegun call next) m
+  finished_ends : (m : KernelState S) → IsFinished m → IsEnding (after_turn call next) (DoesAnyhow call next) (PrivatelyBegun call next) m
   finished_ends m over k p e does = not_over k m p e.private (does_outcome k m does) over
 
   module _ (start : KernelState S) (seen : List (KernelState S)) (begun : IsBegun call next start) (e : AreEnough call next start seen) where
     seen_begun : (i : ℕ) (k : KernelState S) → i < length seen → slice_index_or seen i k ≡ k → IsBegun call next k
     seen_begun i k within there = let way = of_all (IsReachedFrom call next start) seen i k e.reached within there in begun_on call next start k way.pids begun way.turns
 
-    led : (k : KernelState S) → IsBegun call next k → IsLed (after_turn call next) (λ s k. SameKeyAwake k s) (Privately call) seen k → IsLed (after_turn call next) (DoesAwake call next) (PrivatelyBegun call next) seen k
+    led : (k : KernelState S) → IsBegun call next k → IsLed (after_turn call next) (λ s k. SameKeyAnyhow k s) (Privately call) seen k → IsLed (after_turn call next) (DoesAnyhow call next) (PrivatelyBegun call next) seen k
     led k b (listed j any) =
-        listed k (any.0, any.1, any.2, any.3, likened any.1 k k (seen_begun any.0 any.1 any.2 any.3) b (awake_back k any.1 (one_key_awake k any.1 any.4)) (itself k))
+        listed k (any.0, any.1, any.2, any.3, likened any.1 k k (seen_begun any.0 any.1 any.2 any.3) b (anyhow_back k any.1 (key_anyhow k any.1 any.4)) (itself k))
     led k b (private_turn j a p mine first rest) = private_turn k a p (record { private = mine; begun = b }) first (led a (begun_on call next k a (p ∷ []) b first) rest)
 
-    goes : (s : KernelState S) → IsBegun call next s → GoesOn (after_turn call next) (λ s k. SameKeyAwake k s) (Privately call) seen s → GoesOn (after_turn call next) (DoesAwake call next) (PrivatelyBegun call next) seen s
+    goes : (s : KernelState S) → IsBegun call next s → GoesOn (after_turn call next) (λ s k. SameKeyAnyhow k s) (Privately call) seen s → GoesOn (after_turn call next) (DoesAnyhow call next) (PrivatelyBegun call next) seen s
     goes s b (inl every) = inl (λ p now is. led now (begun_on call next s now (p ∷ []) b is) (every p now is))
     goes s b (inr one) =
         inr (record { pid = one.pid; after = one.after; mine = record { private = one.mine; begun = b }; taken = one.taken; led = led one.after (begun_on call next s one.after (one.pid ∷ []) b one.taken) one.led })
@@ -67,18 +67,18 @@ module _ {S : Type 0} (call : S → Reply → Call) (next : S → Reply → S) w
     at_begun : (i : ℕ) (d : KernelState S) → i < length seen → IsBegun call next (slice_index_or seen i d)
     at_begun i d within = let way = e.reached i d within in begun_on call next start (slice_index_or seen i d) way.pids begun way.turns
 
-    reduced : IsReduced (after_turn call next) (DoesAwake call next) (PrivatelyBegun call next) start seen
+    reduced : IsReduced (after_turn call next) (DoesAnyhow call next) (PrivatelyBegun call next) start seen
     reduced = record { starts = led start begun e.reduced.starts; goes_on = λ i d within. goes (slice_index_or seen i d) (at_begun i d within) (e.reduced.goes_on i d within) }
 
     -- wherever turns lead to an ending
-    pub turns_listed : (m : KernelState S) (pids : List ℕ) → after_turns call next start pids ≡ Some m → IsEnding (after_turn call next) (DoesAwake call next) (PrivatelyBegun call next) m → Any (λ s. DoesAwake call next s m) seen
+    pub turns_listed : (m : KernelState S) (pids : List ℕ) → after_turns call next start pids ≡ Some m → IsEnding (after_turn call next) (DoesAnyhow call next) (PrivatelyBegun call next) m → Any (λ s. DoesAnyhow call next s m) seen
     turns_listed m pids is over =
-        every_ending (after_turn call next) (DoesAwake call next) (PrivatelyBegun call next) (following_awake call next) (privates_safe_awake call next) start m seen pids reduced (folded call next pids (Some start) ∙ is) over
+        every_ending (after_turn call next) (DoesAnyhow call next) (PrivatelyBegun call next) (following_anyhow call next) (privates_safe_anyhow call next) start m seen pids reduced (folded call next pids (Some start) ∙ is) over
 
     pub run_listed : (m : KernelState S) (es : List Event) → run call next (Some start) es (no_refusals es) ≡ Some m → IsFinished m → Any (SameOutcome m) seen
     run_listed m es is over =
         let f = quiet_matched call next start m es (begun_still call next start begun) is in
-        any_more (λ s. DoesAwake call next s f.last) (SameOutcome m) seen (λ s does. outcome_on m f.last s f.outcome (outcome_back s f.last (does_outcome s f.last does)))
+        any_more (λ s. DoesAnyhow call next s f.last) (SameOutcome m) seen (λ s does. outcome_on m f.last s f.outcome (outcome_back s f.last (does_outcome s f.last does)))
         (turns_listed f.last (callers es) f.turns (finished_ends f.last (f.outcome.finished.0 over)))
 
     outcome_told : (m : KernelState S) (outcomes : List RunOutcome) → All (λ (n : KernelState S). IsFinished n → Contains outcomes (outcome_of n)) seen → IsFinished m → Any (SameOutcome m) seen → Contains outcomes (outcome_of m)

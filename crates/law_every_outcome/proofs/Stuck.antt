@@ -1,5 +1,5 @@
 -- No run is stuck if each kernel of a reduced list is finished or can do something.
-use Rattle.std.proofs.Common.{◌≡◌, ◌⊎◌, ℕ, zero, suc, List, [], ◌∷◌, Bool, true, false, Some, inl, inr, refl, sym, ap, subst, ◌∙◌}
+use Rattle.std.proofs.Common.{◌≡◌, ◌⊎◌, ℕ, zero, suc, List, [], ◌∷◌, Bool, true, false, None, Some, inl, inr, refl, sym, ap, subst, ◌∙◌}
 use Rattle.std.specs.Prelude.{All}
 use Rattle.user_calls.specs.declared.calls.Call.{Call}
 use Rattle.user_calls.specs.declared.calls.Call.TheVariants.{Fork, Exec, Exit, Wait, MakePipe, Read, Write, OpenFile, Close, Dup}
@@ -16,20 +16,24 @@ use Rattle.kernel_model.specs.Events.{run, IsFinished}
 use Rattle.kernel_model.specs.Quiet.{no_refusals}
 use Rattle.kernel_model.proofs.Quiet.{run_quiet}
 use Rattle.law_kernel.specs.Asking.{MaySleep}
+use Rattle.order_model.specs.Alike.{IsStill}
 use Rattle.order_model.specs.Turns.{after_turn, callers}
 use Rattle.order_model.specs.Explored.{AreEnough, IsFinishedOrBusy, IsFinishedOrAwake, IsNeverStuck}
 use Rattle.law_orders.proofs.Back.{could_turn}
 use Rattle.law_orders.proofs.Matching.{quiet_matched}
 use Rattle.order_model.specs.Reduced.{IsEnding}
 use Rattle.order_model.specs.Privately.{IsPrivateCall, executes, dups, closes}
-use Rattle.order_model.specs.Woke.{SameKeyAwake}
-use Rattle.order_model.specs.Begun.{IsBegun, DoesAwake, itself, likened, PrivatelyBegun}
+use Rattle.order_model.specs.Numbers.{SameButNumbers, renumbered_slot}
+use Rattle.order_model.specs.Begun.{IsBegun, PrivatelyBegun}
+use Rattle.order_model.specs.Anyhow.{DoesAnyhow, itself, likened}
 use Rattle.law_every_outcome.proofs.Moved.{of_all}
 use Rattle.law_every_outcome.proofs.Looks.{looks, awake, runnable_awake, slot_awake}
 use Rattle.law_private_turns.proofs.Begun.{begun_still, begun_asks}
-use Rattle.law_private_turns.proofs.Awake.{awake_back, awake_on, follows_awake, Elsewhere, found_elsewhere}
+use Rattle.law_private_turns.proofs.Awake.{awake_back, Elsewhere, found_elsewhere}
+use Rattle.law_entry_numbers.proofs.Numberings.{same_back}
+use Rattle.law_entry_numbers.proofs.Still.{slots_so, still_so}
+use Rattle.law_last_closes.proofs.Anyhow.{between, anyhow_on, does_back, does_bare, follows_anyhow}
 use Rattle.law_every_outcome.proofs.Listed.{does_outcome, turns_listed}
-use Rattle.law_every_outcome.proofs.Canonical.{alike_same_key}
 
 -- ---- somebody is awake, or nobody is
 
@@ -72,14 +76,6 @@ private_sleepless fds c (dups fd entry place is held free) = subst Sleepless (sy
 private_sleepless fds c (closes fd entry is held enough) = subst Sleepless (sym is) tt
 
 module _ {S : Type 0} (call : S → Reply → Call) (next : S → Reply → S) where
-  does_back : (k m : KernelState S) → DoesAwake call next k m → DoesAwake call next m k
-  does_back k m (itself j) = itself j
-  does_back k m (likened i j n b d alike rest) = awake_on call next m j i (does_back j m rest) (likened j i i d b (awake_back i j alike) (itself i))
-
-  does_same_key : (k m : KernelState S) → DoesAwake call next k m → SameKeyAwake k m
-  does_same_key k m (itself j) = refl
-  does_same_key k m (likened i j n b d alike rest) = alike_same_key call next i j b d alike ∙ does_same_key j m rest
-
   -- ---- whose turn is private doesn't sleep
 
   no_sleep : (m : KernelState S) (p : ℕ) (c : Call) (put : ℕ) (ch : Channel) → Sleepless c → MaySleep m p c put ch → ⊥
@@ -103,12 +99,29 @@ module _ {S : Type 0} (call : S → Reply → Call) (next : S → Reply → S) w
         by (inl ready) same = record { process = w.process; there = w.there; calls = same; ready = ready }
         by (inr asleep) same = absurd (no_sleep m p (call w.process.machine w.process.reply) w.process.put asleep.0 same (begun_asks call next m b p w.process asleep.0 w.there asleep.1))
 
-  stands_on : (k m : KernelState S) (p : ℕ) → DoesAwake call next k m → Stands k p → Stands m p
+  -- a process that is there under other numbers
+  elsewhere_so : (y : Process S) (to : ℕ → ℕ) (x : Slot S) → Elsewhere y x → Elsewhere y (renumbered_slot to x)
+  elsewhere_so y to None e = absurd (let there = e.there in let z : ⊥ = cc in z)
+  elsewhere_so y to (Some q) e =
+      let there = e.there in
+      let same : q ≡ e.process = cc in
+      record {
+        process = _;
+        there = refl;
+        machine = ap (λ (r : Process S). r.machine) same ∙ e.machine;
+        reply = ap (λ (r : Process S). r.reply) same ∙ e.reply;
+        status = subst (λ (r : Process S). (r.status ≡ Runnable) ⊎ ((c : Channel) × (r.status ≡ Asleep c))) (sym same) e.status;
+      }
+
+  stands_on : (k m : KernelState S) (p : ℕ) → DoesAnyhow call next k m → Stands k p → Stands m p
   stands_on k m p (itself j) s = s
   stands_on k m p (likened i j n b d alike rest) s =
-      stands_on j m p rest (awake_by j p s.process (found_elsewhere call next j i p d b (awake_back i j alike) s.process s.there s.ready) d s.calls)
+      let w = between i j alike in
+      let still : IsStill w.kernel = still_so j w.kernel (same_back w.kernel j w.same) (begun_still call next j d) in
+      let e = elsewhere_so s.process w.same.numbering.to (at w.kernel.table p) (found_elsewhere call next w.kernel i p still (awake_back i w.kernel w.awake) s.process s.there s.ready) in
+      stands_on j m p rest (awake_by j p s.process (subst (Elsewhere s.process) (sym (slots_so w.kernel j p w.same)) e) d s.calls)
 
-  nobody_ends : (m : KernelState S) → Nobody m.table → IsEnding (after_turn call next) (DoesAwake call next) (PrivatelyBegun call next) m
+  nobody_ends : (m : KernelState S) → Nobody m.table → IsEnding (after_turn call next) (DoesAnyhow call next) (PrivatelyBegun call next) m
   nobody_ends m none k p e does =
       let x = e.private in
       let s = stands_on k m p does (record { process = x.process; there = x.there; calls = private_sleepless x.process.fds (call x.process.machine x.process.reply) x.calls; ready = x.ready }) in
@@ -118,11 +131,11 @@ module _ {S : Type 0} (call : S → Reply → Call) (next : S → Reply → S) w
       z
 
   module _ (start : KernelState S) (seen : List (KernelState S)) (begun : IsBegun call next start) (e : AreEnough call next start seen) (busy : All (IsFinishedOrBusy call next) seen) where
-    over_by : (m s : KernelState S) → Nobody m.table → DoesAwake call next s m → IsFinishedOrBusy call next s → IsFinished m
+    over_by : (m s : KernelState S) → Nobody m.table → DoesAnyhow call next s m → IsFinishedOrBusy call next s → IsFinished m
     over_by m s none does (inl over) = (does_outcome call next s m does).finished.0 over
-    over_by m s none does (inr b) = by (follows_awake call next m s b.now b.pid (does_back s m does) b.turn) where
-      by : DoesAwake call next m b.now ⊎ ((after : KernelState S) × (after_turn call next m b.pid ≡ Some after) × DoesAwake call next after b.now) → IsFinished m
-      by (inl more) = absurd (b.other (sym (does_same_key s b.now (awake_on call next s m b.now does more))))
+    over_by m s none does (inr b) = by (follows_anyhow call next m s b.now b.pid (does_back call next s m does) b.turn) where
+      by : DoesAnyhow call next m b.now ⊎ ((after : KernelState S) × (after_turn call next m b.pid ≡ Some after) × DoesAnyhow call next after b.now) → IsFinished m
+      by (inl more) = absurd (b.other (sym (does_bare call next s b.now (anyhow_on call next s m b.now does more))))
       by (inr turn) =
           let up : awake (at m.table b.pid) ≡ true = runnable_awake (at m.table b.pid) (could_turn call next m (record { pid = b.pid; refused = false }) (turn.0, turn.1)) in
           let no : true ≡ false = sym up ∙ none b.pid in

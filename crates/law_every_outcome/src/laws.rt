@@ -10,6 +10,7 @@ ghost use Rattle.sh_machine.specs.Turn.{call_of, next_of};
 ghost use Rattle.kernel_model.specs.KernelState.{KernelState};
 ghost use Rattle.run_model.specs.ScriptRun.{script_kernel};
 ghost use Rattle.order_model.specs.Woke.{AlikeAwake, SameKeyAwake};
+ghost use Rattle.order_model.specs.Anyhow.{SameKeyAnyhow};
 ghost use Rattle.order_model.specs.Turns.{after_turn, IsReachedFrom};
 ghost use Rattle.order_model.specs.Outcome.{RunOutcome};
 ghost use Rattle.order_model.specs.Privately.{Privately};
@@ -26,7 +27,7 @@ pub fn what_was_explored_is_every_outcome<M: Machine>()
         → Explored M.call_of M.next_of start outcomes → AreAllOutcomes M.call_of M.next_of start outcomes }
 {}
 
-/// If kernels are enough, and each is finished or some turn leads from it to one with another key, no such run comes to where all
+/// If kernels are enough, and each is finished or some turn leads from it to one with other slots, no such run comes to where all
 /// processes sleep.
 pub fn no_run_is_stuck_if_each_kernel_can_do_something<M: Machine>()
     ensures { (start : KernelState M.State) (seen : List (KernelState M.State)) → IsBegun M.call_of M.next_of start
@@ -47,11 +48,11 @@ pub fn kernels_that_are_alike_have_the_same_key<M: Machine>()
 {}
 
 /// A search of kernels, the moves of which are the turns of all processes, which makes private turns at once, and in which kernels
-/// with the same key but for who sleeps stand for each other: if it went to its end, what it found is enough. So it was explored if
-/// the outcomes of the finished kernels are told and no others.
+/// with the same key but for who sleeps and for numbers of entries stand for each other: if it went to its end, what it found is enough.
+/// So it was explored if the outcomes of the finished kernels are told and no others.
 pub fn what_a_search_found_is_explored<M: Machine>()
     ensures enough { (moves : ℕ) (start : KernelState M.State) (seen : List (KernelState M.State)) → IsBegun M.call_of M.next_of start → PROCS ≤ moves
-        → All (IsReached (after_turn M.call_of M.next_of) start) seen → IsReducedUnder (after_turn M.call_of M.next_of) SameKeyAwake (Privately M.call_of) moves start seen
+        → All (IsReached (after_turn M.call_of M.next_of) start) seen → IsReducedUnder (after_turn M.call_of M.next_of) SameKeyAnyhow (Privately M.call_of) moves start seen
         → AreEnough M.call_of M.next_of start seen }
     ensures explored { (start : KernelState M.State) (seen : List (KernelState M.State)) (outcomes : List RunOutcome)
         → AreEnough M.call_of M.next_of start seen → AreOutcomesOf seen outcomes → Explored M.call_of M.next_of start outcomes }

@@ -7,7 +7,7 @@ use Rattle.proc_table.specs.Calls.{lowest_free as lowest_free_slot, wait_answer}
 use Rattle.kernel_model.specs.KernelState.{KernelState}
 use Rattle.kernel_model.specs.Sound.{IsMid}
 use Rattle.kernel_model.specs.Events.{acted}
-use Rattle.law_entry_numbers.specs.Numbers.{SameButNumbers}
+use Rattle.order_model.specs.Numbers.{SameButNumbers}
 use Rattle.law_entry_numbers.proofs.Numberings.{same_itself}
 use Rattle.law_last_closes.specs.Either.{FindsFree}
 use Rattle.law_last_closes.proofs.Losing.{lost, IsShared, fork_lost, wait_lost, dup_lost, read_lost, write_lost}

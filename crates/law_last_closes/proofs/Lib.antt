@@ -5,4 +5,5 @@ pub mod Closing
 pub mod Acted
 pub mod Objects
 pub mod Turned
+pub mod Anyhow
 pub mod Safe

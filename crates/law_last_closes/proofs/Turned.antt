@@ -41,7 +41,7 @@ use Rattle.law_private_turns.proofs.Staying.{Holds, holds_itself, holds_alive, i
 use Rattle.law_private_turns.proofs.Begun.{after_still}
 use Rattle.law_private_turns.proofs.Shared.{given_sound, given_runs}
 use Rattle.law_private_turns.proofs.Turned.{set_twice, idle_told, turn_is, turn_keeps, ready_slot}
-use Rattle.law_entry_numbers.specs.Numbers.{SameButNumbers}
+use Rattle.order_model.specs.Numbers.{SameButNumbers}
 use Rattle.law_last_closes.specs.Either.{IsPlain, FindsFree, FindsFreeNext, ClosesPlain, InEitherOrder}
 use Rattle.law_last_closes.proofs.Closing.{HasPlain, CanGo, no_trace_of}
 use Rattle.law_last_closes.proofs.Objects.{IsOpenOn, outcome_on}

@@ -12,7 +12,7 @@ use Rattle.proc_table.specs.Slots.{Process, at}
 use Rattle.kernel_model.specs.KernelState.{KernelState}
 use Rattle.order_model.specs.Alike.{Alike}
 use Rattle.order_model.specs.Turns.{after_turn}
-use Rattle.law_entry_numbers.specs.Numbers.{SameButNumbers}
+use Rattle.order_model.specs.Numbers.{SameButNumbers}
 
 -- the object is no end of a pipe
 abbrev pub IsPlain : Object → Type 0

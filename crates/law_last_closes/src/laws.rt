@@ -6,7 +6,8 @@ ghost use Rattle.order_model.specs.Alike.{IsStill};
 ghost use Rattle.order_model.specs.Turns.{after_turn};
 ghost use Rattle.order_model.specs.Reduced.{IsFollowing, IsSafe};
 ghost use Rattle.law_last_closes.specs.Either.{ClosesPlain, FindsFreeNext, InEitherOrder};
-ghost use Rattle.law_last_closes.specs.Does.{DoesAnyhow, GivesWay};
+ghost use Rattle.order_model.specs.Anyhow.{DoesAnyhow};
+ghost use Rattle.law_last_closes.specs.Does.{GivesWay};
 
 use user_calls::Machine;
 

@@ -14,7 +14,7 @@ place_by p rest one a b true false at_a at_b is = absurd (omega (arith, is))
 place_by p rest one a b false true at_a at_b is = absurd (omega (arith, is))
 place_by p rest one a b false false at_a at_b is = one a b (omega (arith, is))
 
-one_place : (pipes : Pipes) → IsOneToOne (place_in pipes)
+pub one_place : (pipes : Pipes) → IsOneToOne (place_in pipes)
 one_place [] a b is = is
 one_place (p ∷ rest) a b is = place_by p rest (one_place rest) a b (a == p.0) (b == p.0) refl refl is
 

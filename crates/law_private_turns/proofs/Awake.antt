@@ -10,7 +10,7 @@ use Rattle.kernel_model.specs.KernelState.{KernelState}
 use Rattle.kernel_model.specs.Events.{acted, counted, IsFinished}
 use Rattle.law_kernel.specs.Sleeping.{SleepsOn}
 use Rattle.order_model.specs.Idle.{idle_slot, idle_status, idle_kernel}
-use Rattle.order_model.specs.Alike.{Alike, HasNamesUpTo}
+use Rattle.order_model.specs.Alike.{Alike, HasNamesUpTo, IsStill}
 use Rattle.order_model.specs.Outcome.{SameOutcome, outcome_of}
 use Rattle.order_model.specs.Turns.{after_turn}
 use Rattle.law_orders.proofs.Tables.{map_swap, at_idle}
@@ -143,7 +143,7 @@ module _ {S : Type 0} (call : S → Reply → Call) (next : S → Reply → S) w
   abbrev OneStep : KernelState S → KernelState S → ℕ → Type 0
   OneStep k now p = AlikeAwake k now ⊎ ((after : KernelState S) × (after_turn call next k p ≡ Some after) × AlikeAwake after now)
 
-  module _ (k l : KernelState S) (p : ℕ) (b : IsBegun call next k) (d : IsBegun call next l) (a : AlikeAwake k l) (y : Process S) (there : at l.table p ≡ Some y) (ready : is_runnable_status y.status ≡ true) where
+  module _ (k l : KernelState S) (p : ℕ) (b : IsBegun call next k) (d : IsStill l) (a : AlikeAwake k l) (y : Process S) (there : at l.table p ≡ Some y) (ready : is_runnable_status y.status ≡ true) where
     abbrev dl : KernelState S
     dl = counted (given_0 l p)
 
@@ -151,7 +151,7 @@ module _ {S : Type 0} (call : S → Reply → Call) (next : S → Reply → S) w
     now_is x machine reply = λ i. acted dl p (next (machine i) (reply i)) (call (machine i) (reply i)) false
 
     l_names : HasNamesUpTo l.events dl
-    l_names = given_names call next l p y false (begun_still call next l d) there ready
+    l_names = given_names call next l p y false d there ready
 
     l_runs : is_runnable (at l.table p) ≡ true
     l_runs = ap is_runnable there ∙ ready
@@ -210,14 +210,14 @@ module _ {S : Type 0} (call : S → Reply → Call) (next : S → Reply → S) w
     found =
         elsewhere_by a.first a.second y (at k.table p) (runnable_by y.status ready) (none_runs k.table p (begun_still call next k b).idle) (slots_awake k l a p ∙ ap (λ (x : Slot S). idle_slot a.second (woke_slot x)) there)
 
-  pub found_elsewhere : (k l : KernelState S) (p : ℕ) → IsBegun call next k → IsBegun call next l → AlikeAwake k l → (y : Process S) → at l.table p ≡ Some y → y.status ≡ Runnable → Elsewhere y (at k.table p)
-  found_elsewhere k l p b d a y there ready =
-      elsewhere_by a.first a.second y (at k.table p) ready (none_runs k.table p (begun_still call next k b).idle) (slots_awake k l a p ∙ ap (λ (x : Slot S). idle_slot a.second (woke_slot x)) there)
+  pub found_elsewhere : (k l : KernelState S) (p : ℕ) → IsStill k → AlikeAwake k l → (y : Process S) → at l.table p ≡ Some y → y.status ≡ Runnable → Elsewhere y (at k.table p)
+  found_elsewhere k l p still a y there ready =
+      elsewhere_by a.first a.second y (at k.table p) ready (none_runs k.table p still.idle) (slots_awake k l a p ∙ ap (λ (x : Slot S). idle_slot a.second (woke_slot x)) there)
 
-  pub one_step : (k l now : KernelState S) (p : ℕ) → IsBegun call next k → IsBegun call next l → AlikeAwake k l → after_turn call next l p ≡ Some now → OneStep k now p
+  pub one_step : (k l now : KernelState S) (p : ℕ) → IsBegun call next k → IsStill l → AlikeAwake k l → after_turn call next l p ≡ Some now → OneStep k now p
   one_step k l now p b d a is =
       let r = ready_slot (at l.table p) (could_turn call next l (record { pid = p; refused = false }) (now, is)) in
-      let both : Some (turned call next l p r.process false) ≡ Some now = sym (turn_is call next l p r.process (begun_still call next l d) r.there r.ready) ∙ is in
+      let both : Some (turned call next l p r.process false) ≡ Some now = sym (turn_is call next l p r.process d r.there r.ready) ∙ is in
       let same : turned call next l p r.process false ≡ now = cc in
       subst (λ (m : KernelState S). OneStep k m p) same (step_by k l p b d a r.process r.there r.ready (found k l p b d a r.process r.there r.ready))
 
@@ -236,7 +236,7 @@ module _ {S : Type 0} (call : S → Reply → Call) (next : S → Reply → S) w
 
     by : DoesAwake call next j now ⊎ ((after : KernelState S) × (after_turn call next j p ≡ Some after) × DoesAwake call next after now) → DoesAwake call next i now ⊎ ((after : KernelState S) × (after_turn call next i p ≡ Some after) × DoesAwake call next after now)
     by (inl more) = inl (likened i j now b d alike more)
-    by (inr s) = then s.0 s.1 s.2 (one_step i j s.0 p b d alike s.1)
+    by (inr s) = then s.0 s.1 s.2 (one_step i j s.0 p b (begun_still call next j d) alike s.1)
 
   pub following_awake : IsFollowing (after_turn call next) (DoesAwake call next)
   following_awake = record { itself = itself; on = awake_on; follows = follows_awake }

@@ -18,7 +18,8 @@ use Rattle.tree_model.specs.Tidy.{IsClearScript}
 use Rattle.room_model.specs.Roomy.{IsRoomyScript}
 use Rattle.law_private_turns.proofs.Begun.{begun_on}
 use Rattle.law_last_closes.specs.Either.{ClosesPlain}
-use Rattle.law_last_closes.specs.Does.{DoesAnyhow, GivesWay, HasRoomAhead}
+use Rattle.order_model.specs.Anyhow.{DoesAnyhow}
+use Rattle.law_last_closes.specs.Does.{GivesWay, HasRoomAhead}
 use Rattle.law_last_closes.proofs.Safe.{gives_way_safe}
 use Rattle.law_room.proofs.FewProcesses.{slot_is_free}
 use Rattle.law_room.proofs.FewEntries.{entry_is_free}

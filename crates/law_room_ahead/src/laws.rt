@@ -19,7 +19,8 @@ ghost use Rattle.tree_model.specs.Tidy.{IsClearScript};
 ghost use Rattle.room_model.specs.Entries.{script_entries};
 ghost use Rattle.room_model.specs.Roomy.{IsRoomyScript};
 ghost use Rattle.law_last_closes.specs.Either.{FindsFreeNext};
-ghost use Rattle.law_last_closes.specs.Does.{DoesAnyhow, HasRoomAhead};
+ghost use Rattle.order_model.specs.Anyhow.{DoesAnyhow};
+ghost use Rattle.law_last_closes.specs.Does.{HasRoomAhead};
 ghost use Rattle.law_write_ends.specs.Writers.{ClosesLastWriter, FindsBytesNext, InEitherOrderAwake, IsDoneAlready, ReadsEmptyNext};
 ghost use Rattle.law_room_ahead.specs.Ahead.{FitsTables, GivesWayFrom};
 

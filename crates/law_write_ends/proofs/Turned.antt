@@ -60,7 +60,7 @@ use Rattle.law_kernel.specs.Ends.{EndsAgree}
 use Rattle.law_private_turns.proofs.Awake.{alike_awake}
 use Rattle.law_private_turns.proofs.Wakes.{acted_woke}
 use Rattle.law_private_turns.proofs.Woken.{all_woken_woke}
-use Rattle.law_entry_numbers.specs.Numbers.{SameButNumbers}
+use Rattle.order_model.specs.Numbers.{SameButNumbers}
 use Rattle.law_entry_numbers.proofs.Acted.{let_go_same}
 use Rattle.law_last_closes.specs.Either.{FindsFree, FindsFreeNext}
 use Rattle.law_last_closes.proofs.Turned.{Closes, left, given_up, table_left, names_given, shared, acted_given, at_events}

@@ -13,7 +13,7 @@ use Rattle.kernel_model.specs.KernelState.{KernelState, file_at}
 use Rattle.kernel_model.specs.Pipes.{pipe_of}
 use Rattle.order_model.specs.Woke.{AlikeAwake}
 use Rattle.order_model.specs.Turns.{after_turn}
-use Rattle.law_entry_numbers.specs.Numbers.{SameButNumbers}
+use Rattle.order_model.specs.Numbers.{SameButNumbers}
 
 module _ {S : Type 0} (call : S → Reply → Call) (next : S → Reply → S) where
   -- the process p is Runnable, and next closes the last descriptor of a pipe's write end

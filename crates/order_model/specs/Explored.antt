@@ -11,7 +11,7 @@ use Rattle.order_model.specs.Turns.{after_turn, IsReachedFrom}
 use Rattle.order_model.specs.Outcome.{RunOutcome, outcome_of}
 use Rattle.order_model.specs.Reduced.{IsReduced}
 use Rattle.order_model.specs.Privately.{Privately}
-use Rattle.order_model.specs.Woke.{SameKeyAwake}
+use Rattle.order_model.specs.Anyhow.{SameKeyAnyhow, bare_table}
 
 -- the kernel is finished and this is its outcome
 abbrev pub FinishesWith : {S : Type 0} → RunOutcome → KernelState S → Type 0
@@ -34,11 +34,11 @@ module _ {S : Type 0} (call : S → Reply → Call) (next : S → Reply → S) w
   abbrev pub IsOutcomeByTurns : KernelState S → RunOutcome → Type 0
   IsOutcomeByTurns start outcome = (last : KernelState S) × IsReachedFrom call next start last × FinishesWith outcome last
 
-  -- turns lead from the start to kernels that have the keys, but for who sleeps, of the start and of all kernels to which one turn leads
-  -- from one of them; where private turns lead on from there, the key of a kernel to which they lead is enough
+  -- turns lead from the start to kernels that have the keys, but for who sleeps and for numbers of entries, of the start and of all kernels
+  -- to which one turn leads from one of them; where private turns lead on from there, the key of a kernel to which they lead is enough
   pub record AreEnough (start : KernelState S) (seen : List (KernelState S)) : Type 0 where
     pub reached : All (IsReachedFrom call next start) seen
-    pub reduced : IsReduced (after_turn call next) (λ s k. SameKeyAwake k s) (Privately call) start seen
+    pub reduced : IsReduced (after_turn call next) (λ s k. SameKeyAnyhow k s) (Privately call) start seen
 
   -- what an exploration shows: such kernels, where the outcomes of the finished ones are told, each of which turns lead to
   pub record Explored (start : KernelState S) (outcomes : List RunOutcome) : Type 0 where
@@ -47,12 +47,12 @@ module _ {S : Type 0} (call : S → Reply → Call) (next : S → Reply → S) w
     pub told : All (λ k. IsFinished k → Contains outcomes (outcome_of k)) seen
     pub only : All (IsOutcomeByTurns start) outcomes
 
-  -- some turn leads from the kernel to one with another key, but for who sleeps
+  -- some turn leads from the kernel to one with other slots, whoever sleeps and whatever descriptors hold
   pub record IsBusy (k : KernelState S) : Type 0 where
     pub pid : ℕ
     pub now : KernelState S
     pub turn : after_turn call next k pid ≡ Some now
-    pub other : SameKeyAwake now k → ⊥
+    pub other : bare_table now.table ≡ bare_table k.table → ⊥
 
   abbrev pub IsFinishedOrBusy : KernelState S → Type 0
   IsFinishedOrBusy k = IsFinished k ⊎ IsBusy k

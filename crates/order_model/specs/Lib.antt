@@ -8,3 +8,5 @@ pub mod Privately
 pub mod Reduced
 pub mod Begun
 pub mod Explored
+pub mod Numbers
+pub mod Anyhow

@@ -1,4 +1,4 @@
-use Rattle.law_last_closes.proofs.Safe.{following_anyhow}
+use Rattle.law_last_closes.proofs.Anyhow.{following_anyhow}
 use Rattle.law_last_closes.proofs.laws.neither_sleepers_nor_numbers_are_seen.Goals as goal
 
 pub returns : goal.returns
