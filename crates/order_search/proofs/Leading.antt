@@ -17,6 +17,7 @@ use Rattle.kernel_model.specs.Events.{counted, can_dispatch, then_happens, IsFin
 use Rattle.order_model.specs.Idle.{idle_slot, idle_status, idle_kernel, renamed_entry, renamed_pipe}
 use Rattle.order_model.specs.Key.{key, place_in}
 use Rattle.order_model.specs.Woke.{woke_status, woke_slot, woke_table, woke}
+use Rattle.order_model.specs.Anyhow.{bare_status, bare_slot, bare_table}
 use Rattle.order_model.specs.Privately.{IsPrivateCall, Privately}
 use Rattle.order_model.specs.Outcome.{outcome_of}
 use Rattle.order_model.specs.Turns.{by_turns, quiet_turns, after_turns, after_turn, turn_events, turn_notes}
@@ -163,6 +164,26 @@ woken_table name (x ∷ t) = λ i. woken_slot name x i ∷ woken_table name t i
 -- a look as if all were awake is the key of the kernel as if all were awake
 pub woken_key : {S : Type 0} (k look : KernelState S) → look ≡ key k → woke look ≡ key (woke k)
 woken_key k look is = ap woke is ∙ (λ i. record (key k) { table = woken_table (place_in k.pipes) k.table i })
+
+-- ---- slots but for who sleeps or runs and for descriptors
+
+bare_status_idle : (name : ℕ → ℕ) (s : Status) → bare_status (idle_status name s) ≡ bare_status s
+bare_status_idle name Runnable = refl
+bare_status_idle name (Running h) = refl
+bare_status_idle name (Asleep c) = refl
+bare_status_idle name Zombie = refl
+
+bare_idle : {S : Type 0} (name : ℕ → ℕ) (x : Slot S) → bare_slot (idle_slot name x) ≡ bare_slot x
+bare_idle name None = refl
+bare_idle name (Some p) = λ i. Some (record p { status = bare_status_idle name p.status i; fds = [] })
+
+bare_idle_table : {S : Type 0} (name : ℕ → ℕ) (t : Table S) → bare_table (map (idle_slot name) t) ≡ bare_table t
+bare_idle_table name [] = refl
+bare_idle_table name (x ∷ t) = λ i. bare_idle name x i ∷ bare_idle_table name t i
+
+-- a look's slots are the kernel's so
+pub bare_key : {S : Type 0} (k look : KernelState S) → look ≡ key k → bare_table look.table ≡ bare_table k.table
+bare_key k look is = ap (λ (j : KernelState _). bare_table j.table) is ∙ bare_idle_table (place_in k.pipes) k.table
 
 pub key_outcome : {S : Type 0} (k look : KernelState S) → look ≡ key k → outcome_of look ≡ outcome_of k
 key_outcome k look is = ap outcome_of is

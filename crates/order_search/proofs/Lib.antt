@@ -5,3 +5,4 @@ pub mod Numbering
 pub mod Telling
 pub mod Leading
 pub mod Looking
+pub mod Renumbered

@@ -1,11 +1,11 @@
 -- Slots that are kept.
 use Rattle.std.proofs.Common.{◌≡◌, ◌≢◌, ◌⊎◌, inl, inr, take, ℕ, zero, suc, ◌+◌, ◌<◌, ◌≤◌, List, [], ◌∷◌, Bool, true, false, Some, None, length, get_or, refl, sym, ap, ◌∙◌, arith, map}
 use Rattle.std.specs.declared.rc.Rc.{Rc}
-use Rattle.std.specs.Prelude.{Option, Result, Ok, not, IfSome, IsSome, is_some}
+use Rattle.std.specs.Prelude.{Option, Result, Ok, not, IfSome, IsSome, is_some, nat_eq}
 use Rattle.std.specs.Option.{is_some as some_in}
-use Rattle.std.proofs.lemmas.Bool.{cases_eq}
+use Rattle.std.proofs.lemmas.Bool.{cases_eq, eqb-true}
 use Rattle.proc_table.specs.Slots.{Process, Table, at}
-use Rattle.order_model.specs.Woke.{woke_slot}
+use Rattle.order_model.specs.Anyhow.{bare_slot}
 use Rattle.order_search.specs.Shown.{slot_of}
 
 module _ {S Z : Type 0} where
@@ -58,15 +58,18 @@ pub not_said : {E : Type 0} (b : Bool) → ◌≡◌ {A = Result Bool E} (Ok (no
 not_said true is = absurd (let z : ⊥ = cc in z)
 not_said false is = refl
 
--- ---- slots but for who sleeps
+-- ---- slots but for who sleeps and for descriptors
 
-at_woke : {S : Type 0} (t : Table S) (i : ℕ) → at (map woke_slot t) i ≡ woke_slot (at t i)
-at_woke [] i = refl
-at_woke (x ∷ t) zero = refl
-at_woke (x ∷ t) (suc i) = at_woke t i
+at_bare : {S : Type 0} (t : Table S) (i : ℕ) → at (map bare_slot t) i ≡ bare_slot (at t i)
+at_bare [] i = refl
+at_bare (x ∷ t) zero = refl
+at_bare (x ∷ t) (suc i) = at_bare t i
 
 pub slots_at : {S Z : Type 0} (xs ys : List (Option (Rc (Process S) Z))) (i : ℕ) (x y : Option (Rc (Process S) Z)) → i < length xs → i < length ys → x ≡ get_or xs i x → y ≡ get_or ys i y
-    → map woke_slot (map slot_of xs) ≡ map woke_slot (map slot_of ys) → woke_slot (slot_of x) ≡ woke_slot (slot_of y)
+    → map bare_slot (map slot_of xs) ≡ map bare_slot (map slot_of ys) → bare_slot (slot_of x) ≡ bare_slot (slot_of y)
 slots_at {S} xs ys i x y within within_too is is_too same =
-    (λ j. woke_slot (slot_of (is j))) ∙ ap woke_slot (sym (at_kept xs i x within)) ∙ sym (at_woke (map slot_of xs) i) ∙ ap (λ (t : Table S). at t i) same ∙
-    at_woke (map slot_of ys) i ∙ ap woke_slot (at_kept ys i y within_too) ∙ sym (λ j. woke_slot (slot_of (is_too j)))
+    (λ j. bare_slot (slot_of (is j))) ∙ ap bare_slot (sym (at_kept xs i x within)) ∙ sym (at_bare (map slot_of xs) i) ∙ ap (λ (t : Table S). at t i) same ∙
+    at_bare (map slot_of ys) i ∙ ap bare_slot (at_kept ys i y within_too) ∙ sym (λ j. bare_slot (slot_of (is_too j)))
+
+pub same_number : (m n : ℕ) → nat_eq m n ≡ true → m ≡ n
+same_number m n is = eqb-true m n is

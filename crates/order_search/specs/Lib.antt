@@ -3,3 +3,4 @@ pub mod Shown
 pub mod Places
 pub mod Told
 pub mod Exploring
+pub mod Under

@@ -3,9 +3,11 @@
 
 ghost use Rattle.std.specs.Prelude.{◌≡◌, ◌↔◌, IsTrue, true};
 ghost use Rattle.order_model.specs.Woke.{woke_status};
+ghost use Rattle.order_model.specs.Anyhow.{bare_status};
 
 use crate::pools::{Digest, Same};
 use crate::private::is_private_call;
+use crate::renumbering::are_places_under;
 use fd_table::{Mode, Object};
 use mem_files::Files;
 use proc_table::Status;
@@ -261,7 +263,7 @@ impl Opened {
             && self.offset == other.offset
     }
 
-    fn add_to(&self, digest: &mut Digest) {
+    pub fn add_to(&self, digest: &mut Digest) {
         match &self.object {
             Object::Input => digest.add(1),
             Object::Out => digest.add(2),
@@ -290,7 +292,7 @@ impl Opened {
     }
 }
 
-fn same_entry(entry: &Option<Opened>, other: &Option<Opened>) -> bool
+pub fn same_entry(entry: &Option<Opened>, other: &Option<Opened>) -> bool
     ensures { IsTrue result ↔ (entry.now ≡ other.now) }
 {
     match (entry, other) {
@@ -376,6 +378,16 @@ fn same_places(places: &[Option<u8>], others: &[Option<u8>]) -> bool
     true
 }
 
+// A status as if who sleeps or runs were Runnable.
+fn bare(status: Status) -> Status
+    ensures { result ≡ bare_status status }
+{
+    match status {
+        Status::Zombie => Status::Zombie,
+        _ => Status::Runnable,
+    }
+}
+
 // A status as if who sleeps were awake.
 fn awake(status: Status) -> Status
     ensures { result ≡ woke_status status }
@@ -388,7 +400,12 @@ fn awake(status: Status) -> Status
 
 impl<M: Machine> Same for Held<M> {
     fn same(&self, other: &Held<M>) -> bool {
-        self.status == other.status && self.same_awake(other)
+        self.status == other.status
+            && self.parent == other.parent
+            && self.put == other.put
+            && same_places(&self.places, &other.places)
+            && self.reply.same(&other.reply)
+            && self.machine.same(&other.machine)
     }
 
     fn digest(&self) -> u64 {
@@ -399,17 +416,31 @@ impl<M: Machine> Same for Held<M> {
 impl<M: Machine> Held<M> {
     ghost use Rattle.std.specs.Prelude.{◌≡◌, ◌↔◌, IsTrue, true, Some};
     ghost use Rattle.order_model.specs.Woke.{woke_slot};
+    ghost use Rattle.order_model.specs.Numbers.{renumbered_slot};
+    ghost use Rattle.order_model.specs.Anyhow.{bare_slot};
     ghost use Rattle.order_model.specs.Privately.{IsPrivateCall};
     ghost use Rattle.order_search.specs.Shown.{IsPrivateSlot};
+    ghost use Rattle.order_search.specs.Under.{number_under};
 
-    // Whether the two are equal, but for who sleeps.
-    pub fn same_awake(&self, other: &Held<M>) -> bool
-        ensures { IsTrue result ↔ (woke_slot (Some self.now) ≡ woke_slot (Some other.now)) }
+    // Whether the other one is this one under these numbers of entries, but for who sleeps.
+    pub fn is_under(&self, to: &[u8], other: &Held<M>) -> bool
+        ensures { result ≡ true → renumbered_slot (number_under to.now) (woke_slot (Some self.now)) ≡ woke_slot (Some other.now) }
     {
         awake(self.status) == awake(other.status)
             && self.parent == other.parent
             && self.put == other.put
-            && same_places(&self.places, &other.places)
+            && are_places_under(to, &self.places, &other.places)
+            && self.reply.same(&other.reply)
+            && self.machine.same(&other.machine)
+    }
+
+    // Whether the two are equal, but for who sleeps or runs and for what descriptors hold.
+    pub fn same_bare(&self, other: &Held<M>) -> bool
+        ensures { IsTrue result ↔ (bare_slot (Some self.now) ≡ bare_slot (Some other.now)) }
+    {
+        bare(self.status) == bare(other.status)
+            && self.parent == other.parent
+            && self.put == other.put
             && self.reply.same(&other.reply)
             && self.machine.same(&other.machine)
     }
@@ -430,14 +461,14 @@ impl<M: Machine> Held<M> {
         is_private_call(&call, &self.places)
     }
 
-    // What the digest is to be: it is the same for two that are equal but for who sleeps.
+    // What the digest is to be: it is the same for two that are equal but for who sleeps and for numbers of entries.
     pub fn digest_of(&self) -> u64 {
         let mut digest = Digest::new();
         digest.add(status_number(self.status));
         digest.add(u64::from(self.parent.unwrap_or(64)));
         digest.add(self.put as u64);
         for place in &self.places {
-            digest.add(u64::from(place.unwrap_or(255)));
+            digest.add(u64::from(place.is_some()));
         }
         add_reply(&self.reply, &mut digest);
         digest.so_far

@@ -2,11 +2,13 @@
 
 ghost use Rattle.std.specs.Prelude.{◌≡◌, ◌↔◌, IsTrue, IsSome, true, map};
 ghost use Rattle.proc_table.specs.Slots.{is_runnable};
-ghost use Rattle.order_model.specs.Woke.{woke_slot};
+ghost use Rattle.order_model.specs.Anyhow.{bare_slot};
 ghost use Rattle.order_search.specs.Shown.{slot_of, IsPrivateSlot};
 
-use crate::kept::{AllFiles, Bytes, Entries, Held, Pipes};
+use crate::kept::{AllFiles, Bytes, Entries, Held, Opened, Pipes};
 use crate::pools::{Digest, Same};
+use crate::ranks::{NUMBERS, Ranks};
+use crate::renumbering::{Renumbering, are_entries_under, are_slots_under, free_entries};
 use kernel_model::Full;
 use mem_files::Files;
 use std::alloc::{AllocError, Global};
@@ -49,17 +51,17 @@ impl<M: Machine> Model for Look<M> {
 }
 
 fn same_slot<M: Machine>(slot: &Option<Rc<Held<M>>>, other: &Option<Rc<Held<M>>>) -> bool
-    ensures { IsTrue result ↔ (woke_slot (slot_of slot.now) ≡ woke_slot (slot_of other.now)) }
+    ensures { IsTrue result ↔ (bare_slot (slot_of slot.now) ≡ bare_slot (slot_of other.now)) }
 {
     match (slot, other) {
         (None, None) => true,
-        (Some(held), Some(other)) => held.same_awake(other),
+        (Some(held), Some(other)) => held.same_bare(other),
         _ => false,
     }
 }
 
 fn same_slots<M: Machine>(slots: &[Option<Rc<Held<M>>>], others: &[Option<Rc<Held<M>>>]) -> bool
-    ensures { IsTrue result ↔ (map woke_slot (map slot_of slots.now) ≡ map woke_slot (map slot_of others.now)) }
+    ensures { IsTrue result ↔ (map bare_slot (map slot_of slots.now) ≡ map bare_slot (map slot_of others.now)) }
 {
     if slots.len() != others.len() {
         return false;
@@ -76,7 +78,10 @@ impl<M: Machine> Look<M> {
     ghost use Rattle.std.specs.Prelude.{◌≡◌, ◌↔◌, IsTrue, IfSome};
     ghost use Rattle.proc_table.specs.Slots.{at, is_runnable};
     ghost use Rattle.kernel_model.specs.Events.{IsFinished};
-    ghost use Rattle.order_model.specs.Woke.{woke};
+    ghost use Rattle.order_model.specs.Woke.{woke, woke_slot};
+    ghost use Rattle.order_model.specs.Numbers.{SameButNumbers};
+    ghost use Rattle.order_model.specs.Anyhow.{bare_table};
+    ghost use Rattle.order_search.specs.Under.{AreRenumberedParts};
     ghost use Rattle.order_model.specs.Privately.{Privately};
 
     // A look at nothing.
@@ -102,25 +107,58 @@ impl<M: Machine> Look<M> {
         }
     }
 
-    // Whether the two are equal, but for who sleeps.
-    pub fn same_awake(&self, other: &Look<M>) -> bool
-        ensures { IsTrue result ↔ (woke self.now ≡ woke other.now) }
+    // Whether the two are equal, but for who sleeps and for the numbers of entries.
+    pub fn is_like(&self, other: &Look<M>) -> bool
+        ensures { result ≡ true → SameButNumbers (woke self.now) (woke other.now) }
+    {
+        if !self.same_rest(other) {
+            return false;
+        }
+        self.is_renumbered(other)
+    }
+
+    // Whether all but the slots and the entries is equal.
+    fn same_rest(&self, other: &Look<M>) -> bool
+        ensures { result ≡ true → record self.now { table = other.now.table; entries = other.now.entries } ≡ other.now }
     {
         self.full == other.full
-            && self.entries.same(&other.entries)
             && self.pipes.same(&other.pipes)
             && self.input.same(&other.input)
             && self.out.same(&other.out)
             && self.diag.same(&other.diag)
             && self.files.same(&other.files)
-            && same_slots(&self.slots, &other.slots)
     }
 
-    // A number, the same for two that are equal but for who sleeps.
+    // Whether the slots and the entries are equal, but for who sleeps and for the numbers of entries.
+    fn is_renumbered(&self, other: &Look<M>) -> bool
+        ensures { result ≡ true → AreRenumberedParts (map woke_slot self.now.table) (map woke_slot other.now.table) self.now.entries other.now.entries }
+    {
+        let numbers = Renumbering::between(&self.slots, &other.slots);
+        if !numbers.is_one_to_one() {
+            return false;
+        }
+        if !are_slots_under(&numbers.to, &self.slots, &other.slots) {
+            return false;
+        }
+        if !are_entries_under(&numbers.to, &self.entries.slots, &other.entries.slots) {
+            return false;
+        }
+        free_entries(&self.entries.slots) == free_entries(&other.entries.slots)
+    }
+
+    // Whether the slots are equal, but for who sleeps or runs and for what descriptors hold.
+    pub fn has_same_slots(&self, other: &Look<M>) -> bool
+        ensures { IsTrue result ↔ (bare_table self.now.table ≡ bare_table other.now.table) }
+    {
+        same_slots(&self.slots, &other.slots)
+    }
+
+    // A number, the same for two that are equal but for who sleeps and for the numbers of entries.
     pub fn digest_of(&self) -> u64 {
+        let ranks = Ranks::of(&self.slots);
         let mut digest = Digest::new();
-        add_slots(&self.slots, &mut digest);
-        digest.add(self.entries.digest());
+        add_slots(&self.slots, &ranks, &mut digest);
+        add_entries(&self.entries.slots, &ranks, &mut digest);
         digest.add(self.pipes.digest());
         digest.add(self.files.digest());
         digest.add(self.input.digest());
@@ -186,12 +224,32 @@ fn is_private<M: Machine>(slot: &Option<Rc<Held<M>>>) -> bool
     }
 }
 
-// The slots are added.
-fn add_slots<M: Machine>(slots: &[Option<Rc<Held<M>>>], digest: &mut Digest) {
+// The slots are added, entries by their ranks.
+fn add_slots<M: Machine>(slots: &[Option<Rc<Held<M>>>], ranks: &Ranks, digest: &mut Digest) {
     for slot in slots {
         match slot {
             None => digest.add(0),
-            Some(held) => digest.add(held.digest()),
+            Some(held) => {
+                digest.add(held.digest());
+                add_places(&held.places, ranks, digest);
+            }
+        }
+    }
+}
+
+fn add_places(places: &[Option<u8>], ranks: &Ranks, digest: &mut Digest) {
+    for place in places {
+        if let Some(number) = place {
+            digest.add(u64::from(ranks.rank(*number)));
+        }
+    }
+}
+
+// The entries that descriptors hold are added, in the order of their ranks.
+fn add_entries(entries: &[Option<Opened>], ranks: &Ranks, digest: &mut Digest) {
+    for rank in 0..NUMBERS.min(ranks.count) {
+        if let Some(Some(opened)) = entries.get(usize::from(ranks.numbers[rank])) {
+            opened.add_to(digest);
         }
     }
 }

@@ -96,7 +96,7 @@ impl<'t, M: Machine, C: Allocator> Standing<'t, M, C> {
     ghost use Rattle.std.specs.Prelude.{◌≡◌, Ok, true, false};
     ghost use Rattle.order_model.specs.Explored.{IsBusy, IsFinishedOrBusy};
 
-    // Whether it isn't finished, and each turn comes back to its key.
+    // Whether it isn't finished, and each turn leaves the slots as they are, but for who sleeps and for what descriptors hold.
     pub fn is_stuck(&self, tools: &mut Tools<'t, M, C>) -> Result<bool, ExploreFault>
         ensures { result ≡ Ok false → IsFinishedOrBusy M.call_of M.next_of self.now.now }
     {
@@ -111,13 +111,13 @@ impl<'t, M: Machine, C: Allocator> Standing<'t, M, C> {
         Ok(true)
     }
 
-    // Whether a turn of the process in the slot of this number leads to another key.
+    // Whether a turn of the process in the slot of this number leads to other slots.
     fn is_moved(&self, tools: &mut Tools<'t, M, C>, number: usize) -> Result<bool, ExploreFault>
         ensures { result ≡ Ok true → IsBusy M.call_of M.next_of self.now.now }
     {
         match self.after(tools, number)? {
             None => Ok(false),
-            Some(node) => Ok(!self.look.same_awake(&node.look)),
+            Some(node) => Ok(!self.look.has_same_slots(&node.look)),
         }
     }
 
@@ -167,9 +167,11 @@ fn longer(alloc: Global, pids: &[u8], pid: u8) -> Result<Vec<u8>, AllocError>
 }
 
 impl<'t, M: Machine, C: Allocator> Node for Standing<'t, M, C> {
-    ghost use Rattle.std.specs.Prelude.{refl};
+    ghost use Rattle.law_entry_numbers.proofs.Numberings.{same_itself};
+    ghost use Rattle.order_model.specs.Key.{key};
     ghost use Rattle.kernel_model.specs.KernelState.{KernelState};
-    ghost use Rattle.order_model.specs.Woke.{SameKeyAwake};
+    ghost use Rattle.order_model.specs.Woke.{woke};
+    ghost use Rattle.order_model.specs.Anyhow.{SameKeyAnyhow};
     ghost use Rattle.order_model.specs.Privately.{Privately};
     ghost use Rattle.order_model.specs.Turns.{after_turn};
 
@@ -179,11 +181,11 @@ impl<'t, M: Machine, C: Allocator> Node for Standing<'t, M, C> {
 
     ghost step = { after_turn M.call_of M.next_of };
 
-    ghost stands = { SameKeyAwake };
+    ghost stands = { SameKeyAnyhow };
 
     ghost private = { Privately M.call_of };
 
-    ghost itself = { λ k. refl };
+    ghost itself = { λ k. same_itself (key (woke k)) };
 
     type Tools = Tools<'t, M, C>;
 
@@ -208,7 +210,7 @@ impl<'t, M: Machine, C: Allocator> Node for Standing<'t, M, C> {
     }
 
     fn is_like(&self, other: &Self) -> bool {
-        self.look.same_awake(&other.look)
+        self.look.is_like(&other.look)
     }
 
     fn digest(&self) -> u64 {
