@@ -1,10 +1,14 @@
 -- Slots that are kept.
-use Rattle.std.proofs.Common.{◌≡◌, ◌≢◌, ◌⊎◌, inl, inr, take, ℕ, zero, suc, ◌+◌, ◌<◌, ◌≤◌, List, [], ◌∷◌, Bool, true, false, Some, None, length, get_or, refl, sym, ap, ◌∙◌, arith, map}
+use Rattle.std.proofs.Common.{◌≡◌, ◌≢◌, ◌⊎◌, inl, inr, take, ℕ, zero, suc, ◌+◌, ◌<◌, ◌≤◌, List, [], ◌∷◌, Bool, true, false, Some, None, length, get_or, refl, sym, ap, subst, ◌∙◌, arith, map}
 use Rattle.std.specs.declared.rc.Rc.{Rc}
 use Rattle.std.specs.Prelude.{Option, Result, Ok, not, IfSome, IsSome, is_some, nat_eq}
 use Rattle.std.specs.Option.{is_some as some_in}
 use Rattle.std.proofs.lemmas.Bool.{cases_eq, eqb-true}
+use Rattle.user_calls.specs.declared.calls.Call.{Call}
+use Rattle.user_calls.specs.declared.calls.Reply.{Reply}
+use Rattle.fd_table.specs.Descriptors.{Descriptors}
 use Rattle.proc_table.specs.Slots.{Process, Table, at}
+use Rattle.order_model.specs.Privately.{IsPrivateCall}
 use Rattle.order_model.specs.Anyhow.{bare_slot}
 use Rattle.order_search.specs.Shown.{slot_of}
 
@@ -73,3 +77,10 @@ slots_at {S} xs ys i x y within within_too is is_too same =
 
 pub same_number : (m n : ℕ) → nat_eq m n ≡ true → m ≡ n
 same_number m n is = eqb-true m n is
+
+-- ---- private calls
+
+-- a call is private whichever of equal values it is said of
+pub calls_so : {S : Type 0} (of : S → Reply → Call) (fds places : Descriptors) (s t : S) (r q : Reply) → fds ≡ places → t ≡ s → q ≡ r → IsPrivateCall fds (of s r) → IsPrivateCall places (of t q)
+calls_so {S} of fds places s t r q held machine reply private =
+    subst (λ (d : Call). IsPrivateCall places d) (ap (λ (m : S). of m r) (sym machine) ∙ ap (of t) (sym reply)) (subst (λ (f : Descriptors). IsPrivateCall f (of s r)) held private)

@@ -6,7 +6,6 @@ ghost use Rattle.order_model.specs.Woke.{woke_status};
 ghost use Rattle.order_model.specs.Anyhow.{bare_status};
 
 use crate::pools::{Digest, Same};
-use crate::private::is_private_call;
 use crate::renumbering::are_places_under;
 use fd_table::{Mode, Object};
 use mem_files::Files;
@@ -24,15 +23,21 @@ pub struct Held<M: Machine> {
     pub reply: Reply,
     pub places: Vec<Option<u8>>,
     pub put: usize,
+    // whether its next call is private; `false` is always right
+    pub private: bool,
     pub digest: u64,
 }
 
 impl<M: Machine> Model for Held<M> {
+    ghost use Rattle.std.specs.Prelude.{◌≡◌, true};
     ghost use Rattle.proc_table.specs.Slots.{Process};
+    ghost use Rattle.order_model.specs.Privately.{IsPrivateCall};
 
     ghost Value = { Process M.State };
 
     ghost view = { λ h. record { status = h.status; parent = h.parent; machine = M.view h.machine; reply = h.reply; fds = h.places.items; put = h.put } };
+
+    ghost invariant = { λ h. h.private ≡ true → IsPrivateCall h.places.items (M.call_of (M.view h.machine) h.reply) };
 }
 
 // An entry that is in use.
@@ -418,7 +423,6 @@ impl<M: Machine> Held<M> {
     ghost use Rattle.order_model.specs.Woke.{woke_slot};
     ghost use Rattle.order_model.specs.Numbers.{renumbered_slot};
     ghost use Rattle.order_model.specs.Anyhow.{bare_slot};
-    ghost use Rattle.order_model.specs.Privately.{IsPrivateCall};
     ghost use Rattle.order_search.specs.Shown.{IsPrivateSlot};
     ghost use Rattle.order_search.specs.Under.{number_under};
 
@@ -449,16 +453,7 @@ impl<M: Machine> Held<M> {
     pub fn is_private(&self) -> bool
         ensures { result ≡ true → IsPrivateSlot M.call_of (Some self.now) }
     {
-        self.status == Status::Runnable && self.calls_privately()
-    }
-
-    // Whether its next call is private.
-    fn calls_privately(&self) -> bool
-        ensures { result ≡ true → IsPrivateCall self.now.fds (M.call_of self.now.machine self.now.reply) }
-    {
-        let mut machine = self.machine.twin();
-        let call = machine.run(&self.reply);
-        is_private_call(&call, &self.places)
+        self.status == Status::Runnable && self.private
     }
 
     // What the digest is to be: it is the same for two that are equal but for who sleeps and for numbers of entries.

@@ -15,11 +15,12 @@ ghost use Rattle.order_search.specs.Places.{place_among, names_in, IsOrderly, Ar
 use crate::fault::ExploreFault;
 use crate::kept::{Entries, Held, Opened, Piped, Pipes};
 use crate::places::{place_of, placed_channel};
+use crate::private::calls_privately;
 use fd_table::{Entry, Fds, Name, Object, OpenFiles};
 use kernel_state::State;
 use proc_table::{Pid, State as SlotState, Status};
 use std::alloc::{AllocError, Allocator, Global};
-use user_calls::Machine;
+use user_calls::{CallSlot, Machine};
 
 // The status of a slot in use, as if nobody ran.
 pub fn idle_status(names: &[u64], state: SlotState) -> Result<Status, ExploreFault>
@@ -66,12 +67,13 @@ pub fn parent_of<M: Machine, A: Allocator>(state: &State<M, A>, pid: Pid) -> Opt
     }
 }
 
-// The process in a slot; `None` where it is free.
+// The process in a slot; `None` where it is free. Its next call is written to `call`.
 pub fn read_slot<M: Machine, A: Allocator>(
     alloc: Global,
     state: &State<M, A>,
     names: &[u64],
     pid: Pid,
+    call: &mut CallSlot,
 ) -> Result<Option<Held<M>>, ExploreFault>
     requires orderly { IsOrderly state.now }
     requires sound { IsSound state.now.table state.now.entries }
@@ -80,13 +82,18 @@ pub fn read_slot<M: Machine, A: Allocator>(
     if !state.procs.is_used(pid) {
         return Ok(None);
     }
+    let places = read_places(alloc, state.procs.fds(pid))?;
+    let machine = state.procs.machine(pid);
+    let reply = state.procs.reply(pid);
+    let private = calls_privately(machine, reply, &places, call);
     let mut held = Held {
         status: idle_status(names, state.procs.state(pid))?,
         parent: parent_of(state, pid),
-        machine: state.procs.machine(pid).twin(),
-        reply: state.procs.reply(pid).to_reply(),
-        places: read_places(alloc, state.procs.fds(pid))?,
+        machine: machine.twin(),
+        reply: reply.to_reply(),
+        places,
         put: state.procs.put(pid),
+        private,
         digest: 0,
     };
     held.digest = held.digest_of();

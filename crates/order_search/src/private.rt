@@ -4,17 +4,31 @@ ghost use Rattle.std.specs.Prelude.{◌≡◌, true};
 ghost use Rattle.fd_table.specs.Descriptors.{entry_of, lowest_free, holders_in};
 ghost use Rattle.order_model.specs.Privately.{IsPrivateCall};
 
-use user_calls::Call;
+use user_calls::{CallKind, CallSlot, Machine, ReplySlot};
+
+// Whether the call that the machine makes of the reply is private, of a process whose descriptors hold these entries. It is written to
+// `call`.
+pub fn calls_privately<M: Machine>(
+    machine: &M,
+    reply: &ReplySlot,
+    places: &[Option<u8>],
+    call: &mut CallSlot,
+) -> bool
+    ensures { result ≡ true → IsPrivateCall places.now (M.call_of (M.view machine.now) reply.now) }
+{
+    machine.ask(reply, call);
+    is_private_call(call, places)
+}
 
 // Whether the call is private, of a process whose descriptors hold these entries: an exec, a dup where a place is free, or a close
 // where another descriptor holds the same entry.
-pub fn is_private_call(call: &Call, places: &[Option<u8>]) -> bool
+fn is_private_call(call: &CallSlot, places: &[Option<u8>]) -> bool
     ensures { result ≡ true → IsPrivateCall places.now call.now }
 {
-    match call {
-        Call::Exec(_) => true,
-        Call::Dup(fd) => entry_of(places, *fd).is_some() && lowest_free(places).is_some(),
-        Call::Close(fd) => match entry_of(places, *fd) {
+    match call.kind() {
+        CallKind::Exec(_) => true,
+        CallKind::Dup(fd) => entry_of(places, fd).is_some() && lowest_free(places).is_some(),
+        CallKind::Close(fd) => match entry_of(places, fd) {
             Some(entry) => holders_in(places, entry) >= 2,
             None => false,
         },

@@ -21,9 +21,9 @@ use mem_files::Files;
 use proc_table::{PROCS, Pid};
 use std::alloc::{AllocError, Allocator, Global};
 use std::rc::Rc;
-use user_calls::Machine;
+use user_calls::{CallSlot, Machine};
 
-// What was kept so far, and the numbers of the entries.
+// What was kept so far, the numbers of the entries, and a call to be written over.
 #[derive(Drop)]
 pub struct Reader<M: Machine> {
     pub alloc: Global,
@@ -33,6 +33,7 @@ pub struct Reader<M: Machine> {
     pipes: Pool<Pipes>,
     files: Pool<AllFiles>,
     bytes: Pool<Bytes>,
+    call: CallSlot,
 }
 
 impl<M: Machine> Reader<M> {
@@ -54,6 +55,7 @@ impl<M: Machine> Reader<M> {
             pipes: Pool::new(alloc),
             files: Pool::new(alloc),
             bytes: Pool::new(alloc),
+            call: CallSlot::new(),
         })
     }
 
@@ -132,7 +134,7 @@ impl<M: Machine> Reader<M> {
         requires sound { IsSound state.now.table state.now.entries }
         ensures { IfOk result (λ slot. slot_of slot ≡ idle_slot (place_among names.now) (at state.now.table pid)) }
     {
-        match read_slot(self.alloc, state, names, pid)? {
+        match read_slot(self.alloc, state, names, pid, &mut self.call)? {
             None => Ok(None),
             Some(held) => Ok(Some(self.slots.keep(self.alloc, held)?)),
         }
