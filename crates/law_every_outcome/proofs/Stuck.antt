@@ -23,7 +23,7 @@ use Rattle.law_orders.proofs.Back.{could_turn}
 use Rattle.law_orders.proofs.Matching.{quiet_matched}
 use Rattle.order_model.specs.Reduced.{IsEnding}
 use Rattle.order_model.specs.Privately.{IsPrivateCall, executes, dups, closes}
-use Rattle.order_model.specs.Numbers.{SameButNumbers, renumbered_slot}
+use Rattle.order_model.specs.Numbers.{renumbered_slot}
 use Rattle.order_model.specs.Begun.{IsBegun, PrivatelyBegun}
 use Rattle.order_model.specs.Anyhow.{DoesAnyhow, itself, likened}
 use Rattle.law_every_outcome.proofs.Moved.{of_all}

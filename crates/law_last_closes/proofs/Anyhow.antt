@@ -1,5 +1,5 @@
 -- A kernel does what one does that it is alike to but for who sleeps and for numbers of entries.
-use Rattle.std.proofs.Common.{◌≡◌, ◌⊎◌, ℕ, zero, suc, ◌+◌, ◌≤◌, [], ◌∷◌, false, Option, Some, None, inl, inr, length, get_or, refl, sym, ap, subst, ◌∙◌, arith}
+use Rattle.std.proofs.Common.{◌≡◌, ◌⊎◌, ℕ, zero, suc, ◌+◌, ◌≤◌, [], ◌∷◌, false, Option, Some, None, inl, inr, length, refl, sym, ap, subst, ◌∙◌, arith}
 use Rattle.std.proofs.lemmas.List.{length-map}
 use Rattle.std.proofs.lemmas.List.Sums.{sum_by-cons}
 use Rattle.std.specs.Prelude.{map, cond}
@@ -12,20 +12,19 @@ use Rattle.proc_table.specs.declared.states.Status.TheVariants.{Runnable, Runnin
 use Rattle.proc_table.specs.Slots.{Slot, Table}
 use Rattle.kernel_model.specs.KernelState.{KernelState}
 use Rattle.order_model.specs.Idle.{idle_slot, idle_status, idle_kernel, renamed_entry}
-use Rattle.order_model.specs.Alike.{Alike, IsStill}
+use Rattle.order_model.specs.Alike.{Alike}
 use Rattle.order_model.specs.Woke.{woke, woke_status, woke_slot, woke_table, AlikeAwake}
 use Rattle.order_model.specs.Numbers.{Numbering, SameButNumbers, renumbered, renumbered_slot, renumbered_table}
 use Rattle.order_model.specs.Outcome.{SameOutcome}
 use Rattle.order_model.specs.Turns.{Turn, after_turn}
 use Rattle.order_model.specs.Reduced.{IsFollowing}
-use Rattle.order_model.specs.Begun.{IsBegun}
 use Rattle.order_model.specs.Anyhow.{AlikeAnyhow, SameKeyAnyhow, DoesAnyhow, itself, likened, bare_status, bare_slot, bare_table}
 use Rattle.law_orders.proofs.Entries.{entry_renamed}
 use Rattle.law_orders.proofs.Keys.{one_place}
 use Rattle.law_orders.proofs.Tables.{map_swap, count_map}
 use Rattle.law_private_turns.proofs.Awake.{alike_awake, one_step, outcome_awake}
 use Rattle.law_private_turns.proofs.Begun.{begun_on, begun_still}
-use Rattle.law_entry_numbers.proofs.Numberings.{opposite, same_itself, same_back, table_twice, table_none}
+use Rattle.law_entry_numbers.proofs.Numberings.{same_itself, same_back, table_twice, table_none}
 use Rattle.law_entry_numbers.proofs.Still.{idle_so, outcome_so, still_so}
 use Rattle.law_entry_numbers.proofs.Turns.{one_taken}
 

@@ -1,5 +1,5 @@
 -- Slots and entries that are the same under the numbers of a list.
-use Rattle.std.proofs.Common.{◌≡◌, ℕ, List, refl, sym, ap, ◌∙◌, map}
+use Rattle.std.proofs.Common.{◌≡◌, ℕ, List, ap, ◌∙◌, map}
 use Rattle.fd_table.specs.Entries.{Entries, entry_at, free_count}
 use Rattle.proc_table.specs.Slots.{Table}
 use Rattle.kernel_model.specs.KernelState.{KernelState}

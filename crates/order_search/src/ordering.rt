@@ -24,8 +24,8 @@ const MAX_CHAIN: usize = 64;
 pub struct Exploration {
     /// Whether every order was tried.
     pub whole: bool,
-    /// How many states were kept: kernels that differ in more than who runs, who sleeps, how many events there were, and what
-    /// pipes are called. Where a turn is private the state after it stands for the one before it, which is not kept.
+    /// How many states were kept: kernels that differ in more than who runs, who sleeps, the numbers of open-file entries, how many
+    /// events there were, and what pipes are called. Where a turn is private the state after it stands for the one before it, which is not kept.
     pub states: usize,
     /// Each outcome that was found, once, with a schedule that leads to it.
     pub outcomes: Vec<Outcome>,

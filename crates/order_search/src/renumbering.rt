@@ -145,11 +145,7 @@ fn is_entry_under(
 }
 
 // Whether entries are the same under these numbers.
-pub fn are_entries_under(
-    to: &[u8],
-    entries: &[Option<Opened>],
-    others: &[Option<Opened>],
-) -> bool
+pub fn are_entries_under(to: &[u8], entries: &[Option<Opened>], others: &[Option<Opened>]) -> bool
     ensures { result ≡ true → (e : ℕ) → entry_at others.now (number_under to.now e) ≡ entry_at entries.now e }
 {
     if entries.len() > to.len() || others.len() > to.len() {
