@@ -113,10 +113,11 @@ keep() {
     mv -f "$2/$1.new.$$" "$2/$1"
 }
 
-# Whether this folder is there, or could be made, and can be written. One outside the checkout is the user's alone.
+# Whether this folder is there, or could be made, and can be written. In a checkout only its owner makes one, so that root leaves no
+# folder there that the owner can't remove; one outside is the user's alone.
 is_open() {
     case $1 in
-        "$here"/*) mkdir -p "$1" 2>/dev/null ;;
+        "$here"/*) [ -d "$1" ] || { [ -O "$here" ] && mkdir -p "$1" 2>/dev/null; } ;;
         *) (umask 077 && mkdir -p "$1") 2>/dev/null ;;
     esac && [ -w "$1" ]
 }

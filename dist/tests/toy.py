@@ -47,6 +47,13 @@ def same(found, due, what):
     check(found == due, f"{what}: found {found!r}, and not {due!r}")
 
 
+def has_program():
+    """Returns whether dist/ of this checkout holds the program of its sources, as it does but for one that is being changed."""
+    with open(os.path.join(ROOT, "dist", "record"), encoding="utf-8") as file:
+        recorded = re.search(r"(?m)^xvsh_main\.sources (\w+)$", file.read())[1]
+    return run([os.path.join(ROOT, "dist", "digest"), "xvsh_main"])[1] == f"{recorded}\n"
+
+
 class Toy:
     """The checkout at `top`, in `room`, with a home, a folder for temporary files, and an environment of its own."""
 

@@ -8,8 +8,10 @@ One file over ctypes, with no dependency. It loads libxvsh.so from the path in X
 `pip install` puts it, else from lib/ of the checkout that this file stands in, else where the system looks. Where there is none,
 `bindings/build` of the checkout builds it.
 
-What is no number where one is due is a TypeError, and a number that the library's type can't hold a ValueError that is no XvshError.
-Answers, and the faults that are raised, can be compared, hashed, copied and pickled.
+Each call raises the faults of what it is given: LineTooLong, ByteZero and ScriptTooLong of the script; where it takes them, TooLong,
+BadName and TooManyFiles of the files, and InputTooLong of the input; and Memory. Its own are told at each. What is no number where one is due
+is a TypeError, and a number that the library's type can't hold a ValueError that is no XvshError. Answers can be compared and hashed, and
+answers and faults copied and pickled.
 
 Scripts, inputs and the bytes of files are `bytes`, or `str` that is encoded as UTF-8. Names of files are `str`; bytes of a name
 that are no UTF-8 stand in it as os.fsdecode does it. Any number of threads may call at once: the library has no state, and a call
@@ -491,8 +493,9 @@ def _call(name: str, script: Bytes, input: Bytes, files: Files | None, append: b
 def plain(script: Bytes, input: Bytes = b"", files: Files | None = None, *, append: bool = False, budget: int = 0) -> Plain:
     """Runs the script by its meaning: each pipe's left side to its end before its right side starts.
 
-    `budget` is the most bytes of memory that the run may ask for in all; 0: no bound. With `append`, `>>` appends; else it writes
-    over the file from its beginning, as xv6's does.
+    `budget` is the most bytes of memory that the run may ask for in all, past which it is Memory; 0: no bound. With `append`, `>>`
+    appends; else it writes over the file from its beginning, as xv6's does. TooLarge where the script makes a file too large, or one
+    too many.
     """
     call = _call("plain", script, input, files, append, budget)
     return Plain(call.out, call.files, call.fine)
@@ -502,7 +505,9 @@ def run(
     script: Bytes, input: Bytes = b"", files: Files | None = None, *, append: bool = False, turns: int = 10_000_000,
     order: Order = Order.KERNEL, seed: int = 0, trace: bool = False,
 ) -> Run:
-    """Runs the script by its processes on one hart, in at most `turns` events, in this order; with `trace` each event has its record."""
+    """Runs the script by its processes on one hart, in at most `turns` events, from 1 to MAX_TURNS, in this order, of which DRAWN takes any
+    `seed` and STARVING a slot from 0 to 63; with `trace` each event has its record, of some 200 bytes. Spent where the turns are over and
+    the run isn't finished; BadTurns; BadOrder."""
     numbers = _number(turns, 64, "turns are"), _number(order, 32, "an order is"), _number(seed, 64, "a seed is")
     call = _call("trace" if trace else "run", script, input, files, append, 0, *numbers)
     if not trace:
@@ -512,7 +517,8 @@ def run(
 
 
 def replay(script: Bytes, schedule: Bytes, input: Bytes = b"", files: Files | None = None, *, append: bool = False) -> Run:
-    """Runs it by the events of a schedule: a run's, or any other."""
+    """Runs it by the events of a schedule: a run's, or any other, of one to eight harts. NoEvent of a line that is none; NotRunnable and
+    NotRunning of an event that can't take place; Unfinished where all took place and the run isn't finished."""
     events = _raw(schedule)
     return _run_of(_call("replay", script, input, files, append, 0, events, len(events)))
 
@@ -556,8 +562,9 @@ def explain(script: Bytes) -> Explanation:
 def explore(
     script: Bytes, input: Bytes = b"", files: Files | None = None, *, append: bool = False, states: int = 200_000, thorough: bool = False,
 ) -> Exploration:
-    """Tries every order of the script's processes, of at most `states` states of the kernel, for each of which memory is kept. A
-    settled script none of whose files is soft has one outcome, and is explored only if it is to be `thorough`.
+    """Tries every order of the script's processes, of at most `states` states of the kernel, from 1 to MAX_STATES, for each of which
+    memory is kept. A settled script none of whose files is soft has one outcome, and is explored only if it is to be `thorough`.
+    TooLarge where a run has more turns than can be counted; BadStates.
 
     >>> import xvsh
     >>> [outcome.out for outcome in xvsh.explore("echo a &; echo b").outcomes]
