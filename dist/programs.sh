@@ -154,12 +154,15 @@ make_room() {
 unpack() {
     name=$1 digest=$2
     shift 2
+    trap 'rm -f "$folder/$name.new.$$"; exit 130' INT TERM
     for folder; do
         is_open "$folder" && unpack_to "$name" "$folder/$name.new.$$" || continue
         keep "$name" "$folder" "$digest" dist
         program=$folder/$name
+        trap - INT TERM
         return
     done
+    trap - INT TERM
     # where nothing can be kept, one that somebody else keeps will do
     [ -z "$program" ] || return 0
     make_room

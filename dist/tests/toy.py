@@ -1,6 +1,8 @@
 """A checkout of two small crates, for the tests in this folder: its program is a script, and all that runs it is this checkout's."""
 import gzip
 import hashlib
+import importlib.machinery
+import importlib.util
 import os
 import re
 import shutil
@@ -41,6 +43,14 @@ def run(words, **how):
     how = {"stdin": subprocess.DEVNULL, "stdout": subprocess.PIPE, "stderr": subprocess.PIPE, "text": True, "timeout": 120, **how}
     ran = subprocess.run(words, check=False, **how)
     return ran.returncode, ran.stdout, ran.stderr
+
+
+def load(path):
+    """Returns the script at this path as a module."""
+    loader = importlib.machinery.SourceFileLoader(os.path.basename(path), path)
+    made = importlib.util.module_from_spec(importlib.util.spec_from_loader(loader.name, loader))
+    loader.exec_module(made)
+    return made
 
 
 def same(found, due, what):
