@@ -82,16 +82,19 @@ is_kept() {
     [ "$(digest_of "$2/$1")" = "$wanted" ]
 }
 
-# Unpacks the program NAME into a file, and ends where it isn't the one that the record names, or doesn't start: unpack_to NAME FILE
+# Unpacks the program NAME into a file, and ends where it isn't the one that the record names, or doesn't start. The status is 1 where
+# the system runs nothing from that folder: unpack_to NAME FILE
 unpack_to() {
     need gzip "unpacks dist/$1.gz"
     told=$({ gzip -dc "$here/dist/$1.gz" >"$2"; } 2>&1) || { rm -f "$2"; stop "dist/$1.gz can't be unpacked to $2: $(echo "$told" | tail -n 1)"; }
     [ "$(digest_of "$2")" = "$(recorded "$1.program")" ] || { rm -f "$2"; stop "dist/$1.gz is not the program that dist/record names"; }
     chmod 755 "$2"
-    # a folder on which nothing may be run
-    [ -x "$2" ] || { rm -f "$2"; return 1; }
-    "$2" --version >/dev/null 2>&1 || {
+    "$2" --version </dev/null >/dev/null 2>&1 || {
+        # whether it is the program, or the folder
+        printf '#!/bin/sh\n' >"$2"
+        if "$2" 2>/dev/null; then runs=yes; else runs=; fi
         rm -f "$2"
+        [ -n "$runs" ] || return 1
         stop "the program in dist/ doesn't start here: it needs x86-64 Linux with glibc 2.34 or later, and this has $(getconf GNU_LIBC_VERSION 2>/dev/null || echo another C library)"
     }
 }
