@@ -28,7 +28,8 @@
  * task's budget of memory, where it has one. xvsh_check and xvsh_explain read the script once, and run nothing.
  *
  * Versions. xvsh_version() is 1,000,000 times the first number, 1,000 times the second, and the third. Structs and calls change only
- * with the first number, or, as long as that is 0, with the second: compare xvsh_version() / 1000 with XVSH_VERSION / 1000.
+ * with the first number, or, as long as that is 0, with the second: compare xvsh_version() / 1000 with XVSH_VERSION / 1000. The shared
+ * library's soname has these numbers, so that a program is never run with one whose structs differ: libxvsh.so.0.2, and then .so.0.3.
  */
 #ifndef XVSH_H
 #define XVSH_H
@@ -41,6 +42,9 @@
 extern "C" {
 #endif
 
+#define XVSH_VERSION_MAJOR 0
+#define XVSH_VERSION_MINOR 2
+#define XVSH_VERSION_PATCH 0
 #define XVSH_VERSION 2000u             /* 1,000,000 * 0 + 1,000 * 2 + 0 */
 
 /* Limits. What passes one is a fault. */
@@ -128,10 +132,17 @@ typedef struct {
   uint32_t whole;      /* xvsh_explore: 1 where every order was tried, or what it leaves is known without */
 } xvsh_answer;
 
-#define XVSH_NO_BYTES { (const uint8_t *)"", 0 }
-#define XVSH_NO_FILES { (const xvsh_file *)(const void *)"", 0 }
+/* Used below: a pointer to bytes or rows as one to another type. */
+#ifdef __cplusplus
+#define XVSH_AT_(type, at) (static_cast<const type *>(static_cast<const void *>(at)))
+#else
+#define XVSH_AT_(type, at) ((const type *)(const void *)(at))
+#endif
+
+#define XVSH_NO_BYTES { XVSH_AT_(uint8_t, ""), 0 }
+#define XVSH_NO_FILES { XVSH_AT_(xvsh_file, ""), 0 }
 #define XVSH_ANSWER { XVSH_NO_BYTES, XVSH_NO_BYTES, XVSH_NO_BYTES, XVSH_NO_BYTES, XVSH_NO_BYTES, \
-                      { (const xvsh_sizes *)(const void *)"", 0 }, 0, 0, 0, 0, 0 }
+                      { XVSH_AT_(xvsh_sizes, ""), 0 }, 0, 0, 0, 0, 0 }
 
 /* The calls of the library as they are, for bindings: as those below, where no pointer is null and the answer holds nothing. */
 uint32_t xvsh_version(void);
@@ -148,19 +159,29 @@ void xvsh_look_call(const xvsh_task *task, const uint8_t *schedule, size_t lengt
 /* The bytes of a C string without its 0; of a null none. */
 static inline xvsh_bytes xvsh_text(const char *text) {
   xvsh_bytes bytes = XVSH_NO_BYTES;
-  if (text) { bytes.at = (const uint8_t *)text; bytes.length = strlen(text); }
+  if (text) { bytes.at = XVSH_AT_(uint8_t, text); bytes.length = strlen(text); }
   return bytes;
+}
+
+/* Used below: frees bytes of an answer, which are none of the caller's to write. */
+static inline void xvsh_free_(const void *at, size_t length) {
+  if (!length) return;
+#ifdef __cplusplus
+  free(const_cast<void *>(at));
+#else
+  free((void *)(uintptr_t)at);
+#endif
 }
 
 /* Frees what an answer holds, and begins it anew. */
 static inline void xvsh_answer_free(xvsh_answer *answer) {
   static const xvsh_answer begun = XVSH_ANSWER;
-  if (answer->out.length) free((void *)answer->out.at);
-  if (answer->diag.length) free((void *)answer->diag.at);
-  if (answer->events.length) free((void *)answer->events.at);
-  if (answer->json.length) free((void *)answer->json.at);
-  if (answer->block.length) free((void *)answer->block.at);
-  if (answer->sizes.length) free((void *)answer->sizes.at);
+  xvsh_free_(answer->out.at, answer->out.length);
+  xvsh_free_(answer->diag.at, answer->diag.length);
+  xvsh_free_(answer->events.at, answer->events.length);
+  xvsh_free_(answer->json.at, answer->json.length);
+  xvsh_free_(answer->block.at, answer->block.length);
+  xvsh_free_(answer->sizes.at, answer->sizes.length);
   *answer = begun;
 }
 
@@ -199,7 +220,7 @@ static inline bool xvsh_next_file(const xvsh_answer *answer, xvsh_left *left) {
 typedef struct { xvsh_task task; xvsh_file files[XVSH_MAX_FILES + 1]; } xvsh_safe_task_;
 
 static inline bool xvsh_make_safe_(xvsh_bytes *bytes) {
-  if (!bytes->at) { bytes->at = (const uint8_t *)""; return bytes->length == 0; }
+  if (!bytes->at) { bytes->at = XVSH_AT_(uint8_t, ""); return bytes->length == 0; }
   return true;
 }
 

@@ -4,8 +4,14 @@
     >>> xvsh.plain("echo hi | wc").out
     b'1 1 3 \\n'
 
-One file over ctypes, with no dependency. It loads libxvsh.so from the path in XVSH_LIBRARY, else from beside this file, else from lib/
-of the checkout that this file stands in, else where the system looks. Where there is none, `bindings/build` of the checkout builds it.
+One file over ctypes, with no dependency. It loads libxvsh.so from the path in XVSH_LIBRARY, else from beside this file, where
+`pip install` puts it, else from lib/ of the checkout that this file stands in, else where the system looks. Where there is none,
+`bindings/build` of the checkout builds it.
+
+Each call raises the faults of what it is given: LineTooLong, ByteZero and ScriptTooLong of the script; where it takes them, TooLong,
+BadName and TooManyFiles of the files, and InputTooLong of the input; and Memory. Its own are told at each. What is no number where one is due
+is a TypeError, and a number that the library's type can't hold a ValueError that is no XvshError. Answers can be compared and hashed, and
+answers and faults copied and pickled.
 
 Scripts, inputs and the bytes of files are `bytes`, or `str` that is encoded as UTF-8. Names of files are `str`; bytes of a name
 that are no UTF-8 stand in it as os.fsdecode does it. Any number of threads may call at once: the library has no state, and a call
@@ -19,14 +25,18 @@ import ctypes.util
 import dataclasses
 import enum
 import json
+import operator
 import os
 from collections.abc import Iterable, Iterator, Mapping
 from typing import Any, Union
 
 __all__ = [
-    "Answer", "Bytes", "Check", "Event", "Explanation", "Exploration", "Fault", "File", "Files", "Finding", "Note", "Order", "Outcome",
-    "Parting", "Pipe", "Plain", "Process", "Run", "Session", "XvshError", "check", "explain", "explore", "plain", "replay", "run", "version",
+    "Answer", "BadName", "BadOrder", "BadStates", "BadTurns", "ByteZero", "Bytes", "Check", "Event", "Explanation", "Exploration", "Fault",
+    "File", "Files", "Finding", "InputTooLong", "LineTooLong", "Memory", "NoEvent", "NotRunnable", "NotRunning", "Note", "Order", "Outcome",
+    "Parting", "Pipe", "Plain", "Process", "Run", "ScriptTooLong", "Session", "Spent", "TakenName", "TooLarge", "TooLong", "TooManyFiles",
+    "Unfinished", "XvshError", "check", "explain", "explore", "plain", "replay", "run", "version",
 ]
+__version__ = "0.2.0"
 
 Bytes = Union[bytes, bytearray, memoryview, str]
 Files = Mapping[str, Bytes]
@@ -60,24 +70,107 @@ class Fault(enum.IntEnum):
 
 
 class XvshError(ValueError):
-    """A call was refused. Each fault has a class of its own, by its name, as `xvsh.LineTooLong`."""
+    """A call was refused: `fault` is the number, a Fault where this module knows it, and `place` what it is about, or 0. Each Fault has
+    a class of its own below this one, by its name, as `xvsh.LineTooLong`."""
 
-    fault: Fault
+    fault: int
     place: int
 
-    def __init__(self, fault: Fault, place: int, text: str) -> None:
-        super().__init__(f"{text} ({_PLACES[fault]} {place})" if place else text)
-        self.fault, self.place = fault, place
+    def __init__(self, fault: int, place: int, text: str) -> None:
+        super().__init__(f"{text} ({_PLACES.get(fault, 'place')} {place})" if place else text)
+        self.fault, self.place, self._text = fault, place, text
+
+    def __reduce__(self) -> tuple[type[XvshError], tuple[int, int, str]]:
+        return type(self), (self.fault, self.place, self._text)
 
 
-_PLACES = {fault: "event" for fault in Fault} | dict.fromkeys((Fault.LineTooLong, Fault.ByteZero, Fault.NoEvent), "line")
+class TooLong(XvshError):
+    """A file has too many bytes; the place is the file, from 1."""
+
+
+class LineTooLong(XvshError):
+    """A line of the script has more than 511 bytes; the place is the line, from 1."""
+
+
+class ByteZero(XvshError):
+    """A line of the script holds a byte 0; the place is the line, from 1."""
+
+
+class BadName(XvshError):
+    """No file of a script can have that name; the place is the file, from 1."""
+
+
+class TooManyFiles(XvshError):
+    """There are more than 200 files; the place is the file, from 1."""
+
+
+class TooLarge(XvshError):
+    """The script makes a file too large, or one too many; or a run has more turns than can be counted."""
+
+
+class Memory(XvshError, MemoryError):
+    """Memory was refused, or the budget is spent."""
+
+
+class Spent(XvshError):
+    """The turns are over, and the run isn't finished."""
+
+
+class NoEvent(XvshError):
+    """A line of the schedule is no event; the place is the line, from 1."""
+
+
+class NotRunnable(XvshError):
+    """An event dispatches what can't be dispatched; the place is the event, from 1."""
+
+
+class NotRunning(XvshError):
+    """An event is a call of a process that isn't running there; the place is the event, from 1."""
+
+
+class Unfinished(XvshError):
+    """All events took place, and the run isn't finished."""
+
+
+class TakenName(XvshError):
+    """A file before it has its name; the place is the file, from 1."""
+
+
+class ScriptTooLong(XvshError):
+    """The script has more than 1,048,576 bytes."""
+
+
+class InputTooLong(XvshError):
+    """The standard input has more than 1,048,576 bytes."""
+
+
+class BadTurns(XvshError):
+    """The turns are none of 1 to MAX_TURNS."""
+
+
+class BadOrder(XvshError):
+    """The order is none of Order, or its seed is none of it."""
+
+
+class BadStates(XvshError):
+    """The states are none of 1 to MAX_STATES."""
+
+
+_PLACES: dict[int, str] = {fault: "event" for fault in Fault} | dict.fromkeys((Fault.LineTooLong, Fault.ByteZero, Fault.NoEvent), "line")
 _PLACES |= dict.fromkeys((Fault.TooLong, Fault.BadName, Fault.TooManyFiles, Fault.TakenName), "file")
-_ERRORS: dict[Fault, type[XvshError]] = {
-    fault: type(fault.name, (XvshError, MemoryError) if fault is Fault.Memory else (XvshError,), {"__doc__": f"Fault {int(fault)} of xvsh.h."})
-    for fault in Fault
+_ERRORS: dict[int, type[XvshError]] = {
+    Fault.TooLong: TooLong, Fault.LineTooLong: LineTooLong, Fault.ByteZero: ByteZero, Fault.BadName: BadName,
+    Fault.TooManyFiles: TooManyFiles, Fault.TooLarge: TooLarge, Fault.Memory: Memory, Fault.Spent: Spent,
+    Fault.NoEvent: NoEvent, Fault.NotRunnable: NotRunnable, Fault.NotRunning: NotRunning, Fault.Unfinished: Unfinished,
+    Fault.TakenName: TakenName, Fault.ScriptTooLong: ScriptTooLong, Fault.InputTooLong: InputTooLong, Fault.BadTurns: BadTurns,
+    Fault.BadOrder: BadOrder, Fault.BadStates: BadStates,
 }
-globals().update({fault.name: error for fault, error in _ERRORS.items()})
-__all__ += [fault.name for fault in Fault]
+
+
+def _error_of(number: int, place: int) -> XvshError:
+    """The error of a fault; of one that a newer library has and this module doesn't know it is XvshError itself."""
+    text = _fault_text(number) or f"fault {number}"
+    return _ERRORS[number](Fault(number), place, text) if number in _ERRORS else XvshError(number, place, text)
 
 
 class Order(enum.IntEnum):
@@ -119,7 +212,7 @@ class _Answer(c.Structure):
 def _find() -> str:
     here = os.path.dirname(os.path.abspath(__file__))
     named = os.environ.get("XVSH_LIBRARY")
-    beside = [os.path.join(here, "libxvsh.so"), os.path.join(os.path.dirname(os.path.dirname(here)), "lib", "libxvsh.so")]
+    beside = [os.path.join(here, "libxvsh.so"), os.path.join(here, "..", "..", "..", "lib", "libxvsh.so")]
     for path in [named] if named else beside:
         if os.path.exists(path):
             return path
@@ -137,15 +230,16 @@ _free = c.CDLL(None).free
 _free.argtypes, _free.restype = [c.c_void_p], None
 _lib.xvsh_version.argtypes, _lib.xvsh_version.restype = [], c.c_uint32
 _task, _answer = c.POINTER(_Task), c.POINTER(_Answer)
-for _name, _more in {
+_numbers: dict[str, list[Any]] = {
     "plain": [], "run": [c.c_uint64, c.c_uint32, c.c_uint64], "replay": [c.c_char_p, c.c_size_t], "check": [c.c_uint32], "explain": [],
     "explore": [c.c_uint64, c.c_uint32], "trace": [c.c_uint64, c.c_uint32, c.c_uint64], "look": [c.c_char_p, c.c_size_t],
-}.items():
+}
+for _name, _more in _numbers.items():
     _function = getattr(_lib, f"xvsh_{_name}_call")
     _function.argtypes, _function.restype = [_task, *_more, _answer], None
 _lib.xvsh_fault_call.argtypes, _lib.xvsh_fault_call.restype = [c.c_uint32, c.POINTER(_Bytes)], None
 if _lib.xvsh_version() // 1000 != _VERSION // 1000:
-    raise ImportError(f"libxvsh.so is of version {_lib.xvsh_version()}, and xvsh.py of {_VERSION}")
+    raise ImportError(f"libxvsh.so is of version {_lib.xvsh_version()}, and the module xvsh of {_VERSION}: they differ before the third number")
 
 
 def version() -> tuple[int, int, int]:
@@ -155,7 +249,15 @@ def version() -> tuple[int, int, int]:
 
 
 def _raw(data: Bytes) -> bytes:
-    return data if type(data) is bytes else data.encode() if isinstance(data, str) else bytes(data)
+    # of bytes(5) there are five, so what is no text has to be a buffer
+    return data if type(data) is bytes else data.encode() if isinstance(data, str) else bytes(memoryview(data))
+
+
+def _number(value: int, bits: int, what: str) -> int:
+    number = operator.index(value)
+    if not 0 <= number < 1 << bits:
+        raise ValueError(f"{what} a number from 0 to 2**{bits} - 1")
+    return number
 
 
 _NOTHING = c.c_char_p(b"")
@@ -173,7 +275,7 @@ def _text(bytes_: _Bytes) -> bytes:
 
 
 def _fault_text(number: int) -> str:
-    words = (_Bytes * 2)(*[_Bytes(_EMPTY, 0)] * 2)
+    words = (_Bytes * 2)(_Bytes(_EMPTY, 0), _Bytes(_EMPTY, 0))
     _lib.xvsh_fault_call(number, words)
     return _text(words[1]).decode()
 
@@ -191,7 +293,7 @@ class Answer:
     """What a run leaves: its standard output, and its files by name, in byte order of the names."""
 
     out: bytes
-    files: dict[str, File]
+    files: dict[str, File] = dataclasses.field(hash=False)
 
 
 @dataclasses.dataclass(frozen=True)
@@ -343,10 +445,17 @@ class Pipe:
 _FULL = (None, "procs", "open", "descriptors", "files", "size", "memory")
 
 
+def _full_of(number: int) -> str | None:
+    """What was full; of what a newer library has and this module doesn't know its number."""
+    return _FULL[number] if number < len(_FULL) else str(number)
+
+
 class _Call:
     """A call's answer, copied out of the library's memory."""
 
     __slots__ = ("out", "diag", "events", "json", "files", "full", "fine", "whole")
+    fine: bool
+    whole: bool
 
     def __init__(self, answer: _Answer) -> None:
         self.out, self.diag, self.events, self.json = _text(answer.out), _text(answer.diag), _text(answer.events), _text(answer.json)
@@ -355,15 +464,14 @@ class _Call:
             middle, end = at + sizes.name, at + sizes.name + sizes.bytes
             files[os.fsdecode(block[at:middle])] = File(block[middle:end], sizes.soft != 0)
             at = end
-        self.files, self.full, self.fine, self.whole = files, _FULL[answer.full], answer.fine != 0, answer.whole != 0
+        self.files, self.full, self.fine, self.whole = files, _full_of(answer.full), answer.fine != 0, answer.whole != 0
 
 
 def _call(name: str, script: Bytes, input: Bytes, files: Files | None, append: bool, budget: int, *more: Any) -> _Call:
     kept: list[Any] = []
-    if not 0 <= budget < 1 << 64:
-        raise ValueError("a budget is a number from 0 to 2**64 - 1")
-    rows = [(*_view(kept, os.fsencode(name)), *_view(kept, _raw(data))) for name, data in (files or {}).items()]
-    given = (_File * max(len(rows), 1))(*[(row[:2], row[2:]) for row in rows])
+    budget = _number(budget, 64, "a budget is")
+    rows = [_File(_view(kept, os.fsencode(name)), _view(kept, _raw(data))) for name, data in (files or {}).items()]
+    given = (_File * max(len(rows), 1))(*rows)
     task = _Task(_view(kept, _raw(script)), _view(kept, _raw(input)), given, len(rows), budget, 1 if append else 0)
     answer = _Answer()
     for field in ("out", "diag", "events", "json", "block"):
@@ -371,8 +479,7 @@ def _call(name: str, script: Bytes, input: Bytes, files: Files | None, append: b
     answer.sizes = c.cast(_NOTHING, c.POINTER(_Sizes))
     getattr(_lib, f"xvsh_{name}_call")(task, *more, answer)
     if answer.status:
-        fault = Fault(answer.status)
-        raise _ERRORS[fault](fault, answer.place, _fault_text(fault))
+        raise _error_of(answer.status, answer.place)
     try:
         return _Call(answer)
     finally:
@@ -386,8 +493,9 @@ def _call(name: str, script: Bytes, input: Bytes, files: Files | None, append: b
 def plain(script: Bytes, input: Bytes = b"", files: Files | None = None, *, append: bool = False, budget: int = 0) -> Plain:
     """Runs the script by its meaning: each pipe's left side to its end before its right side starts.
 
-    `budget` is the most bytes of memory that the run may ask for in all; 0: no bound. With `append`, `>>` appends; else it writes
-    over the file from its beginning, as xv6's does.
+    `budget` is the most bytes of memory that the run may ask for in all, past which it is Memory; 0: no bound. With `append`, `>>`
+    appends; else it writes over the file from its beginning, as xv6's does. TooLarge where the script makes a file too large, or one
+    too many.
     """
     call = _call("plain", script, input, files, append, budget)
     return Plain(call.out, call.files, call.fine)
@@ -397,10 +505,11 @@ def run(
     script: Bytes, input: Bytes = b"", files: Files | None = None, *, append: bool = False, turns: int = 10_000_000,
     order: Order = Order.KERNEL, seed: int = 0, trace: bool = False,
 ) -> Run:
-    """Runs the script by its processes on one hart, in at most `turns` events, in this order; with `trace` each event has its record."""
-    if not 0 <= turns < 1 << 64 or not 0 <= seed < 1 << 64:
-        raise ValueError("turns and seeds are numbers from 0 to 2**64 - 1")
-    call = _call("trace" if trace else "run", script, input, files, append, 0, turns, int(order), seed)
+    """Runs the script by its processes on one hart, in at most `turns` events, from 1 to MAX_TURNS, in this order, of which DRAWN takes any
+    `seed` and STARVING a slot from 0 to 63; with `trace` each event has its record, of some 200 bytes. Spent where the turns are over and
+    the run isn't finished; BadTurns; BadOrder."""
+    numbers = _number(turns, 64, "turns are"), _number(order, 32, "an order is"), _number(seed, 64, "a seed is")
+    call = _call("trace" if trace else "run", script, input, files, append, 0, *numbers)
     if not trace:
         return _run_of(call)
     schedule = b"".join(b"%c %d %d\n" % (68 if event.kind == "dispatch" else 84, event.hart, event.pid) for event in _traced(call.events))
@@ -408,7 +517,8 @@ def run(
 
 
 def replay(script: Bytes, schedule: Bytes, input: Bytes = b"", files: Files | None = None, *, append: bool = False) -> Run:
-    """Runs it by the events of a schedule: a run's, or any other."""
+    """Runs it by the events of a schedule: a run's, or any other, of one to eight harts. NoEvent of a line that is none; NotRunnable and
+    NotRunning of an event that can't take place; Unfinished where all took place and the run isn't finished."""
     events = _raw(schedule)
     return _run_of(_call("replay", script, input, files, append, 0, events, len(events)))
 
@@ -452,16 +562,15 @@ def explain(script: Bytes) -> Explanation:
 def explore(
     script: Bytes, input: Bytes = b"", files: Files | None = None, *, append: bool = False, states: int = 200_000, thorough: bool = False,
 ) -> Exploration:
-    """Tries every order of the script's processes, of at most `states` states of the kernel, for each of which memory is kept. A
-    settled script none of whose files is soft has one outcome, and is explored only if it is to be `thorough`.
+    """Tries every order of the script's processes, of at most `states` states of the kernel, from 1 to MAX_STATES, for each of which
+    memory is kept. A settled script none of whose files is soft has one outcome, and is explored only if it is to be `thorough`.
+    TooLarge where a run has more turns than can be counted; BadStates.
 
     >>> import xvsh
     >>> [outcome.out for outcome in xvsh.explore("echo a &; echo b").outcomes]
     [b'a\\nb\\n', b'ab\\n\\n', b'b\\na\\n', b'ba\\n\\n']
     """
-    if not 0 <= states < 1 << 64:
-        raise ValueError("states are a number from 0 to 2**64 - 1")
-    call = _call("explore", script, input, files, append, 0, states, 1 if thorough else 0)
+    call = _call("explore", script, input, files, append, 0, _number(states, 64, "states are"), 1 if thorough else 0)
     made = json.loads(call.json)
     stuck = None if made["stuck"] is None else _schedule(made["stuck"])
     return Exploration(call.fine, call.whole, made["states"], tuple(map(_outcome_of, made["outcomes"])), stuck, call.json)
@@ -469,7 +578,7 @@ def explore(
 
 def _bytes_of(value: Any) -> bytes:
     """Bytes in an object of JSON."""
-    return base64.b64decode(value["base64"]) if isinstance(value, dict) else value.encode()
+    return base64.b64decode(value["base64"]) if isinstance(value, dict) else str(value).encode()
 
 
 def _text_of(value: Any) -> str:

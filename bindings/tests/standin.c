@@ -1,0 +1,126 @@
+/* Stands for the library where it isn't built, to test what is around it: the header, bindings/pack, dist/install, the Python module.
+ *
+ * A call answers with what it was given: the script as the output, the call's name and numbers as the diagnostics, a schedule as the
+ * events, and the files as they are. The script `fault N P` is the fault N at the place P, and `full N` is one whose run found N full.
+ * STANDIN_VERSION is the version in place of the header's. */
+#include "xvsh.h"
+#include <stdio.h>
+
+static xvsh_bytes copied(const void *from, size_t length) {
+  xvsh_bytes made = XVSH_NO_BYTES;
+  uint8_t *at = length ? malloc(length) : NULL;
+  if (!at) return made;
+  memcpy(at, from, length);
+  made.at = at;
+  made.length = length;
+  return made;
+}
+
+static size_t number_in(const xvsh_task *task, const char *word, int which) {
+  char text[64] = "";
+  unsigned long found[2] = { 0, 0 };
+  size_t length = strlen(word), room = sizeof text - 1;
+  memcpy(text, task->script.at, task->script.length < room ? task->script.length : room);
+  if (strncmp(text, word, length) == 0) sscanf(text + length, "%lu %lu", &found[0], &found[1]);
+  return found[which];
+}
+
+static void keep_files(const xvsh_task *task, xvsh_answer *answer) {
+  size_t total = 0, at = 0, count = task->files.length;
+  for (size_t i = 0; i < count; i++) total += task->files.at[i].name.length + task->files.at[i].bytes.length;
+  xvsh_sizes *sizes = count ? calloc(count, sizeof *sizes) : NULL;
+  uint8_t *block = total ? malloc(total) : NULL;
+  if (!sizes || !block) { free(sizes); free(block); return; }
+  for (size_t i = 0; i < count; i++) {
+    const xvsh_file *file = &task->files.at[i];
+    memcpy(block + at, file->name.at, file->name.length);
+    at += file->name.length;
+    memcpy(block + at, file->bytes.at, file->bytes.length);
+    at += file->bytes.length;
+    sizes[i].name = file->name.length;
+    sizes[i].bytes = file->bytes.length;
+    sizes[i].soft = file->name.at[0] == 's';
+  }
+  answer->sizes.at = sizes;
+  answer->sizes.length = count;
+  answer->block.at = block;
+  answer->block.length = total;
+}
+
+static void answered(const xvsh_task *task, const char *numbers, const char *json, xvsh_answer *answer) {
+  answer->status = (uint32_t)number_in(task, "fault ", 0);
+  answer->place = number_in(task, "fault ", 1);
+  if (answer->status) return;
+  answer->full = (uint32_t)number_in(task, "full ", 0);
+  answer->out = copied(task->script.at, task->script.length);
+  answer->diag = copied(numbers, strlen(numbers));
+  answer->json = copied(json, strlen(json));
+  answer->fine = 1;
+  answer->whole = 1;
+  keep_files(task, answer);
+}
+
+uint32_t xvsh_version(void) {
+  const char *version = getenv("STANDIN_VERSION");
+  return version ? (uint32_t)strtoul(version, NULL, 10) : XVSH_VERSION;
+}
+
+void xvsh_fault_call(uint32_t number, xvsh_bytes *words) {
+  static const uint8_t name[] = "LineTooLong", text[] = "a line has more than 511 bytes";
+  if (number != XVSH_LINE_TOO_LONG) return;
+  words[0].at = name;
+  words[0].length = sizeof name - 1;
+  words[1].at = text;
+  words[1].length = sizeof text - 1;
+}
+
+void xvsh_plain_call(const xvsh_task *task, xvsh_answer *answer) {
+  char text[96];
+  snprintf(text, sizeof text, "plain %llu %u", (unsigned long long)task->budget, (unsigned)task->appends);
+  answered(task, text, "", answer);
+}
+
+static void run(const char *name, const xvsh_task *task, uint64_t turns, uint32_t order, uint64_t number, xvsh_answer *answer) {
+  char text[96];
+  snprintf(text, sizeof text, "%s %llu %u %llu", name, (unsigned long long)turns, (unsigned)order, (unsigned long long)number);
+  answered(task, text, "", answer);
+}
+
+void xvsh_run_call(const xvsh_task *task, uint64_t turns, uint32_t order, uint64_t number, xvsh_answer *answer) {
+  run("run", task, turns, order, number, answer);
+}
+
+void xvsh_trace_call(const xvsh_task *task, uint64_t turns, uint32_t order, uint64_t number, xvsh_answer *answer) {
+  static const char line[] = "{\"kind\": \"dispatch\", \"n\": 1, \"hart\": 0, \"pid\": 2}\n";
+  run("trace", task, turns, order, number, answer);
+  if (!answer->status) answer->events = copied(line, sizeof line - 1);
+}
+
+void xvsh_replay_call(const xvsh_task *task, const uint8_t *schedule, size_t length, xvsh_answer *answer) {
+  answered(task, "replay", "", answer);
+  if (!answer->status) answer->events = copied(schedule, length);
+}
+
+void xvsh_check_call(const xvsh_task *task, uint32_t strict, xvsh_answer *answer) {
+  answered(task, strict ? "strict" : "check", "{\"findings\": [{\"kind\": \"background\", \"line\": 2}]}\n", answer);
+}
+
+void xvsh_explain_call(const xvsh_task *task, xvsh_answer *answer) {
+  static const char json[] = "{\"notes\": [{\"kind\": \"NoListing\", \"line\": 1, \"places\": [{\"first\": 0, \"past\": 2}], \"sentence\": \"none\", \"text\": \"ls\"}]}\n";
+  answered(task, "explain", json, answer);
+}
+
+void xvsh_explore_call(const xvsh_task *task, uint64_t states, uint32_t thorough, xvsh_answer *answer) {
+  char json[256];
+  snprintf(json, sizeof json, "{\"states\": %llu, \"stuck\": null, \"outcomes\": [{\"output\": \"a\", \"files\": [{\"name\": \"f\", \"bytes\": \"b\"}], "
+           "\"schedule\": [1, 2]}], \"thorough\": %u}\n", (unsigned long long)states, (unsigned)thorough);
+  answered(task, "explore", json, answer);
+}
+
+void xvsh_look_call(const xvsh_task *task, const uint8_t *schedule, size_t length, xvsh_answer *answer) {
+  static const char json[] = "{\"stands\": \"runnable\", \"ps\": {\"processes\": [{\"pid\": 0, \"parent\": 0, \"prog\": \"init\", \"state\": \"runnable\", "
+    "\"next\": {\"name\": \"wait\"}}]}, \"pipes\": {\"pipes\": []}, \"files\": {\"files\": []}, \"out\": {\"out\": \"\", \"diag\": \"\"}}\n";
+  (void)schedule;
+  answered(task, "look", json, answer);
+  answer->fine = length > 100;
+}

@@ -1,0 +1,31 @@
+# Completions of xvsh, made by dist/completions/make of what `xvsh --help` tells.
+_xvsh() {
+    local cur=${COMP_WORDS[COMP_CWORD]} prev=${COMP_WORDS[COMP_CWORD-1]} command=${COMP_WORDS[1]} flags=
+    COMPREPLY=()
+    if [ "$COMP_CWORD" -eq 1 ]; then
+        mapfile -t COMPREPLY < <(compgen -W 'run replay plain check explain explore draw step grade -c --help --version' -- "$cur")
+        return
+    fi
+    case $command in
+        run) flags='--harts --turns --seed --order --schedule --schedule-to --files-to --trace --lines --strict --append --files --quiet --json --input -c -h --help' ;;
+        replay) flags='--files-to --trace --lines --append --files --json --input -c -h --help' ;;
+        plain) flags='--files-to --diagnostics --strict --append --files --json --input -c -h --help' ;;
+        check) flags='--turns --room --strict --json --input -c -h --help' ;;
+        explain) flags='--why --append --json --input -c -h --help' ;;
+        explore) flags='--states --all --witness --draw --json --append --input -c -h --help' ;;
+        draw) flags='--from --to -h --help' ;;
+        step) flags='--schedule --append --json --input -c -h --help' ;;
+        grade) flags='--json --tap --gradescope --jobs --states -h --help' ;;
+    esac
+    case $command:$prev in
+        run:--order) mapfile -t COMPREPLY < <(compgen -W 'low high eager starve:' -- "$cur"); return ;;
+        run:--files-to | replay:--files-to | plain:--files-to | explore:--witness) mapfile -t COMPREPLY < <(compgen -d -- "$cur"); compopt -o filenames; return ;;
+        run:--harts | run:--turns | run:--seed | explore:--states | draw:--from | draw:--to | grade:--jobs | grade:--states) compopt +o default; return ;;
+        run:--schedule-to | run:--trace | replay:--trace | explore:--draw | step:--schedule) return ;;
+        *:--input) mapfile -t COMPREPLY < <(compgen -W none -- "$cur"; compgen -f -- "$cur"); compopt -o filenames; return ;;
+    esac
+    case $cur in
+        -*) mapfile -t COMPREPLY < <(compgen -W "$flags" -- "$cur") ;;
+    esac
+}
+complete -o default -F _xvsh xvsh
