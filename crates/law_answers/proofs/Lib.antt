@@ -6,3 +6,6 @@ pub mod Agreeing
 pub mod Statuses
 pub mod Strictly
 mod FromWords
+pub mod Spent
+mod Explored
+mod Passed

@@ -2,21 +2,35 @@
 //! nothing of writers of which it isn't known what they hold.
 
 ghost use Rattle.std.specs.Prelude.{◌≡◌, ◌⊎◌, ℕ, Bool, List, ◌++◌, Option, true, Some, None, codes};
+ghost use Rattle.std.specs.Global.{Global};
 ghost use Rattle.clap.specs.Walk.{Row};
 ghost use Rattle.mem_files.specs.Files.{files};
+ghost use Rattle.mem_files.specs.Listing.{AreFiles};
 ghost use Rattle.mem_files.specs.Name.{Bytes};
+ghost use Rattle.script_load.specs.Line.{ScriptLine};
+ghost use Rattle.script_load.specs.Script.{IsScript};
 ghost use Rattle.meaning_model.specs.Meaning.{script_meaning};
 ghost use Rattle.meaning_model.specs.Settled.{IsSettledScript};
+ghost use Rattle.plain_run.specs.declared.outcome.Plain.{Plain};
 ghost use Rattle.kernel_model.specs.declared.events.Full.{Full};
 ghost use Rattle.kernel_model.specs.declared.events.Full.TheVariants.{Memory};
 ghost use Rattle.room_model.specs.Roomy.{IsRoomyScript};
+ghost use Rattle.script_outcomes.specs.declared.finding.Found.TheVariants.{Settled};
+ghost use Rattle.grade_verdicts.specs.Judged.{IsPassed};
+ghost use Rattle.grade_verdicts.specs.declared.expected.Task.{Task};
 ghost use Rattle.xvsh_read.specs.Console.{Known};
 ghost use Rattle.xvsh_read.specs.Path.{Path};
 ghost use Rattle.xvsh_runs.specs.Runs.{RanReplay, RanRun};
+ghost use Rattle.xvsh_runs.specs.Strict.{IsStrictFault};
+ghost use Rattle.xvsh_runs.specs.Why.{IsRunFault};
+ghost use Rattle.xvsh_runs.specs.declared.fault.ProcessFault.TheVariants.{Spent};
 ghost use Rattle.xvsh_runs.specs.declared.report.Lists.{Lists};
-ghost use Rattle.xvsh_ends.specs.Ends.{How};
+ghost use Rattle.xvsh_explores.specs.Explores.{RanExplore};
+ghost use Rattle.xvsh_ends.specs.Ends.{How, RanBy};
 ghost use Rattle.xvsh.specs.Drive.{EndsOn};
 ghost use Rattle.law_answers.specs.Settings.{EndsIn, IsKnown, IsSettledIn, LeavesInput, MeantIn, Outputs, RanIn, Setting, WriteTheSame, WritesMeaningIn, plain_in, run_in, strict_in};
+ghost use Rattle.law_answers.specs.Spending.{IsSpentIn};
+ghost use Rattle.law_answers.specs.Unless.{IsRightUnlessRefused, PrintsUnlessRefused};
 ghost use Rattle.law_answers.specs.Words.{AreOfStrictRun, WroteMeaningOf};
 ghost use Rattle.law_answers.specs.Written.{IsValueText, no_lists};
 
@@ -37,6 +51,26 @@ pub fn a_printed_run_of_a_roomy_script_fills_nothing_but_memory()
         → IsSettledScript s.profile r.lines r.stdin (files r.given) → IsRoomyScript r.lines r.stdin r.given → (full ≡ None) ⊎ (full ≡ Some Memory) }
     ensures replay { (s : Setting) (schedule : Path) (lists : Lists) (full : Option Full) (text diag : Bytes) (r : RanReplay s.input s.file s.profile s.script s.paths schedule lists full text diag)
         → IsSettledScript s.profile r.lines r.stdin (files r.given) → IsRoomyScript r.lines r.stdin r.given → (full ≡ None) ⊎ (full ≡ Some Memory) }
+{}
+
+/// Nor does such a script want for turns: where `run` has as many as are enough for it, the number that `check --turns` tells, or more,
+/// it reports that they are spent only where memory was refused in some run that spends its turns, on however many harts.
+pub fn turns_of_a_roomy_script_are_spent_only_where_memory_is_refused()
+    ensures run { (s : Setting) (harts turns : ℕ) → IsRunFault s.input s.file s.profile s.script s.paths harts turns Spent → IsSpentIn s turns }
+    ensures strict { (s : Setting) (harts turns : ℕ) → IsStrictFault s.input s.file s.profile s.script s.paths harts turns Spent → IsSpentIn s turns }
+{}
+
+/// What `explore` knows of such a script without trying an order, its output, is what each run by processes prints, unless that reports
+/// that memory was refused; where no list was requested, and the host states all bytes that are read.
+pub fn what_explore_knows_of_a_roomy_script_is_what_each_run_prints()
+    ensures { (s : Setting) (states : ℕ) (all : Bool) (value : Plain Global) → IsKnown s → (e : RanExplore s.input s.file s.profile s.script s.paths states all (Settled value)) → IsRoomyScript e.lines e.stdin e.given
+        → (how : How) (full : Option Full) (text diag : Bytes) → LeavesInput how → RanBy s.input s.file how s.profile s.script s.paths no_lists full text diag → PrintsUnlessRefused value.out full text }
+{}
+
+/// And where a script passes a test of `grade` by its meaning, and has room on the test's input and files, each finished run of it, on
+/// any harts and in any order, leaves what the test expects, unless memory was refused in it.
+pub fn a_pass_of_a_roomy_script_is_right_in_each_run()
+    ensures { (t : Task) (bytes : Bytes) (lines : List ScriptLine) → AreFiles t.files.now → IsScript bytes lines → IsPassed t lines → IsRoomyScript lines t.stdin.now t.files.now → IsRightUnlessRefused t lines }
 {}
 
 /// So two runs of one script, under one profile and on the same files, print the same on standard output, where nothing was full
