@@ -293,7 +293,7 @@ static inline uint32_t xvsh_check(const xvsh_task *task, uint32_t strict, xvsh_a
 }
 
 /* Tells in sentences what is wrong or unexpected in the lines of the script, as `xvsh explain --json`. Gives that object as json, and
- * fine where no line has a note. Nothing is run, as with xvsh_check. */
+ * fine where no line has a note and none may need more processes, open files or descriptors than there are. Nothing is run, as with xvsh_check. */
 static inline uint32_t xvsh_explain(const xvsh_task *task, xvsh_answer *answer) {
   xvsh_safe_task_ safe;
   if (xvsh_begin_(task, &safe, answer)) xvsh_explain_call(&safe.task, answer);

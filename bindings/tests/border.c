@@ -191,6 +191,10 @@ static void asks(void) {
   xvsh_task task = task_of("cat f | wc\n", NULL, 0);
   TEST(xvsh_check(&task, 0, &answer) == XVSH_OK && tells(&answer, "\"findings\":[]") && answer.fine && !answer.whole);
   TEST(xvsh_explain(&task, &answer) == XVSH_OK && tells(&answer, "\"status\":\"nothing to tell\"") && answer.fine && !answer.whole);
+  char deep[] = "(((((((((((((((((((((((((((((((((((((((((((((((((((((((((((((("
+                "echo a;);););););););););););););););););););););););););););););););););););););););););););););););););););););););););););););)\n";
+  task = task_of(deep, NULL, 0);
+  TEST(xvsh_explain(&task, &answer) == XVSH_OK && tells(&answer, "\"lack\":{\"line\":1,\"table\":\"processes\",\"need\":65,\"most\":64}") && !answer.fine);
   task = task_of("echo a\n\n)\n", NULL, 0);
   TEST(xvsh_check(&task, 0, &answer) == XVSH_OK && tells(&answer, "\"kind\":\"fault\",\"line\":3") && answer.fine);
   TEST(xvsh_check(&task, 1, &answer) == XVSH_OK && tells(&answer, "\"code\":3") && !answer.fine);

@@ -376,7 +376,7 @@ class Note:
 
 @dataclasses.dataclass(frozen=True)
 class Explanation:
-    """The notes on a script; it is `fine` where there is none. `json` is the program's object."""
+    """The notes on a script; it is `fine` where there is none and no line may not have room, of which `json`, the program's object, has `lack`."""
 
     fine: bool
     notes: tuple[Note, ...]

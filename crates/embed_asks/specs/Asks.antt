@@ -1,5 +1,5 @@
 -- What is told of a task's script before any run of it, and why nothing is.
-use Rattle.std.specs.Prelude.{◌↔◌, ◌<◌, ◌≤◌, ℕ, Bool, true, false, IsTrue, List, length}
+use Rattle.std.specs.Prelude.{◌≡◌, ◌↔◌, ◌<◌, ◌≤◌, ℕ, Bool, true, false, IsTrue, List, length, Option, None}
 use Rattle.mem_files.specs.Name.{Bytes}
 use Rattle.script_load.specs.declared.fault.LoadFault.TheVariants.{LineTooLong as load_long, ByteZero as load_zero}
 use Rattle.script_load.specs.Line.{ScriptLine}
@@ -7,7 +7,9 @@ use Rattle.script_load.specs.Script.{AllFine, IsScript, HasLoadFault}
 use Rattle.script_notes.specs.Explained.{HasNothingToTell}
 use Rattle.xvsh_read.specs.declared.fault.Fault.{Fault}
 use Rattle.xvsh_read.specs.declared.fault.Fault.TheVariants.{Unreadable as unreadable, TooLong as too_long, LineTooLong as line_too_long, ByteZero as byte_zero, BadName as bad_name, TakenName as taken_name, TooManyFiles as too_many_files, TooLarge as too_large, Memory as refused}
+use Rattle.room_bounds.specs.declared.lack.Lack.{Lack}
 use Rattle.xvsh_checks.specs.Check.{AreHarmless}
+use Rattle.xvsh_checks.specs.Lacks.{IsLackOfText}
 use Rattle.embed_task.specs.declared.task.Task.{Task}
 use Rattle.embed_task.specs.declared.fault.StartFault.{StartFault}
 use Rattle.embed_task.specs.declared.fault.StartFault.TheVariants.{ScriptTooLong, InputTooLong, LineTooLong, ByteZero, BadName, TakenName, FileTooLong, TooManyFiles, Memory as start_memory}
@@ -66,8 +68,10 @@ pub record IsCheckAnswer (task : Task) (strict : Bool) (answer : AskAnswer) : Ty
   pub short : length task.script.now ≤ max_input
   pub fine : IsTrue answer.is_fine ↔ AreHarmless strict lines
 
--- the answer is fine exactly where no line of the task's script has a note
+-- the answer is fine exactly where no line of the task's script has a note, and none may not have room
 pub record IsExplainAnswer (task : Task) (answer : AskAnswer) : Type 0 where
   pub lines : AllFine task.script.now
   pub short : length task.script.now ≤ max_input
-  pub fine : IsTrue answer.is_fine ↔ HasNothingToTell task.script.now
+  pub lack : Option Lack
+  pub room : IsLackOfText task.script.now lack
+  pub fine : IsTrue answer.is_fine ↔ (HasNothingToTell task.script.now × (lack ≡ None))

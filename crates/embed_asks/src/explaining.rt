@@ -15,13 +15,15 @@ fn object_of(alloc: Global, noted: &Noted, code: u8) -> Result<Vec<u8>, AllocErr
     let values = ExplainValues {
         notes: noted.notes.as_slice(),
         missing: &[],
+        lack: noted.lack,
         reasons: None,
     };
     explain_result(alloc, &values, code)
 }
 
-/// The notes on the script of a task, as `xvsh explain --json`: it is fine where no line has a note. Neither the input nor the
-/// files of the task are looked at, and nothing is run.
+/// The notes on the script of a task, and with which line first it may need more processes, open files or descriptors than there are,
+/// as `xvsh explain --json`: it is fine where there is neither. Neither the input nor the files of the task are looked at, and
+/// nothing is run.
 ///
 /// The faults are those of `check_of`.
 pub fn explain_of(alloc: Global, task: &Task<'_>) -> Result<AskAnswer, EmbedFault>

@@ -151,8 +151,8 @@ fn write_room(object: &mut Line, room: &Room) -> Result<(), AllocError> {
     object.end_object()
 }
 
-// With which line first it may need too much, and of what; `line` is left out where no line does.
-fn write_lack(object: &mut Line, lack: &Lack) -> Result<(), AllocError> {
+/// With which line first it may need too much, and of what; `line` is left out where no line does.
+pub(crate) fn write_lack(object: &mut Line, lack: &Lack) -> Result<(), AllocError> {
     object.begin_object("lack")?;
     if lack.line > 0 {
         object.count("line", lack.line as u64)?;

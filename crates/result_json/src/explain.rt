@@ -1,9 +1,11 @@
 //! The result of an explanation.
 
+use crate::check::write_lack;
 use crate::head::begin_result;
 use crate::reasons::write_reasons;
 use missing_names::Missing;
 use plain_run::Reason;
+use room_bounds::Lack;
 use script_notes::{LineNote, NoteKind, Span};
 use std::alloc::{AllocError, Global};
 use trace_lines::Line;
@@ -84,6 +86,8 @@ pub struct ExplainValues<'a> {
     pub notes: &'a [LineNote],
     /// The names that no file has, where reasons were asked for.
     pub missing: &'a [Missing],
+    /// With which line first it may not have room.
+    pub lack: Option<Lack>,
     /// Why it isn't settled on its files and its input, where that was asked for.
     pub reasons: Option<&'a [Reason<Global>]>,
 }
@@ -108,16 +112,17 @@ fn status_word(values: &ExplainValues<'_>) -> &'static str {
     match values.reasons {
         Some(reasons) if !reasons.is_empty() => "not settled",
         _ if !values.missing.is_empty() => "missing names",
+        _ if values.lack.is_some() => "without room",
         _ => "nothing to tell",
     }
 }
 
 /// The result of an explanation as one object of JSON, and LF (own): `format`, `version`, `command` `explain`, `status`
 /// (`notes` where there is one; else `not settled` where there is a reason, else `missing names` where a name has no file, else
-/// `nothing to tell`), `code`, the status with which
+/// `without room` where a line may not have it, else `nothing to tell`), `code`, the status with which
 /// the program ends, and `notes`, in the order of the lines: of each its `kind`, its `line`, counted from 1, its `places`, each
 /// from the byte `first` up to and without the byte `past` of the line, counted from 0, its `sentence`, and the line's `text`;
-/// and `missing`, the names that no file has, each with its `line` and its `name`, `settled` and `reasons`, where these were asked for.
+/// `lack`, as of a check, where a line may not have room; and `missing`, the names that no file has, each with its `line` and its `name`, `settled` and `reasons`, where these were asked for.
 ///
 /// Bytes are a string where they are UTF-8, else an object whose member `base64` is their base64. `AllocError` where memory for
 /// the text is refused.
@@ -132,6 +137,9 @@ pub fn explain_result(
         write_note(&mut object, note)?;
     }
     object.end_list()?;
+    if let Some(lack) = &values.lack {
+        write_lack(&mut object, lack)?;
+    }
     if let Some(reasons) = values.reasons {
         write_missing(&mut object, values.missing)?;
         object.truth("settled", reasons.is_empty())?;

@@ -2,3 +2,4 @@ pub mod Capped
 pub mod Needs
 pub mod Given
 pub mod Room
+pub mod Crowd

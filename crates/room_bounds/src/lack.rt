@@ -24,8 +24,8 @@ pub struct Lack {
     pub need: Option<u64>,
 }
 
-// Whether a need is within a table.
-fn is_within(need: Option<u64>, table: Table) -> bool
+/// Whether a need is within a table.
+pub(crate) fn is_within(need: Option<u64>, table: Table) -> bool
     ensures within { (n : ℕ) → IsCapped n need → IsTrue result → n ≤ most_of table }
     ensures much { result ≡ false → IsTooMuch table need }
 {

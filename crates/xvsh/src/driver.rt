@@ -166,8 +166,8 @@ fn ending_on<R: Threads + Wait + Clock + Sync, H: Host + Traces + Watch>(
 ///
 /// `check SCRIPT` reads and loads the script, runs nothing, and writes the faults, the `&` and the first clash of each line.
 /// `check --turns SCRIPT [FILE]..` reads what `plain` reads, and writes last how many turns are enough for a run by processes.
-/// `explain SCRIPT` reads and loads the script, runs nothing, and writes in sentences what its lines are not, or
-/// `nothing to tell`. `explain [--why] [--append] SCRIPT [FILE]..` with a FILE or `--why` reads what `plain` reads, and writes
+/// `explain SCRIPT` reads and loads the script, runs nothing, and writes in sentences what its lines are not, and which line may not
+/// have room in xv6's tables, or `nothing to tell`. `explain [--why] [--append] SCRIPT [FILE]..` with a FILE or `--why` reads what `plain` reads, and writes
 /// behind these sentences each reason why the script isn't settled, or that it is and why its pipes are safe.
 ///
 /// `explore [--states N] [--all] [--witness DIR] [--draw FILE] [--json] [--append] SCRIPT [FILE]..` reads what `plain` reads, tries
@@ -188,7 +188,7 @@ fn ending_on<R: Threads + Wait + Clock + Sync, H: Host + Traces + Watch>(
 /// A fault goes to standard error as one line, but with `--json`, and then nothing of the script was written. The host is told
 /// what helps then, which it may show on a terminal. The status is 1 for what can't be
 /// read or is refused, and for a schedule that is not of a finished run; 2 for words that are no command line; 3 where `check`
-/// reported a clash or a `&`, or `explain` a note or a reason, or `explore` found more than one output or set of files, or as above; 4 for an
+/// reported a clash or a `&`, or `explain` told of anything, or `explore` found more than one output or set of files, or as above; 4 for an
 /// exploration that didn't try every order, and for a run that is too large, is past its turns, is out of
 /// memory, or met something full, which alone is reported after what it wrote. `--help` and `--version` go to standard output.
 /// Where standard output or standard error takes no more, it holds a beginning of what was due, nothing more is written, and the

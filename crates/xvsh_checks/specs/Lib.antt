@@ -1,5 +1,6 @@
 pub mod Check
 pub mod Explain
+pub mod Lacks
 pub mod Room
 pub mod Turns
 pub mod Values

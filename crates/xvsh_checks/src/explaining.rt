@@ -1,38 +1,40 @@
 //! What `explain` reports of a script.
 ghost use Rattle.std.specs.Prelude.{◌≡◌, ◌↔◌, [], IfOk, IfErr, IsTrue};
-ghost use Rattle.xvsh_read.specs.Starting.{IsScriptAtFault};
 ghost use Rattle.xvsh_checks.specs.Explain.{IsExplainedAt, RanExplain, written_of};
 ghost use Rattle.xvsh_checks.specs.Check.{IsCheckFault};
 
+use crate::lacks::{add_lack_note, lack_of_text};
 use crate::request::ExplainRequest;
 use script_notes::explain;
 use std::alloc::{AllocError, Global};
 use xvsh_read::{Fault, Host, MAX_INPUT, read};
 
-// The notes on the script at a path.
+// The notes on the script at a path, and behind them with which line first it may not have room.
 fn explain_at<'a, H: Host>(
     alloc: Global,
     host: &mut H,
     script: &'a str,
 ) -> Result<Vec<u8>, Fault<'a>>
     ensures told { IfOk result (λ told. IsExplainedAt (H.input host.old) (H.file host.old) script.now told.items) }
-    ensures fault { IfErr result (IsScriptAtFault (H.input host.old) (H.file host.old) script.now) }
+    ensures fault { IfErr result (IsCheckFault (H.input host.old) (H.file host.old) script.now) }
 {
     let bytes = read(alloc, host, script, MAX_INPUT)?;
-    let told = explain(alloc, bytes.as_slice())?;
+    let mut told = explain(alloc, bytes.as_slice())?;
+    let lack = lack_of_text(alloc, bytes.as_slice())?;
+    add_lack_note(alloc, &lack, &mut told)?;
     Ok(told)
 }
 
 /// What `explain` reports of a script.
 #[derive(Drop)]
 pub struct Explained {
-    /// The notes, or that there are none.
+    /// The notes and with which line first it may not have room, or that there is nothing to tell.
     pub text: Vec<u8>,
-    /// No line of the script has a note.
+    /// No line of the script has a note, and none may not have room.
     pub is_fine: bool,
 }
 
-// What is printed of these notes.
+// What is printed of what is told.
 fn printed(alloc: Global, told: Vec<u8>) -> Result<Explained, AllocError>
     ensures text { IfOk result (λ explained. explained.text.items ≡ written_of told.items) }
     ensures fine { IfOk result (λ explained. IsTrue explained.is_fine ↔ (told.items ≡ [])) }
@@ -52,8 +54,8 @@ fn printed(alloc: Global, told: Vec<u8>) -> Result<Explained, AllocError>
     }
 }
 
-/// `explain`: reads the script, and returns its notes on the lines in sentences, and whether there are none (own). Nothing is
-/// written.
+/// `explain`: reads the script, and returns its notes on the lines in sentences, behind them with which line first it may need
+/// more processes, open files or descriptors than xv6 has, and whether there is none of these (own). Nothing is written.
 pub fn run_explain<'a, H: Host>(
     alloc: Global,
     request: &ExplainRequest<'a>,

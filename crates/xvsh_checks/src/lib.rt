@@ -6,6 +6,7 @@ mod counting;
 mod explaining;
 mod finding;
 mod found;
+mod lacks;
 mod noting;
 mod request;
 mod room_found;

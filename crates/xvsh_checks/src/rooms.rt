@@ -32,8 +32,8 @@ fn is_clear_line(line: &Line<Global>) -> bool
     }
 }
 
-// Whether no line has one.
-fn is_clear(lines: &[Line<Global>]) -> bool
+/// Whether no line has a clash or a `&`.
+pub(crate) fn is_clear(lines: &[Line<Global>]) -> bool
     ensures { IsTrue result ↔ AreHarmless false (map line_of lines.now) }
 {
     for line in lines {
@@ -76,8 +76,8 @@ fn is_fine(is_harmless: bool, found: &RoomFound) -> bool
     is_harmless && has_room(found)
 }
 
-// Adds a need and what follows it.
-fn add_need(
+/// Adds a need and what follows it.
+pub(crate) fn add_need(
     alloc: Global,
     need: Option<u64>,
     after: &[u8],
@@ -129,8 +129,8 @@ fn room_line(alloc: Global, room: &Room) -> Result<Vec<u8>, AllocError>
     Ok(text)
 }
 
-// What is said of a table of which there is too little.
-fn table_text(table: Table) -> &'static [u8]
+/// What is said of a table of which there is too little.
+pub(crate) fn table_text(table: Table) -> &'static [u8]
     ensures { result.now ≡ table_text table }
 {
     match table {

@@ -1,6 +1,6 @@
-//! What `explain` reports of a script on its files and its input: its notes, the names that no file has, and why it is settled or
-//! isn't.
-ghost use Rattle.std.specs.Prelude.{◌≡◌, ◌++◌, ◌↔◌, [], IfOk, IfErr, IsTrue, map};
+//! What `explain` reports of a script on its files and its input: its notes, the names that no file has, with which line first it
+//! may not have room, and why it is settled or isn't.
+ghost use Rattle.std.specs.Prelude.{◌≡◌, ◌++◌, ◌↔◌, [], None, IfOk, IfErr, IsTrue, map};
 ghost use Rattle.mem_files.specs.Files.{files};
 ghost use Rattle.script_load.specs.Line.{lines_of};
 ghost use Rattle.script_notes.specs.Written.{written};
@@ -9,14 +9,17 @@ ghost use Rattle.missing_names.specs.Missing.{missing_names};
 ghost use Rattle.missing_names.specs.Texts.{missing_texts, shown};
 ghost use Rattle.reason_sentences.specs.Sentences.{reason_text, why_text};
 ghost use Rattle.reason_sentences.specs.Whys.{AreReasonTexts};
+ghost use Rattle.xvsh_checks.specs.Lacks.{IsLackNoted, lack_noted};
 ghost use Rattle.xvsh_checks.specs.Whys.{RanWhys, IsWhysFault};
 
 use crate::explaining::Explained;
-use crate::noting::are_none;
+use crate::lacks::{add_lack_note, lack_of};
+use crate::noting::is_told_nothing;
 use crate::request::ExplainRequest;
 use missing_names::{Missing, missing_names, text_of_missing};
 use plain_run::{Reason, plain_with_reasons};
 use reason_sentences::why;
+use room_bounds::Lack;
 use script_notes::{LineNote, explain, notes_of};
 use std::alloc::{AllocError, Global};
 use xvsh_plain::of_plain;
@@ -40,41 +43,67 @@ fn missing_of(alloc: Global, start: &Start) -> Result<Vec<Missing>, AllocError>
     missing_names(alloc, &start.script, &start.files)
 }
 
-// The sentences of these names, and behind them these reasons or that there is none.
-fn names_and_why(
+// With which line first what was read may not have room.
+fn lack_at(start: &Start) -> Option<Lack>
+    ensures { IsLackNoted (lines_of start.now.script.lines) result }
+{
+    lack_of(&start.script)
+}
+
+// The sentence of a lack, and behind it these reasons or that there is none.
+fn lack_and_why(
     alloc: Global,
-    missing: &[Missing],
+    lack: &Option<Lack>,
     reasons: &[Reason<Global>],
 ) -> Result<Vec<u8>, AllocError>
-    ensures { IfOk result (λ text. text.items ≡ missing_texts (map shown missing.now) ++ why_text (map reason_text reasons.now)) }
+    ensures { IfOk result (λ text. text.items ≡ lack_noted lack.now ++ why_text (map reason_text reasons.now)) }
 {
-    let mut text = text_of_missing(alloc, missing)?;
+    let mut text = Vec::new(alloc);
+    add_lack_note(alloc, lack, &mut text)?;
     let told = why(alloc, reasons)?;
     text.extend_from_slice(told.as_slice())?;
     Ok(text)
 }
 
-// The notes, and behind them these names, and these reasons or that there is none.
+// The sentences of these names, and behind them that of a lack and these reasons or that there is none.
+fn names_and_why(
+    alloc: Global,
+    missing: &[Missing],
+    lack: &Option<Lack>,
+    reasons: &[Reason<Global>],
+) -> Result<Vec<u8>, AllocError>
+    ensures { IfOk result (λ text. text.items ≡ missing_texts (map shown missing.now) ++ (lack_noted lack.now ++ why_text (map reason_text reasons.now))) }
+{
+    let mut text = text_of_missing(alloc, missing)?;
+    let told = lack_and_why(alloc, lack, reasons)?;
+    text.extend_from_slice(told.as_slice())?;
+    Ok(text)
+}
+
+// The notes, and behind them these names, this lack, and these reasons or that there is none.
 fn with_why(
     alloc: Global,
     notes: Vec<u8>,
     missing: &[Missing],
+    lack: &Option<Lack>,
     reasons: &[Reason<Global>],
 ) -> Result<Explained, AllocError>
-    ensures text { IfOk result (λ explained. explained.text.items ≡ notes.items ++ (missing_texts (map shown missing.now) ++ why_text (map reason_text reasons.now))) }
-    ensures fine { IfOk result (λ explained. IsTrue explained.is_fine ↔ ((notes.items ≡ []) × (missing.now ≡ []) × (reasons.now ≡ []))) }
+    ensures text { IfOk result (λ explained. explained.text.items ≡ notes.items ++ (missing_texts (map shown missing.now) ++ (lack_noted lack.now ++ why_text (map reason_text reasons.now)))) }
+    ensures fine { IfOk result (λ explained. IsTrue explained.is_fine ↔ ((notes.items ≡ []) × (missing.now ≡ []) × (lack.now ≡ None) × (reasons.now ≡ []))) }
 {
     let mut text = notes;
-    let is_fine = text.as_slice().is_empty() && missing.is_empty() && reasons.is_empty();
-    let told = names_and_why(alloc, missing, reasons)?;
+    let is_nothing = text.as_slice().is_empty() && missing.is_empty() && reasons.is_empty();
+    let is_fine = is_nothing && lack.is_none();
+    let told = names_and_why(alloc, missing, lack, reasons)?;
     text.extend_from_slice(told.as_slice())?;
     Ok(Explained { text, is_fine })
 }
 
 /// `explain` with files: reads the script, the files in order, and standard input unless that is the script, and returns its notes
-/// on the lines in sentences, behind them the first name of each line that no file has when the line runs, and then each reason why
-/// the script isn't settled on these files and this input, or why it is (own); and whether there is no note, no such name and no
-/// reason. The script is run by its meaning to find that out. Nothing is written.
+/// on the lines in sentences, behind them the first name of each line that no file has when the line runs, with which line first the
+/// script may need more processes, open files or descriptors than xv6 has, and then each reason why it isn't settled on these files and this input, or why it is
+/// (own); and whether there is no note, no such name, no such line and no reason. The script is run by its meaning to find that
+/// out. Nothing is written.
 pub fn run_whys<'a, H: Host>(
     alloc: Global,
     request: &ExplainRequest<'a>,
@@ -88,15 +117,21 @@ pub fn run_whys<'a, H: Host>(
     let start = prepare_read(alloc, host, &request.source, bytes.as_slice())?;
     let reasons = reasons_of(alloc, &start)?;
     let missing = missing_of(alloc, &start)?;
-    let explained = with_why(alloc, notes, missing.as_slice(), reasons.as_slice())?;
+    let lack = lack_at(&start);
+    let explained = with_why(alloc, notes, missing.as_slice(), &lack, reasons.as_slice())?;
     Ok(explained)
 }
 
-// Whether there is no note, no missing name and no reason.
-fn is_nothing(notes: &[LineNote], missing: &[Missing], reasons: &[Reason<Global>]) -> bool
-    ensures { IsTrue result ↔ ((written notes.now ≡ []) × (missing.now ≡ []) × (reasons.now ≡ [])) }
+// Whether there is no note, no missing name, no lack and no reason.
+fn is_nothing(
+    notes: &[LineNote],
+    missing: &[Missing],
+    lack: &Option<Lack>,
+    reasons: &[Reason<Global>],
+) -> bool
+    ensures { IsTrue result ↔ ((written notes.now ≡ []) × (missing.now ≡ []) × (lack.now ≡ None) × (reasons.now ≡ [])) }
 {
-    are_none(notes) && missing.is_empty() && reasons.is_empty()
+    is_told_nothing(notes, lack) && missing.is_empty() && reasons.is_empty()
 }
 
 /// What `explain` tells of a script on its files and its input.
@@ -106,20 +141,22 @@ pub struct NotedWhys {
     pub notes: Vec<LineNote>,
     /// The first name of each line that no file has when the line runs.
     pub missing: Vec<Missing>,
+    /// With which line first it may not have room.
+    pub lack: Option<Lack>,
     /// Why the script isn't settled; nothing where it is.
     pub reasons: Vec<Reason<Global>>,
-    /// There is no note, no such name and no reason.
+    /// There is no note, no such name, no such line and no reason.
     pub is_fine: bool,
 }
 
-/// `explain --json` with files: reads what `run_whys` reads, and returns the notes, the names that no file has and the reasons as
-/// values, and whether there is none of these (own). The script is run by its meaning to find that out. Nothing is written.
+/// `explain --json` with files: reads what `run_whys` reads, and returns the notes, the names that no file has, with which line first
+/// it may not have room, and the reasons as values, and whether there is none of these (own). The script is run by its meaning to find that out. Nothing is written.
 pub fn run_note_whys<'a, H: Host>(
     alloc: Global,
     request: &ExplainRequest<'a>,
     host: &mut H,
 ) -> Result<NotedWhys, Fault<'a>>
-    ensures ran { IfOk result (λ noted. RanWhys (H.input host.old) (H.file host.old) request.now.source.profile request.now.source.script.now request.now.source.files.now noted.is_fine (written noted.notes.items ++ (missing_texts (map shown noted.missing.items) ++ why_text (map reason_text noted.reasons.items)))) }
+    ensures ran { IfOk result (λ noted. RanWhys (H.input host.old) (H.file host.old) request.now.source.profile request.now.source.script.now request.now.source.files.now noted.is_fine (written noted.notes.items ++ (missing_texts (map shown noted.missing.items) ++ (lack_noted noted.lack ++ why_text (map reason_text noted.reasons.items))))) }
     ensures fault { IfErr result (IsWhysFault (H.input host.old) (H.file host.old) request.now.source.profile request.now.source.script.now request.now.source.files.now) }
 {
     let bytes = read(alloc, host, request.source.script, MAX_INPUT)?;
@@ -127,10 +164,17 @@ pub fn run_note_whys<'a, H: Host>(
     let start = prepare_read(alloc, host, &request.source, bytes.as_slice())?;
     let reasons = reasons_of(alloc, &start)?;
     let missing = missing_of(alloc, &start)?;
-    let is_fine = is_nothing(notes.as_slice(), missing.as_slice(), reasons.as_slice());
+    let lack = lack_at(&start);
+    let is_fine = is_nothing(
+        notes.as_slice(),
+        missing.as_slice(),
+        &lack,
+        reasons.as_slice(),
+    );
     Ok(NotedWhys {
         notes,
         missing,
+        lack,
         reasons,
         is_fine,
     })

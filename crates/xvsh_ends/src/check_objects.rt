@@ -96,6 +96,7 @@ fn notes_json<H: Host>(alloc: Global, request: &ExplainRequest<'_>, host: &mut H
             let values = ExplainValues {
                 notes: noted.notes.as_slice(),
                 missing: &[],
+                lack: noted.lack,
                 reasons: None,
             };
             let made = explain_result(alloc, &values, code);
@@ -118,6 +119,7 @@ fn whys_json<H: Host>(alloc: Global, request: &ExplainRequest<'_>, host: &mut H)
             let values = ExplainValues {
                 notes: noted.notes.as_slice(),
                 missing: noted.missing.as_slice(),
+                lack: noted.lack,
                 reasons: Some(noted.reasons.as_slice()),
             };
             let made = explain_result(alloc, &values, code);

@@ -78,9 +78,10 @@ with one more that names the first line which may need more than xv6 has.
 
 `xvsh explain SCRIPT` tells the same in sentences, and more: a `#` or a quote
 that is a letter here, a command that is no program, a name that no file can
-have, a `>>` that writes over. Each sentence comes with its line and marks
-under the place. With FILEs, or `--why`, it reads standard input too, and tells
-which names no file has, and each reason why the script isn't settled on them.
+have, a `>>` that writes over. Each of these comes with its line and marks
+under the place. It names the first line that may need more than xv6 has, too.
+With FILEs, or `--why`, it reads standard input too, and tells which names no
+file has, and each reason why the script isn't settled on them.
 
 `xvsh explore SCRIPT [FILE]..` tries every order in which the script's
 processes can take their turns, and writes a line for each output that the

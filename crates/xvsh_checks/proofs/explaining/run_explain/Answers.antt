@@ -1,11 +1,11 @@
 use Rattle.xvsh_read.proofs.Faults.{at_fault}
-use Rattle.xvsh_checks.specs.Check.{no_script_told, not_told}
+use Rattle.xvsh_checks.specs.Check.{not_told}
 use Rattle.xvsh_checks.proofs.Sentences.{ran_explain}
 use Rattle.xvsh_checks.proofs.explaining.run_explain.Goals as goal
 
 pub returns-in_err-told-clause-fault : goal.returns-in_err-told-clause-fault
 returns-in_err-told-clause-fault g c =
-    at_fault c.from_residual.result _ _ c.from_residual.ensures.1 (no_script_told c.in_err-told.ensures.fault)
+    at_fault c.from_residual.result _ _ c.from_residual.ensures.1 c.in_err-told.ensures.fault
 
 pub returns-in_err-explained-clause-fault : goal.returns-in_err-explained-clause-fault
 returns-in_err-explained-clause-fault g c =

@@ -1,18 +1,42 @@
-use Rattle.std.proofs.Common.{◌≡◌, [], refl, subst}
+use Rattle.std.proofs.Common.{◌≡◌, [], None, refl, subst}
 use Rattle.std.specs.Prelude.{◌↔◌, IsTrue}
+use Rattle.script_load.specs.Script.{HasLoadFault}
+use Rattle.script_notes.specs.Explained.{IsExplained}
 use Rattle.script_notes.specs.Written.{written}
+use Rattle.xvsh_read.specs.Starting.{unread_script, bad_script}
 use Rattle.xvsh_read.proofs.Faults.{at_fault}
+use Rattle.xvsh_read.proofs.Begins.{load_fault}
 use Rattle.xvsh_checks.specs.Check.{no_script_told}
-use Rattle.xvsh_checks.specs.Explain.{written_of}
-use Rattle.xvsh_checks.proofs.Sentences.{ran_explain}
+use Rattle.xvsh_checks.specs.Lacks.{IsLackOfText}
+use Rattle.xvsh_checks.proofs.Sentences.{fine_where}
 use Rattle.xvsh_checks.proofs.noting.run_note.Goals as goal
+
+pub returns-in_err-bytes-clause-fault : goal.returns-in_err-bytes-clause-fault
+returns-in_err-bytes-clause-fault g c =
+    at_fault c.from_residual.result _ _ c.from_residual.ensures.1 (no_script_told (unread_script c.in_err-bytes.ensures.fault))
 
 pub returns-in_err-notes-clause-fault : goal.returns-in_err-notes-clause-fault
 returns-in_err-notes-clause-fault g c =
-    at_fault c.from_residual.result _ _ c.from_residual.ensures.1 (no_script_told c.in_err-notes.ensures.fault)
+    at_fault c.from_residual-in_err-notes.result _ _ c.from_residual-in_err-notes.ensures.1 (no_script_told (bad_script c.in_ok-bytes.bytes.items c.in_ok-bytes.ensures.bytes (load_fault c.in_ok-bytes.bytes.items c.in_err-notes.field-0.0 (subst (λ b. HasLoadFault b c.in_err-notes.field-0.0) c.as_slice.ensures.value c.in_err-notes.ensures.fault))))
+
+pub returns-in_err-lack-clause-fault : goal.returns-in_err-lack-clause-fault
+returns-in_err-lack-clause-fault g c =
+    at_fault c.from_residual-in_err-lack.result _ _ c.from_residual-in_err-lack.ensures.1 (no_script_told (bad_script c.in_ok-bytes.bytes.items c.in_ok-bytes.ensures.bytes (load_fault c.in_ok-bytes.bytes.items c.in_err-lack.field-0.0 (subst (λ b. HasLoadFault b c.in_err-lack.field-0.0) c.as_slice-2.ensures.value c.in_err-lack.ensures.fault))))
 
 pub returns-clause-ran : goal.returns-clause-ran
 returns-clause-ran g c =
-    let told = written c.in_ok-notes.notes.items in
-    ran_explain (g.H.Host.input c.args.host.now) (g.H.Host.file c.args.host.now) c.args.request.now.source.script.now told (written_of told) c.are_none-is_fine.result c.in_ok-notes.ensures.told refl
-    (subst (λ notes. IsTrue c.are_none-is_fine.result ↔ (written notes ≡ [])) c.as_slice.ensures.value c.are_none-is_fine.ensures)
+    let bytes = c.in_ok-bytes.bytes.items in
+    let notes = written c.in_ok-notes.notes.items in
+    let lack = c.in_ok-lack.lack in
+    let explained = subst (λ b. IsExplained b notes) c.as_slice.ensures.value c.in_ok-notes.ensures.told in
+    record {
+      bytes = bytes;
+      own = c.in_ok-bytes.ensures.bytes;
+      notes = notes;
+      explained = explained;
+      lack = lack;
+      room = subst (λ b. IsLackOfText b lack) c.as_slice-2.ensures.value c.in_ok-lack.ensures.told;
+      prints = refl;
+      fine = fine_where bytes notes lack c.is_told_nothing-is_fine.result explained
+          (subst (λ ns. IsTrue c.is_told_nothing-is_fine.result ↔ ((written ns ≡ []) × (lack ≡ None))) c.as_slice-3.ensures.value c.is_told_nothing-is_fine.ensures);
+    }

@@ -1,4 +1,4 @@
-use Rattle.std.proofs.Common.{◌≡◌, ◌↔◌, ◌++◌, ◌∙◌, [], IsTrue, refl, subst, sym}
+use Rattle.std.proofs.Common.{◌≡◌, ◌↔◌, ◌++◌, ◌∙◌, [], None, IsTrue, refl, subst, sym}
 use Rattle.std.specs.Prelude.{map}
 use Rattle.mem_files.specs.Files.{files}
 use Rattle.script_load.specs.Line.{lines_of}
@@ -11,9 +11,10 @@ use Rattle.reason_sentences.specs.Sentences.{reason_text, why_text}
 use Rattle.reason_sentences.specs.Whys.{AreReasonTexts}
 use Rattle.xvsh_plain.specs.Running.{IsMeaningFault}
 use Rattle.xvsh_read.specs.Reading.{Agree, told_at}
-use Rattle.xvsh_read.specs.Starting.{Starts, unread_script, bad_script}
+use Rattle.xvsh_read.specs.Starting.{unread_script, bad_script}
 use Rattle.xvsh_read.proofs.Faults.{at_fault}
 use Rattle.xvsh_read.proofs.Begins.{load_fault}
+use Rattle.xvsh_checks.specs.Lacks.{lack_noted}
 use Rattle.xvsh_checks.specs.Whys.{no_notes, no_whys_start, no_whys, whys_not_told}
 use Rattle.xvsh_checks.proofs.Reasoned.{ran_whys}
 use Rattle.xvsh_checks.proofs.whys.run_note_whys.Goals as goal
@@ -58,12 +59,14 @@ returns-clause-ran g c =
     let missing = c.in_ok-missing.missing.items in
     let reasons = c.in_ok-reasons.reasons.items in
     let starts = c.in_ok-start.ensures.prepared input file c.read.ensures.files_stay c.read.ensures.input_stays (subst (Agree (told_at input file source.script.now)) (sym c.as_slice-2.ensures.value) c.in_ok-bytes.ensures.bytes) in
-    ran_whys input file source.profile source.script.now source.files.now lines start.files start.stdin.items bytes notes (notes ++ (missing_texts (map shown missing) ++ why_text (map reason_text reasons))) missing reasons c.is_nothing-is_fine.result
+    let lack = c.lack_at-lack.result in
+    ran_whys input file source.profile source.script.now source.files.now lines start.files start.stdin.items bytes notes (notes ++ (missing_texts (map shown missing) ++ (lack_noted lack ++ why_text (map reason_text reasons)))) missing lack reasons c.is_nothing-is_fine.result
     (starts.0, starts.1 ∙ c.as_slice-2.ensures.value)
     (subst (λ b. IsExplained b notes) c.as_slice.ensures.value c.in_ok-notes.ensures.told)
+    c.lack_at-lack.ensures
     (subst (λ profile. AreReasonTexts profile lines start.stdin.items (files start.files) (map reason_text reasons)) c.in_ok-start.ensures.profile c.in_ok-reasons.ensures.reasons)
     c.in_ok-missing.ensures
     refl
-    (subst (λ rs. IsTrue c.is_nothing-is_fine.result ↔ ((notes ≡ []) × (missing ≡ []) × (rs ≡ []))) c.as_slice-5.ensures.value
-    (subst (λ ms. IsTrue c.is_nothing-is_fine.result ↔ ((notes ≡ []) × (ms ≡ []) × (c.as_slice-5.result.now ≡ []))) c.as_slice-4.ensures.value
-    (subst (λ ns. IsTrue c.is_nothing-is_fine.result ↔ ((written ns ≡ []) × (c.as_slice-4.result.now ≡ []) × (c.as_slice-5.result.now ≡ []))) c.as_slice-3.ensures.value c.is_nothing-is_fine.ensures)))
+    (subst (λ rs. IsTrue c.is_nothing-is_fine.result ↔ ((notes ≡ []) × (missing ≡ []) × (lack ≡ None) × (rs ≡ []))) c.as_slice-5.ensures.value
+    (subst (λ ms. IsTrue c.is_nothing-is_fine.result ↔ ((notes ≡ []) × (ms ≡ []) × (lack ≡ None) × (c.as_slice-5.result.now ≡ []))) c.as_slice-4.ensures.value
+    (subst (λ ns. IsTrue c.is_nothing-is_fine.result ↔ ((written ns ≡ []) × (c.as_slice-4.result.now ≡ []) × (lack ≡ None) × (c.as_slice-5.result.now ≡ []))) c.as_slice-3.ensures.value c.is_nothing-is_fine.ensures)))

@@ -1,4 +1,4 @@
-use Rattle.std.proofs.Common.{◌≡◌, ◌↔◌, ◌++◌, ◌∙◌, [], IsTrue, subst, sym}
+use Rattle.std.proofs.Common.{◌≡◌, ◌↔◌, ◌++◌, ◌∙◌, [], None, IsTrue, subst, sym}
 use Rattle.std.specs.Prelude.{map}
 use Rattle.mem_files.specs.Files.{files}
 use Rattle.script_load.specs.Line.{lines_of}
@@ -10,9 +10,10 @@ use Rattle.reason_sentences.specs.Sentences.{reason_text, why_text}
 use Rattle.reason_sentences.specs.Whys.{AreReasonTexts}
 use Rattle.xvsh_plain.specs.Running.{IsMeaningFault}
 use Rattle.xvsh_read.specs.Reading.{Agree, told_at}
-use Rattle.xvsh_read.specs.Starting.{Starts, unread_script, bad_script}
+use Rattle.xvsh_read.specs.Starting.{unread_script, bad_script}
 use Rattle.xvsh_read.proofs.Faults.{at_fault}
 use Rattle.xvsh_read.proofs.Begins.{load_fault}
+use Rattle.xvsh_checks.specs.Lacks.{lack_noted}
 use Rattle.xvsh_checks.specs.Whys.{no_notes, no_whys_start, no_whys, whys_not_told}
 use Rattle.xvsh_checks.proofs.Reasoned.{ran_whys}
 use Rattle.xvsh_checks.proofs.whys.run_whys.Goals as goal
@@ -62,12 +63,14 @@ returns-clause-ran g c =
     let reasons = c.in_ok-reasons.reasons.items in
     let explained = c.in_ok-explained.explained in
     let starts = c.in_ok-start.ensures.prepared input file c.read.ensures.files_stay c.read.ensures.input_stays (subst (Agree (told_at input file source.script.now)) (sym c.as_slice-2.ensures.value) c.in_ok-bytes.ensures.bytes) in
-    ran_whys input file source.profile source.script.now source.files.now lines start.files start.stdin.items bytes notes explained.text.items missing reasons explained.is_fine
+    let lack = c.lack_at-lack.result in
+    ran_whys input file source.profile source.script.now source.files.now lines start.files start.stdin.items bytes notes explained.text.items missing lack reasons explained.is_fine
     (starts.0, starts.1 ∙ c.as_slice-2.ensures.value)
     (subst (λ b. IsExplained b notes) c.as_slice.ensures.value c.in_ok-notes.ensures.told)
+    c.lack_at-lack.ensures
     (subst (λ profile. AreReasonTexts profile lines start.stdin.items (files start.files) (map reason_text reasons)) c.in_ok-start.ensures.profile c.in_ok-reasons.ensures.reasons)
     c.in_ok-missing.ensures
-    (subst (λ rs. explained.text.items ≡ notes ++ (missing_texts (map shown missing) ++ why_text (map reason_text rs))) c.as_slice-4.ensures.value
-    (subst (λ ms. explained.text.items ≡ notes ++ (missing_texts (map shown ms) ++ why_text (map reason_text c.as_slice-4.result.now))) c.as_slice-3.ensures.value c.in_ok-explained.ensures.text))
-    (subst (λ rs. IsTrue explained.is_fine ↔ ((notes ≡ []) × (missing ≡ []) × (rs ≡ []))) c.as_slice-4.ensures.value
-    (subst (λ ms. IsTrue explained.is_fine ↔ ((notes ≡ []) × (ms ≡ []) × (c.as_slice-4.result.now ≡ []))) c.as_slice-3.ensures.value c.in_ok-explained.ensures.fine))
+    (subst (λ rs. explained.text.items ≡ notes ++ (missing_texts (map shown missing) ++ (lack_noted lack ++ why_text (map reason_text rs)))) c.as_slice-4.ensures.value
+    (subst (λ ms. explained.text.items ≡ notes ++ (missing_texts (map shown ms) ++ (lack_noted lack ++ why_text (map reason_text c.as_slice-4.result.now)))) c.as_slice-3.ensures.value c.in_ok-explained.ensures.text))
+    (subst (λ rs. IsTrue explained.is_fine ↔ ((notes ≡ []) × (missing ≡ []) × (lack ≡ None) × (rs ≡ []))) c.as_slice-4.ensures.value
+    (subst (λ ms. IsTrue explained.is_fine ↔ ((notes ≡ []) × (ms ≡ []) × (lack ≡ None) × (c.as_slice-4.result.now ≡ []))) c.as_slice-3.ensures.value c.in_ok-explained.ensures.fine))
