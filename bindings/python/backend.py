@@ -16,6 +16,7 @@ from typing import Any
 
 HERE = os.path.dirname(os.path.abspath(__file__))
 TAG = "py3-none-linux_x86_64"
+MODULES = ("__init__.py", "_show.py", "grading.py")
 
 
 def _read(*path: str) -> bytes:
@@ -62,7 +63,7 @@ def build_wheel(wheel_directory: str, config_settings: Any = None, metadata_dire
     made = f"xvsh-{_version()}"
     name, info = f"{made}-{TAG}.whl", f"{made}.dist-info"
     files = {
-        "xvsh/__init__.py": _read("xvsh", "__init__.py"), "xvsh/py.typed": _read("xvsh", "py.typed"), "xvsh/libxvsh.so": _library(),
+        **{f"xvsh/{name}": _read("xvsh", name) for name in MODULES}, "xvsh/py.typed": _read("xvsh", "py.typed"), "xvsh/libxvsh.so": _library(),
         f"{info}/METADATA": _metadata(), f"{info}/LICENSE": _read("..", "..", "LICENSE"),
         f"{info}/WHEEL": f"Wheel-Version: 1.0\nGenerator: xvsh\nRoot-Is-Purelib: false\nTag: {TAG}\n".encode(),
     }

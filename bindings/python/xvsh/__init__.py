@@ -4,14 +4,14 @@
     >>> xvsh.plain("echo hi | wc").out
     b'1 1 3 \\n'
 
-One file over ctypes, with no dependency. It loads libxvsh.so from the path in XVSH_LIBRARY, else from beside this file, where
-`pip install` puts it, else from lib/ of the checkout that this file stands in, else where the system looks. Where there is none,
-`bindings/build` of the checkout builds it.
+Over ctypes, with no dependency. The first call that needs the library loads libxvsh.so from the path in XVSH_LIBRARY, else from beside
+this file, where `pip install` puts it, else from lib/ of the checkout that this file stands in, else where the system looks. Where there
+is none it raises ImportError: `bindings/build` of the checkout builds it. `grade` runs the program, and needs no library.
 
 Each call raises the faults of what it is given: LineTooLong, ByteZero and ScriptTooLong of the script; where it takes them, TooLong,
 BadName and TooManyFiles of the files, and InputTooLong of the input; and Memory. Its own are told at each. What is no number where one is due
 is a TypeError, and a number that the library's type can't hold a ValueError that is no XvshError. Answers can be compared and hashed, and
-answers and faults copied and pickled.
+answers and faults copied and pickled. A notebook shows an answer as a table.
 
 Scripts, inputs and the bytes of files are `bytes`, or `str` that is encoded as UTF-8. Names of files are `str`; bytes of a name
 that are no UTF-8 stand in it as os.fsdecode does it. Any number of threads may call at once: the library has no state, and a call
@@ -24,17 +24,22 @@ import ctypes as c
 import ctypes.util
 import dataclasses
 import enum
+import functools
 import json
 import operator
 import os
 from collections.abc import Iterable, Iterator, Mapping
 from typing import Any, Union
 
+from ._show import Cell, Shown, code, counted, escaped, files as files_cell, table
+from .grading import AnyPath, Difference, Graded, GradeError, NoProgram, Report, TimedOut, Verdict, grade
+
 __all__ = [
-    "Answer", "BadName", "BadOrder", "BadStates", "BadTurns", "ByteZero", "Bytes", "Check", "Event", "Explanation", "Exploration", "Fault",
-    "File", "Files", "Finding", "InputTooLong", "LineTooLong", "Memory", "NoEvent", "NotRunnable", "NotRunning", "Note", "Order", "Outcome",
-    "Parting", "Pipe", "Plain", "Process", "Run", "ScriptTooLong", "Session", "Spent", "TakenName", "TooLarge", "TooLong", "TooManyFiles",
-    "Unfinished", "XvshError", "check", "explain", "explore", "plain", "replay", "run", "version",
+    "Answer", "AnyPath", "BadName", "BadOrder", "BadStates", "BadTurns", "ByteZero", "Bytes", "Check", "Difference", "Event", "Explanation", "Exploration",
+    "Fault", "File", "Files", "Finding", "GradeError", "Graded", "InputTooLong", "LineTooLong", "Memory", "NoEvent", "NoProgram", "NotRunnable",
+    "NotRunning", "Note", "Order", "Outcome", "Parting", "Pipe", "Plain", "Process", "Report", "Run", "ScriptTooLong", "Session", "Spent",
+    "TakenName", "TimedOut", "TooLarge", "TooLong", "TooManyFiles", "Unfinished", "Verdict", "XvshError", "check", "explain", "explore", "grade",
+    "plain", "replay", "run", "version",
 ]
 __version__ = "0.2.0"
 
@@ -225,26 +230,32 @@ def _find() -> str:
     )
 
 
-_lib = c.CDLL(_find())
 _free = c.CDLL(None).free
 _free.argtypes, _free.restype = [c.c_void_p], None
-_lib.xvsh_version.argtypes, _lib.xvsh_version.restype = [], c.c_uint32
 _task, _answer = c.POINTER(_Task), c.POINTER(_Answer)
 _numbers: dict[str, list[Any]] = {
     "plain": [], "run": [c.c_uint64, c.c_uint32, c.c_uint64], "replay": [c.c_char_p, c.c_size_t], "check": [c.c_uint32], "explain": [],
     "explore": [c.c_uint64, c.c_uint32], "trace": [c.c_uint64, c.c_uint32, c.c_uint64], "look": [c.c_char_p, c.c_size_t],
 }
-for _name, _more in _numbers.items():
-    _function = getattr(_lib, f"xvsh_{_name}_call")
-    _function.argtypes, _function.restype = [_task, *_more, _answer], None
-_lib.xvsh_fault_call.argtypes, _lib.xvsh_fault_call.restype = [c.c_uint32, c.POINTER(_Bytes)], None
-if _lib.xvsh_version() // 1000 != _VERSION // 1000:
-    raise ImportError(f"libxvsh.so is of version {_lib.xvsh_version()}, and the module xvsh of {_VERSION}: they differ before the third number")
+
+
+@functools.cache
+def _library() -> c.CDLL:
+    """The library, loaded at the first call."""
+    lib = c.CDLL(_find())
+    lib.xvsh_version.argtypes, lib.xvsh_version.restype = [], c.c_uint32
+    if lib.xvsh_version() // 1000 != _VERSION // 1000:
+        raise ImportError(f"libxvsh.so is of version {lib.xvsh_version()}, and the module xvsh of {_VERSION}: they differ before the third number")
+    for name, more in _numbers.items():
+        function = getattr(lib, f"xvsh_{name}_call")
+        function.argtypes, function.restype = [_task, *more, _answer], None
+    lib.xvsh_fault_call.argtypes, lib.xvsh_fault_call.restype = [c.c_uint32, c.POINTER(_Bytes)], None
+    return lib
 
 
 def version() -> tuple[int, int, int]:
     """The library's version."""
-    number = _lib.xvsh_version()
+    number = _library().xvsh_version()
     return number // 1_000_000, number // 1000 % 1000, number % 1000
 
 
@@ -276,35 +287,55 @@ def _text(bytes_: _Bytes) -> bytes:
 
 def _fault_text(number: int) -> str:
     words = (_Bytes * 2)(_Bytes(_EMPTY, 0), _Bytes(_EMPTY, 0))
-    _lib.xvsh_fault_call(number, words)
+    _library().xvsh_fault_call(number, words)
     return _text(words[1]).decode()
 
 
-@dataclasses.dataclass(frozen=True)
-class File:
+@dataclasses.dataclass(frozen=True, repr=False)
+class File(Shown):
     """A file at the end of a run; `soft` where its bytes may depend on the order of processes (of a run by meaning)."""
 
     bytes: bytes
     soft: bool = False
 
 
-@dataclasses.dataclass(frozen=True)
-class Answer:
+@dataclasses.dataclass(frozen=True, repr=False)
+class Answer(Shown):
     """What a run leaves: its standard output, and its files by name, in byte order of the names."""
 
     out: bytes
     files: dict[str, File] = dataclasses.field(hash=False)
 
+    def _caption(self) -> str:
+        return "what it leaves" + self._full()
 
-@dataclasses.dataclass(frozen=True)
+    def _full(self) -> str:
+        full: str | None = getattr(self, "full", None)
+        return f"; first full: {full}" if full else ""
+
+    def _rows(self) -> list[tuple[Cell, Cell]]:
+        shown: list[tuple[Cell, Cell]] = [("output", code(self.out))]
+        # a run and an outcome of an exploration have diagnostics, and what was full
+        diag: bytes = getattr(self, "diag", b"")
+        shown += [("diagnostics", code(diag))] if diag else []
+        return shown + [(f"{escaped(os.fsencode(name))}{' (soft)' if file.soft else ''}", code(file.bytes)) for name, file in self.files.items()]
+
+    def _repr_html_(self) -> str:
+        return table(self._caption(), (), self._rows())
+
+
+@dataclasses.dataclass(frozen=True, repr=False)
 class Plain(Answer):
     """What a script gives by its meaning; where it is settled, no order of its processes changes that, soft files left out."""
 
     settled: bool
 
+    def _caption(self) -> str:
+        return "settled" if self.settled else "not settled"
 
-@dataclasses.dataclass(frozen=True)
-class Event:
+
+@dataclasses.dataclass(frozen=True, repr=False)
+class Event(Shown):
     """An event of a run, counted from 1: a `dispatch`, by which the process in slot `pid` begins to run on the hart, or a `trap`, by
     which its call is carried out. In a run that is traced `record` is its line of the trace, as json.loads reads it."""
 
@@ -315,7 +346,7 @@ class Event:
     record: dict[str, Any] | None = dataclasses.field(default=None, hash=False)
 
 
-@dataclasses.dataclass(frozen=True)
+@dataclasses.dataclass(frozen=True, repr=False)
 class Run(Answer):
     """A finished run by processes: its diagnostics, its schedule, a line an event, what was full first, or None, and the lines of its
     trace, or None where it isn't traced. It iterates over its events."""
@@ -324,6 +355,9 @@ class Run(Answer):
     schedule: bytes
     full: str | None
     trace: bytes | None = None
+
+    def _caption(self) -> str:
+        return counted(self.schedule.count(b"\n"), "event") + self._full()
 
     def __iter__(self) -> Iterator[Event]:
         if self.trace is not None:
@@ -354,17 +388,23 @@ class Finding:
     name: str | None = None
 
 
-@dataclasses.dataclass(frozen=True)
-class Check:
+@dataclasses.dataclass(frozen=True, repr=False)
+class Check(Shown):
     """What a check found; it is `harmless` where no line holds a `&` or a clash, and strictly each is a command. `json` is the program's object."""
 
     harmless: bool
     findings: tuple[Finding, ...]
     json: bytes
 
+    def _repr_html_(self) -> str:
+        rows = [
+            (it.line, it.kind, it.fault or it.clash, it.at, None if it.name is None else escaped(os.fsencode(it.name))) for it in self.findings
+        ]
+        return table("harmless" if self.harmless else "not harmless", ("line", "what", "which", "byte", "file"), rows)
 
-@dataclasses.dataclass(frozen=True)
-class Note:
+
+@dataclasses.dataclass(frozen=True, repr=False)
+class Note(Shown):
     """What is wrong or unexpected in a line, counted from 1, in a sentence; the places that it marks, each from a byte of the line's text, counted from 0, up to another."""
 
     kind: str
@@ -374,13 +414,20 @@ class Note:
     text: bytes
 
 
-@dataclasses.dataclass(frozen=True)
-class Explanation:
+@dataclasses.dataclass(frozen=True, repr=False)
+class Explanation(Shown):
     """The notes on a script; it is `fine` where there is none and no line may not have room, of which `json`, the program's object, has `lack`."""
 
     fine: bool
     notes: tuple[Note, ...]
     json: bytes
+
+    def _repr_html_(self) -> str:
+        rows: list[tuple[Cell, ...]] = [(it.line, code(it.text), it.sentence) for it in self.notes]
+        lack = json.loads(self.json or b"{}").get("lack")
+        if lack:
+            rows.append((lack.get("line"), None, f"may need {lack['need'] or 'more than 1000000'} {lack['table'].replace('_', ' ')}; there are {lack['most']}"))
+        return table("fine" if self.fine else "not fine", ("line", "text", "note"), rows)
 
 
 @dataclasses.dataclass(frozen=True)
@@ -392,7 +439,7 @@ class Parting:
     here: str
 
 
-@dataclasses.dataclass(frozen=True)
+@dataclasses.dataclass(frozen=True, repr=False)
 class Outcome(Answer):
     """What runs of a script can leave; and of a script that was explored the diagnostics, what was full first, or None, a
     schedule that leads there, and where it parts from that of the first outcome."""
@@ -403,8 +450,8 @@ class Outcome(Answer):
     parting: Parting | None
 
 
-@dataclasses.dataclass(frozen=True)
-class Exploration:
+@dataclasses.dataclass(frozen=True, repr=False)
+class Exploration(Shown):
     """What every order of a script's processes leaves. It is `single` where all outcomes have one output and one set of files, and `whole`
     where every order was tried, or what it leaves is known without; `stuck` is a schedule after which every process sleeps for ever, or
     None. `json` is the program's object."""
@@ -415,6 +462,20 @@ class Exploration:
     outcomes: tuple[Outcome, ...]
     stuck: bytes | None
     json: bytes
+
+    def _repr_html_(self) -> str:
+        tried = "known without trying orders" if not self.states else f"{counted(self.states, 'state')}, {'' if self.whole else 'not '}every order tried"
+        stuck = "" if self.stuck is None else "; some order never ends"
+        head = ("", "output", "files", "diagnostics", "first full", "parts from 1 at event", "there", "here")
+        return table(f"{counted(len(self.outcomes), 'outcome')} ({tried}){stuck}", head, [_row_of(n, it) for n, it in enumerate(self.outcomes, 1)])
+
+
+def _row_of(number: int, outcome: Outcome) -> tuple[Cell, ...]:
+    files = files_cell({name: file.bytes for name, file in outcome.files.items()})
+    parting: tuple[Cell, ...] = (None, None, None)
+    if outcome.parting:
+        parting = (outcome.parting.event, escaped(_encoded(outcome.parting.there)), escaped(_encoded(outcome.parting.here)))
+    return number, code(outcome.out), files, code(outcome.diag) if outcome.diag else None, outcome.full, *parting
 
 
 @dataclasses.dataclass(frozen=True)
@@ -477,7 +538,7 @@ def _call(name: str, script: Bytes, input: Bytes, files: Files | None, append: b
     for field in ("out", "diag", "events", "json", "block"):
         getattr(answer, field).at = _EMPTY
     answer.sizes = c.cast(_NOTHING, c.POINTER(_Sizes))
-    getattr(_lib, f"xvsh_{name}_call")(task, *more, answer)
+    getattr(_library(), f"xvsh_{name}_call")(task, *more, answer)
     if answer.status:
         raise _error_of(answer.status, answer.place)
     try:
@@ -581,6 +642,10 @@ def _bytes_of(value: Any) -> bytes:
     return base64.b64decode(value["base64"]) if isinstance(value, dict) else str(value).encode()
 
 
+def _encoded(text: str) -> bytes:
+    return text.encode("utf-8", "surrogateescape")
+
+
 def _text_of(value: Any) -> str:
     return _bytes_of(value).decode("utf-8", "surrogateescape")
 
@@ -620,6 +685,16 @@ class Session:
         self._task = (_raw(script), _raw(input), dict(files or {}), append)
         self._turns: list[int] = []
         self._look(())
+
+    def __repr__(self) -> str:
+        return f"<Session of {counted(len(self._turns), 'turn')}, {'finished' if self.finished else 'not finished'}>"
+
+    def _repr_html_(self) -> str:
+        rows = [
+            (it.pid, it.prog, it.state, escaped(_encoded(it.command)) if it.command is not None else None, it.next["name"] if it.next else None)
+            for it in self.processes
+        ]
+        return table(f"{counted(len(self._turns), 'turn')}, {'finished' if self.finished else 'not finished'}", ("process", "program", "state", "command", "next call"), rows)
 
     def _look(self, turns: tuple[int, ...]) -> None:
         """Looks at what these turns lead to."""
