@@ -290,7 +290,8 @@ def ended(room):
         same((str(error), error.status, isinstance(error, TimeoutError)), ("xvsh grade took more than 1.5 seconds, and was ended", None, True), text)
         same((alive(pids), os.path.exists(own)), ([], False), "what is left of " + text)
         os.remove(pids)
-    text = f"import sys; sys.path.insert(0, {os.path.join(ROOT, 'bindings', 'python')!r}); import xvsh; xvsh.grade('s', program={made(room, SLOW + 'wait')!r})"
+    # where the tests run behind others SIGINT is ignored, which Python leaves so
+    text = f"import signal, sys; signal.signal(signal.SIGINT, signal.default_int_handler); sys.path.insert(0, {os.path.join(ROOT, 'bindings', 'python')!r}); import xvsh; xvsh.grade('s', program={made(room, SLOW + 'wait')!r})"
     with subprocess.Popen([sys.executable, "-B", "-c", text], stderr=subprocess.PIPE, text=True) as child:
         while child.poll() is None and (not os.path.exists(pids) or len(alive(pids, 0)) < 2):
             time.sleep(0.01)
