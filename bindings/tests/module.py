@@ -157,8 +157,11 @@ def asks():
     settled, tried = xvsh.explore("cat f | wc", files={"f": "x"}), xvsh.explore("cat f | wc", files={"f": "x"}, thorough=True)
     assert settled.whole and settled.single and settled.states == 0 and settled.outcomes[0].schedule is None
     assert tried.whole and tried.single and tried.states > 10 and [it.out for it in tried.outcomes] == [it.out for it in settled.outcomes] == [b"0 1 1 \n"]
-    cut = xvsh.explore("echo a &; echo b", states=3)
-    assert not cut.whole and cut.outcomes == ()
+    # of one that is cut runs in a few orders are listed, each of which is one of the runs in all orders
+    cut, every = xvsh.explore("echo a &; echo b", states=3), xvsh.explore("echo a &; echo b")
+    assert not cut.whole and not cut.single and every.whole and sorted(it.out for it in every.outcomes) == [b"a\nb\n", b"ab\n\n", b"b\na\n", b"ba\n\n"]
+    assert {b"a\nb\n", b"b\na\n"} <= {it.out for it in cut.outcomes} <= {it.out for it in every.outcomes}
+    assert all(xvsh.replay("echo a &; echo b", it.schedule).out == it.out for it in cut.outcomes)
 
 
 def traces():
