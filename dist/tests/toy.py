@@ -3,13 +3,14 @@ import gzip
 import hashlib
 import importlib.machinery
 import importlib.util
+import multiprocessing
 import os
 import re
 import shutil
 import subprocess
 import sys
 import tempfile
-from concurrent.futures import ThreadPoolExecutor
+from concurrent.futures import ProcessPoolExecutor
 
 ROOT = os.path.dirname(os.path.dirname(os.path.dirname(os.path.realpath(__file__))))
 LONG_AGO = 978_307_200  # the first second of 2001
@@ -108,11 +109,15 @@ class Toy:
         check(re.fullmatch(told, said), f"{what} tells {said!r}, and not {told!r}")
 
 
-def attempt(test):
+# the tests that `main` runs
+TESTS = []
+
+
+def attempt(number):
     """Runs a test in a folder of its own; returns what isn't as it has to be, if anything, and why the test was left out, if it was."""
     with tempfile.TemporaryDirectory(prefix="xvsh-tests-") as room:
         try:
-            return None, test(room)
+            return None, TESTS[number](room)
         except Failed as reason:
             return str(reason), None
 
@@ -120,8 +125,10 @@ def attempt(test):
 def main(tests):
     """Runs each test, whose docstring says what it tries, and prints a line for each that is wrong or left out, and their number."""
     wrong, left = 0, 0
-    with ThreadPoolExecutor(4) as pool:
-        for test, (reason, left_out) in zip(tests, pool.map(attempt, tests)):
+    TESTS[:] = tests
+    # Not by threads: what one writes and then runs is busy while a process that another one begins still holds it.
+    with ProcessPoolExecutor(4, multiprocessing.get_context("fork")) as pool:
+        for test, (reason, left_out) in zip(tests, pool.map(attempt, range(len(tests)))):
             what = " ".join(test.__doc__.split())
             if reason:
                 wrong += 1
