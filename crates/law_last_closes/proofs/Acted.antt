@@ -9,7 +9,7 @@ use Rattle.kernel_model.specs.Sound.{IsMid}
 use Rattle.kernel_model.specs.Events.{acted}
 use Rattle.order_model.specs.Numbers.{SameButNumbers}
 use Rattle.law_entry_numbers.proofs.Numberings.{same_itself}
-use Rattle.law_last_closes.specs.Either.{FindsFree}
+use Rattle.order_model.specs.Closes.{FindsFree}
 use Rattle.law_last_closes.proofs.Losing.{lost, IsShared, fork_lost, wait_lost, dup_lost, read_lost, write_lost}
 use Rattle.law_last_closes.proofs.Making.{open_file_lost, make_pipe_lost}
 use Rattle.law_last_closes.proofs.Closing.{CanGo, close_lost, exit_lost}

@@ -23,7 +23,7 @@ use Rattle.kernel_model.specs.KernelState.{fds_of}
 use Rattle.kernel_model.proofs.Offsets.{item_cases}
 use Rattle.kernel_model.proofs.Sound.{woken_near}
 use Rattle.law_entry_numbers.proofs.Entries.{changed_entry}
-use Rattle.law_last_closes.specs.Either.{IsPlain}
+use Rattle.order_model.specs.Closes.{IsPlain}
 use Rattle.law_last_closes.proofs.Released.{change_both}
 use Rattle.law_last_closes.proofs.Losing.{lost}
 

@@ -42,7 +42,8 @@ use Rattle.law_private_turns.proofs.Begun.{after_still}
 use Rattle.law_private_turns.proofs.Shared.{given_sound, given_runs}
 use Rattle.law_private_turns.proofs.Turned.{set_twice, idle_told, turn_is, turn_keeps, ready_slot}
 use Rattle.order_model.specs.Numbers.{SameButNumbers}
-use Rattle.law_last_closes.specs.Either.{IsPlain, FindsFree, FindsFreeNext, ClosesPlain, InEitherOrder}
+use Rattle.order_model.specs.Closes.{IsPlain, FindsFree, FindsFreeNext, ClosesPlain}
+use Rattle.law_last_closes.specs.Either.{InEitherOrder}
 use Rattle.law_last_closes.proofs.Closing.{HasPlain, CanGo, no_trace_of}
 use Rattle.law_last_closes.proofs.Objects.{IsOpenOn, outcome_on}
 use Rattle.law_last_closes.proofs.Acted.{CanLose, acted_lost}

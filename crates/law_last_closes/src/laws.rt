@@ -4,10 +4,10 @@ ghost use Rattle.std.specs.Prelude.{◌≡◌, ◌≢◌, ℕ, Some};
 ghost use Rattle.kernel_model.specs.KernelState.{KernelState};
 ghost use Rattle.order_model.specs.Alike.{IsStill};
 ghost use Rattle.order_model.specs.Turns.{after_turn};
-ghost use Rattle.order_model.specs.Reduced.{IsFollowing, IsSafe};
-ghost use Rattle.law_last_closes.specs.Either.{ClosesPlain, FindsFreeNext, InEitherOrder};
+ghost use Rattle.order_model.specs.Reduced.{IsFollowing};
 ghost use Rattle.order_model.specs.Anyhow.{DoesAnyhow};
-ghost use Rattle.law_last_closes.specs.Does.{GivesWay};
+ghost use Rattle.order_model.specs.Closes.{ClosesPlain, FindsFreeNext};
+ghost use Rattle.law_last_closes.specs.Either.{InEitherOrder};
 
 use user_calls::Machine;
 
@@ -25,10 +25,4 @@ pub fn a_close_of_no_pipe_can_be_made_in_either_order<M: Machine>()
 /// what the other does; or it does so already, since the turn came to nothing but that its process fell asleep.
 pub fn neither_sleepers_nor_numbers_are_seen<M: Machine>()
     ensures { IsFollowing (after_turn M.call_of M.next_of) (DoesAnyhow M.call_of M.next_of) }
-{}
-
-/// Such a close gives way to nobody's turn, in a kernel of a run in which whatever is opened from then on finds free entries; nor does
-/// a turn that is private anyhow.
-pub fn such_a_close_gives_way_to_nobody<M: Machine>()
-    ensures { IsSafe (after_turn M.call_of M.next_of) (DoesAnyhow M.call_of M.next_of) (GivesWay M.call_of M.next_of) }
 {}

@@ -5,3 +5,6 @@ pub mod Stays
 pub mod Turned
 pub mod Empty
 pub mod Runs
+pub mod NextCalls
+pub mod Finding
+pub mod Safe

@@ -62,9 +62,10 @@ use Rattle.law_private_turns.proofs.Wakes.{acted_woke}
 use Rattle.law_private_turns.proofs.Woken.{all_woken_woke}
 use Rattle.order_model.specs.Numbers.{SameButNumbers}
 use Rattle.law_entry_numbers.proofs.Acted.{let_go_same}
-use Rattle.law_last_closes.specs.Either.{FindsFree, FindsFreeNext}
+use Rattle.order_model.specs.Closes.{FindsFree, FindsFreeNext}
 use Rattle.law_last_closes.proofs.Turned.{Closes, left, given_up, table_left, names_given, shared, acted_given, at_events}
-use Rattle.law_write_ends.specs.Writers.{ClosesLastWriter, FindsBytesNext, ReadsEmptyNext, IsDoneAlready, InEitherOrderAwake}
+use Rattle.order_model.specs.Closes.{ClosesLastWriter}
+use Rattle.law_write_ends.specs.Writers.{FindsBytesNext, ReadsEmptyNext, IsDoneAlready, InEitherOrderAwake}
 use Rattle.proc_table.specs.Calls.{slept}
 use Rattle.kernel_model.specs.Replies.{sleeps}
 use Rattle.byte_pipe.specs.PipeState.{PipeState}

@@ -1,13 +1,12 @@
 -- The close of a pipe's last write end, and two turns in either order.
-use Rattle.std.specs.Prelude.{◌≡◌, ◌≢◌, ℕ, ◌≤◌, [], Some}
+use Rattle.std.specs.Prelude.{◌≡◌, ◌≢◌, ℕ, [], Some}
 use Rattle.user_calls.specs.declared.calls.Call.{Call}
-use Rattle.user_calls.specs.declared.calls.Call.TheVariants.{Read, Close}
+use Rattle.user_calls.specs.declared.calls.Call.TheVariants.{Read}
 use Rattle.user_calls.specs.declared.calls.Reply.{Reply}
 use Rattle.byte_pipe.specs.PipeState.{PipeState}
-use Rattle.fd_table.specs.declared.names.Object.TheVariants.{PipeRead, PipeWrite}
-use Rattle.fd_table.specs.Entries.{OpenFile as Opened, entry_at}
+use Rattle.fd_table.specs.declared.names.Object.TheVariants.{PipeRead}
+use Rattle.fd_table.specs.Entries.{OpenFile as Opened}
 use Rattle.fd_table.specs.Descriptors.{entry_of}
-use Rattle.proc_table.specs.declared.states.Status.TheVariants.{Runnable}
 use Rattle.proc_table.specs.Slots.{Process, at}
 use Rattle.kernel_model.specs.KernelState.{KernelState, file_at}
 use Rattle.kernel_model.specs.Pipes.{pipe_of}
@@ -16,21 +15,6 @@ use Rattle.order_model.specs.Turns.{after_turn}
 use Rattle.order_model.specs.Numbers.{SameButNumbers}
 
 module _ {S : Type 0} (call : S → Reply → Call) (next : S → Reply → S) where
-  -- the process p is Runnable, and next closes the last descriptor of a pipe's write end
-  pub record ClosesLastWriter (k : KernelState S) (p : ℕ) : Type 0 where
-    pub process : Process S
-    pub there : at k.table p ≡ Some process
-    pub ready : process.status ≡ Runnable
-    pub fd : ℕ
-    pub calls : call process.machine process.reply ≡ Close fd
-    pub entry : ℕ
-    pub holds : entry_of process.fds fd ≡ Some entry
-    pub file : Opened
-    pub used : entry_at k.entries entry ≡ Some file
-    pub pipe : ℕ
-    pub writes : file.object ≡ PipeWrite pipe
-    pub last : file.count ≤ 1
-
   -- if q next reads from this pipe, the pipe holds bytes
   abbrev pub FindsBytesNext : KernelState S → ℕ → ℕ → Type 0
   FindsBytesNext k id q =

@@ -1,14 +1,16 @@
 //! Laws: each function's contract is the law, and its body is empty. They are of any machines.
 
-ghost use Rattle.std.specs.Prelude.{◌≡◌, ◌≢◌, ℕ, ◌<◌, Some, None};
+ghost use Rattle.std.specs.Prelude.{◌≡◌, ◌≢◌, ◌⊎◌, ℕ, ◌<◌, Some, None};
 ghost use Rattle.kernel_model.specs.KernelState.{KernelState};
 ghost use Rattle.kernel_model.specs.Pipes.{pipe_of};
 ghost use Rattle.order_model.specs.Alike.{IsStill};
 ghost use Rattle.order_model.specs.Begun.{IsBegun};
 ghost use Rattle.order_model.specs.Turns.{after_turn};
 ghost use Rattle.law_kernel.specs.Ends.{EndsAgree};
-ghost use Rattle.law_last_closes.specs.Either.{FindsFreeNext};
-ghost use Rattle.law_write_ends.specs.Writers.{ClosesLastWriter, FindsBytesNext, InEitherOrderAwake, IsDoneAlready, ReadsEmptyNext};
+ghost use Rattle.order_model.specs.Anyhow.{DoesAnyhow};
+ghost use Rattle.order_model.specs.Closes.{ClosesLastWriter, FindsFreeNext, GivesWayBegun};
+ghost use Rattle.order_model.specs.Reduced.{IsSafe};
+ghost use Rattle.law_write_ends.specs.Writers.{FindsBytesNext, InEitherOrderAwake, IsDoneAlready, ReadsEmptyNext};
 
 use user_calls::Machine;
 
@@ -34,4 +36,18 @@ pub fn kernels_of_runs_have_right_ends<M: Machine>()
     ensures still { (k : KernelState M.State) → IsBegun M.call_of M.next_of k → IsStill k }
     ensures ends { (k : KernelState M.State) → IsBegun M.call_of M.next_of k → EndsAgree k.entries k.pipes }
     ensures fresh { (k : KernelState M.State) → IsBegun M.call_of M.next_of k → (n : ℕ) → k.events < n → pipe_of k.pipes n ≡ None }
+{}
+
+/// In each kernel to which turns lead from a boot, and for each pipe: if a process next reads from the pipe, it finds bytes in it; or
+/// it reads from the pipe while that is empty, and has put nothing.
+pub fn a_reader_finds_bytes_or_has_put_nothing<M: Machine>()
+    ensures { (k : KernelState M.State) → IsBegun M.call_of M.next_of k → (pipe q : ℕ)
+        → FindsBytesNext M.call_of M.next_of k pipe q ⊎ ReadsEmptyNext M.call_of M.next_of k pipe q }
+{}
+
+/// So such a close gives way to nobody's turn in a kernel of a run where whatever is opened from then on finds free entries; nor does
+/// the close of a file, of the input, the output or the diagnostics, nor a turn that is private anyhow: it can be taken before any
+/// other process's turn or after it, and stays such a turn until it is taken.
+pub fn such_closes_give_way_to_nobody<M: Machine>()
+    ensures { IsSafe (after_turn M.call_of M.next_of) (DoesAnyhow M.call_of M.next_of) (GivesWayBegun M.call_of M.next_of) }
 {}

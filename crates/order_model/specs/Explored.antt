@@ -10,7 +10,7 @@ use Rattle.kernel_model.specs.Quiet.{no_refusals}
 use Rattle.order_model.specs.Turns.{after_turn, IsReachedFrom}
 use Rattle.order_model.specs.Outcome.{RunOutcome, outcome_of}
 use Rattle.order_model.specs.Reduced.{IsReduced}
-use Rattle.order_model.specs.Privately.{Privately}
+use Rattle.order_model.specs.Closes.{GivesWay}
 use Rattle.order_model.specs.Anyhow.{SameKeyAnyhow, bare_table}
 
 -- the kernel is finished and this is its outcome
@@ -35,10 +35,10 @@ module _ {S : Type 0} (call : S → Reply → Call) (next : S → Reply → S) w
   IsOutcomeByTurns start outcome = (last : KernelState S) × IsReachedFrom call next start last × FinishesWith outcome last
 
   -- turns lead from the start to kernels that have the keys, but for who sleeps and for numbers of entries, of the start and of all kernels
-  -- to which one turn leads from one of them; where private turns lead on from there, the key of a kernel to which they lead is enough
+  -- to which one turn leads from one of them; where turns that give way to nobody's lead on from there, the key of a kernel to which they lead is enough
   pub record AreEnough (start : KernelState S) (seen : List (KernelState S)) : Type 0 where
     pub reached : All (IsReachedFrom call next start) seen
-    pub reduced : IsReduced (after_turn call next) (λ s k. SameKeyAnyhow k s) (Privately call) start seen
+    pub reduced : IsReduced (after_turn call next) (λ s k. SameKeyAnyhow k s) (GivesWay call next) start seen
 
   -- what an exploration shows: such kernels, where the outcomes of the finished ones are told, each of which turns lead to
   pub record Explored (start : KernelState S) (outcomes : List RunOutcome) : Type 0 where

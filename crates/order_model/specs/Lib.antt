@@ -7,6 +7,7 @@ pub mod Outcome
 pub mod Privately
 pub mod Reduced
 pub mod Begun
+pub mod Closes
 pub mod Explored
 pub mod Numbers
 pub mod Anyhow

@@ -4,3 +4,4 @@ pub mod Entries
 pub mod Bytes
 pub mod Files
 pub mod Roomy
+pub mod Opens

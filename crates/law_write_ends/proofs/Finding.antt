@@ -1,4 +1,4 @@
--- The close of a last write end, and the turn of another process, in kernels of a script that fits the tables.
+-- Whoever reads next from a pipe finds bytes in it, or it is empty and the reader has put nothing.
 use Rattle.std.proofs.Common.{◌≡◌, ◌≢◌, ◌⊎◌, ℕ, List, [], ◌∷◌, Bool, true, false, Option, Some, None, inl, inr, refl, sym, ap, ◌∙◌}
 use Rattle.std.proofs.lemmas.Bool.{eq-eqb, eqb-true}
 use Rattle.user_calls.specs.declared.calls.Call.{Call}
@@ -9,27 +9,13 @@ use Rattle.fd_table.specs.declared.names.Object.{Object}
 use Rattle.fd_table.specs.declared.names.Object.TheVariants.{Input, Out, Diag, File, PipeRead, PipeWrite}
 use Rattle.fd_table.specs.Entries.{OpenFile as Opened}
 use Rattle.fd_table.specs.Descriptors.{entry_of}
-use Rattle.mem_files.specs.Name.{Name, Bytes}
-use Rattle.mem_files.specs.Listing.{AreFiles}
-use Rattle.script_load.specs.Line.{ScriptLine}
-use Rattle.script_load.specs.declared.profile.Profile.{Profile}
 use Rattle.proc_table.specs.Slots.{Slot, Process, at}
 use Rattle.kernel_model.specs.KernelState.{KernelState, file_at}
 use Rattle.kernel_model.specs.Pipes.{pipe_of}
-use Rattle.run_model.specs.ScriptRun.{script_kernel}
-use Rattle.sh_machine.specs.State.{User}
-use Rattle.sh_machine.specs.Turn.{call_of, next_of}
 use Rattle.order_model.specs.Begun.{IsBegun}
-use Rattle.order_model.specs.Turns.{after_turn, IsReachedFrom}
 use Rattle.law_kernel.specs.Ends.{reads_pipe}
-use Rattle.law_private_turns.proofs.Begun.{begun_on}
-use Rattle.law_every_outcome.proofs.Scripts.{script_begun}
-use Rattle.law_write_ends.specs.Writers.{ClosesLastWriter, FindsBytesNext, ReadsEmptyNext, InEitherOrderAwake, IsDoneAlready}
-use Rattle.law_write_ends.proofs.Runs.{still, ends, fresh}
-use Rattle.law_write_ends.proofs.Turned.{writer_either, empty_read}
-use Rattle.law_room_ahead.specs.Ahead.{FitsTables}
-use Rattle.law_room_ahead.proofs.NextCalls.{readers_put_nothing}
-use Rattle.law_room_ahead.proofs.Fitting.{room_ahead}
+use Rattle.law_write_ends.specs.Writers.{FindsBytesNext, ReadsEmptyNext}
+use Rattle.law_write_ends.proofs.NextCalls.{readers_put_nothing}
 
 reads_is : (id : ℕ) (object : Object) → reads_pipe id object ≡ true → object ≡ PipeRead id
 reads_is id Input is = absurd (let z : ⊥ = cc in z)
@@ -116,15 +102,3 @@ module _ {S : Type 0} (call : S → Reply → Call) (next : S → Reply → S) (
 
   pub finds_or_put_nothing : FindsBytesNext call next k id q ⊎ ReadsEmptyNext call next k id q
   finds_or_put_nothing = by_slot (at k.table q) refl
-
-module _ (profile : Profile) (lines : List ScriptLine) (input : Bytes) (list : List (Name × Bytes)) (are : AreFiles list) (fits : FitsTables profile lines input list) where
-  pub writers_either : (k a l : KernelState User) (p q : ℕ) → IsReachedFrom call_of next_of (script_kernel profile lines input list) k → ClosesLastWriter call_of next_of k p → q ≢ p
-      → after_turn call_of next_of k p ≡ Some a → after_turn call_of next_of k q ≡ Some l → InEitherOrderAwake call_of next_of a l p q ⊎ IsDoneAlready call_of next_of a l p
-  writers_either k a l p q reached e other first second = by (finds_or_put_nothing call_of next_of k begun e.pipe q) where
-    begun : IsBegun call_of next_of k
-    begun = begun_on call_of next_of (script_kernel profile lines input list) k reached.pids (script_begun profile lines input list are) reached.turns
-
-    by : FindsBytesNext call_of next_of k e.pipe q ⊎ ReadsEmptyNext call_of next_of k e.pipe q → InEitherOrderAwake call_of next_of a l p q ⊎ IsDoneAlready call_of next_of a l p
-    by (inl finds) =
-        inl (writer_either call_of next_of k a l p q (still call_of next_of k begun) (ends call_of next_of k begun) (fresh call_of next_of k begun) e other (room_ahead profile lines input list are fits k reached [] k q refl) finds first second)
-    by (inr reads) = inr (empty_read call_of next_of k a l p q (still call_of next_of k begun) (ends call_of next_of k begun) (fresh call_of next_of k begun) e other reads first second)

@@ -1,0 +1,5 @@
+pub mod Sums
+pub mod Spending
+pub mod Programs
+pub mod Shells
+pub mod Scripts

@@ -1,5 +1,0 @@
-pub mod NextCalls
-pub mod NoMemory
-pub mod Entries
-pub mod Fitting
-pub mod LastWriters
