@@ -2,6 +2,7 @@ pub mod Looks
 pub mod Moved
 pub mod Runs
 pub mod Canonical
+pub mod Giving
 pub mod Listed
 pub mod Stuck
 pub mod Searched

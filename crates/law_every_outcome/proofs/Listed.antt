@@ -11,17 +11,18 @@ use Rattle.kernel_model.specs.Quiet.{no_refusals}
 use Rattle.kernel_model.proofs.Quiet.{run_quiet}
 use Rattle.order_model.specs.Outcome.{RunOutcome, SameOutcome, outcome_of}
 use Rattle.order_model.specs.Turns.{after_turn, after_turns, callers, IsReachedFrom}
-use Rattle.order_model.specs.Privately.{Privately}
 use Rattle.order_model.specs.Reduced.{IsLed, listed, private_turn, GoesOn, IsReduced, IsEnding}
-use Rattle.order_model.specs.Begun.{IsBegun, PrivatelyBegun}
+use Rattle.order_model.specs.Begun.{IsBegun}
+use Rattle.order_model.specs.Closes.{GivesWay, GivesWayBegun}
 use Rattle.order_model.specs.Anyhow.{SameKeyAnyhow, DoesAnyhow, itself, likened}
 use Rattle.order_model.specs.Explored.{AreEnough, Explored, AreAllOutcomes}
 use Rattle.law_orders.proofs.Matching.{quiet_matched}
 use Rattle.law_private_turns.proofs.Begun.{begun_on, begun_still}
 use Rattle.law_last_closes.proofs.Anyhow.{anyhow_back, key_anyhow, outcome_anyhow, following_anyhow}
-use Rattle.law_last_closes.proofs.Safe.{privates_safe_anyhow}
+use Rattle.law_write_ends.proofs.Safe.{gives_way_safe}
 use Rattle.law_every_outcome.proofs.Moved.{of_all, any_more, every_ending}
 use Rattle.law_every_outcome.proofs.Runs.{folded, of_run}
+use Rattle.law_every_outcome.proofs.Giving.{giver}
 
 outcome_on : {S : Type 0} (k l m : KernelState S) → SameOutcome k l → SameOutcome l m → SameOutcome k m
 outcome_on k l m a b =
@@ -39,41 +40,42 @@ module _ {S : Type 0} (call : S → Reply → Call) (next : S → Reply → S) w
   does_outcome k m (itself j) = record { outcome = refl; input = refl; finished = (λ is. is, λ is. is) }
   does_outcome k m (likened i j n b d alike rest) = outcome_on i j m (outcome_anyhow i j alike) (does_outcome j m rest)
 
-  -- whose turn is private isn't gone
-  not_over : (k m : KernelState S) (p : ℕ) → Privately call k p → SameOutcome k m → IsFinished m → ⊥
+  -- whose turn gives way to nobody's isn't gone
+  not_over : (k m : KernelState S) (p : ℕ) → GivesWay call next k p → SameOutcome k m → IsFinished m → ⊥
   not_over k m p e same over =
-      let gone : at k.table p ≡ None = same.finished.1 over p e.child in
-      let no : None ≡ Some e.process = sym gone ∙ e.there in
+      let g = giver call next k p e in
+      let gone : at k.table p ≡ None = same.finished.1 over p g.child in
+      let no : None ≡ Some g.process = sym gone ∙ g.there in
       let z : ⊥ = cc in
       z
 
-  finished_ends : (m : KernelState S) → IsFinished m → IsEnding (after_turn call next) (DoesAnyhow call next) (PrivatelyBegun call next) m
-  finished_ends m over k p e does = not_over k m p e.private (does_outcome k m does) over
+  finished_ends : (m : KernelState S) → IsFinished m → IsEnding (after_turn call next) (DoesAnyhow call next) (GivesWayBegun call next) m
+  finished_ends m over k p e does = not_over k m p e.gives (does_outcome k m does) over
 
   module _ (start : KernelState S) (seen : List (KernelState S)) (begun : IsBegun call next start) (e : AreEnough call next start seen) where
     seen_begun : (i : ℕ) (k : KernelState S) → i < length seen → slice_index_or seen i k ≡ k → IsBegun call next k
     seen_begun i k within there = let way = of_all (IsReachedFrom call next start) seen i k e.reached within there in begun_on call next start k way.pids begun way.turns
 
-    led : (k : KernelState S) → IsBegun call next k → IsLed (after_turn call next) (λ s k. SameKeyAnyhow k s) (Privately call) seen k → IsLed (after_turn call next) (DoesAnyhow call next) (PrivatelyBegun call next) seen k
+    led : (k : KernelState S) → IsBegun call next k → IsLed (after_turn call next) (λ s k. SameKeyAnyhow k s) (GivesWay call next) seen k → IsLed (after_turn call next) (DoesAnyhow call next) (GivesWayBegun call next) seen k
     led k b (listed j any) =
         listed k (any.0, any.1, any.2, any.3, likened any.1 k k (seen_begun any.0 any.1 any.2 any.3) b (anyhow_back k any.1 (key_anyhow k any.1 any.4)) (itself k))
-    led k b (private_turn j a p mine first rest) = private_turn k a p (record { private = mine; begun = b }) first (led a (begun_on call next k a (p ∷ []) b first) rest)
+    led k b (private_turn j a p mine first rest) = private_turn k a p (record { gives = mine; begun = b }) first (led a (begun_on call next k a (p ∷ []) b first) rest)
 
-    goes : (s : KernelState S) → IsBegun call next s → GoesOn (after_turn call next) (λ s k. SameKeyAnyhow k s) (Privately call) seen s → GoesOn (after_turn call next) (DoesAnyhow call next) (PrivatelyBegun call next) seen s
+    goes : (s : KernelState S) → IsBegun call next s → GoesOn (after_turn call next) (λ s k. SameKeyAnyhow k s) (GivesWay call next) seen s → GoesOn (after_turn call next) (DoesAnyhow call next) (GivesWayBegun call next) seen s
     goes s b (inl every) = inl (λ p now is. led now (begun_on call next s now (p ∷ []) b is) (every p now is))
     goes s b (inr one) =
-        inr (record { pid = one.pid; after = one.after; mine = record { private = one.mine; begun = b }; taken = one.taken; led = led one.after (begun_on call next s one.after (one.pid ∷ []) b one.taken) one.led })
+        inr (record { pid = one.pid; after = one.after; mine = record { gives = one.mine; begun = b }; taken = one.taken; led = led one.after (begun_on call next s one.after (one.pid ∷ []) b one.taken) one.led })
 
     at_begun : (i : ℕ) (d : KernelState S) → i < length seen → IsBegun call next (slice_index_or seen i d)
     at_begun i d within = let way = e.reached i d within in begun_on call next start (slice_index_or seen i d) way.pids begun way.turns
 
-    reduced : IsReduced (after_turn call next) (DoesAnyhow call next) (PrivatelyBegun call next) start seen
+    reduced : IsReduced (after_turn call next) (DoesAnyhow call next) (GivesWayBegun call next) start seen
     reduced = record { starts = led start begun e.reduced.starts; goes_on = λ i d within. goes (slice_index_or seen i d) (at_begun i d within) (e.reduced.goes_on i d within) }
 
     -- wherever turns lead to an ending
-    pub turns_listed : (m : KernelState S) (pids : List ℕ) → after_turns call next start pids ≡ Some m → IsEnding (after_turn call next) (DoesAnyhow call next) (PrivatelyBegun call next) m → Any (λ s. DoesAnyhow call next s m) seen
+    pub turns_listed : (m : KernelState S) (pids : List ℕ) → after_turns call next start pids ≡ Some m → IsEnding (after_turn call next) (DoesAnyhow call next) (GivesWayBegun call next) m → Any (λ s. DoesAnyhow call next s m) seen
     turns_listed m pids is over =
-        every_ending (after_turn call next) (DoesAnyhow call next) (PrivatelyBegun call next) (following_anyhow call next) (privates_safe_anyhow call next) start m seen pids reduced (folded call next pids (Some start) ∙ is) over
+        every_ending (after_turn call next) (DoesAnyhow call next) (GivesWayBegun call next) (following_anyhow call next) (gives_way_safe call next) start m seen pids reduced (folded call next pids (Some start) ∙ is) over
 
     pub run_listed : (m : KernelState S) (es : List Event) → run call next (Some start) es (no_refusals es) ≡ Some m → IsFinished m → Any (SameOutcome m) seen
     run_listed m es is over =

@@ -12,7 +12,7 @@ use Rattle.order_model.specs.Explored.{FinishesWith, AreOutcomesOf, IsOutcomeByT
 use Rattle.closed_search.specs.Searched.{IsReached, here, more, IsLed as IsLedTo, listed as listed_to, privately, IsReducedUnder}
 use Rattle.law_orders.proofs.Back.{could_turn}
 use Rattle.order_model.specs.Reduced.{IsLed, listed, private_turn}
-use Rattle.order_model.specs.Privately.{Privately}
+use Rattle.order_model.specs.Closes.{GivesWay}
 use Rattle.order_model.specs.Anyhow.{SameKeyAnyhow}
 use Rattle.order_model.specs.Begun.{IsBegun}
 use Rattle.law_every_outcome.proofs.Moved.{of_all}
@@ -42,12 +42,12 @@ module _ {S : Type 0} (call : S → Reply → Call) (next : S → Reply → S) w
   pub all_reached : (start : KernelState S) (seen : List (KernelState S)) → All (IsReached (after_turn call next) start) seen → All (IsReachedFrom call next start) seen
   all_reached start seen reached i d within = moves_reach start (slice_index_or seen i d) (reached i d within)
 
-  led_too : (seen : List (KernelState S)) (k : KernelState S) → IsLedTo (after_turn call next) SameKeyAnyhow (Privately call) seen k → IsLed (after_turn call next) (λ s k. SameKeyAnyhow k s) (Privately call) seen k
+  led_too : (seen : List (KernelState S)) (k : KernelState S) → IsLedTo (after_turn call next) SameKeyAnyhow (GivesWay call next) seen k → IsLed (after_turn call next) (λ s k. SameKeyAnyhow k s) (GivesWay call next) seen k
   led_too seen k (listed_to j any) = listed k any
   led_too seen k (privately j u move mine is led) = private_turn k u move mine is (led_too seen u led)
 
   pub search_enough : (moves : ℕ) (start : KernelState S) (seen : List (KernelState S)) → IsBegun call next start → PROCS ≤ moves → All (IsReached (after_turn call next) start) seen
-      → IsReducedUnder (after_turn call next) SameKeyAnyhow (Privately call) moves start seen → AreEnough call next start seen
+      → IsReducedUnder (after_turn call next) SameKeyAnyhow (GivesWay call next) moves start seen → AreEnough call next start seen
   search_enough moves start seen begun enough reached r =
       record {
         reached = all_reached start seen reached;

@@ -2,8 +2,6 @@
 use Rattle.std.proofs.Common.{◌≡◌, ◌⊎◌, ℕ, zero, suc, List, [], ◌∷◌, Bool, true, false, None, Some, inl, inr, refl, sym, ap, subst, ◌∙◌}
 use Rattle.std.specs.Prelude.{All}
 use Rattle.user_calls.specs.declared.calls.Call.{Call}
-use Rattle.user_calls.specs.declared.calls.Call.TheVariants.{Fork, Exec, Exit, Wait, MakePipe, Read, Write, OpenFile, Close, Dup}
-use Rattle.fd_table.specs.Descriptors.{Descriptors}
 use Rattle.user_calls.specs.declared.calls.Reply.{Reply}
 use Rattle.proc_table.specs.declared.states.Channel.{Channel}
 use Rattle.proc_table.specs.declared.states.Channel.TheVariants.{PipeBytes, PipeRoom, Children}
@@ -22,9 +20,9 @@ use Rattle.order_model.specs.Explored.{AreEnough, IsFinishedOrBusy, IsFinishedOr
 use Rattle.law_orders.proofs.Back.{could_turn}
 use Rattle.law_orders.proofs.Matching.{quiet_matched}
 use Rattle.order_model.specs.Reduced.{IsEnding}
-use Rattle.order_model.specs.Privately.{IsPrivateCall, executes, dups, closes}
 use Rattle.order_model.specs.Numbers.{renumbered_slot}
-use Rattle.order_model.specs.Begun.{IsBegun, PrivatelyBegun}
+use Rattle.order_model.specs.Begun.{IsBegun}
+use Rattle.order_model.specs.Closes.{GivesWayBegun}
 use Rattle.order_model.specs.Anyhow.{DoesAnyhow, itself, likened}
 use Rattle.law_every_outcome.proofs.Moved.{of_all}
 use Rattle.law_every_outcome.proofs.Looks.{looks, awake, runnable_awake, slot_awake}
@@ -33,6 +31,7 @@ use Rattle.law_private_turns.proofs.Awake.{awake_back, Elsewhere, found_elsewher
 use Rattle.law_entry_numbers.proofs.Numberings.{same_back}
 use Rattle.law_entry_numbers.proofs.Still.{slots_so, still_so}
 use Rattle.law_last_closes.proofs.Anyhow.{between, anyhow_on, does_back, does_bare, follows_anyhow}
+use Rattle.law_every_outcome.proofs.Giving.{Sleepless, giver}
 use Rattle.law_every_outcome.proofs.Listed.{does_outcome, turns_listed}
 
 -- ---- somebody is awake, or nobody is
@@ -55,28 +54,8 @@ somebody : {S : Type 0} (t : Table S) → Somebody t ⊎ Nobody t
 somebody [] = inr (λ pid. refl)
 somebody (x ∷ t) = somebody_by x t (awake x) refl (somebody t)
 
--- ---- who never sleeps
-
--- the call never puts its process to sleep
-abbrev Sleepless : Call → Type 0
-Sleepless Fork = Unit {0}
-Sleepless (Exec found) = Unit {0}
-Sleepless Exit = Unit {0}
-Sleepless Wait = ⊥
-Sleepless MakePipe = Unit {0}
-Sleepless (Read fd n) = ⊥
-Sleepless (Write fd b) = ⊥
-Sleepless (OpenFile file mode) = Unit {0}
-Sleepless (Close fd) = Unit {0}
-Sleepless (Dup fd) = Unit {0}
-
-private_sleepless : (fds : Descriptors) (c : Call) → IsPrivateCall fds c → Sleepless c
-private_sleepless fds c (executes found is) = subst Sleepless (sym is) tt
-private_sleepless fds c (dups fd entry place is held free) = subst Sleepless (sym is) tt
-private_sleepless fds c (closes fd entry is held enough) = subst Sleepless (sym is) tt
-
 module _ {S : Type 0} (call : S → Reply → Call) (next : S → Reply → S) where
-  -- ---- whose turn is private doesn't sleep
+  -- ---- whose turn gives way to nobody's doesn't sleep
 
   no_sleep : (m : KernelState S) (p : ℕ) (c : Call) (put : ℕ) (ch : Channel) → Sleepless c → MaySleep m p c put ch → ⊥
   no_sleep m p c put (PipeBytes id) never may = subst Sleepless may.2 never
@@ -121,10 +100,10 @@ module _ {S : Type 0} (call : S → Reply → Call) (next : S → Reply → S) w
       let e = elsewhere_so s.process w.same.numbering.to (at w.kernel.table p) (found_elsewhere call next w.kernel i p still (awake_back i w.kernel w.awake) s.process s.there s.ready) in
       stands_on j m p rest (awake_by j p s.process (subst (Elsewhere s.process) (sym (slots_so w.kernel j p w.same)) e) d s.calls)
 
-  nobody_ends : (m : KernelState S) → Nobody m.table → IsEnding (after_turn call next) (DoesAnyhow call next) (PrivatelyBegun call next) m
+  nobody_ends : (m : KernelState S) → Nobody m.table → IsEnding (after_turn call next) (DoesAnyhow call next) (GivesWayBegun call next) m
   nobody_ends m none k p e does =
-      let x = e.private in
-      let s = stands_on k m p does (record { process = x.process; there = x.there; calls = private_sleepless x.process.fds (call x.process.machine x.process.reply) x.calls; ready = x.ready }) in
+      let x = giver call next k p e.gives in
+      let s = stands_on k m p does (record { process = x.process; there = x.there; calls = x.calls; ready = x.ready }) in
       let up : awake (at m.table p) ≡ true = ap awake s.there ∙ runnable_awake (Some s.process) (ap (λ (t : Status). is_runnable (Some (record s.process { status = t }))) s.ready) in
       let no : true ≡ false = sym up ∙ none p in
       let z : ⊥ = cc in

@@ -13,7 +13,7 @@ ghost use Rattle.order_model.specs.Woke.{AlikeAwake, SameKeyAwake};
 ghost use Rattle.order_model.specs.Anyhow.{SameKeyAnyhow};
 ghost use Rattle.order_model.specs.Turns.{after_turn, IsReachedFrom};
 ghost use Rattle.order_model.specs.Outcome.{RunOutcome};
-ghost use Rattle.order_model.specs.Privately.{Privately};
+ghost use Rattle.order_model.specs.Closes.{GivesWay};
 ghost use Rattle.order_model.specs.Begun.{IsBegun};
 ghost use Rattle.order_model.specs.Explored.{FinishesWith, AreOutcomesOf, AreEnough, Explored, IsFinishedOrBusy, IsOutcomeOfRun, AreAllOutcomes, IsNeverStuck};
 ghost use Rattle.closed_search.specs.Searched.{IsReducedUnder, IsReached};
@@ -47,12 +47,12 @@ pub fn kernels_that_are_alike_have_the_same_key<M: Machine>()
     ensures { (k l : KernelState M.State) → IsBegun M.call_of M.next_of k → IsBegun M.call_of M.next_of l → AlikeAwake k l → SameKeyAwake k l }
 {}
 
-/// A search of kernels, the moves of which are the turns of all processes, which makes private turns at once, and in which kernels
+/// A search of kernels, the moves of which are the turns of all processes, which makes turns that give way to nobody's at once, and in which kernels
 /// with the same key but for who sleeps and for numbers of entries stand for each other: if it went to its end, what it found is enough.
 /// So it was explored if the outcomes of the finished kernels are told and no others.
 pub fn what_a_search_found_is_explored<M: Machine>()
     ensures enough { (moves : ℕ) (start : KernelState M.State) (seen : List (KernelState M.State)) → IsBegun M.call_of M.next_of start → PROCS ≤ moves
-        → All (IsReached (after_turn M.call_of M.next_of) start) seen → IsReducedUnder (after_turn M.call_of M.next_of) SameKeyAnyhow (Privately M.call_of) moves start seen
+        → All (IsReached (after_turn M.call_of M.next_of) start) seen → IsReducedUnder (after_turn M.call_of M.next_of) SameKeyAnyhow (GivesWay M.call_of M.next_of) moves start seen
         → AreEnough M.call_of M.next_of start seen }
     ensures explored { (start : KernelState M.State) (seen : List (KernelState M.State)) (outcomes : List RunOutcome)
         → AreEnough M.call_of M.next_of start seen → AreOutcomesOf seen outcomes → Explored M.call_of M.next_of start outcomes }
