@@ -1,5 +1,5 @@
 -- What programs still open at most: a file for each word that names one, and is not opened yet.
-use Rattle.std.proofs.Common.{◌≡◌, ℕ, zero, suc, ◌+◌, ◌≤◌, List, [], ◌∷◌, ◌++◌, Bool, true, false, length, arith}
+use Rattle.std.proofs.Common.{ℕ, ◌+◌, ◌≤◌, List, [], ◌∷◌, ◌++◌, Bool, true, false, length, arith}
 use Rattle.std.specs.Prelude.{nat_lt, if◌then◌else◌, slice_index_or}
 use Rattle.mem_files.specs.Name.{Name, Bytes}
 use Rattle.prog_parts.specs.declared.program.Program.{Program}
@@ -9,7 +9,7 @@ use Rattle.prog_parts.specs.Program.{file_words}
 use Rattle.user_calls.specs.declared.calls.Call.{Call}
 use Rattle.user_calls.specs.declared.calls.Call.TheVariants.{Fork, Exec, Exit, Wait, MakePipe, Read, Write, OpenFile, Close, Dup}
 use Rattle.user_calls.specs.declared.calls.Reply.{Reply}
-use Rattle.user_progs.specs.State.{Filter, copying, heading, counting, searching, Source, standard, file, Work, Tee, tee_opens, tee_reads, tee_writes, tee_gives, State, begins, echo_word, echo_space, opens, works, closes, tees, told, ended}
+use Rattle.user_progs.specs.State.{Filter, copying, heading, counting, searching, Source, standard, file, Tee, tee_opens, tee_reads, tee_writes, tee_gives, State, begins, echo_word, echo_space, opens, works, closes, tees, told, ended}
 use Rattle.user_progs.specs.Turn.{Turn, Answer, yields, denies, strays, bytes_in, fd_in, done_in, Step, reads, writes, finishes, fails, quits, turn_by, after_source, opens_next, opened_by, closed_by, first_step, begins_filter, begins_head, begins_grep, begins_program, echo_next, echo_end, work_step, filter_of, name_of, tee_opens_next, tee_opened, tee_got, tee_gives_next, tee_wrote, tee_turn, tee_cannot_open, tee_waits, turn}
 use Rattle.law_few_opens.proofs.Spending.{cost}
 

@@ -1,8 +1,8 @@
 -- What the shell and its processes still open at most: each file and pipe of what is still to be run.
-use Rattle.std.proofs.Common.{◌≡◌, ℕ, ◌+◌, ◌≤◌, List, [], ◌∷◌, Bool, true, false, Option, Some, None, length, refl, ap, subst, arith}
+use Rattle.std.proofs.Common.{◌≡◌, ℕ, ◌+◌, ◌≤◌, List, [], ◌∷◌, Option, Some, None, length, refl, ap, subst, arith}
 use Rattle.std.specs.Prelude.{drop, codes}
 use Rattle.sh_tree.specs.Tree.{Tree, exec, redir, pipe, list, back}
-use Rattle.mem_files.specs.Name.{Name, Bytes}
+use Rattle.mem_files.specs.Name.{Bytes}
 use Rattle.prog_parts.specs.declared.program.Program.{Program}
 use Rattle.prog_parts.specs.Program.{program_of, file_words}
 use Rattle.prog_parts.specs.Words.{by_program}
@@ -20,7 +20,7 @@ use Rattle.sh_machine.specs.declared.state.Phase.TheVariants.{Starts, Forks, Wai
 use Rattle.sh_machine.specs.declared.state.Side.{Side}
 use Rattle.sh_machine.specs.declared.state.Side.TheVariants.{Closes, Dups, ClosesReader, ClosesWriter}
 use Rattle.sh_machine.specs.State.{Parent, makes, forks_writer, forks_reader, closes_reader, closes_writer, waits_first, waits_second, Shell, top, unknown, closes_old, opens_file, forks_left, waits_left, pipes, side, forks_back, told, ended, User, init, shell, program}
-use Rattle.sh_machine.specs.Turn.{Next, stays, becomes, Turn, calls, exits, failed, call_mode, call_of, next_of, user_of_next, on_done, on_fd, on_fork, on_pipe, on_unknown, execs_found, execs, runs, runs_line, runs_first, takes_line, takes_first, top_turn, pipe_turn, side_turn, shell_turn}
+use Rattle.sh_machine.specs.Turn.{Next, stays, becomes, Turn, calls, exits, failed, call_mode, call_of, next_of, user_of_next, on_done, on_fd, on_fork, on_pipe, on_unknown, execs_found, runs, runs_first, takes_first, top_turn, pipe_turn, side_turn, shell_turn}
 use Rattle.room_model.specs.Opens.{most_opens}
 use Rattle.law_few_opens.proofs.Spending.{cost, left, IsSpent}
 use Rattle.law_few_opens.proofs.Programs.{program_ahead, IsForkless, turn_opens}

@@ -1,6 +1,6 @@
 -- What a process still opens at most, itself and through those that it forks, is spent by its calls. So where all of them together
 -- open no more than there are free entries, it stays so.
-use Rattle.std.proofs.Common.{◌≡◌, ◌≢◌, ◌⊎◌, ℕ, zero, suc, ◌+◌, ◌<◌, ◌≤◌, List, [], ◌∷◌, Bool, true, false, Option, Some, None, refl, sym, ap, subst, ◌∙◌, arith}
+use Rattle.std.proofs.Common.{◌≡◌, ◌≢◌, ℕ, zero, suc, ◌+◌, ◌≤◌, List, [], ◌∷◌, Bool, true, false, Option, Some, None, refl, sym, ap, subst, ◌∙◌, arith}
 use Rattle.std.proofs.Math.ListN.{set}
 use Rattle.std.specs.Prelude.{sum_by, length, take, map, is_some, ◌&&◌, if◌then◌else◌, Result, Ok, Err}
 use Rattle.user_calls.specs.declared.calls.Call.{Call}
@@ -11,7 +11,7 @@ use Rattle.fd_table.specs.declared.descriptors.TheConstants.{DESCRIPTORS}
 use Rattle.fd_table.specs.declared.faults.FdFault.{FdFault}
 use Rattle.fd_table.specs.declared.names.Object.{Object}
 use Rattle.fd_table.specs.declared.names.Object.TheVariants.{Input, Out, Diag, File, PipeRead, PipeWrite}
-use Rattle.fd_table.specs.Entries.{Entries, OpenFile as Entry, entry_at, free_count, lowest_free_entry, added_at, opened, less_held, more_held, moved_on, going_on_at, released}
+use Rattle.fd_table.specs.Entries.{Entries, OpenFile as Entry, free_count, lowest_free_entry, added_at, opened, less_held, more_held, moved_on, going_on_at}
 use Rattle.fd_table.specs.Descriptors.{Descriptors, entry_of, close_answer, released_by_close, held_by_dup}
 use Rattle.proc_table.specs.declared.states.Channel.{Channel}
 use Rattle.proc_table.specs.declared.states.Channel.TheVariants.{PipeBytes, PipeRoom, Children}
@@ -24,7 +24,7 @@ use Rattle.kernel_model.specs.KernelState.{KernelState, fds_at}
 use Rattle.kernel_model.specs.Events.{counted}
 use Rattle.kernel_model.specs.Modes.{entry_mode}
 use Rattle.kernel_model.specs.Opening.{with_bytes}
-use Rattle.kernel_model.specs.Descriptors.{let_go_of, taken_away, closed, closed_below, opened_at, with_open, with_reader, with_ends}
+use Rattle.kernel_model.specs.Descriptors.{let_go_of, taken_away, closed, closed_below, opened_at, with_open, with_reader}
 use Rattle.kernel_model.proofs.Lasting.{no_run}
 use Rattle.law_outcomes.specs.Outcome.{Outcome, refused, lacks, forks, runs, exits, reaps, waits, opens, opens_empty, closes, dups, pipes, reads_input, reads_file, takes, waits_for_bytes, meets_end, tells, complains, writes_over, appends, puts_all, puts_part}
 use Rattle.law_outcomes.proofs.Outcomes.{every_call_ends}
@@ -254,9 +254,15 @@ module _ {S : Type 0} (call : S → Reply → Call) (next : S → Reply → S) (
       forked_left : (child : ℕ) → made ≡ Fork → lowest_free k.table ≡ Some child → table_left (set (forked k.table child pid after (fds_at k pid)) pid (made_ready after Done (at (forked k.table child pid after (fds_at k pid)) pid))) + cost made ≤ table_left k.table
       forked_left child c found =
           let t = forked k.table child pid after (fds_at k pid) in
-          omega
-          (arith, set_left t pid (made_ready after Done (at t pid)), ready_left after Done (at t pid), splits c, own, set_left k.table child (Some (newborn pid after (fds_at k pid))),
-          ap slot_left (parent_stays k.table pid child after (fds_at k pid) runs_here found))
+          omega (
+            arith,
+            set_left t pid (made_ready after Done (at t pid)),
+            ready_left after Done (at t pid),
+            splits c,
+            own,
+            set_left k.table child (Some (newborn pid after (fds_at k pid))),
+            ap slot_left (parent_stays k.table pid child after (fds_at k pid) runs_here found),
+          )
 
       no_zombie_runs : (x : Slot S) → is_running x ≡ true → is_zombie_child_of pid x ≡ true → ⊥
       no_zombie_runs None up dead = let z : ⊥ = cc in z

@@ -7,10 +7,9 @@ use Rattle.kernel_model.specs.KernelState.{KernelState}
 use Rattle.order_model.specs.Alike.{IsStill}
 use Rattle.order_model.specs.Turns.{by_turns, after_turn, quiet_turns}
 use Rattle.order_model.specs.Reduced.{IsSafe, Joins}
-use Rattle.order_model.specs.Privately.{Privately}
 use Rattle.order_model.specs.Begun.{IsBegun}
 use Rattle.order_model.specs.Anyhow.{AlikeAnyhow, DoesAnyhow, itself, likened}
-use Rattle.order_model.specs.Closes.{HasRoomAhead, ClosesPlain, ClosesLastWriter, ClosesInRoom, GivesWay, GivesWayBegun}
+use Rattle.order_model.specs.Closes.{HasRoomAhead, ClosesPlain, ClosesLastWriter, GivesWay, GivesWayBegun}
 use Rattle.law_private_turns.proofs.Begun.{begun_on, begun_still}
 use Rattle.law_last_closes.proofs.Anyhow.{awake_anyhow, joined, numbers_anyhow}
 use Rattle.law_last_closes.proofs.Safe.{privates_safe_anyhow}

@@ -1,9 +1,14 @@
 -- Kernels to which turns lead from a kernel at its start.
-use Rattle.std.proofs.Common.{◌≡◌, ℕ, zero, suc, List, [], ◌∷◌, ◌++◌, Bool, true, false, Option, Some, None, length, refl, sym, ap, subst, ◌∙◌, map, arith}
+use Rattle.std.proofs.Common.{◌≡◌, ◌≢◌, ◌⊎◌, ◌≤◌, inl, inr, ℕ, zero, suc, List, [], ◌∷◌, ◌++◌, Bool, true, false, Option, Some, None, length, refl, sym, ap, subst, ◌∙◌, map, arith}
 use Rattle.std.specs.Prelude.{if◌then◌else◌, ◌&&◌, not, nat_lt, is_some, position, count_by, cond}
 use Rattle.std.proofs.lemmas.List.Sums.{sum_by-cons}
 use Rattle.user_calls.specs.declared.calls.Call.{Call}
+use Rattle.user_calls.specs.declared.calls.Call.TheVariants.{Close}
 use Rattle.user_calls.specs.declared.calls.Reply.{Reply}
+use Rattle.fd_table.specs.declared.names.Object.{Object}
+use Rattle.fd_table.specs.declared.names.Object.TheVariants.{Input, Out, Diag, File, PipeRead, PipeWrite}
+use Rattle.fd_table.specs.Entries.{Entries, OpenFile, entry_at}
+use Rattle.fd_table.specs.Descriptors.{entry_of}
 use Rattle.mem_files.specs.Name.{Name, Bytes}
 use Rattle.proc_table.specs.declared.states.Status.{Status}
 use Rattle.proc_table.specs.declared.states.Status.TheVariants.{Runnable, Running, Asleep, Zombie}
@@ -14,15 +19,16 @@ use Rattle.kernel_model.specs.declared.events.Event.TheVariants.{Trap}
 use Rattle.kernel_model.specs.KernelState.{KernelState}
 use Rattle.kernel_model.specs.Boot.{boot_kernel}
 use Rattle.kernel_model.specs.Events.{counted, can_dispatch, then_happens, IsFinished}
-use Rattle.order_model.specs.Idle.{idle_slot, idle_status, idle_kernel, renamed_entry, renamed_pipe}
+use Rattle.order_model.specs.Idle.{idle_slot, idle_status, idle_kernel, renamed_object, renamed_entry, renamed_pipe}
 use Rattle.order_model.specs.Key.{key, place_in}
 use Rattle.order_model.specs.Woke.{woke_status, woke_slot, woke_table, woke}
 use Rattle.order_model.specs.Anyhow.{bare_status, bare_slot, bare_table}
-use Rattle.order_model.specs.Privately.{IsPrivateCall, Privately}
+use Rattle.order_model.specs.Privately.{IsPrivateCall}
+use Rattle.order_model.specs.Closes.{HasRoomAhead, IsPlain, ClosesPlain, ClosesLastWriter, GivesWay}
 use Rattle.order_model.specs.Outcome.{outcome_of}
 use Rattle.order_model.specs.Turns.{by_turns, quiet_turns, after_turns, after_turn, turn_events, turn_notes}
 use Rattle.order_search.specs.Led.{start_kernel}
-use Rattle.order_search.specs.Shown.{IsPrivateSlot}
+use Rattle.order_search.specs.Shown.{ClosesAtOnce, IsClosedAtOnce, IsPrivateSlot, IsClosingSlot, IsGivingSlot}
 use Rattle.order_search.specs.Places.{IsOrderly, names_in, place_among}
 use Rattle.order_search.proofs.Placing.{place_is}
 use Rattle.law_kernel.proofs.EntriesLong.{every_run_has_entries}
@@ -39,6 +45,10 @@ module _ {S : Type 0} (call : S → Reply → Call) (next : S → Reply → S) w
 
   pub led_on : (start k m : KernelState S) (pids : List ℕ) (pid : ℕ) → after_turns call next start pids ≡ Some k → after_turn call next k pid ≡ Some m → after_turns call next start (pids ++ pid ∷ []) ≡ Some m
   led_on start k m pids pid turns turn = one_more pids pid (Some start) ∙ ap (λ (o : Option (KernelState S)). by_turns call next o (quiet_turns (pid ∷ []))) turns ∙ turn
+
+  -- the last of these turns
+  pub last_turn : (start k m : KernelState S) (pids : List ℕ) (pid : ℕ) → after_turns call next start pids ≡ Some k → after_turns call next start (pids ++ pid ∷ []) ≡ Some m → after_turn call next k pid ≡ Some m
+  last_turn start k m pids pid turns longer = sym (ap (λ (o : Option (KernelState S)). by_turns call next o (quiet_turns (pid ∷ []))) turns) ∙ sym (one_more pids pid (Some start)) ∙ longer
 
   pub led_orderly : (init shell : S) (input : Bytes) (list : List (Name × Bytes)) (k : KernelState S) (pids : List ℕ) → after_turns call next (start_kernel init shell input list) pids ≡ Some k → IsOrderly k
   led_orderly init shell input list k pids turns =
@@ -113,7 +123,7 @@ none_of test [] k free none = free
 none_of test (x ∷ t) zero free none = (none_by test x t (test x) refl none).0
 none_of test (x ∷ t) (suc k) free none = none_of test t k free (none_by test x t (test x) refl none).1
 
--- ---- whose next call is private
+-- ---- whose turn gives way to nobody's
 
 ready_is : (name : ℕ → ℕ) (s : Status) → idle_status name s ≡ Runnable → is_running_status s ≡ false → s ≡ Runnable
 ready_is name Runnable ready idle = refl
@@ -133,17 +143,72 @@ private_slot call name (Some p) idle e =
       calls = subst (λ (q : Process _). IsPrivateCall q.fds (call q.machine q.reply)) (sym same) e.calls;
     }
 
-pub key_private : {S : Type 0} (call : S → Reply → Call) (k look : KernelState S) (pid : ℕ) → look ≡ key k → count_by is_running k.table ≡ 0 → Privately call look pid → Privately call k pid
-key_private call k look pid is none e =
-    let there : IsPrivateSlot call (idle_slot (place_in k.pipes) (at k.table pid)) =
-    record {
-      process = e.process;
-      is = sym (at_idle (place_in k.pipes) k.table pid) ∙ ap (λ (j : KernelState _). at j.table pid) (sym is) ∙ e.there;
-      ready = e.ready;
-      calls = e.calls;
-    } in
-    let x = private_slot call (place_in k.pipes) (at k.table pid) (none_of is_running k.table pid refl none) there in
-    record { child = e.child; process = x.process; there = x.is; ready = x.ready; calls = x.calls }
+-- a closing slot of the key is one of the kernel
+record Freed (x : Option OpenFile) : Type 0 where
+  file : OpenFile
+  is : x ≡ Some file
+  how : IsPlain file.object ⊎ ((pipe : ℕ) × (file.object ≡ PipeWrite pipe) × (file.count ≤ 1))
+
+freed_object : (name : ℕ → ℕ) (o : Object) (count : ℕ) → ClosesAtOnce (renamed_object name o) count → IsPlain o ⊎ ((pipe : ℕ) × (o ≡ PipeWrite pipe) × (count ≤ 1))
+freed_object name Input count free = inl tt
+freed_object name Out count free = inl tt
+freed_object name Diag count free = inl tt
+freed_object name (File file mode) count free = inl tt
+freed_object name (PipeRead id) count free = absurd free
+freed_object name (PipeWrite id) count free = inr (id, refl, free)
+
+freed : (name : ℕ → ℕ) (x : Option OpenFile) → IsClosedAtOnce (renamed_entry name x) → Freed x
+freed name None free = absurd free
+freed name (Some f) free = record { file = f; is = refl; how = freed_object name f.object f.count free }
+
+entry_named : (name : ℕ → ℕ) (E : Entries) (e : ℕ) → entry_at (map (renamed_entry name) E) e ≡ renamed_entry name (entry_at E e)
+entry_named name [] e = refl
+entry_named name (x ∷ E) zero = refl
+entry_named name (x ∷ E) (suc e) = entry_named name E e
+
+module _ {S : Type 0} (call : S → Reply → Call) (next : S → Reply → S) where
+  closing_by : (k : KernelState S) (pid : ℕ) (p : Process S) → at k.table pid ≡ Some p → p.status ≡ Runnable → (fd : ℕ) → call p.machine p.reply ≡ Close fd → (entry : ℕ) → entry_of p.fds fd ≡ Some entry → Freed (entry_at k.entries entry) → ClosesPlain call next k pid ⊎ ClosesLastWriter call next k pid
+  closing_by k pid p there ready fd calls entry holds f = by f.how where
+    by : IsPlain f.file.object ⊎ ((pipe : ℕ) × (f.file.object ≡ PipeWrite pipe) × (f.file.count ≤ 1)) → ClosesPlain call next k pid ⊎ ClosesLastWriter call next k pid
+    by (inl plain) = inl (record { process = p; there = there; ready = ready; fd = fd; calls = calls; entry = entry; holds = holds; file = f.file; used = f.is; plain = plain })
+    by (inr w) = inr (record { process = p; there = there; ready = ready; fd = fd; calls = calls; entry = entry; holds = holds; file = f.file; used = f.is; pipe = w.0; writes = w.1; last = w.2 })
+
+  closing_slot : (k : KernelState S) (pid : ℕ) (name : ℕ → ℕ) (E : Entries) (x : Slot S) → at k.table pid ≡ x → is_running x ≡ false → E ≡ map (renamed_entry name) k.entries → IsClosingSlot call E (idle_slot name x) → ClosesPlain call next k pid ⊎ ClosesLastWriter call next k pid
+  closing_slot k pid name E None there idle entries e = absurd (let is = e.is in let z : ⊥ = cc in z)
+  closing_slot k pid name E (Some p) there idle entries e =
+      let is = e.is in
+      let same : record p { status = idle_status name p.status } ≡ e.process = cc in
+      closing_by k pid p there (ready_is name p.status (ap (λ (q : Process _). q.status) same ∙ e.ready) idle) e.fd (ap (λ (q : Process S). call q.machine q.reply) same ∙ e.calls) e.entry (ap (λ (q : Process S). entry_of q.fds e.fd) same ∙ e.holds)
+      (freed name (entry_at k.entries e.entry) (subst IsClosedAtOnce (ap (λ (F : Entries). entry_at F e.entry) entries ∙ entry_named name k.entries e.entry) e.at_once))
+
+  -- whose turn gives way in the key gives way, in a kernel that has room if that is said of it
+  pub key_gives : (k look : KernelState S) (room : Bool) (pid : ℕ) → look ≡ key k → count_by is_running k.table ≡ 0 → (room ≡ true → HasRoomAhead call next k) → (pid ≢ 0) × IsGivingSlot call room look.entries (at look.table pid) → GivesWay call next k pid
+  key_gives k look room pid is none ahead e = by e.1 where
+    slot : at look.table pid ≡ idle_slot (place_in k.pipes) (at k.table pid)
+    slot = ap (λ (j : KernelState S). at j.table pid) is ∙ at_idle (place_in k.pipes) k.table pid
+
+    idle : is_running (at k.table pid) ≡ false
+    idle = none_of is_running k.table pid refl none
+
+    by : IsGivingSlot call room look.entries (at look.table pid) → GivesWay call next k pid
+    by (inl private) =
+        let x = private_slot call (place_in k.pipes) (at k.table pid) idle (subst (IsPrivateSlot call) slot private) in
+        inl (record { child = e.0; process = x.process; there = x.is; ready = x.ready; calls = x.calls })
+    by (inr closing) =
+        inr (record {
+          child = e.0;
+          closes = closing_slot k pid (place_in k.pipes) look.entries (at k.table pid) refl idle (ap (λ (j : KernelState S). j.entries) is) (subst (IsClosingSlot call look.entries) slot closing.1);
+          room = ahead closing.0;
+        })
+
+  -- turns after turns
+  more : (pids later : List ℕ) (o : Option (KernelState S)) → by_turns call next o (quiet_turns (pids ++ later)) ≡ by_turns call next (by_turns call next o (quiet_turns pids)) (quiet_turns later)
+  more [] later o = refl
+  more (p ∷ pids) later o = more pids later (by_turns call next o (quiet_turns (p ∷ [])))
+
+  -- a kernel to which turns lead from one that has room ahead has it too
+  pub room_led : (start k : KernelState S) (pids : List ℕ) → HasRoomAhead call next start → after_turns call next start pids ≡ Some k → HasRoomAhead call next k
+  room_led start k pids room turns later m q is = room (pids ++ later) m q (more pids later (Some start) ∙ ap (λ (o : Option (KernelState S)). by_turns call next o (quiet_turns later)) turns ∙ is)
 
 -- ---- keys but for who sleeps
 

@@ -8,9 +8,9 @@ use Rattle.user_calls.specs.declared.calls.Call.{Call}
 use Rattle.user_calls.specs.declared.calls.Reply.{Reply}
 use Rattle.fd_table.specs.Descriptors.{Descriptors}
 use Rattle.proc_table.specs.Slots.{Process, Table, at}
-use Rattle.order_model.specs.Privately.{IsPrivateCall}
 use Rattle.order_model.specs.Anyhow.{bare_slot}
-use Rattle.order_search.specs.Shown.{slot_of}
+use Rattle.order_search.specs.declared.private.NextCall.{NextCall}
+use Rattle.order_search.specs.Shown.{slot_of, IsNextCall}
 
 module _ {S Z : Type 0} where
   pub at_kept : (xs : List (Option (Rc (Process S) Z))) (i : ℕ) (d : Option (Rc (Process S) Z)) → i < length xs → at (map slot_of xs) i ≡ slot_of (get_or xs i d)
@@ -78,9 +78,9 @@ slots_at {S} xs ys i x y within within_too is is_too same =
 pub same_number : (m n : ℕ) → nat_eq m n ≡ true → m ≡ n
 same_number m n is = eqb-true m n is
 
--- ---- private calls
+-- ---- next calls
 
--- a call is private whichever of equal values it is said of
-pub calls_so : {S : Type 0} (of : S → Reply → Call) (fds places : Descriptors) (s t : S) (r q : Reply) → fds ≡ places → t ≡ s → q ≡ r → IsPrivateCall fds (of s r) → IsPrivateCall places (of t q)
-calls_so {S} of fds places s t r q held machine reply private =
-    subst (λ (d : Call). IsPrivateCall places d) (ap (λ (m : S). of m r) (sym machine) ∙ ap (of t) (sym reply)) (subst (λ (f : Descriptors). IsPrivateCall f (of s r)) held private)
+-- what is known of a next call is known of it whichever of equal values it is said of
+pub calls_so : {S : Type 0} (of : S → Reply → Call) (fds places : Descriptors) (s t : S) (r q : Reply) (known : NextCall) → fds ≡ places → t ≡ s → q ≡ r → IsNextCall fds (of s r) known → IsNextCall places (of t q) known
+calls_so {S} of fds places s t r q known held machine reply is =
+    subst (λ (d : Call). IsNextCall places d known) (ap (λ (m : S). of m r) (sym machine) ∙ ap (of t) (sym reply)) (subst (λ (f : Descriptors). IsNextCall f (of s r) known) held is)

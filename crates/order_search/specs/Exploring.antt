@@ -6,7 +6,7 @@ use Rattle.proc_table.specs.declared.pid.TheConstants.{PROCS}
 use Rattle.kernel_model.specs.KernelState.{KernelState}
 use Rattle.closed_search.specs.Searched.{IsReached, IsReducedUnder}
 use Rattle.order_model.specs.Anyhow.{SameKeyAnyhow}
-use Rattle.order_model.specs.Privately.{Privately}
+use Rattle.order_model.specs.Closes.{GivesWay}
 use Rattle.order_model.specs.Turns.{after_turn, after_turns}
 use Rattle.order_model.specs.Explored.{IsFinishedOrBusy}
 use Rattle.order_search.specs.declared.ordering.Exploration.{Exploration}
@@ -15,12 +15,12 @@ use Rattle.order_search.specs.Told.{Tells, LeadsToSleep}
 module _ {S : Type 0} (call : S → Reply → Call) (next : S → Reply → S) where
   -- kernels that turns lead to from the start were seen, and their outcomes are told, each with turns that lead to it from the boot;
   -- where all orders were tried, they have the keys, but for who sleeps and for numbers of entries, of all their turns, or of where
-  -- private turns lead on from there; and where nobody is said to be stuck, each is finished or a turn leads to other slots, and else
+  -- turns that give way to nobody's lead on from there; and where nobody is said to be stuck, each is finished or a turn leads to other slots, and else
   -- these turns lead to where nobody is Runnable
   pub record Explores (boot start : KernelState S) (e : Exploration) : Type 0 where
     pub seen : List (KernelState S)
     pub reached : All (IsReached (after_turn call next) start) seen
-    pub reduced : e.whole ≡ true → IsReducedUnder (after_turn call next) SameKeyAnyhow (Privately call) PROCS start seen
+    pub reduced : e.whole ≡ true → IsReducedUnder (after_turn call next) SameKeyAnyhow (GivesWay call next) PROCS start seen
     pub tells : Tells call next boot seen e.outcomes.items
     pub busy : e.stuck ≡ None → All (IsFinishedOrBusy call next) seen
     pub asleep : IfSome e.stuck (λ pids. LeadsToSleep call next boot pids.items)

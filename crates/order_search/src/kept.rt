@@ -6,6 +6,7 @@ ghost use Rattle.order_model.specs.Woke.{woke_status};
 ghost use Rattle.order_model.specs.Anyhow.{bare_status};
 
 use crate::pools::{Digest, Same};
+use crate::private::NextCall;
 use crate::renumbering::are_places_under;
 use fd_table::{Mode, Object};
 use mem_files::Files;
@@ -23,21 +24,19 @@ pub struct Held<M: Machine> {
     pub reply: Reply,
     pub places: Vec<Option<u8>>,
     pub put: usize,
-    // whether its next call is private; `false` is always right
-    pub private: bool,
+    pub next: NextCall,
     pub digest: u64,
 }
 
 impl<M: Machine> Model for Held<M> {
-    ghost use Rattle.std.specs.Prelude.{◌≡◌, true};
     ghost use Rattle.proc_table.specs.Slots.{Process};
-    ghost use Rattle.order_model.specs.Privately.{IsPrivateCall};
+    ghost use Rattle.order_search.specs.Shown.{IsNextCall};
 
     ghost Value = { Process M.State };
 
     ghost view = { λ h. record { status = h.status; parent = h.parent; machine = M.view h.machine; reply = h.reply; fds = h.places.items; put = h.put } };
 
-    ghost invariant = { λ h. h.private ≡ true → IsPrivateCall h.places.items (M.call_of (M.view h.machine) h.reply) };
+    ghost invariant = { λ h. IsNextCall h.places.items (M.call_of (M.view h.machine) h.reply) h.next };
 }
 
 // An entry that is in use.
@@ -258,7 +257,8 @@ fn same_object(object: &Object, other: &Object) -> bool
 }
 
 impl Opened {
-    ghost use Rattle.std.specs.Prelude.{◌≡◌, ◌↔◌, IsTrue};
+    ghost use Rattle.std.specs.Prelude.{◌≡◌, ◌↔◌, IsTrue, true, Some};
+    ghost use Rattle.order_search.specs.Shown.{IsClosedAtOnce};
 
     fn same(&self, other: &Opened) -> bool
         ensures { IsTrue result ↔ (self.now ≡ other.now) }
@@ -266,6 +266,17 @@ impl Opened {
         same_object(&self.object, &other.object)
             && self.count == other.count
             && self.offset == other.offset
+    }
+
+    // Whether a descriptor of it can be closed at once.
+    fn is_closed_at_once(&self) -> bool
+        ensures { result ≡ true → IsClosedAtOnce (Some self.now) }
+    {
+        match &self.object {
+            Object::Input | Object::Out | Object::Diag | Object::File(..) => true,
+            Object::PipeRead(_) => false,
+            Object::PipeWrite(_) => self.count <= 1,
+        }
     }
 
     pub fn add_to(&self, digest: &mut Digest) {
@@ -326,7 +337,23 @@ impl Same for Entries {
 }
 
 impl Entries {
-    ghost use Rattle.std.specs.Prelude.{◌≡◌};
+    ghost use Rattle.std.specs.Prelude.{◌≡◌, true};
+    ghost use Rattle.fd_table.specs.Entries.{entry_at};
+    ghost use Rattle.order_search.specs.Shown.{IsClosedAtOnce};
+
+    // Whether a descriptor of the entry of this number can be closed at once.
+    pub fn is_closed_at_once(&self, number: u8) -> bool
+        ensures { result ≡ true → IsClosedAtOnce (entry_at self.now number) }
+    {
+        let place = usize::from(number);
+        if place >= self.slots.len() {
+            return false;
+        }
+        match &self.slots[place] {
+            Some(opened) => opened.is_closed_at_once(),
+            None => false,
+        }
+    }
 
     // The entries, with their digest.
     pub fn of(slots: Vec<Option<Opened>>) -> Entries
@@ -423,7 +450,7 @@ impl<M: Machine> Held<M> {
     ghost use Rattle.order_model.specs.Woke.{woke_slot};
     ghost use Rattle.order_model.specs.Numbers.{renumbered_slot};
     ghost use Rattle.order_model.specs.Anyhow.{bare_slot};
-    ghost use Rattle.order_search.specs.Shown.{IsPrivateSlot};
+    ghost use Rattle.order_search.specs.Shown.{IsGivingSlot};
     ghost use Rattle.order_search.specs.Under.{number_under};
 
     // Whether the other one is this one under these numbers of entries, but for who sleeps.
@@ -449,11 +476,18 @@ impl<M: Machine> Held<M> {
             && self.machine.same(&other.machine)
     }
 
-    // Whether it is Runnable and its next call is private.
-    pub fn is_private(&self) -> bool
-        ensures { result ≡ true → IsPrivateSlot M.call_of (Some self.now) }
+    // Whether it is Runnable and its next call is private, or, where there is room, can be closed at once.
+    pub fn gives_way(&self, entries: &Entries, room: bool) -> bool
+        ensures { result ≡ true → IsGivingSlot M.call_of room entries.now (Some self.now) }
     {
-        self.status == Status::Runnable && self.private
+        if self.status != Status::Runnable {
+            return false;
+        }
+        match self.next {
+            NextCall::Private => true,
+            NextCall::Closes(entry) => room && entries.is_closed_at_once(entry),
+            NextCall::Unknown => false,
+        }
     }
 
     // What the digest is to be: it is the same for two that are equal but for who sleeps and for numbers of entries.

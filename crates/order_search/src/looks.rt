@@ -3,7 +3,7 @@
 ghost use Rattle.std.specs.Prelude.{◌≡◌, ◌↔◌, IsTrue, IsSome, true, map};
 ghost use Rattle.proc_table.specs.Slots.{is_runnable};
 ghost use Rattle.order_model.specs.Anyhow.{bare_slot};
-ghost use Rattle.order_search.specs.Shown.{slot_of, IsPrivateSlot};
+ghost use Rattle.order_search.specs.Shown.{slot_of, IsGivingSlot};
 
 use crate::kept::{AllFiles, Bytes, Entries, Held, Opened, Pipes};
 use crate::pools::{Digest, Same};
@@ -75,14 +75,14 @@ fn same_slots<M: Machine>(slots: &[Option<Rc<Held<M>>>], others: &[Option<Rc<Hel
 }
 
 impl<M: Machine> Look<M> {
-    ghost use Rattle.std.specs.Prelude.{◌≡◌, ◌↔◌, IsTrue, IfSome};
+    ghost use Rattle.std.specs.Prelude.{◌≡◌, ◌≢◌, ◌↔◌, IsTrue, IfSome};
     ghost use Rattle.proc_table.specs.Slots.{at, is_runnable};
     ghost use Rattle.kernel_model.specs.Events.{IsFinished};
     ghost use Rattle.order_model.specs.Woke.{woke, woke_slot};
     ghost use Rattle.order_model.specs.Numbers.{SameButNumbers};
     ghost use Rattle.order_model.specs.Anyhow.{bare_table};
     ghost use Rattle.order_search.specs.Under.{AreRenumberedParts};
-    ghost use Rattle.order_model.specs.Privately.{Privately};
+    ghost use Rattle.order_search.specs.Shown.{IsGivingSlot};
 
     // A look at nothing.
     pub fn blank(alloc: Global) -> Result<Look<M>, AllocError> {
@@ -186,12 +186,12 @@ impl<M: Machine> Look<M> {
         pid < self.slots.len() && is_ready(&self.slots[pid])
     }
 
-    // A process, not init, that is Runnable and whose next call is private.
-    pub fn private_pid(&self) -> Option<usize>
-        ensures { IfSome result (Privately M.call_of self.now) }
+    // A process, not init, that is Runnable and whose next call is private, or, where there is room, a close that can be made at once.
+    pub fn giving_pid(&self, room: bool) -> Option<usize>
+        ensures { IfSome result (λ pid. (pid ≢ 0) × IsGivingSlot M.call_of room self.now.entries (at self.now.table pid)) }
     {
         for pid in 1..self.slots.len() {
-            if is_private(&self.slots[pid]) {
+            if gives_way(&self.slots[pid], &self.entries, room) {
                 return Some(pid);
             }
         }
@@ -214,12 +214,12 @@ fn is_ready<M: Machine>(slot: &Option<Rc<Held<M>>>) -> bool
     }
 }
 
-// Whether the slot's process is Runnable and its next call is private.
-fn is_private<M: Machine>(slot: &Option<Rc<Held<M>>>) -> bool
-    ensures { result ≡ true → IsPrivateSlot M.call_of (slot_of slot.now) }
+// Whether the slot's process is Runnable and its next call is private, or, where there is room, a close that can be made at once.
+fn gives_way<M: Machine>(slot: &Option<Rc<Held<M>>>, entries: &Entries, room: bool) -> bool
+    ensures { result ≡ true → IsGivingSlot M.call_of room entries.now (slot_of slot.now) }
 {
     match slot {
-        Some(held) => held.is_private(),
+        Some(held) => held.gives_way(entries, room),
         None => false,
     }
 }

@@ -1,7 +1,8 @@
 //! Explorations of kernels.
 
-ghost use Rattle.std.specs.Prelude.{◌≡◌, ◌<◌, IfOk, IfSome, None, All, length, map, false};
+ghost use Rattle.std.specs.Prelude.{◌≡◌, ◌<◌, IfOk, IfSome, None, All, length, map, true, false};
 ghost use Rattle.order_search.specs.Led.{start_kernel};
+ghost use Rattle.order_model.specs.Closes.{HasRoomAhead};
 ghost use Rattle.order_model.specs.Explored.{IsFinishedOrBusy};
 ghost use Rattle.order_search.specs.Led.{kernel_of};
 ghost use Rattle.order_search.specs.Told.{LeadsToSleep, Tells};
@@ -16,7 +17,7 @@ use proc_table::PROCS;
 use std::alloc::{Allocator, Global};
 use user_calls::Machine;
 
-// How many private turns are taken in a row at most, before a state is kept.
+// How many turns that give way to nobody's are taken in a row at most, before a state is kept.
 const MAX_CHAIN: usize = 64;
 
 /// What an exploration found.
@@ -25,7 +26,7 @@ pub struct Exploration {
     /// Whether every order was tried.
     pub whole: bool,
     /// How many states were kept: kernels that differ in more than who runs, who sleeps, the numbers of open-file entries, how many
-    /// events there were, and what pipes are called. Where a turn is private the state after it stands for the one before it, which is not kept.
+    /// events there were, and what pipes are called. Where a turn gives way to nobody's the state after it stands for the one before it, which is not kept.
     pub states: usize,
     /// Each outcome that was found, once, with a schedule that leads to it.
     pub outcomes: Vec<Outcome>,
@@ -41,6 +42,7 @@ pub fn explore_from<M: Machine, C: Allocator, W: Watch>(
     states: usize,
     watch: &mut W,
 ) -> Result<Exploration, ExploreFault>
+    requires { origin.now.has_room ≡ true → HasRoomAhead M.call_of M.next_of (start_kernel (M.view origin.now.init) (M.view origin.now.shell) origin.now.stdin.now origin.now.files.now) }
     ensures explores { IfOk result (Explores M.call_of M.next_of (start_kernel (M.view origin.now.init) (M.view origin.now.shell) origin.now.stdin.now origin.now.files.now) (start_kernel (M.view origin.now.init) (M.view origin.now.shell) origin.now.stdin.now origin.now.files.now)) }
     ensures part { IfOk result (λ e. e.whole ≡ false → states < e.states) }
 {
@@ -58,10 +60,11 @@ pub fn explore_after<M: Machine, C: Allocator, W: Watch>(
     states: usize,
     watch: &mut W,
 ) -> Result<Exploration, ExploreFault>
+    requires { origin.now.has_room ≡ true → HasRoomAhead M.call_of M.next_of (start_kernel (M.view origin.now.init) (M.view origin.now.shell) origin.now.stdin.now origin.now.files.now) }
     ensures explores { IfOk result (ExploresAfter M.call_of M.next_of (start_kernel (M.view origin.now.init) (M.view origin.now.shell) origin.now.stdin.now origin.now.files.now) pids.now) }
     ensures part { IfOk result (λ e. e.whole ≡ false → states < e.states) }
 {
-    let mut tools = Tools::new(alloc, origin)?;
+    let mut tools = Tools::new(alloc)?;
     let start = Standing::begin(&mut tools, origin, pids)?;
     let bounds = Bounds {
         moves: PROCS,

@@ -24,6 +24,8 @@ pub struct Origin<'t, M: Machine, C: Allocator> {
     pub shell: M,
     pub stdin: &'t [u8],
     pub files: &'t Files<C>,
+    /// Whether whatever is opened, after whatever turns, finds free open-file entries; `false` is always right, and costs states.
+    pub has_room: bool,
 }
 
 impl<'t, M: Machine, C: Allocator> Origin<'t, M, C> {

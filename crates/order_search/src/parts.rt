@@ -15,7 +15,7 @@ ghost use Rattle.order_search.specs.Places.{place_among, names_in, IsOrderly, Ar
 use crate::fault::ExploreFault;
 use crate::kept::{Entries, Held, Opened, Piped, Pipes};
 use crate::places::{place_of, placed_channel};
-use crate::private::calls_privately;
+use crate::private::next_call;
 use fd_table::{Entry, Fds, Name, Object, OpenFiles};
 use kernel_state::State;
 use proc_table::{Pid, State as SlotState, Status};
@@ -85,7 +85,7 @@ pub fn read_slot<M: Machine, A: Allocator>(
     let places = read_places(alloc, state.procs.fds(pid))?;
     let machine = state.procs.machine(pid);
     let reply = state.procs.reply(pid);
-    let private = calls_privately(machine, reply, &places, call);
+    let next = next_call(machine, reply, &places, call);
     let mut held = Held {
         status: idle_status(names, state.procs.state(pid))?,
         parent: parent_of(state, pid),
@@ -93,7 +93,7 @@ pub fn read_slot<M: Machine, A: Allocator>(
         reply: reply.to_reply(),
         places,
         put: state.procs.put(pid),
-        private,
+        next,
         digest: 0,
     };
     held.digest = held.digest_of();

@@ -1,38 +1,59 @@
-//! Calls that no other process sees.
+//! What is known of a process's next call.
 
-ghost use Rattle.std.specs.Prelude.{◌≡◌, true};
+ghost use Rattle.std.specs.Prelude.{◌≡◌};
 ghost use Rattle.fd_table.specs.Descriptors.{entry_of, lowest_free, holders_in};
-ghost use Rattle.order_model.specs.Privately.{IsPrivateCall};
+ghost use Rattle.order_search.specs.Shown.{IsNextCall};
 
 use user_calls::{CallKind, CallSlot, Machine, ReplySlot};
 
-// Whether the call that the machine makes of the reply is private, of a process whose descriptors hold these entries. It is written to
-// `call`.
-pub fn calls_privately<M: Machine>(
+// The next call of a process, as far as it matters. `Unknown` is always right.
+#[derive(Clone, Copy, Debug, PartialEq, Eq)]
+pub enum NextCall {
+    // No other process sees it.
+    Private,
+    // It closes a descriptor that holds this entry.
+    Closes(u8),
+    Unknown,
+}
+
+// The call that the machine makes of the reply, of a process whose descriptors hold these entries. It is written to `call`.
+pub fn next_call<M: Machine>(
     machine: &M,
     reply: &ReplySlot,
     places: &[Option<u8>],
     call: &mut CallSlot,
-) -> bool
-    ensures { result ≡ true → IsPrivateCall places.now (M.call_of (M.view machine.now) reply.now) }
+) -> NextCall
+    ensures { IsNextCall places.now (M.call_of (M.view machine.now) reply.now) result }
 {
     machine.ask(reply, call);
-    is_private_call(call, places)
+    known_of(call, places)
 }
 
-// Whether the call is private, of a process whose descriptors hold these entries: an exec, a dup where a place is free, or a close
-// where another descriptor holds the same entry.
-fn is_private_call(call: &CallSlot, places: &[Option<u8>]) -> bool
-    ensures { result ≡ true → IsPrivateCall places.now call.now }
+// The call of a process whose descriptors hold these entries: an exec, a dup where a place is free, and a close where another
+// descriptor holds the same entry are private.
+fn known_of(call: &CallSlot, places: &[Option<u8>]) -> NextCall
+    ensures { IsNextCall places.now call.now result }
 {
     match call.kind() {
-        CallKind::Exec(_) => true,
-        CallKind::Dup(fd) => entry_of(places, fd).is_some() && lowest_free(places).is_some(),
+        CallKind::Exec(_) => NextCall::Private,
+        CallKind::Dup(fd) => {
+            if entry_of(places, fd).is_some() && lowest_free(places).is_some() {
+                NextCall::Private
+            } else {
+                NextCall::Unknown
+            }
+        }
         CallKind::Close(fd) => match entry_of(places, fd) {
-            Some(entry) => holders_in(places, entry) >= 2,
-            None => false,
+            None => NextCall::Unknown,
+            Some(entry) => {
+                if holders_in(places, entry) >= 2 {
+                    NextCall::Private
+                } else {
+                    NextCall::Closes(entry)
+                }
+            }
         },
-        _ => false,
+        _ => NextCall::Unknown,
     }
 }
 

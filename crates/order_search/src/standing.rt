@@ -4,7 +4,7 @@ ghost use Rattle.std.specs.Prelude.{◌≡◌, ◌++◌, ◌∷◌, [], IfOk};
 
 use crate::fault::ExploreFault;
 use crate::looks::Look;
-use crate::origin::{Origin, remake, turn_by};
+use crate::origin::{Origin, remake};
 use crate::reading::Reader;
 use crate::trail::Trail;
 use closed_search::Node;
@@ -15,23 +15,21 @@ use std::marker::Model;
 use std::snapshot::Snapshot;
 use user_calls::{CallSlot, Machine};
 
-// What nodes are made with: what was kept so far, and kernels that are written over.
+// What nodes are made with: what was kept so far, the way to the last kernel, and a call that is written over.
 #[derive(Drop)]
 pub struct Tools<'t, M: Machine, C: Allocator> {
     alloc: Global,
     reader: Reader<M>,
     trail: Trail<'t, M, C>,
-    kernel: State<M, Global>,
     call: CallSlot,
 }
 
 impl<'t, M: Machine, C: Allocator> Tools<'t, M, C> {
-    pub fn new(alloc: Global, origin: &'t Origin<'t, M, C>) -> Result<Self, ExploreFault> {
+    pub fn new(alloc: Global) -> Result<Self, ExploreFault> {
         Ok(Tools {
             alloc,
             reader: Reader::new(alloc)?,
             trail: Trail::new(alloc),
-            kernel: remake(alloc, origin, &[])?,
             call: CallSlot::new(),
         })
     }
@@ -63,12 +61,13 @@ impl<'t, M: Machine, C: Allocator> Model for Standing<'t, M, C> {
       now = n.kernel.value;
     } };
 
-    ghost invariant = { λ n. IsLed M.call_of M.next_of (start_kernel (M.view n.origin.now.init) (M.view n.origin.now.shell) n.origin.now.stdin.now n.origin.now.files.now) n.pids.items n.kernel.value n.look };
+    ghost invariant = { λ n. IsLed M.call_of M.next_of (start_kernel (M.view n.origin.now.init) (M.view n.origin.now.shell) n.origin.now.stdin.now n.origin.now.files.now) n.origin.now.has_room n.pids.items n.kernel.value n.look };
 }
 
 impl<'t, M: Machine, C: Allocator> Standing<'t, M, C> {
-    ghost use Rattle.std.specs.Prelude.{◌≡◌, Some, IfOk};
+    ghost use Rattle.std.specs.Prelude.{◌≡◌, true, Some, IfOk};
     ghost use Rattle.order_search.specs.Led.{start_kernel};
+    ghost use Rattle.order_model.specs.Closes.{HasRoomAhead};
     ghost use Rattle.order_model.specs.Turns.{after_turns};
 
     // The kernel after turns of these processes.
@@ -77,6 +76,7 @@ impl<'t, M: Machine, C: Allocator> Standing<'t, M, C> {
         origin: &'t Origin<'t, M, C>,
         pids: &[u8],
     ) -> Result<Self, ExploreFault>
+        requires { origin.now.has_room ≡ true → HasRoomAhead M.call_of M.next_of (start_kernel (M.view origin.now.init) (M.view origin.now.shell) origin.now.stdin.now origin.now.files.now) }
         ensures { IfOk result (λ node. after_turns M.call_of M.next_of (start_kernel (M.view origin.now.init) (M.view origin.now.shell) origin.now.stdin.now origin.now.files.now) pids.now ≡ Some node.now) }
     {
         let state = remake(tools.alloc, origin, pids)?;
@@ -141,17 +141,17 @@ impl<'t, M: Machine, C: Allocator> Standing<'t, M, C> {
     fn turned(&self, tools: &mut Tools<'t, M, C>, pid: u8) -> Result<Self, ExploreFault>
         ensures { IfOk result (λ node. after_turn M.call_of M.next_of self.now.now pid ≡ Some node.now) }
     {
-        tools.lead(self.origin, &self.pids)?;
-        let stop = tools.trail.stop_at(self.origin, &self.pids)?;
-        tools.kernel.copy_from(stop.kernel())?;
-        turn_by(&mut tools.kernel, pid, &mut tools.call)?;
         let pids = longer(tools.alloc, &self.pids, pid)?;
-        let look = tools.reader.read(&tools.kernel, &self.look)?;
+        tools.lead(self.origin, &pids)?;
+        let stop = tools.trail.stop_at(self.origin, &pids)?;
+        let state = stop.kernel();
+        let look = tools.reader.read(state, &self.look)?;
+        let kernel = Snapshot::of(state);
         Ok(Standing {
             origin: self.origin,
             pids,
             look,
-            kernel: Snapshot::of(&tools.kernel),
+            kernel,
         })
     }
 }
@@ -172,7 +172,7 @@ impl<'t, M: Machine, C: Allocator> Node for Standing<'t, M, C> {
     ghost use Rattle.kernel_model.specs.KernelState.{KernelState};
     ghost use Rattle.order_model.specs.Woke.{woke};
     ghost use Rattle.order_model.specs.Anyhow.{SameKeyAnyhow};
-    ghost use Rattle.order_model.specs.Privately.{Privately};
+    ghost use Rattle.order_model.specs.Closes.{GivesWay};
     ghost use Rattle.order_model.specs.Turns.{after_turn};
 
     ghost State = { KernelState M.State };
@@ -183,7 +183,7 @@ impl<'t, M: Machine, C: Allocator> Node for Standing<'t, M, C> {
 
     ghost stands = { SameKeyAnyhow };
 
-    ghost private = { Privately M.call_of };
+    ghost private = { GivesWay M.call_of M.next_of };
 
     ghost itself = { λ k. same_itself (key (woke k)) };
 
@@ -206,7 +206,7 @@ impl<'t, M: Machine, C: Allocator> Node for Standing<'t, M, C> {
     }
 
     fn private_move(&self) -> Option<usize> {
-        self.look.private_pid()
+        self.look.giving_pid(self.origin.has_room)
     }
 
     fn is_like(&self, other: &Self) -> bool {

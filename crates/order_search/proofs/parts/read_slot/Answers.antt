@@ -3,7 +3,7 @@ use Rattle.order_search.proofs.Looking.{calls_so}
 use Rattle.order_search.proofs.parts.read_slot.Goals as goal
 
 pub invariant_of-held : goal.invariant_of-held
-invariant_of-held g c = λ yes. calls_so g.M.Machine.call_of _ _ _ _ _ _ c.deref.ensures.value c.twin.ensures c.to_reply.ensures (c.calls_privately-private.ensures yes)
+invariant_of-held g c = calls_so g.M.Machine.call_of _ _ _ _ _ _ c.next_call-next.result c.deref.ensures.value c.twin.ensures c.to_reply.ensures c.next_call-next.ensures
 
 pub invariant_of-held-2 : goal.invariant_of-held-2
-invariant_of-held-2 g c = λ yes. calls_so g.M.Machine.call_of _ _ _ _ _ _ c.deref.ensures.value c.twin.ensures c.to_reply.ensures (c.calls_privately-private.ensures yes)
+invariant_of-held-2 g c = calls_so g.M.Machine.call_of _ _ _ _ _ _ c.next_call-next.result c.deref.ensures.value c.twin.ensures c.to_reply.ensures c.next_call-next.ensures

@@ -26,6 +26,7 @@ invariant_of-result g c =
     let o = c.args.origin.now in
     let start = start_kernel (v o.init) (v o.shell) o.stdin.now o.files.now in
     record {
+      room = c.requires;
       turns = subst (λ (l : List ℕ). after_turns g.M.Machine.call_of g.M.Machine.next_of start l ≡ Some c.in_ok-state.state) (sym c.in_ok-taken.ensures.items) c.in_ok-state.ensures.turns ∙ ap Some (sym c.of.ensures);
       look = c.in_ok-look.ensures ∙ ap key (sym c.of.ensures);
       idle = ap (λ (k : KernelState g.row.M-State.Denot). count_by is_running k.table) c.of.ensures ∙ c.in_ok-state.ensures.idle;

@@ -1,7 +1,9 @@
-use Rattle.std.proofs.Common.{subst}
-use Rattle.order_model.specs.Privately.{Privately}
+use Rattle.std.proofs.Common.{◌≢◌, subst}
+use Rattle.proc_table.specs.Slots.{at}
+use Rattle.order_model.specs.Closes.{GivesWay}
 use Rattle.order_search.specs.Led.{Led}
-use Rattle.order_search.proofs.Leading.{key_private}
+use Rattle.order_search.specs.Shown.{IsGivingSlot}
+use Rattle.order_search.proofs.Leading.{key_gives, room_led}
 use Rattle.order_search.proofs.Looking.{if_some_more}
 use Rattle.order_search.proofs.standing.StandingNode.private_move.Goals as goal
 
@@ -9,7 +11,10 @@ pub returns : goal.returns
 returns g c =
     let S = g.row.M-State.Denot in
     let of = g.M.Machine.call_of in
+    let on = g.M.Machine.next_of in
     let k = c.self.inside.kernel.value in
     let look = c.self.inside.look in
-    if_some_more c.private_pid.result (Privately of look) (Privately of c.args.self.now.now)
-    (λ pid e. subst (λ (n : Led S). Privately of n.now pid) c.self.view_is (key_private of k look pid c.self.invariant.look c.self.invariant.idle e)) c.private_pid.ensures
+    let room = c.self.inside.origin.now.has_room in
+    if_some_more c.giving_pid.result (λ pid. (pid ≢ 0) × IsGivingSlot of room look.entries (at look.table pid)) (GivesWay of on c.args.self.now.now)
+    (λ pid e. subst (λ (n : Led S). GivesWay of on n.now pid) c.self.view_is
+    (key_gives of on k look room pid c.self.invariant.look c.self.invariant.idle (λ said. room_led of on _ k c.self.inside.pids.items (c.self.invariant.room said) c.self.invariant.turns) e)) c.giving_pid.ensures
