@@ -11,9 +11,11 @@ use law_every_outcome::laws::{
     a_script_begins_at_a_boot, no_run_is_stuck_if_each_kernel_can_do_something,
     what_a_search_found_is_explored, what_was_explored_is_every_outcome,
 };
+use law_few_opens::laws::a_script_of_few_opens_has_room_ahead;
 use mem_files::Files;
 use mem_files::laws::are_files;
 use order_search::{Exploration, ExploreFault, Origin, Unwatched, Watch, explore_from};
+use room_bounds::has_few_opens;
 use script_load::Script;
 use sh_machine::{Naming, User};
 use std::alloc::{Allocator, Global};
@@ -92,6 +94,7 @@ fn explore_named<N: Naming, B: Allocator, C: Allocator, W: Watch>(
 {
     are_files(setting.files);
     a_script_begins_at_a_boot();
+    a_script_of_few_opens_has_room_ahead();
     what_a_search_found_is_explored::<User<B, N>>();
     what_was_explored_is_every_outcome::<User<B, N>>();
     no_run_is_stuck_if_each_kernel_can_do_something::<User<B, N>>();
@@ -100,6 +103,7 @@ fn explore_named<N: Naming, B: Allocator, C: Allocator, W: Watch>(
         shell: User::shell(setting.script),
         stdin: setting.stdin,
         files: setting.files,
+        has_room: has_few_opens(setting.script),
     };
     explore_from(alloc, &origin, states, watch)
 }

@@ -7,11 +7,13 @@ mod crowd;
 mod given;
 mod lack;
 mod needs;
+mod opens;
 mod room;
 mod table;
 
 pub use capped::MAX_COUNT;
 pub use crowd::first_crowded;
 pub use lack::{Lack, first_without_room, is_roomy};
+pub use opens::has_few_opens;
 pub use room::{Room, room_of};
 pub use table::{MOST_BYTES, MOST_DESCRIPTORS, MOST_ENTRIES, MOST_FILES, MOST_PROCESSES, Table};

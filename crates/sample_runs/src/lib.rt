@@ -69,6 +69,7 @@ fn left_named<N: Naming, B: Allocator, C: Allocator>(
         shell: User::shell(setting.script),
         stdin: setting.stdin,
         files: setting.files,
+        has_room: false,
     };
     let mut found = explore_after(alloc, &origin, pids, 1, &mut Unwatched)?;
     Ok(found.outcomes.pop())

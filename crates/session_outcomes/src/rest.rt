@@ -91,6 +91,7 @@ pub fn outcomes_from<M: Machine, C: Allocator, W: Watch>(
         shell: begun.shell,
         stdin: begun.stdin,
         files: begun.files,
+        has_room: false,
     };
     let found = explore_after(alloc, &origin, pids.as_slice(), states, watch)?;
     if !go_on(found.outcomes.as_slice(), pids.as_slice()) {

@@ -1,4 +1,4 @@
-use Rattle.std.proofs.Common.{◌≤◌, subst, map, arith}
+use Rattle.std.proofs.Common.{◌≤◌, sym, subst, map, arith}
 use Rattle.proc_table.specs.declared.pid.TheConstants.{PROCS}
 use Rattle.std.specs.Prelude.{All, IfSome}
 use Rattle.kernel_model.specs.KernelState.{KernelState}
@@ -7,6 +7,7 @@ use Rattle.sh_machine.specs.State.{User}
 use Rattle.sh_machine.specs.Turn.{call_of, next_of}
 use Rattle.sh_machine.specs.View.{user_of}
 use Rattle.run_model.specs.ScriptRun.{script_kernel}
+use Rattle.order_model.specs.Closes.{HasRoomAhead}
 use Rattle.order_search.specs.Told.{outcome_by, IsReplayed, LeadsToSleep}
 use Rattle.order_search.specs.Exploring.{Explores}
 use Rattle.every_order.proofs.Passing.{passes, script_starts}
@@ -14,6 +15,14 @@ use Rattle.every_order.proofs.exploring.explore_named.Goals as goal
 
 enough : PROCS ≤ PROCS
 enough = omega arith
+
+pub explore_from-requires : goal.explore_from-requires
+explore_from-requires g c = λ few.
+    let profile = c.args.setting.now.script.now.profile in
+    let lines = lines_of c.args.setting.now.script.now.lines in
+    let same = script_starts profile lines (user_of c.init.result) (user_of c.shell.result) c.args.setting.now.stdin.now c.args.setting.now.files.now c.init.ensures c.shell.ensures in
+    subst (λ (start : KernelState User). HasRoomAhead call_of next_of start) (sym same)
+    (c.a_script_of_few_opens_has_room_ahead.ensures profile lines c.args.setting.now.stdin.now c.args.setting.now.files.now c.are_files.ensures (c.has_few_opens.ensures.0 few))
 
 pub returns-clause-sound : goal.returns-clause-sound
 returns-clause-sound g c =

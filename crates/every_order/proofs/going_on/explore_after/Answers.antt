@@ -1,8 +1,9 @@
-use Rattle.std.proofs.Common.{◌≤◌, subst, map, arith}
+use Rattle.std.proofs.Common.{◌≤◌, sym, subst, map, arith}
 use Rattle.proc_table.specs.declared.pid.TheConstants.{PROCS}
 use Rattle.kernel_model.specs.KernelState.{KernelState}
 use Rattle.kernel_model.specs.Boot.{boot_kernel}
 use Rattle.order_model.specs.Begun.{IsBegun}
+use Rattle.order_model.specs.Closes.{HasRoomAhead}
 use Rattle.order_search.specs.Told.{outcome_by}
 use Rattle.order_search.specs.Exploring.{ExploresAfter}
 use Rattle.order_search.proofs.Leading.{start_is}
@@ -11,6 +12,12 @@ use Rattle.every_order.proofs.going_on.explore_after.Goals as goal
 
 enough : PROCS ≤ PROCS
 enough = omega arith
+
+pub explore_after-requires : goal.explore_after-requires
+explore_after-requires g c =
+    let v = g.M.Machine.view in
+    let o = c.args.origin.now in
+    λ said. subst (λ (k : KernelState g.row.M-State.Denot). HasRoomAhead g.M.Machine.call_of g.M.Machine.next_of k) (sym (start_is (v o.init) (v o.shell) o.stdin.now o.files.now)) (c.requires said)
 
 pub returns-clause-told : goal.returns-clause-told
 returns-clause-told g c =
