@@ -1,0 +1,11 @@
+pub mod Sums
+pub mod Trees
+pub mod Fits
+pub mod ProgramCalls
+pub mod Moved
+pub mod Replies
+pub mod Budget
+pub mod Families
+pub mod Steps
+pub mod Runs
+pub mod FewBehind

@@ -1,0 +1,50 @@
+-- What a process needs to run a command, and what it then gives back to the process that waits for it.
+use Rattle.std.proofs.Common.{◌≡◌, ℕ, zero, suc, ◌+◌, ◌≤◌, refl, arith}
+use Rattle.std.specs.Prelude.{max}
+use Rattle.std.proofs.Math.Nat.{le-max_left, le-max_right, max-le}
+use Rattle.sh_tree.specs.Tree.{Tree, exec, redir, pipe, list, back}
+use Rattle.room_behind.specs.Processes.{at_once, left_behind}
+
+-- with w a process can run the command, and give back g at its end
+pub record Enough (t : Tree) (w g : ℕ) : Type 0 where
+  pub runs : at_once t ≤ w
+  pub gives : left_behind t + g ≤ w
+
+pub one_stays : (t : Tree) → left_behind t + 1 ≤ at_once t
+one_stays (exec words) = omega arith
+one_stays (redir mode name body) = one_stays body
+one_stays (pipe l r) = omega (arith, one_stays l, one_stays r)
+one_stays (list l r) = omega (arith, one_stays r, le-max_right (1 + at_once l) (left_behind l + at_once r))
+one_stays (back body) = omega arith
+
+pub some_run : (t : Tree) → 1 ≤ at_once t
+some_run t = omega (arith, one_stays t)
+
+-- what is left of b without a
+pub rest_of : (a b : ℕ) → a ≤ b → (c : ℕ) × (c + a ≡ b)
+rest_of zero b less = (b, omega arith)
+rest_of (suc a) zero less = absurd (omega (arith, less))
+rest_of (suc a) (suc b) less = let r = rest_of a b (omega (arith, less)) in (r.0, omega (arith, r.1))
+
+-- what the process of a command gives back if it began with what it needs
+pub gives_back : (t : Tree) → (g : ℕ) × (g + left_behind t ≡ at_once t)
+gives_back t = rest_of (left_behind t) (at_once t) (omega (arith, one_stays t))
+
+pub back_enough : (t : Tree) (g : ℕ) → g + left_behind t ≡ at_once t → Enough t (at_once t) g
+back_enough t g is = record { runs = omega arith; gives = omega (arith, is) }
+
+pub none_enough : (t : Tree) → Enough t (at_once t) 0
+none_enough t = record { runs = omega arith; gives = omega (arith, one_stays t) }
+
+-- the parts of a list
+pub record ListEnough (l r : Tree) (w g : ℕ) : Type 0 where
+  pub left : 1 + at_once l ≤ w
+  pub right : left_behind l + at_once r ≤ w
+  pub gives : left_behind l + left_behind r + g ≤ w
+
+pub list_enough : (l r : Tree) (w g : ℕ) → Enough (list l r) w g → ListEnough l r w g
+list_enough l r w g e = record {
+  left = omega (arith, e.runs, le-max_left (1 + at_once l) (left_behind l + at_once r));
+  right = omega (arith, e.runs, le-max_right (1 + at_once l) (left_behind l + at_once r));
+  gives = e.gives;
+}
