@@ -29,7 +29,8 @@ use Rattle.law_views.proofs.Runs as runs
 use Rattle.law_views.proofs.Tables.{seen_up}
 use Rattle.law_room.proofs.FirstFull.{Asks, First, first_full}
 use Rattle.room_behind.specs.Processes.{at_once, processes_at_once}
-use Rattle.law_room_behind.proofs.Trees.{list_enough, some_run}
+use Rattle.room_behind.proofs.Trees.{some_run}
+use Rattle.law_room_behind.proofs.Trees.{list_enough}
 use Rattle.law_room_behind.proofs.Sums.{total, total_least}
 use Rattle.law_room_behind.proofs.Fits.{IsQuiet, UserFits, ShellFits, TopFits, ParentFits}
 use Rattle.law_room_behind.proofs.Replies.{loud}

@@ -19,7 +19,8 @@ use Rattle.sh_machine.specs.State.{Parent, makes, forks_writer, forks_reader, cl
 use Rattle.sh_machine.specs.Turn.{Turn, user_of_next, exits, tells, runs, runs_line, runs_first, takes_first, execs_found, fault_text, failed}
 use Rattle.process_model.specs.Seen.{Entry, Fds, fd_at, Act}
 use Rattle.room_behind.specs.Processes.{at_once, left_behind}
-use Rattle.law_room_behind.proofs.Trees.{Enough, list_enough, some_run, one_stays}
+use Rattle.room_behind.proofs.Trees.{some_run, one_stays}
+use Rattle.law_room_behind.proofs.Trees.{Enough, list_enough}
 
 -- ---- calls and descriptors
 

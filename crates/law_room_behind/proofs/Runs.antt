@@ -31,7 +31,8 @@ use Rattle.law_views.proofs.InitSeen.{init_seen}
 use Rattle.law_views.proofs.Named.{event_keeps_init, start_init}
 use Rattle.law_views.proofs.Runs as runs
 use Rattle.room_behind.specs.Processes.{at_once, processes_at_once}
-use Rattle.law_room_behind.proofs.Trees.{none_enough, some_run}
+use Rattle.room_behind.proofs.Trees.{some_run}
+use Rattle.law_room_behind.proofs.Trees.{none_enough}
 use Rattle.law_room_behind.proofs.Sums.{total, total_zero}
 use Rattle.law_room_behind.proofs.Fits.{takes_fit}
 use Rattle.law_room_behind.proofs.Budget.{kid, kids, owed, SlotFits, Budget, InRange, quiet_keeps}

@@ -16,7 +16,8 @@ use Rattle.sh_machine.specs.State.{Parent, makes, forks_writer, forks_reader, cl
 use Rattle.process_model.specs.Seen.{Entry, reader, writer, Fds, fd_at, Act, act_of, Seen, free, live, View}
 use Rattle.process_model.specs.Effect.{Answers, answered, lowest, Forks as ForksTo, Exits, WaitsFor, reaps, has_none, sleeps, MakesPipe, ClosesAt, EffectBy, IsCall}
 use Rattle.room_behind.specs.Processes.{at_once, left_behind}
-use Rattle.law_room_behind.proofs.Trees.{Enough, ListEnough, list_enough, some_run, rest_of, gives_back, back_enough, none_enough}
+use Rattle.room_behind.proofs.Trees.{some_run, rest_of}
+use Rattle.law_room_behind.proofs.Trees.{Enough, ListEnough, list_enough, gives_back, back_enough, none_enough}
 use Rattle.law_room_behind.proofs.Fits.{IsQuiet, IsOpen, AreOpen, UserFits, ShellFits, TopFits, ParentFits, ActFits, runs_fit, takes_fit, line_fit}
 use Rattle.law_room_behind.proofs.Budget.{kids, owed, none_kids, SlotFits, Budget, InRange, quiet_keeps, set_keeps, exit_keeps}
 use Rattle.law_room_behind.proofs.Families.{fork_keeps, reap_keeps}

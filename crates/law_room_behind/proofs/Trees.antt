@@ -4,27 +4,12 @@ use Rattle.std.specs.Prelude.{max}
 use Rattle.std.proofs.Math.Nat.{le-max_left, le-max_right, max-le}
 use Rattle.sh_tree.specs.Tree.{Tree, exec, redir, pipe, list, back}
 use Rattle.room_behind.specs.Processes.{at_once, left_behind}
+use Rattle.room_behind.proofs.Trees.{one_stays, rest_of}
 
 -- with w a process can run the command, and give back g at its end
 pub record Enough (t : Tree) (w g : ℕ) : Type 0 where
   pub runs : at_once t ≤ w
   pub gives : left_behind t + g ≤ w
-
-pub one_stays : (t : Tree) → left_behind t + 1 ≤ at_once t
-one_stays (exec words) = omega arith
-one_stays (redir mode name body) = one_stays body
-one_stays (pipe l r) = omega (arith, one_stays l, one_stays r)
-one_stays (list l r) = omega (arith, one_stays r, le-max_right (1 + at_once l) (left_behind l + at_once r))
-one_stays (back body) = omega arith
-
-pub some_run : (t : Tree) → 1 ≤ at_once t
-some_run t = omega (arith, one_stays t)
-
--- what is left of b without a
-pub rest_of : (a b : ℕ) → a ≤ b → (c : ℕ) × (c + a ≡ b)
-rest_of zero b less = (b, omega arith)
-rest_of (suc a) zero less = absurd (omega (arith, less))
-rest_of (suc a) (suc b) less = let r = rest_of a b (omega (arith, less)) in (r.0, omega (arith, r.1))
 
 -- what the process of a command gives back if it began with what it needs
 pub gives_back : (t : Tree) → (g : ℕ) × (g + left_behind t ≡ at_once t)
