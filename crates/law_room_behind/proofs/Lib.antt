@@ -1,7 +1,9 @@
 pub mod Sums
 pub mod Trees
 pub mod Fits
+pub mod Used
 pub mod ProgramCalls
+pub mod ProgramFiles
 pub mod Moved
 pub mod Replies
 pub mod Budget
@@ -9,3 +11,5 @@ pub mod Families
 pub mod Steps
 pub mod Runs
 pub mod FewBehind
+pub mod Places
+pub mod FewPlaces

@@ -16,7 +16,7 @@ use Rattle.sh_machine.specs.Turn.{Turn, exits, on_done, on_fd, on_unknown, shell
 use Rattle.process_model.specs.Seen.{Fds, act_of}
 use Rattle.law_room_behind.proofs.Trees.{Enough}
 use Rattle.law_room_behind.proofs.Fits.{IsQuiet, UserFits, ShellFits, TopFits, ParentFits, ActFits, TurnFits, exits_fit, failed_fit, runs_fit, takes_fit}
-use Rattle.law_room_behind.proofs.ProgramCalls.{program_calls}
+use Rattle.law_room_behind.proofs.ProgramCalls.{own_quiet, program_calls}
 
 -- a call that forks, waits, ends the process or makes a pipe isn't quiet
 pub loud : (call other : Call) → call ≡ other → IsQuiet call → (IsQuiet other → ⊥) → ⊥
@@ -95,4 +95,4 @@ IsNoPipe (program state) = Unit {0}
 pub reply_fits : (w g owed kids : ℕ) (d e : Fds) (call : Call) (next : User) → IsQuiet call → IsNoPipe next → UserFits w g owed kids call d next → (reply : Reply) → ActFits w g owed kids e (act_of next reply)
 reply_fits w g owed kids d e call init quiet plain fits reply = absurd fits
 reply_fits w g owed kids d e call (shell profile at) quiet plain fits reply = shell_fit profile w g owed kids d e call quiet at reply plain fits
-reply_fits w g owed kids d e call (program state) quiet plain fits reply = (program_calls state reply, fits.1)
+reply_fits w g owed kids d e call (program state) quiet plain fits reply = (own_quiet _ (program_calls state reply), fits.1)

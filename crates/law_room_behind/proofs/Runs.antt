@@ -61,7 +61,7 @@ unused_kid r free is = refl
 unused_kid r (zombie parent) is = absurd (omega (arith, is))
 unused_kid r (live parent act n d) is = absurd (omega (arith, is))
 
-none_seen : (name : ℕ → Entry) (n q : ℕ) → seen_slot name (at {S = User} (replicate n None) q) ≡ free
+pub none_seen : (name : ℕ → Entry) (n q : ℕ) → seen_slot name (at {S = User} (replicate n None) q) ≡ free
 none_seen name zero q = refl
 none_seen name (suc n) zero = refl
 none_seen name (suc n) (suc q) = none_seen name n q

@@ -79,8 +79,8 @@ module _ (V W : View) (most : ℕ) (B : Budget V most) (within : InRange V) (aft
     quiet : IsQuiet call → IsNoPipe next → Own → Budget W most
     quiet still plain fits = by (moved V W p parent (act call next) d n call still effect)
       where
-        by : Moved V W p parent (act call next) d → Budget W most
-        by (goes reply e sets) =
+        by : Moved V W p parent (act call next) d call → Budget W most
+        by (goes reply e after sets) =
             set_keeps V W most B p parent (act call next) (act_of next reply) n 0 d e slot sets up (reply_fits w g o k d e call next still plain fits reply)
         by (holds m sets) = set_keeps V W most B p parent (act call next) (act call next) n m d d slot sets up fits
         by (rests same) = quiet_keeps V W most B same
