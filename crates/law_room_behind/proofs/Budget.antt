@@ -1,15 +1,12 @@
 -- What all processes have together: no call makes it more, and with it each has enough.
-use Rattle.std.proofs.Common.{◌≡◌, ◌≢◌, ◌⊎◌, inl, inr, ℕ, zero, suc, ◌+◌, ◌<◌, ◌≤◌, Bool, true, false, ◌==◌, refl, sym, ap, ◌∙◌, subst, arith}
+use Rattle.std.proofs.Common.{◌≡◌, ◌≢◌, ◌⊎◌, inl, inr, ℕ, ◌<◌, ◌≤◌, Bool, true, false, ◌==◌, refl, sym, ap, ◌∙◌, subst, arith}
 use Rattle.std.specs.Prelude.{if◌then◌else◌}
 use Rattle.std.proofs.lemmas.Bool.{cases_eq, eqb-true}
-use Rattle.user_calls.specs.declared.calls.Reply.{Reply}
-use Rattle.user_calls.specs.declared.calls.Reply.TheVariants.{Child, Done}
-use Rattle.process_model.specs.Seen.{Fds, Act, act_of, Seen, free, zombie, live, View}
+use Rattle.process_model.specs.Seen.{Fds, Act, Seen, free, zombie, live, View}
 use Rattle.process_model.specs.Shape.{same, is_used}
-use Rattle.process_model.specs.Effect.{ParentIs, Sets, Quiet, Forks, Exits, Reaps, given, answered}
-use Rattle.process_model.proofs.Counts.{same_self, same_other, same_cases, same_yes, none_or_some}
-use Rattle.law_views.specs.Seen.{TakesAway}
-use Rattle.law_room_behind.proofs.Sums.{put, put_here, put_there, total, total_same, total_one, where_any, total_where_none, total_zero}
+use Rattle.process_model.specs.Effect.{ParentIs, Sets, Exits, given}
+use Rattle.process_model.proofs.Counts.{same_other, same_yes, none_or_some}
+use Rattle.law_room_behind.proofs.Sums.{total, total_same, where_any, total_where_none, total_zero}
 use Rattle.law_room_behind.proofs.Fits.{ActFits}
 
 -- ---- children

@@ -1,13 +1,13 @@
 -- A fork divides what its process has with the child; who takes a zombie away gets what that had.
-use Rattle.std.proofs.Common.{◌≡◌, ◌≢◌, ◌⊎◌, inl, inr, ℕ, zero, suc, ◌+◌, ◌<◌, ◌≤◌, refl, sym, ap, ◌∙◌, subst, arith}
+use Rattle.std.proofs.Common.{◌≡◌, ◌≢◌, ◌⊎◌, inl, inr, ℕ, ◌+◌, ◌<◌, ◌≤◌, refl, sym, ap, ◌∙◌, subst, arith}
 use Rattle.std.proofs.lemmas.Bool.{cases_eq}
 use Rattle.user_calls.specs.declared.calls.Reply.TheVariants.{Child, Done}
 use Rattle.process_model.specs.Seen.{Fds, Act, act_of, Seen, free, zombie, live, View}
 use Rattle.process_model.specs.Shape.{same, is_used}
-use Rattle.process_model.specs.Effect.{Forks, Reaps, answered}
-use Rattle.process_model.proofs.Counts.{same_self, same_other, same_cases}
+use Rattle.process_model.specs.Effect.{Forks, Reaps}
+use Rattle.process_model.proofs.Counts.{same_self, same_other}
 use Rattle.law_views.specs.Seen.{TakesAway}
-use Rattle.law_room_behind.proofs.Sums.{put, put_here, put_there, total, total_same, total_one, where_any}
+use Rattle.law_room_behind.proofs.Sums.{put, put_here, put_there, total, total_one, where_any}
 use Rattle.law_room_behind.proofs.Fits.{ActFits}
 use Rattle.law_room_behind.proofs.Budget.{kid, kids, owed, none_owed, SlotFits, slot_is, Budget, InRange}
 
@@ -83,7 +83,7 @@ module _ (V W : View) (most : ℕ) (B : Budget V most) (within : InRange V) (aft
           omega (
             arith,
             total_one (λ x. where_any (kid r (V.slots x)) (B.g x)) (λ x. where_any (kid r (W.slots x)) (g x)) c 0 64
-            (λ q other. ap (where_any (kid r (W.slots q))) (put_there B.g c gives q other) ∙ ap (λ x. where_any x (B.g q)) (kin r q other)) (omega arith) (omega (arith, child_here.1)),
+                (λ q other. ap (where_any (kid r (W.slots q))) (put_there B.g c gives q other) ∙ ap (λ x. where_any x (B.g q)) (kin r q other)) (omega arith) (omega (arith, child_here.1)),
             ap (λ s. where_any (kid r s) (B.g c)) f.was_free,
             ap (λ s. where_any (kid r s) (g c)) f.child_is,
             ap (where_any (same r p)) (put_here B.g c gives),

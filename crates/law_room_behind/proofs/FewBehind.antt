@@ -1,5 +1,5 @@
 -- No run of a script within the bound on processes finds no free slot, also where commands run behind `&`.
-use Rattle.std.proofs.Common.{◌≡◌, ◌≢◌, ◌⊎◌, inl, inr, ℕ, zero, suc, ◌+◌, ◌<◌, ◌≤◌, List, [], ◌∷◌, Bool, true, false, Some, None, length, refl, sym, ap, ◌∙◌, subst, arith}
+use Rattle.std.proofs.Common.{◌≡◌, ◌≢◌, ◌⊎◌, inl, inr, ℕ, zero, suc, ◌<◌, ◌≤◌, List, [], ◌∷◌, Bool, true, false, Some, None, length, refl, sym, ap, ◌∙◌, subst, arith}
 use Rattle.std.specs.List.{position_or_len}
 use Rattle.std.proofs.lemmas.List.Sums.{fails_before_first}
 use Rattle.std.proofs.lemmas.Grind.{common_steps}
@@ -11,7 +11,7 @@ use Rattle.meaning_model.specs.Meaning.{line_tree, script_tree}
 use Rattle.user_calls.specs.declared.calls.Call.{Call}
 use Rattle.user_calls.specs.declared.calls.Call.TheVariants.{Fork, Exit, Wait, MakePipe, Close}
 use Rattle.proc_table.specs.declared.pid.TheConstants.{PROCS}
-use Rattle.proc_table.specs.Slots.{Slot, Process, Table, at, is_free, is_zombie_status, parent_or_init}
+use Rattle.proc_table.specs.Slots.{Slot, Table, at, is_free, is_zombie_status, parent_or_init}
 use Rattle.proc_table.specs.Calls.{lowest_free}
 use Rattle.kernel_model.specs.declared.events.Event.{Event}
 use Rattle.kernel_model.specs.declared.events.Full.TheVariants.{Procs}
@@ -23,15 +23,15 @@ use Rattle.sh_machine.specs.declared.state.Phase.{Phase}
 use Rattle.sh_machine.specs.declared.state.Phase.TheVariants.{Starts, Forks, Waits, ToldCd}
 use Rattle.sh_machine.specs.State.{Parent, makes, forks_writer, forks_reader, closes_reader, closes_writer, waits_first, waits_second, Shell, top, unknown, closes_old, opens_file, forks_left, waits_left, pipes, side, forks_back, told, ended, User, init, shell, program}
 use Rattle.sh_machine.specs.Turn.{call_of, next_of}
-use Rattle.process_model.specs.Seen.{Entry, Fds, Seen, free, zombie, live, seen_by, seen_slot, fds_seen, act_of, View, view}
+use Rattle.process_model.specs.Seen.{Entry, Fds, Seen, free, zombie, live, seen_by, seen_slot, fds_seen, act_of, view}
 use Rattle.law_views.specs.Consistent.{IsConsistent}
 use Rattle.law_views.proofs.Runs as runs
 use Rattle.law_views.proofs.Tables.{seen_up}
-use Rattle.law_room.proofs.FirstFull.{Asks, First, first_full}
-use Rattle.room_behind.specs.Processes.{at_once, processes_at_once}
+use Rattle.law_room.proofs.FirstFull.{First, first_full}
+use Rattle.room_behind.specs.Processes.{processes_at_once}
 use Rattle.room_behind.proofs.Trees.{some_run}
 use Rattle.law_room_behind.proofs.Trees.{list_enough}
-use Rattle.law_room_behind.proofs.Sums.{total, total_least}
+use Rattle.law_room_behind.proofs.Sums.{total_least}
 use Rattle.law_room_behind.proofs.Fits.{IsQuiet, UserFits, ShellFits, TopFits, ParentFits}
 use Rattle.law_room_behind.proofs.Replies.{loud}
 use Rattle.law_room_behind.proofs.Budget.{kids, owed, SlotFits, Budget}

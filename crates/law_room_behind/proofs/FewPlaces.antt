@@ -1,7 +1,7 @@
 -- No run of a script within the bound on descriptors finds a process without a free one that it wants, also where commands run
 -- behind `&`.
-use Rattle.std.proofs.Common.{◌≡◌, ◌≢◌, ◌⊎◌, inl, inr, ℕ, zero, suc, ◌+◌, ◌<◌, ◌≤◌, List, [], ◌∷◌, ◌++◌, Bool, true, false, Option, Some, None, length, refl, sym, ap, ◌∙◌, subst, arith}
-use Rattle.std.specs.Prelude.{cond, replicate, slice_set}
+use Rattle.std.proofs.Common.{◌≡◌, ◌≢◌, ◌⊎◌, inl, inr, ℕ, zero, suc, ◌+◌, ◌≤◌, List, [], ◌∷◌, Bool, true, false, Option, Some, None, length, refl, sym, ap, ◌∙◌, subst, arith}
+use Rattle.std.specs.Prelude.{cond, slice_set}
 use Rattle.std.proofs.lemmas.Bool.{cases_eq}
 use Rattle.std.proofs.lemmas.List.{length-map}
 use Rattle.std.proofs.lemmas.List.Sums.{sum_by-cons}
@@ -9,7 +9,6 @@ use Rattle.mem_files.specs.Name.{Name, Bytes}
 use Rattle.mem_files.specs.Listing.{AreFiles}
 use Rattle.script_load.specs.declared.profile.Profile.{Profile}
 use Rattle.script_load.specs.Line.{ScriptLine}
-use Rattle.meaning_model.specs.Meaning.{script_tree}
 use Rattle.user_calls.specs.declared.calls.Call.{Call}
 use Rattle.user_calls.specs.declared.calls.Call.TheVariants.{Fork, Exec, Exit, Wait, MakePipe, Read, Write, OpenFile, Close, Dup}
 use Rattle.user_calls.specs.declared.calls.Reply.{Reply}
@@ -29,7 +28,7 @@ use Rattle.sh_machine.specs.declared.state.Phase.TheVariants.{Starts}
 use Rattle.sh_machine.specs.State.{User, init, shell, top}
 use Rattle.sh_machine.specs.Turn.{call_of, next_of}
 use Rattle.process_model.specs.Seen.{Entry, reader, writer, Fds as Held, Seen, free, zombie, live, seen_by, seen_slot, fds_seen, Act, act_of, Names, View, view}
-use Rattle.process_model.specs.Effect.{Sets, Answers, answered, given, Forks, Exits, Reaps, WaitsFor, reaps, has_none, sleeps, MakesPipe, EffectBy, IsCall}
+use Rattle.process_model.specs.Effect.{Sets, answered, given, Forks, Exits, Reaps, WaitsFor, reaps, has_none, sleeps, MakesPipe, EffectBy, IsCall}
 use Rattle.process_model.specs.Shows.{ShowsIn}
 use Rattle.process_model.proofs.Start.{start_stands}
 use Rattle.law_views.specs.Consistent.{IsConsistent}
@@ -40,7 +39,7 @@ use Rattle.law_views.proofs.Named.{event_keeps_init, start_init}
 use Rattle.law_views.proofs.Runs as runs
 use Rattle.law_views.proofs.Tables.{seen_up}
 use Rattle.room_model.specs.Descriptors.{script_descriptors}
-use Rattle.law_room.proofs.FirstFull.{Asks, First, first_full}
+use Rattle.law_room.proofs.FirstFull.{First, first_full}
 use Rattle.law_room.proofs.Marks.{descriptors_wanted}
 use Rattle.law_room_behind.proofs.Fits.{IsQuiet}
 use Rattle.law_room_behind.proofs.Moved.{Moved, goes, holds, rests, moved}

@@ -1,7 +1,7 @@
 -- Whether what a process has is enough for all that it may still fork, by the call that it makes and its state after that: w is what
 -- it has, g what it is to give back to the process that waits for it, `owed` what its children are to give back to it, and `kids`
 -- how many it has.
-use Rattle.std.proofs.Common.{◌≡◌, ◌≢◌, ◌⊎◌, inl, inr, ℕ, ◌+◌, ◌≤◌, List, [], ◌∷◌, Option, Some, None, drop, refl, arith}
+use Rattle.std.proofs.Common.{◌≡◌, ◌≢◌, ◌⊎◌, inl, ℕ, ◌+◌, ◌≤◌, List, [], ◌∷◌, Option, Some, None, refl, arith}
 use Rattle.sh_tree.specs.Tree.{Tree, exec, redir, pipe, list, back}
 use Rattle.mem_files.specs.Name.{Bytes}
 use Rattle.script_load.specs.declared.profile.Profile.{Profile}
@@ -9,17 +9,14 @@ use Rattle.script_load.specs.Line.{ScriptLine, command, bad, cd}
 use Rattle.meaning_model.specs.Meaning.{line_tree, script_tree}
 use Rattle.user_calls.specs.declared.calls.Call.{Call}
 use Rattle.user_calls.specs.declared.calls.Call.TheVariants.{Fork, Exec, Exit, Wait, MakePipe, Read, Write, OpenFile, Close, Dup}
-use Rattle.user_calls.specs.declared.calls.Reply.{Reply}
-use Rattle.user_calls.specs.declared.calls.Reply.TheVariants.{Start, Child, Done, Bytes as Bytes', Fd, Ends, Refused}
 use Rattle.user_progs.specs.State.{State}
 use Rattle.user_progs.specs.View.{first_state}
 use Rattle.sh_machine.specs.declared.state.Phase.{Phase}
 use Rattle.sh_machine.specs.declared.state.Phase.TheVariants.{Starts, Forks, Waits, ToldCd}
 use Rattle.sh_machine.specs.State.{Parent, makes, forks_writer, forks_reader, closes_reader, closes_writer, waits_first, waits_second, Shell, top, unknown, closes_old, opens_file, forks_left, waits_left, pipes, side, forks_back, told, ended, User, init, shell, program}
-use Rattle.sh_machine.specs.Turn.{Turn, user_of_next, exits, tells, runs, runs_line, runs_first, takes_first, execs_found, fault_text, failed}
+use Rattle.sh_machine.specs.Turn.{Turn, user_of_next, exits, tells, runs, runs_line, takes_first, execs_found, fault_text, failed}
 use Rattle.process_model.specs.Seen.{Entry, Fds, fd_at, Act}
 use Rattle.room_behind.specs.Processes.{at_once, left_behind}
-use Rattle.room_behind.proofs.Trees.{some_run, one_stays}
 use Rattle.law_room_behind.proofs.Trees.{Enough, list_enough}
 
 -- ---- calls and descriptors

@@ -1,10 +1,10 @@
 -- Whether a process finds a descriptor free for all that it opens, by how many it has open, the call that it makes and its state
 -- after that: D is the bound of the whole script.
-use Rattle.std.proofs.Common.{◌≡◌, ◌⊎◌, inl, inr, ℕ, zero, suc, ◌+◌, ◌≤◌, List, [], ◌∷◌, ◌∙◌, drop, Option, Some, None, refl, sym, subst, arith}
+use Rattle.std.proofs.Common.{◌≡◌, ◌⊎◌, inl, inr, ℕ, ◌+◌, ◌≤◌, List, [], ◌∷◌, ◌∙◌, drop, Option, Some, None, refl, sym, subst, arith}
 use Rattle.std.specs.Prelude.{max}
 use Rattle.std.proofs.Math.Nat.{le-max_left, le-max_right}
 use Rattle.sh_tree.specs.Tree.{Tree, exec, redir, pipe, list, back}
-use Rattle.mem_files.specs.Name.{Name, Bytes}
+use Rattle.mem_files.specs.Name.{Bytes}
 use Rattle.prog_parts.specs.declared.program.Program.{Program}
 use Rattle.prog_parts.specs.Program.{program_of}
 use Rattle.script_load.specs.declared.profile.Profile.{Profile}
@@ -14,7 +14,7 @@ use Rattle.user_calls.specs.declared.calls.Call.{Call}
 use Rattle.user_calls.specs.declared.calls.Call.TheVariants.{Fork, Exec, Exit, Wait, MakePipe, Read, Write, OpenFile, Close, Dup}
 use Rattle.user_calls.specs.declared.calls.Reply.{Reply}
 use Rattle.user_calls.specs.declared.calls.Reply.TheVariants.{Start, Child, Done, Bytes as Bytes', Fd, Ends, Refused}
-use Rattle.user_progs.specs.State.{State, begins}
+use Rattle.user_progs.specs.State.{State}
 use Rattle.user_progs.specs.View.{begun}
 use Rattle.user_progs.specs.Turn.{turn}
 use Rattle.sh_machine.specs.declared.state.Phase.{Phase}
@@ -22,11 +22,11 @@ use Rattle.sh_machine.specs.declared.state.Phase.TheVariants.{Starts, Forks, Wai
 use Rattle.sh_machine.specs.declared.state.Side.{Side}
 use Rattle.sh_machine.specs.declared.state.Side.TheVariants.{Closes, Dups, ClosesReader, ClosesWriter}
 use Rattle.sh_machine.specs.State.{Parent, makes, forks_writer, forks_reader, closes_reader, closes_writer, waits_first, waits_second, Shell, top, unknown, closes_old, opens_file, forks_left, waits_left, pipes, side, forks_back, told, ended, User, init, shell, program}
-use Rattle.sh_machine.specs.Turn.{Turn, user_of_next, calls, exits, tells, runs, runs_line, runs_first, takes_first, execs_found, on_done, on_fd, on_fork, on_pipe, on_unknown, fault_text, shell_turn, top_turn, pipe_turn, side_turn}
-use Rattle.process_model.specs.Seen.{Act, act_of}
-use Rattle.room_model.specs.Descriptors.{files_of_program, files_of_words, most_descriptors}
+use Rattle.sh_machine.specs.Turn.{Turn, user_of_next, exits, tells, runs, runs_line, runs_first, takes_first, execs_found, on_done, on_fd, on_fork, on_pipe, on_unknown, fault_text, shell_turn, top_turn, pipe_turn, side_turn}
+use Rattle.process_model.specs.Seen.{act_of}
+use Rattle.room_model.specs.Descriptors.{files_of_program, most_descriptors}
 use Rattle.law_room.proofs.Marks.{descriptors_wanted}
-use Rattle.law_room.proofs.FilesHeld.{later_files, closing, more_files, of_turn, turn_few}
+use Rattle.law_room.proofs.FilesHeld.{closing, more_files, of_turn, turn_few}
 use Rattle.law_room_behind.proofs.Used.{After}
 use Rattle.law_room_behind.proofs.ProgramCalls.{IsOwn, program_calls}
 use Rattle.law_room_behind.proofs.ProgramFiles.{closing_few, refused_few}

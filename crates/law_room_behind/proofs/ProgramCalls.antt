@@ -1,5 +1,5 @@
 -- No program forks, waits, makes a pipe or duplicates a descriptor, whatever it is answered.
-use Rattle.std.proofs.Common.{◌≡◌, ◌⊎◌, inl, inr, ℕ, zero, suc, ◌+◌, Bool, true, false, List, [], ◌∷◌, ◌++◌, length, refl}
+use Rattle.std.proofs.Common.{◌≡◌, ◌⊎◌, inl, inr, ℕ, ◌+◌, Bool, true, false, List, [], ◌∷◌, ◌++◌, length, refl}
 use Rattle.std.specs.Prelude.{if◌then◌else◌, nat_lt, slice_index_or}
 use Rattle.mem_files.specs.Name.{Name, Bytes}
 use Rattle.prog_parts.specs.declared.program.Program.{Program}

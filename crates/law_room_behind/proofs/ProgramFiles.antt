@@ -1,5 +1,5 @@
 -- What a program does with the reply to a close: with a refusal, and with a grant, which gives it a descriptor back.
-use Rattle.std.proofs.Common.{◌≡◌, ℕ, ◌+◌, ◌≤◌, List, [], ◌∷◌, arith}
+use Rattle.std.proofs.Common.{◌+◌, ◌≤◌, List, [], ◌∷◌, arith}
 use Rattle.mem_files.specs.Name.{Name}
 use Rattle.user_calls.specs.declared.calls.Reply.TheVariants.{Refused}
 use Rattle.user_progs.specs.State.{tee_opens, tee_reads, tee_writes, tee_gives, State, begins, echo_word, echo_space, opens, works, closes, tees, told, ended}

@@ -1,21 +1,20 @@
 -- What a process does with the reply to a quiet call: what it had is enough for that, too.
-use Rattle.std.proofs.Common.{◌≡◌, ◌⊎◌, inl, inr, ℕ, ◌+◌, ◌≤◌, List, [], ◌∷◌, codes, subst, refl, arith}
-use Rattle.sh_tree.specs.Tree.{Tree, back}
+use Rattle.std.proofs.Common.{◌≡◌, ℕ, ◌≤◌, List, [], ◌∷◌, codes, subst, refl, arith}
+use Rattle.sh_tree.specs.Tree.{Tree}
 use Rattle.script_load.specs.declared.profile.Profile.{Profile}
 use Rattle.script_load.specs.Line.{ScriptLine}
 use Rattle.user_calls.specs.declared.calls.Call.{Call}
 use Rattle.user_calls.specs.declared.calls.Reply.{Reply}
 use Rattle.user_calls.specs.declared.calls.Reply.TheVariants.{Start, Child, Done, Bytes as Bytes', Fd, Ends, Refused}
-use Rattle.user_progs.specs.State.{State}
 use Rattle.sh_machine.specs.declared.state.Phase.{Phase}
 use Rattle.sh_machine.specs.declared.state.Phase.TheVariants.{Starts, Forks, Waits, ToldCd}
 use Rattle.sh_machine.specs.declared.state.Side.{Side}
 use Rattle.sh_machine.specs.declared.state.Side.TheVariants.{Closes, Dups, ClosesReader, ClosesWriter}
-use Rattle.sh_machine.specs.State.{Parent, makes, forks_writer, forks_reader, closes_reader, closes_writer, waits_first, waits_second, Shell, top, unknown, closes_old, opens_file, forks_left, waits_left, pipes, side, forks_back, told, ended, User, init, shell, program}
+use Rattle.sh_machine.specs.State.{Parent, Shell, top, unknown, closes_old, opens_file, forks_left, waits_left, pipes, side, forks_back, told, ended, User, init, shell, program}
 use Rattle.sh_machine.specs.Turn.{Turn, exits, on_done, on_fd, on_unknown, shell_turn, top_turn, side_turn}
 use Rattle.process_model.specs.Seen.{Fds, act_of}
 use Rattle.law_room_behind.proofs.Trees.{Enough}
-use Rattle.law_room_behind.proofs.Fits.{IsQuiet, UserFits, ShellFits, TopFits, ParentFits, ActFits, TurnFits, exits_fit, failed_fit, runs_fit, takes_fit}
+use Rattle.law_room_behind.proofs.Fits.{IsQuiet, UserFits, ShellFits, TopFits, ActFits, TurnFits, exits_fit, failed_fit, runs_fit, takes_fit}
 use Rattle.law_room_behind.proofs.ProgramCalls.{own_quiet, program_calls}
 
 -- a call that forks, waits, ends the process or makes a pipe isn't quiet

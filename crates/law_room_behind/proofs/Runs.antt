@@ -1,5 +1,5 @@
 -- In every run in which nothing was full yet, what all processes have is within the bound.
-use Rattle.std.proofs.Common.{◌≡◌, ◌≢◌, ◌⊎◌, inl, inr, ℕ, zero, suc, ◌+◌, ◌<◌, ◌≤◌, List, [], ◌∷◌, ◌++◌, Bool, Option, Some, None, length, refl, sym, ap, ◌∙◌, subst, arith}
+use Rattle.std.proofs.Common.{◌≡◌, ◌≢◌, ◌⊎◌, inl, inr, ℕ, zero, suc, ◌<◌, List, [], ◌∷◌, ◌++◌, Bool, Some, None, refl, sym, ap, ◌∙◌, subst, arith}
 use Rattle.std.proofs.lemmas.Bool.{cases_eq}
 use Rattle.std.specs.Prelude.{replicate}
 use Rattle.user_calls.specs.declared.calls.Reply.TheVariants.{Start}
@@ -20,7 +20,7 @@ use Rattle.sh_machine.specs.State.{User, init, shell, top}
 use Rattle.sh_machine.specs.Turn.{call_of, next_of}
 use Rattle.run_model.specs.ScriptRun.{script_kernel}
 use Rattle.process_model.specs.Seen.{Entry, Fds, Seen, free, zombie, live, seen_slot, fds_seen, act_of, Names, View, view}
-use Rattle.process_model.specs.Shape.{same, is_used}
+use Rattle.process_model.specs.Shape.{is_used}
 use Rattle.process_model.specs.Shows.{ShowsIn}
 use Rattle.process_model.proofs.Counts.{same_other}
 use Rattle.process_model.proofs.Start.{start_stands}
@@ -168,7 +168,7 @@ every_run_is_within profile lines input list are events notes m is full =
     let first = shell profile (top Starts lines) in
     runs.every_run_keeps init first input list (IsWithin (processes_at_once lines))
     (λ k l e n r happened was now holds.
-        event_keeps (processes_at_once lines) k l e n (runs.settled init first input list are k r)
-        (runs.settled init first input list are l (record { events = r.events ++ e ∷ []; notes = r.notes ++ n ∷ []; runs = run_more call_of next_of (Some (script_kernel profile lines input list)) r.events r.notes k l e n r.runs happened }))
-        happened now holds)
+    event_keeps (processes_at_once lines) k l e n (runs.settled init first input list are k r)
+    (runs.settled init first input list are l (record { events = r.events ++ e ∷ []; notes = r.notes ++ n ∷ []; runs = run_more call_of next_of (Some (script_kernel profile lines input list)) r.events r.notes k l e n r.runs happened }))
+    happened now holds)
     (record { names = first_names profile lines input list; shows = (start_stands profile lines input list).shows; has_init = start_init profile lines input list; budget = start_budget profile lines input list }) events notes m is full

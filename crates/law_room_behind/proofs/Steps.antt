@@ -1,20 +1,20 @@
 -- Each call of each process leaves enough for all.
-use Rattle.std.proofs.Common.{◌≡◌, ◌≢◌, ◌⊎◌, inl, inr, ℕ, zero, suc, ◌+◌, ◌<◌, ◌≤◌, List, [], ◌∷◌, Bool, true, false, Option, Some, None, length, refl, sym, ap, ◌∙◌, subst, arith, get_or-set_other, get_or-set_same}
+use Rattle.std.proofs.Common.{◌≡◌, ◌≢◌, ◌⊎◌, inl, inr, ℕ, ◌+◌, ◌<◌, ◌≤◌, List, [], ◌∷◌, true, false, Option, Some, None, length, refl, sym, ap, ◌∙◌, subst, arith, get_or-set_other, get_or-set_same}
 use Rattle.std.specs.Prelude.{slice_set}
-use Rattle.sh_tree.specs.Tree.{Tree, pipe, list, back}
+use Rattle.sh_tree.specs.Tree.{Tree}
 use Rattle.script_load.specs.declared.profile.Profile.{Profile}
 use Rattle.script_load.specs.Line.{ScriptLine}
 use Rattle.meaning_model.specs.Meaning.{line_tree, script_tree}
 use Rattle.user_calls.specs.declared.calls.Call.{Call}
 use Rattle.user_calls.specs.declared.calls.Call.TheVariants.{Fork, Exit, Wait, MakePipe, Close}
-use Rattle.user_calls.specs.declared.calls.Reply.TheVariants.{Child, Done, Ends}
+use Rattle.user_calls.specs.declared.calls.Reply.TheVariants.{Child, Done}
 use Rattle.fd_table.specs.Entries.{is_free}
 use Rattle.fd_table.proofs.Lists.{position_found}
 use Rattle.sh_machine.specs.declared.state.Phase.{Phase}
 use Rattle.sh_machine.specs.declared.state.Phase.TheVariants.{Starts, Forks, Waits, ToldCd}
 use Rattle.sh_machine.specs.State.{Parent, makes, forks_writer, forks_reader, closes_reader, closes_writer, waits_first, waits_second, Shell, top, unknown, closes_old, opens_file, forks_left, waits_left, pipes, side, forks_back, told, ended, User, init, shell, program}
-use Rattle.process_model.specs.Seen.{Entry, reader, writer, Fds, fd_at, Act, act_of, Seen, free, live, View}
-use Rattle.process_model.specs.Effect.{Answers, answered, lowest, Forks as ForksTo, Exits, WaitsFor, reaps, has_none, sleeps, MakesPipe, ClosesAt, EffectBy, IsCall}
+use Rattle.process_model.specs.Seen.{Entry, reader, writer, Fds, fd_at, Act, act_of, live, View}
+use Rattle.process_model.specs.Effect.{Answers, lowest, WaitsFor, reaps, has_none, sleeps, MakesPipe, ClosesAt, EffectBy, IsCall}
 use Rattle.room_behind.specs.Processes.{at_once, left_behind}
 use Rattle.room_behind.proofs.Trees.{some_run, rest_of}
 use Rattle.law_room_behind.proofs.Trees.{Enough, ListEnough, list_enough, gives_back, back_enough, none_enough}

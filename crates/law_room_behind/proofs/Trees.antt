@@ -1,8 +1,7 @@
 -- What a process needs to run a command, and what it then gives back to the process that waits for it.
-use Rattle.std.proofs.Common.{◌≡◌, ℕ, zero, suc, ◌+◌, ◌≤◌, refl, arith}
-use Rattle.std.specs.Prelude.{max}
-use Rattle.std.proofs.Math.Nat.{le-max_left, le-max_right, max-le}
-use Rattle.sh_tree.specs.Tree.{Tree, exec, redir, pipe, list, back}
+use Rattle.std.proofs.Common.{◌≡◌, ℕ, ◌+◌, ◌≤◌, arith}
+use Rattle.std.proofs.Math.Nat.{le-max_left, le-max_right}
+use Rattle.sh_tree.specs.Tree.{Tree, list}
 use Rattle.room_behind.specs.Processes.{at_once, left_behind}
 use Rattle.room_behind.proofs.Trees.{one_stays, rest_of}
 

@@ -1,16 +1,11 @@
 -- How many descriptors of a process are open, and how many a call leaves open at most.
-use Rattle.std.proofs.Common.{◌≡◌, ◌⊎◌, inl, inr, ℕ, zero, suc, ◌+◌, ◌≤◌, List, [], ◌∷◌, Bool, true, false, Option, Some, None, length, refl, sym, ap, ◌∙◌, arith}
+use Rattle.std.proofs.Common.{◌≡◌, ◌⊎◌, ℕ, zero, suc, ◌+◌, ◌≤◌, [], ◌∷◌, Option, Some, None, length, refl, arith}
 use Rattle.std.proofs.lemmas.List.Sums.{sum_by-cons}
-use Rattle.std.specs.Prelude.{cond, min, nat_lt, slice_set, if◌then◌else◌}
-use Rattle.mem_files.specs.Name.{Name, Bytes, is_openable}
-use Rattle.mem_files.specs.Files.{FileMap}
-use Rattle.user_calls.specs.Limits.{block_size}
+use Rattle.std.specs.Prelude.{cond, slice_set}
 use Rattle.user_calls.specs.declared.calls.Call.{Call}
-use Rattle.user_calls.specs.declared.calls.Call.TheVariants.{Fork, Exec, Exit, Wait, MakePipe, Read, Write, OpenFile, Close, Dup}
-use Rattle.user_calls.specs.declared.calls.Mode.{Mode}
-use Rattle.user_calls.specs.declared.calls.Mode.TheVariants.{Input as ToRead, Fresh, Over, Append}
+use Rattle.user_calls.specs.declared.calls.Call.TheVariants.{Close}
 use Rattle.user_calls.specs.declared.calls.Reply.{Reply}
-use Rattle.user_calls.specs.declared.calls.Reply.TheVariants.{Child, Done, Bytes as Bytes', Fd, Ends, Refused}
+use Rattle.user_calls.specs.declared.calls.Reply.TheVariants.{Done, Refused}
 use Rattle.fd_table.specs.Entries.{is_free, free_count}
 use Rattle.process_model.specs.Seen.{Entry, Fds, fd_at}
 use Rattle.law_room.proofs.Marks.{descriptors_wanted}

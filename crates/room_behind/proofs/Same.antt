@@ -1,5 +1,5 @@
 -- Where nothing runs behind `&` nothing is left behind, and the bound is the one of `room_model`.
-use Rattle.std.proofs.Common.{◌≡◌, ◌∙◌, ℕ, ◌+◌, List, false, refl, ap, sym, arith}
+use Rattle.std.proofs.Common.{◌≡◌, ◌∙◌, ◌+◌, List, false, refl, ap, arith}
 use Rattle.std.specs.Prelude.{max}
 use Rattle.std.proofs.lemmas.Bool.{or_parts}
 use Rattle.sh_tree.specs.Tree.{Tree, exec, redir, pipe, list, back}

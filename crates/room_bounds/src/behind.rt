@@ -110,10 +110,7 @@ fn and_line(before: Together, line: Together) -> Together
     ensures { (lines : List ScriptLine) (last : ScriptLine) → AreTogether (script_tree lines) before → AreTogether (line_tree last) line → AreTogether (script_tree (lines ++ last ∷ [])) result }
 {
     Together {
-        at_once: larger(
-            before.at_once,
-            sum_with(1, before.behind, line.at_once),
-        ),
+        at_once: larger(before.at_once, sum_with(1, before.behind, line.at_once)),
         behind: sum(before.behind, line.behind),
     }
 }

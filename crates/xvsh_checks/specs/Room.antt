@@ -1,5 +1,5 @@
 -- What a check reports of the room that a script needs (own).
-use Rattle.std.specs.Prelude.{◌≡◌, ◌↔◌, ℕ, zero, suc, Bool, false, IsTrue, List, ◌∷◌, [], ◌++◌, Option, Some, None, codes}
+use Rattle.std.specs.Prelude.{◌≡◌, ◌↔◌, ℕ, zero, suc, Bool, false, IsTrue, List, [], ◌++◌, Option, Some, None, codes}
 use Rattle.std.specs.Borrow.{Bor}
 use Rattle.std.specs.Fmt.{decimal}
 use Rattle.mem_files.specs.Name.{Name, Bytes}
