@@ -2,7 +2,7 @@
 
 use crate::head::begin_result;
 use crate::words::clash_word;
-use room_bounds::{Lack, Room, Table};
+use room_bounds::{Behind, Lack, Room, Table};
 use sh_tree::ParseFault;
 use std::alloc::{AllocError, Global};
 use trace_lines::Line;
@@ -72,7 +72,7 @@ fn status_word(findings: &Findings) -> &'static str {
 fn room_status(findings: &Findings, found: &RoomFound) -> &'static str {
     match found {
         RoomFound::Known { lack: Some(_), .. } => "without room",
-        RoomFound::Known { lack: None, .. } | RoomFound::Unknown => status_word(findings),
+        RoomFound::Known { lack: None, .. } | RoomFound::Part { .. } => status_word(findings),
     }
 }
 
@@ -151,6 +151,23 @@ fn write_room(object: &mut Line, room: &Room) -> Result<(), AllocError> {
     object.end_object()
 }
 
+// What a script with a clash or a `&` needs of processes and descriptors; its room as a whole is `null`.
+fn write_part(object: &mut Line, behind: &Behind) -> Result<(), AllocError> {
+    object.nothing("room")?;
+    object.begin_object("room_part")?;
+    write_table(object, Table::Processes, behind.processes)?;
+    write_table(object, Table::Descriptors, behind.descriptors)?;
+    object.end_object()
+}
+
+// With which line first it may need too much, if with any.
+fn write_lack_if(object: &mut Line, lack: &Option<Lack>) -> Result<(), AllocError> {
+    match lack {
+        Some(lack) => write_lack(object, lack),
+        None => Ok(()),
+    }
+}
+
 /// With which line first it may need too much, and of what; `line` is left out where no line does.
 pub(crate) fn write_lack(object: &mut Line, lack: &Lack) -> Result<(), AllocError> {
     object.begin_object("lack")?;
@@ -166,7 +183,8 @@ pub(crate) fn write_lack(object: &mut Line, lack: &Lack) -> Result<(), AllocErro
 /// The same of a check that tells the room that the script needs (own): beside it `room`, which has a member of each of `processes`,
 /// `open_files`, `descriptors`, `files` and `size`: how much of it the script may `need` at most, `null` where that is more than
 /// 1,000,000, and how much there is at `most`; and where it may not have room `lack`, with the `line`, the `table`, the `need` up to
-/// that line and the `most`; `status` is then `without room`. `room` is `null` where a line has a clash or a `&`.
+/// that line and the `most`; `status` is then `without room`. Where a line has a clash or a `&`, `room` is `null`, and `room_part` has
+/// the members `processes` and `descriptors`; `status` stays `not harmless`.
 ///
 /// `AllocError` where memory for the text is refused.
 pub fn room_result(
@@ -179,11 +197,12 @@ pub fn room_result(
     match found {
         RoomFound::Known { room, lack } => {
             write_room(&mut object, room)?;
-            if let Some(lack) = lack {
-                write_lack(&mut object, lack)?;
-            }
+            write_lack_if(&mut object, lack)?;
         }
-        RoomFound::Unknown => object.nothing("room")?,
+        RoomFound::Part { behind, lack } => {
+            write_part(&mut object, behind)?;
+            write_lack_if(&mut object, lack)?;
+        }
     }
     object.end()
 }

@@ -3,3 +3,4 @@ pub mod Needs
 pub mod Given
 pub mod Room
 pub mod Crowd
+pub mod Behind

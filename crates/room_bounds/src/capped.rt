@@ -33,6 +33,13 @@ pub fn sum_with(more: u64, a: Option<u64>, b: Option<u64>) -> Option<u64>
     }
 }
 
+// The sum of both.
+pub fn sum(a: Option<u64>, b: Option<u64>) -> Option<u64>
+    ensures { (m n : ℕ) → IsCapped m a → IsCapped n b → IsCapped (m + n) result }
+{
+    sum_with(0, a, b)
+}
+
 // The larger one.
 pub fn larger(a: Option<u64>, b: Option<u64>) -> Option<u64>
     ensures { (m n : ℕ) → IsCapped m a → IsCapped n b → IsCapped (max m n) result }

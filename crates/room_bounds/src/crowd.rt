@@ -32,8 +32,8 @@ fn held_of(needs: Needs) -> Held
     }
 }
 
-// What some lines need with one more.
-fn needs_after<A: Allocator>(before: Needs, line: &Line<A>) -> Needs
+/// What some lines need with one more.
+pub(crate) fn needs_after<A: Allocator>(before: Needs, line: &Line<A>) -> Needs
     ensures { (lines : List ScriptLine) → AreNeeds (script_tree lines) before → AreNeeds (script_tree (lines ++ line_of line.now ∷ [])) result }
 {
     of_list(line_needs(line), before)

@@ -2,6 +2,7 @@
 #![tactic(auto)]
 
 mod beginning;
+mod behind;
 mod capped;
 mod crowd;
 mod given;
@@ -11,6 +12,7 @@ mod opens;
 mod room;
 mod table;
 
+pub use behind::{Behind, behind_of, first_behind};
 pub use capped::MAX_COUNT;
 pub use crowd::first_crowded;
 pub use lack::{Lack, first_without_room, is_roomy};

@@ -1,5 +1,5 @@
 -- No note is written exactly where there is none.
-use Rattle.std.proofs.Common.{◌≡◌, ℕ, suc, Bool, true, false, List, [], ◌∷◌, length, refl, sym, ◌∙◌}
+use Rattle.std.proofs.Common.{◌≡◌, suc, Bool, List, [], ◌∷◌, length, refl, sym, ◌∙◌}
 use Rattle.std.specs.Prelude.{◌↔◌, ◌==◌, IsTrue}
 use Rattle.std.proofs.lemmas.Bool.{eqb-true}
 use Rattle.script_notes.specs.declared.line_note.LineNote.{LineNote}

@@ -1,11 +1,13 @@
 -- What a check reports of the room that a script needs (own).
-use Rattle.std.specs.Prelude.{◌≡◌, ◌↔◌, ℕ, zero, suc, Bool, false, IsTrue, List, ◌∷◌, [], ◌++◌, Option, Some, None, codes}
+use Rattle.std.specs.Prelude.{◌≡◌, ◌↔◌, ℕ, zero, suc, Bool, false, IsTrue, List, [], ◌++◌, Option, Some, None, codes}
 use Rattle.std.specs.Borrow.{Bor}
 use Rattle.std.specs.Fmt.{decimal}
 use Rattle.mem_files.specs.Name.{Name, Bytes}
 use Rattle.script_load.specs.Line.{ScriptLine}
 use Rattle.room_model.specs.Roomy.{IsRoomyScript}
 use Rattle.room_bounds.specs.Room.{IsRoom, IsFirstLack}
+use Rattle.room_bounds.specs.Behind.{FitsBehind, IsBehind, IsFirstBehind}
+use Rattle.room_bounds.specs.declared.behind.Behind.{Behind}
 use Rattle.room_bounds.specs.declared.room.Room.{Room}
 use Rattle.room_bounds.specs.declared.lack.Lack.{Lack}
 use Rattle.room_bounds.specs.declared.table.Table.{Table}
@@ -16,7 +18,7 @@ use Rattle.xvsh_read.specs.Path.{Path}
 use Rattle.xvsh_read.specs.Starting.{Starts, IsStartFault}
 use Rattle.xvsh_checks.specs.Check.{AreTold, AreHarmless}
 use Rattle.xvsh_checks.specs.declared.room_found.RoomFound.{RoomFound}
-use Rattle.xvsh_checks.specs.declared.room_found.RoomFound.TheVariants.{Unknown, Known}
+use Rattle.xvsh_checks.specs.declared.room_found.RoomFound.TheVariants.{Part, Known}
 
 -- a need, or that it is more than is reported
 abbrev pub need_text : Option ℕ → Bytes
@@ -51,9 +53,14 @@ abbrev pub lack_text : Option Lack → Bytes
 lack_text None = []
 lack_text (Some lack) = with_need (place_text lack.line) lack.need (table_text lack.table)
 
+-- `room: P of 64 processes, D of 16 descriptors; the rest is not known, since a line has a clash or a &` and LF
+abbrev pub part_text : Behind → Bytes
+part_text behind =
+    with_need (with_need (codes "room: ") behind.processes (codes " of 64 processes, ")) behind.descriptors (codes " of 16 descriptors; the rest is not known, since a line has a clash or a &\n")
+
 -- the report of a room
 abbrev pub room_told : RoomFound → Bytes
-room_told Unknown = codes "room: not known, since a line has a clash or a &\n"
+room_told (Part behind lack) = part_text behind ++ lack_text lack
 room_told (Known room lack) = room_text room ++ lack_text lack
 
 -- the first line with which the script may not have room, or none where it has
@@ -61,9 +68,14 @@ abbrev pub IsLackOf : List ScriptLine → Bytes → List (Name × Bytes) → Opt
 IsLackOf lines input list None = IsRoomyScript lines input list
 IsLackOf lines input list (Some lack) = IsFirstLack lines input list lack
 
--- what is known of a script's room: of one with a clash or a `&` nothing
+-- the same of processes and descriptors alone
+abbrev pub IsPartLack : List ScriptLine → Option Lack → Type 0
+IsPartLack lines None = FitsBehind lines
+IsPartLack lines (Some lack) = IsFirstBehind lines lack
+
+-- what is known of a script's room: of one with a clash or a `&` how many processes and descriptors it needs
 abbrev pub IsRoomFound : List ScriptLine → Bytes → List (Name × Bytes) → RoomFound → Type 0
-IsRoomFound lines input list Unknown = AreHarmless false lines → ⊥
+IsRoomFound lines input list (Part behind lack) = (AreHarmless false lines → ⊥) × IsBehind lines behind × IsPartLack lines lack
 IsRoomFound lines input list (Known room lack) = AreHarmless false lines × IsRoom lines input list room × IsLackOf lines input list lack
 
 -- what follows is by what the host states of standard input and of the files at paths

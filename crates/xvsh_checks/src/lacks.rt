@@ -5,19 +5,19 @@ ghost use Rattle.script_load.specs.Script.{HasLoadFault};
 ghost use Rattle.xvsh_checks.specs.Lacks.{IsLackNoted, IsLackOfText, lack_noted, noted_place};
 
 use crate::rooms::{add_need, is_clear, table_text};
-use room_bounds::{Lack, first_crowded};
+use room_bounds::{Lack, first_behind, first_crowded};
 use script_load::{LoadFault, Script, load};
 use std::alloc::{AllocError, Global};
 
-/// The first line with which a script may need more processes, open files or descriptors than there are; `None` where it doesn't, and
-/// of a script with a clash or a `&`.
+/// The first line with which a script may need more processes, open files or descriptors than there are, or `None`; of a script with
+/// a clash or a `&` the first with which it may need more processes or descriptors.
 pub(crate) fn lack_of(script: &Script<Global>) -> Option<Lack>
     ensures { IsLackNoted (lines_of script.now.lines) result }
 {
     if is_clear(script.lines.as_slice()) {
         first_crowded(script)
     } else {
-        None
+        first_behind(script)
     }
 }
 

@@ -1,12 +1,13 @@
 //! What is known of a script's room.
 
-use room_bounds::{Lack, Room};
+use room_bounds::{Behind, Lack, Room};
 
 /// What a check finds of the room that a script needs (own).
 #[derive(Clone, Copy, Debug)]
 pub enum RoomFound {
-    /// Nothing is known, since a line has a clash or a `&`.
-    Unknown,
+    /// A line has a clash or a `&`: how many processes and descriptors it needs at most, and with which line first it may need more
+    /// of them than there are.
+    Part { behind: Behind, lack: Option<Lack> },
     /// What it needs at most, and with which line first it may not have room.
     Known { room: Room, lack: Option<Lack> },
 }

@@ -5,7 +5,7 @@ ghost use Rattle.script_load.specs.Line.{ScriptLine, line_of, lines_of};
 ghost use Rattle.room_model.specs.Roomy.{IsRoomyScript};
 ghost use Rattle.xvsh_read.specs.Starting.{Starts, IsStartFault};
 ghost use Rattle.xvsh_checks.specs.Check.{AreHarmless, AreTold, IsHarmless};
-ghost use Rattle.xvsh_checks.specs.Room.{IsRoomFault, IsRoomFound, RanRoom, lack_text, place_text, room_text, room_told, table_text, with_need};
+ghost use Rattle.xvsh_checks.specs.Room.{IsRoomFault, IsRoomFound, RanRoom, lack_text, part_text, place_text, room_text, room_told, table_text, with_need};
 ghost use Rattle.xvsh_checks.specs.Values.{findings_text};
 
 use crate::checking::{Checked, check};
@@ -14,13 +14,12 @@ use crate::request::CheckRequest;
 use crate::room_found::RoomFound;
 use conflict_check::{clash, has_back};
 use mem_files::Files;
-use room_bounds::{Lack, Room, Table, first_without_room, is_roomy, room_of};
+use room_bounds::{
+    Behind, Lack, Room, Table, behind_of, first_behind, first_without_room, is_roomy, room_of,
+};
 use script_load::{Line, Profile, Script};
 use std::alloc::{AllocError, Global};
 use xvsh_read::{Fault, Host, Source, Start, prepare};
-
-// What is reported where nothing is known of the room.
-const UNKNOWN: &str = "room: not known, since a line has a clash or a &\n";
 
 // Whether a line has neither a clash nor a `&`.
 fn is_clear_line(line: &Line<Global>) -> bool
@@ -54,7 +53,10 @@ fn room_found(script: &Script<Global>, stdin: &[u8], given: &Files<Global>) -> R
             lack: first_without_room(script, stdin, given),
         }
     } else {
-        RoomFound::Unknown
+        RoomFound::Part {
+            behind: behind_of(script),
+            lack: first_behind(script),
+        }
     }
 }
 
@@ -64,7 +66,7 @@ fn has_room(found: &RoomFound) -> bool
 {
     match found {
         RoomFound::Known { room, .. } => is_roomy(room),
-        RoomFound::Unknown => false,
+        RoomFound::Part { .. } => false,
     }
 }
 
@@ -129,6 +131,27 @@ fn room_line(alloc: Global, room: &Room) -> Result<Vec<u8>, AllocError>
     Ok(text)
 }
 
+// What a script with a clash or a `&` needs of processes and descriptors.
+fn part_line(alloc: Global, behind: &Behind) -> Result<Vec<u8>, AllocError>
+    ensures { IfOk result (λ text. text.items ≡ part_text behind.now) }
+{
+    let mut text = Vec::new(alloc);
+    text.extend_from_slice(b"room: ".as_slice())?;
+    add_need(
+        alloc,
+        behind.processes,
+        b" of 64 processes, ".as_slice(),
+        &mut text,
+    )?;
+    add_need(
+        alloc,
+        behind.descriptors,
+        b" of 16 descriptors; the rest is not known, since a line has a clash or a &\n".as_slice(),
+        &mut text,
+    )?;
+    Ok(text)
+}
+
 /// What is said of a table of which there is too little.
 pub(crate) fn table_text(table: Table) -> &'static [u8]
     ensures { result.now ≡ table_text table }
@@ -183,9 +206,9 @@ fn room_report(alloc: Global, found: &RoomFound) -> Result<Vec<u8>, AllocError>
             add_lack(alloc, lack, &mut text)?;
             Ok(text)
         }
-        RoomFound::Unknown => {
-            let mut text = Vec::new(alloc);
-            text.extend_from_slice(UNKNOWN.as_bytes())?;
+        RoomFound::Part { behind, lack } => {
+            let mut text = part_line(alloc, behind)?;
+            add_lack(alloc, lack, &mut text)?;
             Ok(text)
         }
     }
@@ -210,7 +233,7 @@ fn start_of<'a, H: Host>(
 
 /// `check --room`: reads the script, the files in order, and standard input unless that is the script, and returns what is reported
 /// of the script's lines, and then how much of xv6's tables it needs at most, whatever the order of its processes, and with which
-/// line first it may need more than there is (own); and whether the lines are harmless and have room. Nothing is written.
+/// line first it may need more than there is (own), of a script with a clash or a `&` of processes and descriptors alone; and whether the lines are harmless and have room. Nothing is written.
 pub fn run_room<'a, H: Host>(
     alloc: Global,
     request: &CheckRequest<'a>,

@@ -1,4 +1,4 @@
-use Rattle.std.proofs.Common.{◌≡◌, ◌+◌, ◌<◌, true, false, length, drop, sym, subst, arith, refl}
+use Rattle.std.proofs.Common.{◌≡◌, ◌+◌, ◌<◌, true, false, length, drop, subst, arith, refl}
 use Rattle.std.specs.Prelude.{map, ◌↔◌, IsTrue}
 use Rattle.script_load.specs.Line.{line_of}
 use Rattle.script_notes.proofs.Reading.{line_left, none_left}

@@ -4,7 +4,6 @@ use Rattle.mem_files.specs.Files.{files}
 use Rattle.script_load.specs.Line.{lines_of}
 use Rattle.script_load.specs.Script.{HasLoadFault}
 use Rattle.script_notes.specs.Explained.{IsExplained}
-use Rattle.missing_names.specs.Missing.{missing_names}
 use Rattle.missing_names.specs.Texts.{missing_texts, shown}
 use Rattle.reason_sentences.specs.Sentences.{reason_text, why_text}
 use Rattle.reason_sentences.specs.Whys.{AreReasonTexts}

@@ -1,0 +1,15 @@
+pub mod Sums
+pub mod Trees
+pub mod Fits
+pub mod Used
+pub mod ProgramCalls
+pub mod ProgramFiles
+pub mod Moved
+pub mod Replies
+pub mod Budget
+pub mod Families
+pub mod Steps
+pub mod Runs
+pub mod FewBehind
+pub mod Places
+pub mod FewPlaces
