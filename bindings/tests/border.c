@@ -3,8 +3,10 @@
 #include "xvsh.h"
 #include <pthread.h>
 #include <stdio.h>
+#include <stdlib.h>
+#include <string.h>
 
-_Static_assert(sizeof(xvsh_task) == 64 && sizeof(xvsh_answer) == 120 && sizeof(xvsh_sizes) == 24, "the layout of version 0.2");
+_Static_assert(sizeof(xvsh_task) == 64 && sizeof(xvsh_answer) == 120 && sizeof(xvsh_sizes) == 24, "the layout of version 0.3");
 
 static long failed, tested;
 
@@ -137,7 +139,7 @@ static void limits(void) {
   TEST(xvsh_plain(&task, &answer) == XVSH_OK && answer.sizes.length == XVSH_MAX_FILES && answer.block.length == 3 * XVSH_MAX_FILES);
   task.files.length = XVSH_MAX_FILES + 1;
   TEST(refused(&task, XVSH_TOO_MANY_FILES, XVSH_MAX_FILES + 1));
-  files[7].bytes.at = NULL; /* so the header copies the rows */
+  files[7].bytes.at = NULL; /* so the rows are copied */
   TEST(refused(&task, XVSH_TOO_MANY_FILES, XVSH_MAX_FILES + 1));
   task.files.length = SIZE_MAX / sizeof *files;
   TEST(refused(&task, XVSH_TOO_MANY_FILES, XVSH_MAX_FILES + 1));

@@ -3,6 +3,8 @@
  * a fault has a name and nothing else, a table's lengths add up to its block, an object is one line, and a run's events are replayed to
  * the same output. usage: drawn COUNT [SEED] */
 #include <stdio.h>
+#include <stdlib.h>
+#include <string.h>
 #include "xvsh.h"
 
 static uint64_t seed;

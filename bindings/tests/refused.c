@@ -2,6 +2,8 @@
  * Linked with -Wl,--wrap=malloc,--wrap=realloc,--wrap=free. */
 #include "xvsh.h"
 #include <stdio.h>
+#include <stdlib.h>
+#include <string.h>
 
 void *__real_malloc(size_t size);
 void *__real_realloc(void *block, size_t size);

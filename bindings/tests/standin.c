@@ -1,10 +1,13 @@
-/* Stands for the library where it isn't built, to test what is around it: the header, bindings/pack, dist/install, the Python module.
+/* Stands for what is proved of the library where it isn't built, to test what is around that: the header, the functions in C, bindings/pack,
+ * dist/install, the Python module.
  *
  * A call answers with what it was given: the script as the output, the call's name and numbers as the diagnostics, a schedule as the
  * events, and the files as they are. The script `fault N P` is the fault N at the place P, and `full N` is one whose run found N full.
  * STANDIN_VERSION is the version in place of the header's. */
-#include "xvsh.h"
+#include "calls.h"
 #include <stdio.h>
+#include <stdlib.h>
+#include <string.h>
 
 static xvsh_bytes copied(const void *from, size_t length) {
   xvsh_bytes made = XVSH_NO_BYTES;

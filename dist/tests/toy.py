@@ -93,7 +93,22 @@ class Toy:
             file.write(gzip.compress(program, mtime=0))
         status, digest, told = run([self.path("dist/digest"), "xvsh_main"])
         same((status, told), (0, ""), "dist/digest")
+        write(self.path("dist/names"), "xvsh_main xvsh_main\n")
         write(self.path("dist/record"), f"xvsh_main.sources {digest}xvsh_main.program {hashlib.sha256(program).hexdigest()}\n")
+
+    def pack_library(self, folder):
+        """Packs the library of a folder into dist/, as that of the sources that are there."""
+        record = f"xvsh_c.sources {run([self.path('dist/digest'), 'xvsh_c'])[1]}"
+        for name in ("libxvsh.a", "libxvsh.so"):
+            with open(os.path.join(folder, name), "rb") as file:
+                made = file.read()
+            with open(self.path(f"dist/{name}.gz"), "wb") as file:
+                file.write(gzip.compress(made, mtime=0))
+            record += f"{name}.program {hashlib.sha256(made).hexdigest()}\n"
+        with open(self.path("dist/record"), "a", encoding="utf-8") as file:
+            file.write(record)
+        with open(self.path("dist/names"), "a", encoding="utf-8") as file:
+            file.write("xvsh_c libxvsh.a libxvsh.so\n")
 
     def call(self, *words, env=None, launcher=None, **how):
         return run([launcher or self.path("xvsh"), *words], env={**self.env, **(env or {})}, **how)

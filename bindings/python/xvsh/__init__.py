@@ -5,8 +5,9 @@
     b'1 1 3 \\n'
 
 Over ctypes, with no dependency. The first call that needs the library loads libxvsh.so from the path in XVSH_LIBRARY, else from beside
-this file, where `pip install` puts it, else from lib/ of the checkout that this file stands in, else where the system looks. Where there
-is none it raises ImportError: `bindings/build` of the checkout builds it. `grade` runs the program, and needs no library.
+this file, where `pip install` puts it, else from lib/ of the checkout that this file stands in, where `bindings/build` puts it, which is
+called where lib/ has none and dist/ has it; else where the system looks. Where there is none it raises ImportError. `grade` runs the
+program, and needs no library.
 
 Each call raises the faults of what it is given: LineTooLong, ByteZero and ScriptTooLong of the script; where it takes them, TooLong,
 BadName and TooManyFiles of the files, and InputTooLong of the input; and Memory. Its own are told at each. What is no number where one is due
@@ -28,6 +29,7 @@ import functools
 import json
 import operator
 import os
+import subprocess
 from collections.abc import Iterable, Iterator, Mapping
 from typing import Any, Union
 
@@ -41,14 +43,14 @@ __all__ = [
     "TakenName", "TimedOut", "TooLarge", "TooLong", "TooManyFiles", "Unfinished", "Verdict", "XvshError", "check", "explain", "explore", "grade",
     "plain", "replay", "run", "version",
 ]
-__version__ = "0.2.0"
+__version__ = "0.3.0"
 
 Bytes = Union[bytes, bytearray, memoryview, str]
 Files = Mapping[str, Bytes]
 
 MAX_TURNS = 1_000_000_000
 MAX_STATES = 10_000_000
-_VERSION = 2_000
+_VERSION = 3_000
 
 
 class Fault(enum.IntEnum):
@@ -216,26 +218,31 @@ class _Answer(c.Structure):
 
 def _find() -> str:
     here = os.path.dirname(os.path.abspath(__file__))
+    top = os.path.normpath(os.path.join(here, "..", "..", ".."))
     named = os.environ.get("XVSH_LIBRARY")
-    beside = [os.path.join(here, "libxvsh.so"), os.path.join(here, "..", "..", "..", "lib", "libxvsh.so")]
-    for path in [named] if named else beside:
+    beside, built = os.path.join(here, "libxvsh.so"), os.path.join(top, "lib", "libxvsh.so")
+    for path in [named] if named else [beside, built]:
         if os.path.exists(path):
             return path
+    build, told = os.path.join(top, "bindings", "build"), ""
+    if not named and os.path.exists(build):
+        ran = subprocess.run([build, "--packed"], stdin=subprocess.DEVNULL, stderr=subprocess.PIPE, text=True, check=False)
+        if ran.returncode == 0:
+            return built
+        told = f" ({ran.stderr.strip()})"
     found = None if named else ctypes.util.find_library("xvsh")
     if found:
         return found
     raise ImportError(
-        f"there is no {named or 'libxvsh.so'}: bindings/build of a checkout of xvsh builds lib/libxvsh.so, where Rattle's command rt is installed; "
-        "XVSH_LIBRARY names one that is elsewhere"
+        f"there is no {named or 'libxvsh.so'}{told}: bindings/build of a checkout of xvsh puts it into lib/, and XVSH_LIBRARY names one that is elsewhere"
     )
 
 
-_free = c.CDLL(None).free
-_free.argtypes, _free.restype = [c.c_void_p], None
 _task, _answer = c.POINTER(_Task), c.POINTER(_Answer)
+# what each call takes between the task and the answer
 _numbers: dict[str, list[Any]] = {
-    "plain": [], "run": [c.c_uint64, c.c_uint32, c.c_uint64], "replay": [c.c_char_p, c.c_size_t], "check": [c.c_uint32], "explain": [],
-    "explore": [c.c_uint64, c.c_uint32], "trace": [c.c_uint64, c.c_uint32, c.c_uint64], "look": [c.c_char_p, c.c_size_t],
+    "plain": [], "run": [c.c_uint64, c.c_uint32, c.c_uint64], "replay": [_Bytes], "check": [c.c_uint32], "explain": [],
+    "explore": [c.c_uint64, c.c_uint32], "trace": [c.c_uint64, c.c_uint32, c.c_uint64], "look": [_Bytes],
 }
 
 
@@ -247,9 +254,10 @@ def _library() -> c.CDLL:
     if lib.xvsh_version() // 1000 != _VERSION // 1000:
         raise ImportError(f"libxvsh.so is of version {lib.xvsh_version()}, and the module xvsh of {_VERSION}: they differ before the third number")
     for name, more in _numbers.items():
-        function = getattr(lib, f"xvsh_{name}_call")
-        function.argtypes, function.restype = [_task, *more, _answer], None
-    lib.xvsh_fault_call.argtypes, lib.xvsh_fault_call.restype = [c.c_uint32, c.POINTER(_Bytes)], None
+        function = getattr(lib, f"xvsh_{name}")
+        function.argtypes, function.restype = [_task, *more, _answer], c.c_uint32
+    lib.xvsh_fault_text.argtypes, lib.xvsh_fault_text.restype = [c.c_uint32], _Bytes
+    lib.xvsh_answer_free.argtypes, lib.xvsh_answer_free.restype = [_answer], None
     return lib
 
 
@@ -271,10 +279,6 @@ def _number(value: int, bits: int, what: str) -> int:
     return number
 
 
-_NOTHING = c.c_char_p(b"")
-_EMPTY = c.cast(_NOTHING, c.c_void_p).value
-
-
 def _view(kept: list[Any], data: bytes) -> tuple[int | None, int]:
     held = c.c_char_p(data)
     kept.append(held)
@@ -286,9 +290,7 @@ def _text(bytes_: _Bytes) -> bytes:
 
 
 def _fault_text(number: int) -> str:
-    words = (_Bytes * 2)(_Bytes(_EMPTY, 0), _Bytes(_EMPTY, 0))
-    _library().xvsh_fault_call(number, words)
-    return _text(words[1]).decode()
+    return _text(_library().xvsh_fault_text(number)).decode()
 
 
 @dataclasses.dataclass(frozen=True, repr=False)
@@ -532,23 +534,15 @@ def _call(name: str, script: Bytes, input: Bytes, files: Files | None, append: b
     kept: list[Any] = []
     budget = _number(budget, 64, "a budget is")
     rows = [_File(_view(kept, os.fsencode(name)), _view(kept, _raw(data))) for name, data in (files or {}).items()]
-    given = (_File * max(len(rows), 1))(*rows)
+    given = (_File * len(rows))(*rows)
     task = _Task(_view(kept, _raw(script)), _view(kept, _raw(input)), given, len(rows), budget, 1 if append else 0)
     answer = _Answer()
-    for field in ("out", "diag", "events", "json", "block"):
-        getattr(answer, field).at = _EMPTY
-    answer.sizes = c.cast(_NOTHING, c.POINTER(_Sizes))
-    getattr(_library(), f"xvsh_{name}_call")(task, *more, answer)
-    if answer.status:
+    if getattr(_library(), f"xvsh_{name}")(task, *more, answer):
         raise _error_of(answer.status, answer.place)
     try:
         return _Call(answer)
     finally:
-        for held in (answer.out, answer.diag, answer.events, answer.json, answer.block):
-            if held.length:
-                _free(held.at)
-        if answer.count:
-            _free(c.cast(answer.sizes, c.c_void_p))
+        _library().xvsh_answer_free(answer)
 
 
 def plain(script: Bytes, input: Bytes = b"", files: Files | None = None, *, append: bool = False, budget: int = 0) -> Plain:
@@ -580,8 +574,8 @@ def run(
 def replay(script: Bytes, schedule: Bytes, input: Bytes = b"", files: Files | None = None, *, append: bool = False) -> Run:
     """Runs it by the events of a schedule: a run's, or any other, of one to eight harts. NoEvent of a line that is none; NotRunnable and
     NotRunning of an event that can't take place; Unfinished where all took place and the run isn't finished."""
-    events = _raw(schedule)
-    return _run_of(_call("replay", script, input, files, append, 0, events, len(events)))
+    kept: list[Any] = []
+    return _run_of(_call("replay", script, input, files, append, 0, _Bytes(*_view(kept, _raw(schedule)))))
 
 
 def _run_of(call: _Call) -> Run:
@@ -700,7 +694,8 @@ class Session:
         """Looks at what these turns lead to."""
         events = _schedule(turns)
         script, input, files, append = self._task
-        call = _call("look", script, input, files, append, 0, events, len(events))
+        kept: list[Any] = []
+        call = _call("look", script, input, files, append, 0, _Bytes(*_view(kept, events)))
         self._finished, self._made, self._json = call.fine, json.loads(call.json), call.json
         self._turns = list(turns)
 

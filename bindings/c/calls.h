@@ -1,0 +1,17 @@
+/* The calls that crates/xvsh_c exports, as they are: no pointer is null, and the answer holds nothing. bindings/c/xvsh.c hands them what a
+ * caller gave. They are none of the library's: the shared one hides them. */
+#ifndef XVSH_CALLS_H
+#define XVSH_CALLS_H
+#include "xvsh.h"
+
+void xvsh_fault_call(uint32_t number, xvsh_bytes *words);
+void xvsh_plain_call(const xvsh_task *task, xvsh_answer *answer);
+void xvsh_run_call(const xvsh_task *task, uint64_t turns, uint32_t order, uint64_t number, xvsh_answer *answer);
+void xvsh_replay_call(const xvsh_task *task, const uint8_t *schedule, size_t length, xvsh_answer *answer);
+void xvsh_check_call(const xvsh_task *task, uint32_t strict, xvsh_answer *answer);
+void xvsh_explain_call(const xvsh_task *task, xvsh_answer *answer);
+void xvsh_explore_call(const xvsh_task *task, uint64_t states, uint32_t thorough, xvsh_answer *answer);
+void xvsh_trace_call(const xvsh_task *task, uint64_t turns, uint32_t order, uint64_t number, xvsh_answer *answer);
+void xvsh_look_call(const xvsh_task *task, const uint8_t *schedule, size_t length, xvsh_answer *answer);
+
+#endif
