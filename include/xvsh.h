@@ -25,7 +25,7 @@
  * nothing else. xvsh_fault_name and xvsh_fault_text have the name and the text of a number. A number is never given to another
  * fault; new ones may come, so have a default. No call aborts, and each returns: xvsh_run and xvsh_trace take at most `turns` events,
  * xvsh_replay and xvsh_look those of the schedule, xvsh_explore finds at most `states` states, and xvsh_plain asks for at most the
- * task's budget of memory, where it has one. xvsh_check and xvsh_explain read the script once, and run nothing.
+ * task's budget of memory, where it has one. The checks and xvsh_explain run nothing; xvsh_explain_why runs the script by its meaning.
  *
  * Versions. xvsh_version_number() is 1,000,000 times the first number, 1,000 times the second, and the third. As long as the first is 0,
  * the shared library's soname has the first and the second, now libxvsh.so.0.3, and else the first alone. Under one soname these never
@@ -185,9 +185,23 @@ uint32_t xvsh_replay(const xvsh_task *task, xvsh_bytes schedule, xvsh_answer *an
  * are looked at. */
 uint32_t xvsh_check(const xvsh_task *task, uint32_t strict, xvsh_answer *answer);
 
+/* Checks the same, and tells in how many turns a run by its processes is finished, whatever their order, on this input and these files: as
+ * `xvsh check --turns --json`, whose object it gives as json. Fine is as of xvsh_check. */
+uint32_t xvsh_check_turns(const xvsh_task *task, uint32_t strict, xvsh_answer *answer);
+
+/* Checks the same, and tells how many processes, open files, descriptors, files and bytes in a file it may need at most, whatever the order
+ * of its processes, on this input and these files, and with which line first that is more than xv6 has: as `xvsh check --room --json`,
+ * whose object it gives as json. Fine where the lines are, and there is room for it. */
+uint32_t xvsh_check_room(const xvsh_task *task, uint32_t strict, xvsh_answer *answer);
+
 /* Tells in sentences what is wrong or unexpected in the lines of the script, as `xvsh explain --json`. Gives that object as json, and
  * fine where no line has a note and none may need more processes, open files or descriptors than there are. Nothing is run, as with xvsh_check. */
 uint32_t xvsh_explain(const xvsh_task *task, xvsh_answer *answer);
+
+/* Tells the same, which names no file has when a line uses them, and each reason why the script isn't settled on this input and these
+ * files: as `xvsh explain --why --json`, whose object it gives as json. Fine where there is none of all that. The script is run by its
+ * meaning to find that out, so XVSH_TOO_LARGE is a fault of it; the task's budget doesn't bound that run. */
+uint32_t xvsh_explain_why(const xvsh_task *task, xvsh_answer *answer);
 
 /* Tries every order of the script's processes, as `xvsh explore --json`, of at most `states` states of the kernel, from 1 to
  * XVSH_MAX_STATES, for each of which memory is kept. A settled script none of whose files is soft has one outcome, and is explored

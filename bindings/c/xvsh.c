@@ -147,9 +147,27 @@ uint32_t xvsh_check(const xvsh_task *task, uint32_t strict, xvsh_answer *answer)
   return status_of(answer);
 }
 
+uint32_t xvsh_check_turns(const xvsh_task *task, uint32_t strict, xvsh_answer *answer) {
+  safe_task safe;
+  if (begin(task, &safe, answer)) xvsh_check_turns_call(&safe.task, strict, answer);
+  return status_of(answer);
+}
+
+uint32_t xvsh_check_room(const xvsh_task *task, uint32_t strict, xvsh_answer *answer) {
+  safe_task safe;
+  if (begin(task, &safe, answer)) xvsh_check_room_call(&safe.task, strict, answer);
+  return status_of(answer);
+}
+
 uint32_t xvsh_explain(const xvsh_task *task, xvsh_answer *answer) {
   safe_task safe;
   if (begin(task, &safe, answer)) xvsh_explain_call(&safe.task, answer);
+  return status_of(answer);
+}
+
+uint32_t xvsh_explain_why(const xvsh_task *task, xvsh_answer *answer) {
+  safe_task safe;
+  if (begin(task, &safe, answer)) xvsh_explain_why_call(&safe.task, answer);
   return status_of(answer);
 }
 

@@ -42,6 +42,9 @@ static bool refused(const xvsh_task *task, uint32_t fault, uint64_t place) {
   right = xvsh_trace(task, 1000000, XVSH_KERNEL, 0, &answer) == fault && answer.place == place && is_nothing(&answer) && right;
   right = xvsh_look(task, xvsh_text(""), &answer) == fault && answer.place == place && is_nothing(&answer) && right;
   right = xvsh_explore(task, 1000000, 1, &answer) == fault && answer.place == place && is_nothing(&answer) && right;
+  right = xvsh_check_turns(task, 0, &answer) == fault && answer.place == place && is_nothing(&answer) && right;
+  right = xvsh_check_room(task, 0, &answer) == fault && answer.place == place && is_nothing(&answer) && right;
+  right = xvsh_explain_why(task, &answer) == fault && answer.place == place && is_nothing(&answer) && right;
   /* a check and an explanation look at the script alone */
   bool of_script = fault == XVSH_NULL || fault == XVSH_SCRIPT_TOO_LONG || fault == XVSH_LINE_TOO_LONG || fault == XVSH_BYTE_ZERO;
   uint32_t wanted = of_script ? fault : XVSH_OK;
@@ -197,7 +200,20 @@ static void asks(void) {
                 "echo a;);););););););););););););););););););););););););););););););););););););););););););););););););););););););););););););)\n";
   task = task_of(deep, NULL, 0);
   TEST(xvsh_explain(&task, &answer) == XVSH_OK && tells(&answer, "\"lack\":{\"line\":1,\"table\":\"processes\",\"need\":65,\"most\":64}") && !answer.fine);
+  TEST(xvsh_check_room(&task, 0, &answer) == XVSH_OK && tells(&answer, "\"lack\":{\"line\":1,\"table\":\"processes\",\"need\":65,\"most\":64}") && !answer.fine);
+  TEST(xvsh_check_turns(&task, 0, &answer) == XVSH_OK && tells(&answer, ",\"turns\":") && answer.fine);
+  task = task_of("cat f | wc\n", NULL, 0);
+  TEST(xvsh_explain_why(&task, &answer) == XVSH_OK && tells(&answer, "\"missing\":[{\"line\":1,\"name\":\"f\"}],\"settled\":true") && !answer.fine);
+  TEST(xvsh_check_room(&task, 1, &answer) == XVSH_OK && tells(&answer, "\"status\":\"harmless\"") && answer.fine && !answer.whole);
+  xvsh_file file = { xvsh_text("f"), xvsh_text("a\n") };
+  task = task_of("cat f | wc\n", &file, 1);
+  TEST(xvsh_explain_why(&task, &answer) == XVSH_OK && tells(&answer, "\"status\":\"nothing to tell\"") && answer.fine);
+  task = task_of("cat f | tee f\n", &file, 1);
+  TEST(xvsh_explain_why(&task, &answer) == XVSH_OK && tells(&answer, "\"reasons\":[{\"kind\":\"clash\",\"line\":1,") && !answer.fine);
+  TEST(xvsh_check_room(&task, 0, &answer) == XVSH_OK && tells(&answer, "\"room\":null") && !answer.fine);
   task = task_of("echo a\n\n)\n", NULL, 0);
+  TEST(xvsh_check_turns(&task, 0, &answer) == XVSH_OK && answer.fine && xvsh_check_turns(&task, 1, &answer) == XVSH_OK && !answer.fine);
+  TEST(xvsh_check_room(&task, 0, &answer) == XVSH_OK && answer.fine && xvsh_check_room(&task, 1, &answer) == XVSH_OK && !answer.fine);
   TEST(xvsh_check(&task, 0, &answer) == XVSH_OK && tells(&answer, "\"kind\":\"fault\",\"line\":3") && answer.fine);
   TEST(xvsh_check(&task, 1, &answer) == XVSH_OK && tells(&answer, "\"code\":3") && !answer.fine);
   TEST(xvsh_check(&task, UINT32_MAX, &answer) == XVSH_OK && tells(&answer, "\"code\":3") && !answer.fine);
@@ -323,6 +339,9 @@ static void *again(void *unused) {
     if (i % 100 == 0) {
       right = xvsh_check(&task, 1, &answer) == XVSH_OK && answer.fine && right;
       right = xvsh_explain(&task, &answer) == XVSH_OK && answer.fine && right;
+      right = xvsh_check_turns(&task, 1, &answer) == XVSH_OK && answer.fine && right;
+      right = xvsh_check_room(&task, 1, &answer) == XVSH_OK && answer.fine && right;
+      right = xvsh_explain_why(&task, &answer) == XVSH_OK && answer.fine && right;
       right = xvsh_explore(&task, 100000, 0, &answer) == XVSH_OK && answer.fine && right;
       right = xvsh_look(&task, xvsh_text("D 0 1\nT 0 1\n"), &answer) == XVSH_OK && !answer.fine && right;
       right = xvsh_trace(&task, 100000, XVSH_DRAWN, (uint64_t)i, &answer) == XVSH_OK && is(answer.out, "hello\n3 3 10 \n") && right;
@@ -369,6 +388,8 @@ static void *deepest(void *unused) {
     right = xvsh_run(&task, 100000, XVSH_KERNEL, 0, &answer) == XVSH_OK && right;
     right = xvsh_check(&task, 0, &answer) == XVSH_OK && right;
     right = xvsh_explain(&task, &answer) == XVSH_OK && right;
+    right = xvsh_check_turns(&task, 0, &answer) == XVSH_OK && xvsh_check_room(&task, 0, &answer) == XVSH_OK && right;
+    right = xvsh_explain_why(&task, &answer) == XVSH_OK && right;
     right = xvsh_explore(&task, 50, 1, &answer) == XVSH_OK && right;
     right = xvsh_trace(&task, 100000, XVSH_KERNEL, 0, &answer) == XVSH_OK && right;
     right = xvsh_look(&task, xvsh_text("D 0 1\nT 0 1\nD 0 2\nT 0 2\n"), &answer) == XVSH_OK && right;

@@ -119,6 +119,9 @@ static void ask(const xvsh_task *task, xvsh_answer *answer, xvsh_answer *other, 
   told(xvsh_plain(task, answer), answer, "plain", number);
   told(xvsh_check(task, drawn(2), answer), answer, "check", number);
   told(xvsh_explain(task, answer), answer, "explain", number);
+  told(xvsh_check_turns(task, drawn(2), answer), answer, "check_turns", number);
+  told(xvsh_check_room(task, drawn(2), answer), answer, "check_room", number);
+  told(xvsh_explain_why(task, answer), answer, "explain_why", number);
   told(xvsh_explore(task, drawn(20) ? 1 + drawn(60) : drawn(2) * UINT64_MAX, drawn(2), answer), answer, "explore", number);
   told(xvsh_trace(task, drawn(20000), drawn(7), drawn(70), answer), answer, "trace", number);
   xvsh_bytes empty = XVSH_NO_BYTES;

@@ -121,6 +121,9 @@ def asks_differ(program, text, stdin, given, append, draw):
     strict, thorough, states = draw.random() < 0.5, draw.random() < 0.3, draw.choice([1, 50, 400])
     why = object_differs("check", program.prints("check", "--json", *["--strict"] * strict, given=False), lambda: xvsh.check(text, strict=strict))
     why = why or object_differs("explain", program.prints("explain", "--json", given=False), lambda: xvsh.explain(text))
+    for flag, call in (("--turns", xvsh.check_turns), ("--room", xvsh.check_room)):
+        why = why or object_differs(f"check {flag}", program.prints("check", flag, "--json", *["--strict"] * strict), lambda: call(text, stdin, given, strict=strict))
+    why = why or object_differs("explain --why", program.prints("explain", "--why", "--json", *program.append), lambda: xvsh.explain_why(text, stdin, given, append=append))
     words = ["explore", "--json", "--states", str(states), *["--all"] * thorough, *program.append]
     return why or object_differs("explore", program.prints(*words), lambda: xvsh.explore(text, stdin, given, append=append, states=states, thorough=thorough))
 

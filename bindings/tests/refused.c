@@ -45,6 +45,9 @@ static uint32_t call(int kind, xvsh_answer *answer) {
     case 6: return xvsh_explore(&task, 100000, 0, answer);
     case 7: return xvsh_explore(&racy, 100000, 1, answer);
     case 8: return xvsh_trace(&task, 100000, XVSH_KERNEL, 0, answer);
+    case 10: return xvsh_check_turns(&task, 0, answer);
+    case 11: return xvsh_check_room(&task, 1, answer);
+    case 12: return xvsh_explain_why(&task, answer);
     default: return xvsh_look(&task, xvsh_text("D 0 1\nT 0 1\nD 0 2\nT 0 2\n"), answer);
   }
 }
@@ -77,7 +80,7 @@ int main(void) {
   xvsh_answer run = XVSH_ANSWER;
   if (call(1, &run) != XVSH_OK) return 1;
   events = run.events;
-  for (int kind = 0; kind < 10; kind++) {
+  for (int kind = 0; kind < 13; kind++) {
     xvsh_answer answer = XVSH_ANSWER, wanted = XVSH_ANSWER;
     left = -1;
     asked = 0;

@@ -113,6 +113,22 @@ void xvsh_explain_call(const xvsh_task *task, xvsh_answer *answer) {
   answered(task, "explain", json, answer);
 }
 
+void xvsh_check_turns_call(const xvsh_task *task, uint32_t strict, xvsh_answer *answer) {
+  answered(task, strict ? "strict" : "turns", "{\"findings\": [], \"turns\": 7}\n", answer);
+}
+
+void xvsh_check_room_call(const xvsh_task *task, uint32_t strict, xvsh_answer *answer) {
+  static const char json[] = "{\"findings\": [], \"room\": {\"size\": {\"need\": null, \"most\": 9}}, "
+    "\"lack\": {\"table\": \"size\", \"need\": 10, \"most\": 9}}\n";
+  answered(task, strict ? "strict" : "room", json, answer);
+}
+
+void xvsh_explain_why_call(const xvsh_task *task, xvsh_answer *answer) {
+  static const char json[] = "{\"notes\": [], \"missing\": [{\"line\": 2, \"name\": \"g\"}], \"settled\": false, "
+    "\"reasons\": [{\"kind\": \"cut pipe\", \"line\": 1, \"name\": \"f\", \"again\": 3}]}\n";
+  answered(task, "why", json, answer);
+}
+
 void xvsh_explore_call(const xvsh_task *task, uint64_t states, uint32_t thorough, xvsh_answer *answer) {
   char json[256];
   snprintf(json, sizeof json, "{\"states\": %llu, \"stuck\": null, \"outcomes\": [{\"output\": \"a\", \"files\": [{\"name\": \"f\", \"bytes\": \"b\"}], "

@@ -38,10 +38,10 @@ from .grading import AnyPath, Difference, Graded, GradeError, NoProgram, Report,
 
 __all__ = [
     "Answer", "AnyPath", "BadName", "BadOrder", "BadStates", "BadTurns", "ByteZero", "Bytes", "Check", "Difference", "Event", "Explanation", "Exploration",
-    "Fault", "File", "Files", "Finding", "GradeError", "Graded", "InputTooLong", "LineTooLong", "Memory", "NoEvent", "NoProgram", "NotRunnable",
-    "NotRunning", "Note", "Order", "Outcome", "Parting", "Pipe", "Plain", "Process", "Report", "Run", "ScriptTooLong", "Session", "Spent",
-    "TakenName", "TimedOut", "TooLarge", "TooLong", "TooManyFiles", "Unfinished", "Verdict", "XvshError", "check", "explain", "explore", "grade",
-    "plain", "replay", "run", "version",
+    "Fault", "File", "Files", "Finding", "GradeError", "Graded", "InputTooLong", "Lack", "LineTooLong", "Memory", "MissingName", "Need", "NoEvent",
+    "NoProgram", "NotRunnable", "NotRunning", "Note", "Order", "Outcome", "Parting", "Pipe", "Plain", "Process", "Reason", "Report", "RoomCheck", "Run",
+    "ScriptTooLong", "Session", "Spent", "TakenName", "TimedOut", "TooLarge", "TooLong", "TooManyFiles", "TurnsCheck", "Unfinished", "Verdict", "Whys",
+    "XvshError", "check", "check_room", "check_turns", "explain", "explain_why", "explore", "grade", "plain", "replay", "run", "version",
 ]
 __version__ = "0.3.0"
 
@@ -242,6 +242,7 @@ _task, _answer = c.POINTER(_Task), c.POINTER(_Answer)
 # what each call takes between the task and the answer
 _numbers: dict[str, list[Any]] = {
     "plain": [], "run": [c.c_uint64, c.c_uint32, c.c_uint64], "replay": [_Bytes], "check": [c.c_uint32], "explain": [],
+    "check_turns": [c.c_uint32], "check_room": [c.c_uint32], "explain_why": [],
     "explore": [c.c_uint64, c.c_uint32], "trace": [c.c_uint64, c.c_uint32, c.c_uint64], "look": [_Bytes],
 }
 
@@ -406,6 +407,42 @@ class Check(Shown):
 
 
 @dataclasses.dataclass(frozen=True, repr=False)
+class TurnsCheck(Check):
+    """What a check found that counts turns: in how many a run by processes is finished, whatever their order, or None where these are more than
+    1,000,000,000."""
+
+    turns: int | None
+
+
+@dataclasses.dataclass(frozen=True)
+class Need:
+    """How much of a table a script needs at most, or None where that is more than 1,000,000, and how much there is."""
+
+    need: int | None
+    most: int
+
+
+@dataclasses.dataclass(frozen=True)
+class Lack:
+    """With which line first a script may need more of a table than there is: the need up to that line, and how much there is. The line is None
+    where the files that are there are too many already."""
+
+    line: int | None
+    table: str
+    need: int | None
+    most: int
+
+
+@dataclasses.dataclass(frozen=True, repr=False)
+class RoomCheck(Check):
+    """What a check found that tells room; it is `harmless` where there is room, too. `room` has a Need of each of `processes`, `open_files`,
+    `descriptors`, `files` and `size` (bytes of a file), and is None where a line has a clash or a `&`."""
+
+    room: dict[str, Need] | None = dataclasses.field(hash=False)
+    lack: Lack | None
+
+
+@dataclasses.dataclass(frozen=True, repr=False)
 class Note(Shown):
     """What is wrong or unexpected in a line, counted from 1, in a sentence; the places that it marks, each from a byte of the line's text, counted from 0, up to another."""
 
@@ -430,6 +467,43 @@ class Explanation(Shown):
         if lack:
             rows.append((lack.get("line"), None, f"may need {lack['need'] or 'more than 1000000'} {lack['table'].replace('_', ' ')}; there are {lack['most']}"))
         return table("fine" if self.fine else "not fine", ("line", "text", "note"), rows)
+
+
+@dataclasses.dataclass(frozen=True)
+class MissingName:
+    """The first name that a line, counted from 1, uses and that no file has when the line runs."""
+
+    line: int
+    name: str
+
+
+@dataclasses.dataclass(frozen=True)
+class Reason:
+    """Why a script isn't settled, as docs/FORMATS.md has it: a `background`, a `clash` of a kind on the file `name`, a `cut pipe` whose left side
+    writes the file `name`, which the line `again` names again, or a `loose input`, which a command of the line `user` uses."""
+
+    kind: str
+    line: int
+    clash: str | None = None
+    name: str | None = None
+    again: int | None = None
+    user: int | None = None
+
+
+@dataclasses.dataclass(frozen=True, repr=False)
+class Whys(Explanation):
+    """The notes on a script on its files and its input; it is `fine` where there is none, no name is missing, no line may not have room, and it
+    is `settled`. Where it isn't, there are `reasons`."""
+
+    missing: tuple[MissingName, ...]
+    settled: bool
+    reasons: tuple[Reason, ...]
+
+    def _repr_html_(self) -> str:
+        shown = super()._repr_html_()
+        rows: list[tuple[Cell, ...]] = [(it.line, "no file has this name when the line runs", escaped(os.fsencode(it.name))) for it in self.missing]
+        rows += [(it.line, it.kind, None if it.name is None else escaped(os.fsencode(it.name))) for it in self.reasons]
+        return shown + table("settled" if self.settled else "not settled", ("line", "what", "file"), rows)
 
 
 @dataclasses.dataclass(frozen=True)
@@ -590,12 +664,41 @@ def check(script: Bytes, *, strict: bool = False) -> Check:
     [('background', 2)]
     """
     call = _call("check", script, b"", None, False, 0, 1 if strict else 0)
-    made = json.loads(call.json)
-    findings = tuple(
+    return Check(call.fine, _findings_of(json.loads(call.json)), call.json)
+
+
+def _findings_of(made: dict[str, Any]) -> tuple[Finding, ...]:
+    return tuple(
         Finding(it["kind"], it["line"], it.get("fault"), it.get("first"), it.get("clash"), _name_of(it["name"]) if "name" in it else None)
         for it in made["findings"]
     )
-    return Check(call.fine, findings, call.json)
+
+
+def check_turns(script: Bytes, input: Bytes = b"", files: Files | None = None, *, strict: bool = False) -> TurnsCheck:
+    r"""Tells the same, and in how many turns a run by processes is finished, whatever their order.
+
+    >>> import xvsh
+    >>> checked = xvsh.check_turns("echo hi | wc")
+    >>> checked.harmless, checked.turns >= len([event for event in xvsh.run("echo hi | wc") if event.kind == "trap"])
+    (True, True)
+    """
+    call = _call("check_turns", script, input, files, False, 0, 1 if strict else 0)
+    made = json.loads(call.json)
+    return TurnsCheck(call.fine, _findings_of(made), call.json, made["turns"])
+
+
+def check_room(script: Bytes, input: Bytes = b"", files: Files | None = None, *, strict: bool = False) -> RoomCheck:
+    r"""Tells the same, and how much of xv6's tables a run may need at most, whatever the order of its processes.
+
+    >>> import xvsh
+    >>> xvsh.check_room("echo a | cat").room["processes"]
+    Need(need=5, most=64)
+    """
+    call = _call("check_room", script, input, files, False, 0, 1 if strict else 0)
+    made = json.loads(call.json)
+    room = {name: Need(it["need"], it["most"]) for name, it in made["room"].items()} if made["room"] else None
+    lack = Lack(made["lack"].get("line"), made["lack"]["table"], made["lack"]["need"], made["lack"]["most"]) if "lack" in made else None
+    return RoomCheck(call.fine, _findings_of(made), call.json, room, lack)
 
 
 def explain(script: Bytes) -> Explanation:
@@ -606,12 +709,32 @@ def explain(script: Bytes) -> Explanation:
     no program has this name: there are cat, echo, grep, head, tee and wc
     """
     call = _call("explain", script, b"", None, False, 0)
-    made = json.loads(call.json)
-    notes = tuple(
+    return Explanation(call.fine, _notes_of(json.loads(call.json)), call.json)
+
+
+def _notes_of(made: dict[str, Any]) -> tuple[Note, ...]:
+    return tuple(
         Note(it["kind"], it["line"], tuple((place["first"], place["past"]) for place in it["places"]), it["sentence"], _bytes_of(it["text"]))
         for it in made["notes"]
     )
-    return Explanation(call.fine, notes, call.json)
+
+
+def explain_why(script: Bytes, input: Bytes = b"", files: Files | None = None, *, append: bool = False) -> Whys:
+    """Tells the same, which names no file has when a line uses them, and why the script isn't settled on this input and these files. TooLarge
+    where the script makes a file too large, or one too many.
+
+    >>> import xvsh
+    >>> whys = xvsh.explain_why("cat f | tee f; cat g", files={"f": "a"})
+    >>> whys.missing, [(reason.kind, reason.name) for reason in whys.reasons]
+    ((MissingName(line=1, name='g'),), [('clash', 'f')])
+    """
+    call = _call("explain_why", script, input, files, append, 0)
+    made = json.loads(call.json)
+    missing = tuple(MissingName(it["line"], _name_of(it["name"])) for it in made["missing"])
+    reasons = tuple(
+        Reason(it["kind"], it["line"], it.get("clash"), _name_of(it["name"]) if "name" in it else None, it.get("again"), it.get("user")) for it in made["reasons"]
+    )
+    return Whys(call.fine, _notes_of(made), call.json, missing, made["settled"], reasons)
 
 
 def explore(

@@ -1,1 +1,5 @@
 mod Asked
+mod Lines
+mod Refusals
+mod Roomy
+mod Whys

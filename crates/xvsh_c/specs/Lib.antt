@@ -4,3 +4,4 @@ pub mod ExploreCalls
 pub mod LookCalls
 pub mod PlainCalls
 pub mod RunCalls
+pub mod TellCalls

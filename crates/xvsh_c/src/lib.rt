@@ -8,6 +8,7 @@ mod handing;
 mod looks;
 mod plain;
 mod runs;
+mod tells;
 mod version;
 mod words;
 

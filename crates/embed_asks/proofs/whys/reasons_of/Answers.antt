@@ -1,0 +1,11 @@
+use Rattle.std.proofs.Common.{}
+use Rattle.mem_files.specs.Files.{files}
+use Rattle.script_load.specs.Line.{lines_of}
+use Rattle.reason_sentences.proofs.Told.{all_told}
+use Rattle.embed_asks.specs.Tells.{too_large, no_reasons_memory}
+use Rattle.embed_asks.proofs.whys.reasons_of.Goals as goal
+
+pub returns-in-Ok-clause-reasons : goal.returns-in-Ok-clause-reasons
+returns-in-Ok-clause-reasons c =
+    let begun = c.args.begun.now in
+    all_told begun.script.profile (lines_of begun.script.lines) c.args.stdin.now (files begun.files) c.in-Ok.reasoned.reasons.items c.in-Ok.ensures.each c.in-Ok.ensures.none
