@@ -183,6 +183,12 @@ uint32_t xvsh_trace(const xvsh_task *task, uint64_t turns, uint32_t order, uint6
   return status_of(answer);
 }
 
+uint32_t xvsh_draw(const xvsh_task *task, uint64_t turns, uint32_t order, uint64_t number, xvsh_answer *answer) {
+  safe_task safe;
+  if (begin(task, &safe, answer)) xvsh_draw_call(&safe.task, turns, order, number, answer);
+  return status_of(answer);
+}
+
 uint32_t xvsh_look(const xvsh_task *task, xvsh_bytes schedule, xvsh_answer *answer) {
   safe_task safe;
   if (begin_events(task, &schedule, &safe, answer)) xvsh_look_call(&safe.task, schedule.at, schedule.length, answer);

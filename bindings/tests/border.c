@@ -40,6 +40,7 @@ static bool refused(const xvsh_task *task, uint32_t fault, uint64_t place) {
   right = xvsh_run(task, 1000000, XVSH_KERNEL, 0, &answer) == fault && answer.place == place && is_nothing(&answer) && right;
   right = xvsh_replay(task, xvsh_text(""), &answer) == fault && answer.place == place && is_nothing(&answer) && right;
   right = xvsh_trace(task, 1000000, XVSH_KERNEL, 0, &answer) == fault && answer.place == place && is_nothing(&answer) && right;
+  right = xvsh_draw(task, 1000000, XVSH_KERNEL, 0, &answer) == fault && answer.place == place && is_nothing(&answer) && right;
   right = xvsh_look(task, xvsh_text(""), &answer) == fault && answer.place == place && is_nothing(&answer) && right;
   right = xvsh_explore(task, 1000000, 1, &answer) == fault && answer.place == place && is_nothing(&answer) && right;
   right = xvsh_check_turns(task, 0, &answer) == fault && answer.place == place && is_nothing(&answer) && right;
@@ -392,6 +393,7 @@ static void *deepest(void *unused) {
     right = xvsh_explain_why(&task, &answer) == XVSH_OK && right;
     right = xvsh_explore(&task, 50, 1, &answer) == XVSH_OK && right;
     right = xvsh_trace(&task, 100000, XVSH_KERNEL, 0, &answer) == XVSH_OK && right;
+    right = xvsh_draw(&task, 100000, XVSH_KERNEL, 0, &answer) == XVSH_OK && right;
     right = xvsh_look(&task, xvsh_text("D 0 1\nT 0 1\nD 0 2\nT 0 2\n"), &answer) == XVSH_OK && right;
   }
   xvsh_answer_free(&answer);

@@ -125,6 +125,7 @@ static void ask(const xvsh_task *task, xvsh_answer *answer, xvsh_answer *other, 
   told(xvsh_explore(task, drawn(20) ? 1 + drawn(60) : drawn(2) * UINT64_MAX, drawn(2), answer), answer, "explore", number);
   told(xvsh_trace(task, drawn(20000), drawn(7), drawn(70), answer), answer, "trace", number);
   xvsh_bytes empty = XVSH_NO_BYTES;
+  told(xvsh_draw(task, drawn(20000), drawn(7), drawn(70), answer), answer, "draw", number);
   bool ran = told(xvsh_run(task, 20000, drawn(6), drawn(64), answer), answer, "run", number);
   if (ran && told(xvsh_replay(task, answer->events, other), other, "replay", number)) hold(same(answer->out, other->out) && same(answer->block, other->block), "replay", number);
   xvsh_bytes schedule = any_schedule(ran ? answer->events : empty);

@@ -98,6 +98,10 @@ class Program:
         """The object that a command prints."""
         return json.loads(self.prints(*words, "--json", given=given, schedule=schedule))
 
+    def draws(self, trace):
+        """The page that the program draws of a trace."""
+        return subprocess.run([self.path, "draw", "-"], input=trace, stdout=subprocess.PIPE, check=True).stdout
+
     def place(self, name, data):
         """The path of a file beside the script, which has these bytes now."""
         path = os.path.join(self.room, name)
@@ -173,6 +177,10 @@ def same(program, text, stdin, given, append, draw):
     printed = program.prints("run", *WORDS_OF[order](seed), "--turns", "1000000", *program.append, "--trace", "-")
     if traced.trace != printed or (traced.out, traced.files, traced.diag, traced.full, traced.schedule) != (run.out, run.files, run.diag, run.full, run.schedule):
         return f"trace: {traced} beside {printed!r} and {run}"
+    drawn = xvsh.draw(text, stdin, given, append=append, turns=1_000_000, order=order, seed=seed)
+    page = program.draws(printed)
+    if drawn.html != page or (drawn.run.out, drawn.run.files, drawn.run.diag) != (run.out, run.files, run.diag):
+        return f"draw: {drawn} beside {page!r} and {run}"
     turns = [event.pid for event in run if event.kind == "trap"]
     why = look_differs(program, text, stdin, given, append, turns[: draw.randrange(len(turns) + 1)])
     if why:

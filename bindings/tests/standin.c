@@ -99,6 +99,12 @@ void xvsh_trace_call(const xvsh_task *task, uint64_t turns, uint32_t order, uint
   if (!answer->status) answer->events = copied(line, sizeof line - 1);
 }
 
+void xvsh_draw_call(const xvsh_task *task, uint64_t turns, uint32_t order, uint64_t number, xvsh_answer *answer) {
+  static const char page[] = "<!doctype html>\n";
+  run("draw", task, turns, order, number, answer);
+  if (!answer->status) answer->events = copied(page, sizeof page - 1);
+}
+
 void xvsh_replay_call(const xvsh_task *task, const uint8_t *schedule, size_t length, xvsh_answer *answer) {
   answered(task, "replay", "", answer);
   if (!answer->status) answer->events = copied(schedule, length);

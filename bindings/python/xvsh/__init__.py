@@ -26,6 +26,7 @@ import ctypes.util
 import dataclasses
 import enum
 import functools
+import html
 import json
 import operator
 import os
@@ -37,11 +38,11 @@ from ._show import Cell, Shown, code, counted, escaped, files as files_cell, tab
 from .grading import AnyPath, Difference, Graded, GradeError, NoProgram, Report, TimedOut, Verdict, grade
 
 __all__ = [
-    "Answer", "AnyPath", "BadName", "BadOrder", "BadStates", "BadTurns", "ByteZero", "Bytes", "Check", "Difference", "Event", "Explanation", "Exploration",
+    "Answer", "AnyPath", "BadName", "BadOrder", "BadStates", "BadTurns", "ByteZero", "Bytes", "Check", "Difference", "Drawing", "Event", "Explanation", "Exploration",
     "Fault", "File", "Files", "Finding", "GradeError", "Graded", "InputTooLong", "Lack", "LineTooLong", "Memory", "MissingName", "Need", "NoEvent",
     "NoProgram", "NotRunnable", "NotRunning", "Note", "Order", "Outcome", "Parting", "Pipe", "Plain", "Process", "Reason", "Report", "RoomCheck", "Run",
     "ScriptTooLong", "Session", "Spent", "TakenName", "TimedOut", "TooLarge", "TooLong", "TooManyFiles", "TurnsCheck", "Unfinished", "Verdict", "Whys",
-    "XvshError", "check", "check_room", "check_turns", "explain", "explain_why", "explore", "grade", "plain", "replay", "run", "version",
+    "XvshError", "check", "check_room", "check_turns", "draw", "explain", "explain_why", "explore", "grade", "plain", "replay", "run", "version",
 ]
 __version__ = "0.3.0"
 
@@ -243,6 +244,7 @@ _task, _answer = c.POINTER(_Task), c.POINTER(_Answer)
 _numbers: dict[str, list[Any]] = {
     "plain": [], "run": [c.c_uint64, c.c_uint32, c.c_uint64], "replay": [_Bytes], "check": [c.c_uint32], "explain": [],
     "check_turns": [c.c_uint32], "check_room": [c.c_uint32], "explain_why": [],
+    "draw": [c.c_uint64, c.c_uint32, c.c_uint64],
     "explore": [c.c_uint64, c.c_uint32], "trace": [c.c_uint64, c.c_uint32, c.c_uint64], "look": [_Bytes],
 }
 
@@ -369,6 +371,18 @@ class Run(Answer):
         for n, line in enumerate(self.schedule.splitlines(), 1):
             letter, hart, pid = line.split()
             yield Event(n, "dispatch" if letter == b"D" else "trap", int(hart), int(pid))
+
+
+@dataclasses.dataclass(frozen=True, repr=False)
+class Drawing(Shown):
+    """A finished run, which has no schedule here, and the page of HTML that draws it. A notebook shows the page in a frame of its own."""
+
+    run: Run
+    html: bytes
+
+    def _repr_html_(self) -> str:
+        page = html.escape(self.html.decode("utf-8", "replace"), quote=True)
+        return f'<iframe srcdoc="{page}" sandbox="" style="width:100%;height:40em;border:0" title="a drawing of a run"></iframe>'
 
 
 def _traced(trace: bytes) -> Iterator[Event]:
@@ -643,6 +657,20 @@ def run(
         return _run_of(call)
     schedule = b"".join(b"%c %d %d\n" % (68 if event.kind == "dispatch" else 84, event.hart, event.pid) for event in _traced(call.events))
     return Run(call.out, call.files, call.diag, schedule, call.full, call.events)
+
+
+def draw(
+    script: Bytes, input: Bytes = b"", files: Files | None = None, *, append: bool = False, turns: int = 10_000_000, order: Order = Order.KERNEL, seed: int = 0,
+) -> Drawing:
+    """Runs the script as `run` does, and draws the run, as `xvsh draw` draws its trace. The faults are those of `run`.
+
+    >>> import xvsh
+    >>> xvsh.draw("echo hi").html[:15].lower()
+    b'<!doctype html>'
+    """
+    numbers = _number(turns, 64, "turns are"), _number(order, 32, "an order is"), _number(seed, 64, "a seed is")
+    call = _call("draw", script, input, files, append, 0, *numbers)
+    return Drawing(Run(call.out, call.files, call.diag, b"", call.full), call.events)
 
 
 def replay(script: Bytes, schedule: Bytes, input: Bytes = b"", files: Files | None = None, *, append: bool = False) -> Run:

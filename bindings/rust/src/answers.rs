@@ -103,7 +103,7 @@ impl Run {
     }
 
     /// Its schedule: a line an event, `D HART PROCESS` or `T HART PROCESS`. Of a run that was traced the lines of its trace, each an object of
-    /// JSON (docs/FORMATS.md).
+    /// JSON (docs/FORMATS.md), and of one that was drawn the page.
     pub fn events(&self) -> &[u8] {
         unsafe { self.0.events.bytes() }
     }

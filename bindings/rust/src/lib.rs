@@ -125,6 +125,12 @@ impl<'a> Task<'a> {
         self.ask(|task, answer| unsafe { border::xvsh_trace(task, turns, order, number, answer) }).map(Run)
     }
 
+    /// Runs it so, and gives for its events a page of HTML that draws the run.
+    pub fn draw(&self, turns: u64, order: Order) -> Result<Run, Error> {
+        let (order, number) = order.numbers();
+        self.ask(|task, answer| unsafe { border::xvsh_draw(task, turns, order, number, answer) }).map(Run)
+    }
+
     /// Runs it by the events of a schedule of one to eight harts: a run's, or any other.
     pub fn replay(&self, schedule: &[u8]) -> Result<Run, Error> {
         self.ask(|task, answer| unsafe { border::xvsh_replay(task, view(schedule), answer) }).map(Run)

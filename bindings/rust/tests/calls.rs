@@ -40,6 +40,9 @@ fn runs_and_their_schedules() {
     assert_eq!(lost.diag(), b"cat: cannot open no_such\n");
     let traced = task().trace(100_000, Order::Kernel).unwrap();
     assert_eq!(traced.out(), run.out());
+    let drawn = task().draw(100_000, Order::Kernel).unwrap();
+    assert_eq!(drawn.out(), run.out());
+    assert!(drawn.events().to_ascii_lowercase().starts_with(b"<!doctype html>"));
     assert!(traced.events().starts_with(b"{") && holds(traced.events(), "\"kind\":\"dispatch\""));
 }
 

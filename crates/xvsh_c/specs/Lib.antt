@@ -1,5 +1,6 @@
 pub mod Answers
 pub mod AskCalls
+pub mod DrawCalls
 pub mod ExploreCalls
 pub mod LookCalls
 pub mod PlainCalls

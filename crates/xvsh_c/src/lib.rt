@@ -3,6 +3,7 @@
 
 mod answer;
 mod asks;
+mod draws;
 mod explores;
 mod handing;
 mod looks;
