@@ -3,7 +3,7 @@ use Rattle.std.specs.Prelude.{◌↔◌}
 use Rattle.script_load.specs.Line.{lines_of}
 use Rattle.script_notes.specs.Written.{written}
 use Rattle.embed_asks.specs.Tells.{no_reasons_memory}
-use Rattle.embed_asks.proofs.Whys.{are_whys}
+use Rattle.embed_asks.proofs.Explained.{are_whys}
 use Rattle.embed_asks.proofs.whys.noted_of.Goals as goal
 
 pub returns-in-Err-clause-fault : goal.returns-in-Err-clause-fault
