@@ -13,9 +13,9 @@ use Rattle.xvsh_c.specs.Answers.{TellsFault}
 use Rattle.xvsh_c.specs.AskCalls.{is_on}
 
 -- the answer has this object, and tells whether all is fine
-pub record TellsObject (answer : Answer) (json : Bytes) (is_fine : Bool) : Type 0 where
+pub record TellsObject (answer : Answer) (object : Bytes) (is_fine : Bool) : Type 0 where
   pub status : answer.status ≡ 0
-  pub json : answer.json.now ≡ json
+  pub json : answer.json.now ≡ object
   pub fine : answer.fine ≡ mark_of is_fine
 
 -- a call of `xvsh_check_turns_call` on the task left this answer

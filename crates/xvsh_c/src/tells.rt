@@ -1,6 +1,4 @@
 //! Checks and explanations of a script on its files and its input.
-ghost use Rattle.std.specs.Prelude.{◌≡◌};
-ghost use Rattle.embed_task.specs.Packing.{mark_of};
 ghost use Rattle.xvsh_c.specs.TellCalls.{RoomCall, TellsObject, TurnsCall, WhysCall};
 
 use crate::answer::{Answer, put_fault};
