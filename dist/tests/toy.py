@@ -58,11 +58,15 @@ def same(found, due, what):
     check(found == due, f"{what}: found {found!r}, and not {due!r}")
 
 
+def is_packed(top, crate):
+    """Returns whether dist/ of a checkout holds what is built of this crate's sources, as it does but for one that is being changed."""
+    with open(os.path.join(top, "dist", "record"), encoding="utf-8") as file:
+        recorded = re.search(rf"(?m)^{crate}\.sources (\w+)$", file.read())
+    return recorded is not None and run([os.path.join(top, "dist", "digest"), crate])[1] == f"{recorded[1]}\n"
+
+
 def has_program():
-    """Returns whether dist/ of this checkout holds the program of its sources, as it does but for one that is being changed."""
-    with open(os.path.join(ROOT, "dist", "record"), encoding="utf-8") as file:
-        recorded = re.search(r"(?m)^xvsh_main\.sources (\w+)$", file.read())[1]
-    return run([os.path.join(ROOT, "dist", "digest"), "xvsh_main"])[1] == f"{recorded}\n"
+    return is_packed(ROOT, "xvsh_main")
 
 
 class Toy:
