@@ -1,8 +1,8 @@
 /* xvsh.h: xv6's shell, its processes and six programs, as a library. Version 0.3.0.
  *
  * Each call below does what a command of the program `xvsh` does, on bytes in memory; docs/LIBRARY.md says what is proved of each.
- * What is not proved: this header and the functions of bindings/c/xvsh.c, which see to null pointers and hand a task to what is proved;
- * three functions of the heap under the library (malloc, realloc and free); the compiler; and that a caller keeps the rules that follow.
+ * What is not proved: this header and the functions of bindings/c, which see to null pointers, hand a task to what is proved, and are the
+ * heap under it, over malloc, realloc and free; the compiler; and that a caller keeps the rules that follow.
  *
  * What nothing checks:
  *  - A length counts the bytes that lie at its pointer, or the rows. Where the length is 0 the pointer may be null.
@@ -99,7 +99,8 @@ typedef enum {
   XVSH_BAD_TURNS = 66,        /* 0, or more than XVSH_MAX_TURNS */
   XVSH_BAD_ORDER = 67,        /* no xvsh_order */
   XVSH_BAD_STATES = 68,       /* 0, or more than XVSH_MAX_STATES */
-  XVSH_NULL = 69              /* a null pointer with a length other than 0; a null task, or a null answer */
+  XVSH_NULL = 69,             /* a null pointer with a length other than 0; a null task, or a null answer */
+  XVSH_GIVEN_UP = 70          /* the watch of the call had it given up */
 } xvsh_status;
 
 /* Which process takes the next turn of a run. */
@@ -210,6 +211,15 @@ uint32_t xvsh_explain_why(const xvsh_task *task, xvsh_answer *answer);
  * files, and whole where every order was tried, or what it leaves is known without. Where something was full, or some order never ends,
  * the object's `status` and `code` say so. */
 uint32_t xvsh_explore(const xvsh_task *task, uint64_t states, uint32_t thorough, xvsh_answer *answer);
+
+/* Who is asked whether a call is to go on, in the thread of the call: every XVSH_REQUESTS_A_LOOK requests for memory that the call makes,
+ * with their number so far. Where it returns 0 the call is given up. It may make calls of its own. */
+typedef struct { uint32_t (*goes_on)(void *context, uint64_t requests); void *context; } xvsh_watch;
+#define XVSH_REQUESTS_A_LOOK 1024u
+
+/* Explores as xvsh_explore does, and asks the watch meanwhile; as that call where the watch, or its function, is null. A call that is given
+ * up is refused all memory from then on, frees what it holds, and returns XVSH_GIVEN_UP. */
+uint32_t xvsh_explore_watched(const xvsh_task *task, uint64_t states, uint32_t thorough, const xvsh_watch *watch, xvsh_answer *answer);
 
 /* Runs the script as xvsh_run does, and gives what that gives, but for events the lines of the run's trace, as `xvsh run --trace`
  * writes them: each an object of JSON and LF (docs/FORMATS.md). A trace has some 200 bytes an event, and more where files are long. */

@@ -18,4 +18,10 @@ void xvsh_trace_call(const xvsh_task *task, uint64_t turns, uint32_t order, uint
 void xvsh_draw_call(const xvsh_task *task, uint64_t turns, uint32_t order, uint64_t number, xvsh_answer *answer);
 void xvsh_look_call(const xvsh_task *task, const uint8_t *schedule, size_t length, xvsh_answer *answer);
 
+/* A watched call, how many requests for memory it made, and whether it is given up. */
+typedef struct { const xvsh_watch *watch; uint64_t requests; bool is_over; } xvsh_watched_call;
+
+/* The one that this thread is in, or a null. Hidden, and at a fixed place of the thread's, so that a request for memory costs a look. */
+extern _Thread_local xvsh_watched_call *xvsh_watched_now __attribute__((visibility("hidden"), tls_model("initial-exec")));
+
 #endif

@@ -177,6 +177,22 @@ uint32_t xvsh_explore(const xvsh_task *task, uint64_t states, uint32_t thorough,
   return status_of(answer);
 }
 
+uint32_t xvsh_explore_watched(const xvsh_task *task, uint64_t states, uint32_t thorough, const xvsh_watch *watch, xvsh_answer *answer) {
+  safe_task safe;
+  if (!watch || !watch->goes_on) return xvsh_explore(task, states, thorough, answer);
+  if (!begin(task, &safe, answer)) return status_of(answer);
+  /* a watch may make calls of its own, watched ones too */
+  xvsh_watched_call *outer = xvsh_watched_now, now = { watch, 0, false };
+  xvsh_watched_now = &now;
+  xvsh_explore_call(&safe.task, states, thorough, answer);
+  xvsh_watched_now = outer;
+  if (now.is_over) {
+    xvsh_answer_free(answer);
+    answer->status = XVSH_GIVEN_UP;
+  }
+  return answer->status;
+}
+
 uint32_t xvsh_trace(const xvsh_task *task, uint64_t turns, uint32_t order, uint64_t number, xvsh_answer *answer) {
   safe_task safe;
   if (begin(task, &safe, answer)) xvsh_trace_call(&safe.task, turns, order, number, answer);

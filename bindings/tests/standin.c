@@ -135,10 +135,27 @@ void xvsh_explain_why_call(const xvsh_task *task, xvsh_answer *answer) {
   answered(task, "why", json, answer);
 }
 
+struct tried { bool ok; void *at; };
+struct tried rattle_alloc(size_t size, size_t align);
+void rattle_dealloc(void *block);
+
+/* The script `ask N` asks for memory N times, of which one refusal is the fault XVSH_MEMORY, and `shrug N` goes on without it. */
+static bool asks(const xvsh_task *task) {
+  bool refused = false;
+  size_t ask = number_in(task, "ask ", 0), shrug = number_in(task, "shrug ", 0);
+  for (size_t i = 0; i < ask + shrug && !(refused && ask); i++) {
+    struct tried got = rattle_alloc(100, 8);
+    if (got.ok) rattle_dealloc(got.at);
+    refused = !got.ok || refused;
+  }
+  return !(refused && ask);
+}
+
 void xvsh_explore_call(const xvsh_task *task, uint64_t states, uint32_t thorough, xvsh_answer *answer) {
   char json[256];
   snprintf(json, sizeof json, "{\"states\": %llu, \"stuck\": null, \"outcomes\": [{\"output\": \"a\", \"files\": [{\"name\": \"f\", \"bytes\": \"b\"}], "
            "\"schedule\": [1, 2]}], \"thorough\": %u}\n", (unsigned long long)states, (unsigned)thorough);
+  if (!asks(task)) { answer->status = XVSH_MEMORY; return; }
   answered(task, "explore", json, answer);
 }
 

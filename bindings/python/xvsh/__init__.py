@@ -31,7 +31,7 @@ import json
 import operator
 import os
 import subprocess
-from collections.abc import Iterable, Iterator, Mapping
+from collections.abc import Callable, Iterable, Iterator, Mapping
 from typing import Any, Union
 
 from ._show import Cell, Shown, code, counted, escaped, files as files_cell, table
@@ -39,7 +39,7 @@ from .grading import AnyPath, Difference, Graded, GradeError, NoProgram, Report,
 
 __all__ = [
     "Answer", "AnyPath", "BadName", "BadOrder", "BadStates", "BadTurns", "ByteZero", "Bytes", "Check", "Difference", "Drawing", "Event", "Explanation", "Exploration",
-    "Fault", "File", "Files", "Finding", "GradeError", "Graded", "InputTooLong", "Lack", "LineTooLong", "Memory", "MissingName", "Need", "NoEvent",
+    "Fault", "File", "Files", "Finding", "GivenUp", "GradeError", "Graded", "InputTooLong", "Lack", "LineTooLong", "Memory", "MissingName", "Need", "NoEvent",
     "NoProgram", "NotRunnable", "NotRunning", "Note", "Order", "Outcome", "Parting", "Pipe", "Plain", "Process", "Reason", "Report", "RoomCheck", "Run",
     "ScriptTooLong", "Session", "Spent", "TakenName", "TimedOut", "TooLarge", "TooLong", "TooManyFiles", "TurnsCheck", "Unfinished", "Verdict", "Whys",
     "XvshError", "check", "check_room", "check_turns", "draw", "explain", "explain_why", "explore", "grade", "plain", "replay", "run", "version",
@@ -75,6 +75,7 @@ class Fault(enum.IntEnum):
     BadTurns = 66
     BadOrder = 67
     BadStates = 68
+    GivenUp = 70
 
 
 class XvshError(ValueError):
@@ -164,6 +165,10 @@ class BadStates(XvshError):
     """The states are none of 1 to MAX_STATES."""
 
 
+class GivenUp(XvshError):
+    """The watch of the call had it given up."""
+
+
 _PLACES: dict[int, str] = {fault: "event" for fault in Fault} | dict.fromkeys((Fault.LineTooLong, Fault.ByteZero, Fault.NoEvent), "line")
 _PLACES |= dict.fromkeys((Fault.TooLong, Fault.BadName, Fault.TooManyFiles, Fault.TakenName), "file")
 _ERRORS: dict[int, type[XvshError]] = {
@@ -171,7 +176,7 @@ _ERRORS: dict[int, type[XvshError]] = {
     Fault.TooManyFiles: TooManyFiles, Fault.TooLarge: TooLarge, Fault.Memory: Memory, Fault.Spent: Spent,
     Fault.NoEvent: NoEvent, Fault.NotRunnable: NotRunnable, Fault.NotRunning: NotRunning, Fault.Unfinished: Unfinished,
     Fault.TakenName: TakenName, Fault.ScriptTooLong: ScriptTooLong, Fault.InputTooLong: InputTooLong, Fault.BadTurns: BadTurns,
-    Fault.BadOrder: BadOrder, Fault.BadStates: BadStates,
+    Fault.BadOrder: BadOrder, Fault.BadStates: BadStates, Fault.GivenUp: GivenUp,
 }
 
 
@@ -217,6 +222,13 @@ class _Answer(c.Structure):
     ]
 
 
+_goes_on = c.CFUNCTYPE(c.c_uint32, c.c_void_p, c.c_uint64)
+
+
+class _Watch(c.Structure):
+    _fields_ = [("goes_on", _goes_on), ("context", c.c_void_p)]
+
+
 def _find() -> str:
     here = os.path.dirname(os.path.abspath(__file__))
     top = os.path.normpath(os.path.join(here, "..", "..", ".."))
@@ -245,7 +257,7 @@ _numbers: dict[str, list[Any]] = {
     "plain": [], "run": [c.c_uint64, c.c_uint32, c.c_uint64], "replay": [_Bytes], "check": [c.c_uint32], "explain": [],
     "check_turns": [c.c_uint32], "check_room": [c.c_uint32], "explain_why": [],
     "draw": [c.c_uint64, c.c_uint32, c.c_uint64],
-    "explore": [c.c_uint64, c.c_uint32], "trace": [c.c_uint64, c.c_uint32, c.c_uint64], "look": [_Bytes],
+    "explore": [c.c_uint64, c.c_uint32], "explore_watched": [c.c_uint64, c.c_uint32, c.POINTER(_Watch)], "trace": [c.c_uint64, c.c_uint32, c.c_uint64], "look": [_Bytes],
 }
 
 
@@ -767,19 +779,43 @@ def explain_why(script: Bytes, input: Bytes = b"", files: Files | None = None, *
 
 def explore(
     script: Bytes, input: Bytes = b"", files: Files | None = None, *, append: bool = False, states: int = 200_000, thorough: bool = False,
+    watch: Callable[[int], bool] | None = None,
 ) -> Exploration:
     """Tries every order of the script's processes, of at most `states` states of the kernel, from 1 to MAX_STATES, for each of which
     memory is kept. A settled script none of whose files is soft has one outcome, and is explored only if it is to be `thorough`.
     TooLarge where a run has more turns than can be counted; BadStates.
 
+    `watch` is called meanwhile, every 1,024 requests for memory, with the number of these so far; where it returns what is false, the call is
+    given up, and is GivenUp; where it raises, as at Ctrl-C, the call is given up and the error raised again.
+
     >>> import xvsh
     >>> [outcome.out for outcome in xvsh.explore("echo a &; echo b").outcomes]
     [b'a\\nb\\n', b'ab\\n\\n', b'b\\na\\n', b'ba\\n\\n']
     """
-    call = _call("explore", script, input, files, append, 0, _number(states, 64, "states are"), 1 if thorough else 0)
+    numbers = _number(states, 64, "states are"), 1 if thorough else 0
+    call = _call_watched(watch, script, input, files, append, *numbers) if watch else _call("explore", script, input, files, append, 0, *numbers)
     made = json.loads(call.json)
     stuck = None if made["stuck"] is None else _schedule(made["stuck"])
     return Exploration(call.fine, call.whole, made["states"], tuple(map(_outcome_of, made["outcomes"])), stuck, call.json)
+
+
+def _call_watched(watch: Callable[[int], bool], script: Bytes, input: Bytes, files: Files | None, append: bool, *numbers: int) -> _Call:
+    raised: list[BaseException] = []
+
+    def goes_on(_context: Any, requests: int) -> int:
+        try:
+            return 1 if watch(requests) else 0
+        except BaseException as error:
+            raised.append(error)
+            return 0
+
+    held = _Watch(_goes_on(goes_on), None)
+    try:
+        return _call("explore_watched", script, input, files, append, 0, *numbers, held)
+    except GivenUp:
+        if raised:
+            raise raised[0] from None
+        raise
 
 
 def _bytes_of(value: Any) -> bytes:

@@ -1,4 +1,5 @@
 //! The structs and the functions of include/xvsh.h, as they are.
+use std::os::raw::c_void;
 use std::slice;
 
 #[repr(C)]
@@ -47,7 +48,14 @@ pub(crate) struct Answer {
     pub(crate) whole: u32,
 }
 
+#[repr(C)]
+pub(crate) struct Watch {
+    pub(crate) goes_on: unsafe extern "C" fn(*mut c_void, u64) -> u32,
+    pub(crate) context: *mut c_void,
+}
+
 extern "C" {
+    pub(crate) fn xvsh_explore_watched(task: *const Task, states: u64, thorough: u32, watch: *const Watch, answer: *mut Answer) -> u32;
     pub(crate) fn xvsh_version_number() -> u32;
     pub(crate) fn xvsh_fault_name(number: u32) -> Bytes;
     pub(crate) fn xvsh_fault_text(number: u32) -> Bytes;

@@ -25,12 +25,13 @@ pub enum Fault {
     BadTurns,
     BadOrder,
     BadStates,
+    GivenUp,
     /// One that a newer library has, by its number.
     Other(u32),
 }
 
 // The faults by their numbers.
-const NUMBERS: [(u32, Fault); 18] = [
+const NUMBERS: [(u32, Fault); 19] = [
     (2, Fault::TooLong),
     (3, Fault::LineTooLong),
     (4, Fault::ByteZero),
@@ -49,6 +50,7 @@ const NUMBERS: [(u32, Fault); 18] = [
     (66, Fault::BadTurns),
     (67, Fault::BadOrder),
     (68, Fault::BadStates),
+    (70, Fault::GivenUp),
 ];
 
 impl Fault {

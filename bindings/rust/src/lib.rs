@@ -18,6 +18,9 @@ pub use answers::{File, Full, Plain, Run, Told};
 pub use fault::{Error, Fault};
 
 use border::view;
+use std::any::Any;
+use std::os::raw::c_void;
+use std::panic::{self, AssertUnwindSafe};
 
 /// Which process takes the next turn of a run.
 #[derive(Clone, Copy, Debug, PartialEq, Eq, Hash)]
@@ -167,9 +170,40 @@ impl<'a> Task<'a> {
         self.ask(|task, answer| unsafe { border::xvsh_explore(task, states, is_thorough.into(), answer) }).map(Told)
     }
 
+    /// Explores so, and asks meanwhile, every 1,024 requests for memory and with the number of these so far, whether to go on. Where the answer
+    /// is false, the call is given up, and its fault is `GivenUp`; where asking panics, the call is given up first.
+    pub fn explore_watched<F: FnMut(u64) -> bool>(&self, states: u64, is_thorough: bool, goes_on: F) -> Result<Told, Error> {
+        let mut asked = Asked { goes_on, panicked: None };
+        let watch = border::Watch { goes_on: ask_to_go_on::<F>, context: (&mut asked as *mut Asked<F>).cast() };
+        let told = self.ask(|task, answer| unsafe { border::xvsh_explore_watched(task, states, is_thorough.into(), &watch, answer) });
+        if let Some(panicked) = asked.panicked {
+            panic::resume_unwind(panicked);
+        }
+        told.map(Told)
+    }
+
     /// Tells how a run stands after the events of a schedule, which need not be those of a whole run.
     pub fn look(&self, schedule: &[u8]) -> Result<Told, Error> {
         self.ask(|task, answer| unsafe { border::xvsh_look(task, view(schedule), answer) }).map(Told)
+    }
+}
+
+// Who is asked, and what it panicked with.
+struct Asked<F> {
+    goes_on: F,
+    panicked: Option<Box<dyn Any + Send>>,
+}
+
+// Asks whether to go on. No panic passes the library.
+unsafe extern "C" fn ask_to_go_on<F: FnMut(u64) -> bool>(context: *mut c_void, requests: u64) -> u32 {
+    // the context of a call is lent to nobody else while it runs
+    let asked = &mut *context.cast::<Asked<F>>();
+    match panic::catch_unwind(AssertUnwindSafe(|| (asked.goes_on)(requests))) {
+        Ok(goes_on) => goes_on.into(),
+        Err(panicked) => {
+            asked.panicked = Some(panicked);
+            0
+        }
     }
 }
 

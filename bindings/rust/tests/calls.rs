@@ -67,6 +67,22 @@ fn what_is_told_of_a_script() {
 }
 
 #[test]
+fn an_exploration_that_is_given_up() {
+    let wide = Task::new("(echo a; echo b)&; (echo c; echo d)&; (echo e; echo f)\n");
+    let mut asked = 0;
+    let told = wide.explore_watched(100_000, false, |requests| {
+        asked += 1;
+        assert_eq!(requests, asked * 1024);
+        asked < 5
+    });
+    assert_eq!((told.map(drop), asked), (Err(Error { fault: Fault::GivenUp, place: 0 }), 5));
+    let whole = Task::new("echo a &; echo b").explore_watched(100_000, false, |_| true).unwrap();
+    assert_eq!(whole.json(), Task::new("echo a &; echo b").explore(100_000, false).unwrap().json());
+    let panicked = std::panic::catch_unwind(|| wide.explore_watched(100_000, false, |_| panic!("enough")).map(drop));
+    assert_eq!(panicked.unwrap_err().downcast_ref::<&str>(), Some(&"enough"));
+}
+
+#[test]
 fn faults() {
     let refused = |fault, place, result: Result<(), Error>| assert_eq!(result, Err(Error { fault, place }));
     refused(Fault::LineTooLong, 2, Task::new(&format!("echo\necho {}", "a".repeat(600))).plain().map(drop));
