@@ -5,6 +5,7 @@
 #include <stdio.h>
 #include <stdlib.h>
 #include <string.h>
+#include <time.h>
 
 _Static_assert(sizeof(xvsh_task) == 64 && sizeof(xvsh_answer) == 120 && sizeof(xvsh_sizes) == 24, "the layout of version 0.3");
 
@@ -412,6 +413,42 @@ static void stack(size_t size) {
   pthread_attr_destroy(&attributes);
 }
 
+/* Processor seconds of this thread. */
+static double seconds(void) {
+  struct timespec now;
+  clock_gettime(CLOCK_THREAD_CPUTIME_ID, &now);
+  return (double)now.tv_sec + 1e-9 * (double)now.tv_nsec;
+}
+
+typedef struct { uint64_t most; double stopped; } limit;
+
+static uint32_t is_below(void *context, uint64_t requests) {
+  limit *until = context;
+  if (requests < until->most) return 1;
+  until->stopped = seconds();
+  return 0;
+}
+
+/* A call that is given up ends soon, whatever it holds by then, and leaves nothing. `most`: the most processor seconds that takes, or 0. */
+static void watched(double most) {
+  xvsh_answer answer = XVSH_ANSWER;
+  xvsh_task task = task_of("(echo a; echo b; echo c)&; (echo d; echo e; echo f)&; (echo g; echo h; echo i)&\n", NULL, 0);
+  for (uint64_t requests = 1; requests <= 1 << 20; requests *= 16) {
+    limit until = { requests, 0 };
+    xvsh_watch watch = { is_below, &until };
+    TEST(xvsh_explore_watched(&task, XVSH_MAX_STATES, 1, &watch, &answer) == XVSH_GIVEN_UP && answer.status == XVSH_GIVEN_UP && answer.place == 0 && is_nothing(&answer));
+    double took = seconds() - until.stopped;
+    if (most > 0 && took > most) fprintf(stderr, "given up after %llu requests in %.3f seconds\n", (unsigned long long)requests, took);
+    TEST(most <= 0 || took <= most);
+  }
+  limit never = { UINT64_MAX, 0 };
+  xvsh_watch watch = { is_below, &never };
+  task = task_of("echo a &; echo b\n", NULL, 0);
+  TEST(xvsh_explore_watched(&task, 100000, 0, &watch, &answer) == XVSH_OK && tells(&answer, "\"number\":4,\"output\":\"ba\\n\\n\"") && answer.whole);
+  TEST(xvsh_explore_watched(&task, 100000, 0, NULL, &answer) == XVSH_OK && answer.whole);
+  xvsh_answer_free(&answer);
+}
+
 int main(int count, char **arguments) {
   long repeats_asked = count > 1 ? atol(arguments[1]) : 1000;
   nulls();
@@ -422,6 +459,8 @@ int main(int count, char **arguments) {
   appends();
   budgets();
   words();
+  /* under valgrind and sanitizers, which get a larger stack, time says nothing */
+  watched(count > 2 ? 0 : 0.05);
   threads(repeats_asked);
   stack(count > 2 ? (size_t)atol(arguments[2]) : 1 << 20);
   printf("%ld tested, %ld failed\n", tested, failed);
