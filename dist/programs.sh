@@ -1,6 +1,8 @@
-# Where the programs of this checkout come from; read by ./xvsh and ./test, which set `here`, the whole path of the checkout.
+# Where the programs and the library of this checkout come from; read by ./xvsh, ./test, dist/install and bindings/build, which set
+# `here`, the whole path of the checkout.
 #
-# dist/NAME.gz is the program of crates/NAME as the gate built it, and dist/record says of which sources. What is run is NAME in
+# dist/names lists the crates that dist/ holds files of, and these. dist/NAME.gz is the program of crates/NAME as the gate built it, and
+# dist/record says of which sources. What is run is NAME in
 # out/bin, unpacked from there, or proved and built here; where out/bin can't be written, or holds no program that may be run, it is NAME
 # in a folder of this checkout's in the user's cache; and else in a folder for one call. Beside it stand:
 #
@@ -82,12 +84,22 @@ is_kept() {
     [ "$(digest_of "$2/$1")" = "$wanted" ]
 }
 
+# Unpacks a file of dist/ into another, and ends where it isn't the one that the record names: unpack_file NAME FILE WHAT
+unpack_file() {
+    need gzip "unpacks dist/$1.gz"
+    told=$({ gzip -dc "$here/dist/$1.gz" >"$2"; } 2>&1) || { rm -f "$2"; stop "dist/$1.gz can't be unpacked to $2: $(echo "$told" | tail -n 1)"; }
+    [ "$(digest_of "$2")" = "$(recorded "$1.program")" ] || { rm -f "$2"; stop "dist/$1.gz is not the $3 that dist/record names"; }
+}
+
+# Whether dist/ has the library of the sources of this digest.
+has_library() {
+    [ -r "$here/dist/libxvsh.a.gz" ] && [ -r "$here/dist/libxvsh.so.gz" ] && [ "$(recorded xvsh_c.sources)" = "$1" ]
+}
+
 # Unpacks the program NAME into a file, and ends where it isn't the one that the record names, or doesn't start. The status is 1 where
 # the system runs nothing from that folder: unpack_to NAME FILE
 unpack_to() {
-    need gzip "unpacks dist/$1.gz"
-    told=$({ gzip -dc "$here/dist/$1.gz" >"$2"; } 2>&1) || { rm -f "$2"; stop "dist/$1.gz can't be unpacked to $2: $(echo "$told" | tail -n 1)"; }
-    [ "$(digest_of "$2")" = "$(recorded "$1.program")" ] || { rm -f "$2"; stop "dist/$1.gz is not the program that dist/record names"; }
+    unpack_file "$1" "$2" program
     chmod 755 "$2"
     "$2" --version </dev/null >/dev/null 2>&1 || {
         # whether it is the program, or the folder

@@ -5,6 +5,7 @@
  *   cc -Iinclude examples/grade.c lib/libxvsh.a -o grade && ./grade
  */
 #include <stdio.h>
+#include <string.h>
 #include "xvsh.h"
 
 static bool same(xvsh_bytes bytes, const char *text) {

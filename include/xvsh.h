@@ -1,21 +1,21 @@
-/* xvsh.h: xv6's shell, its processes and six programs, as a library. Version 0.2.0.
+/* xvsh.h: xv6's shell, its processes and six programs, as a library. Version 0.3.0.
  *
  * Each call below does what a command of the program `xvsh` does, on bytes in memory; docs/LIBRARY.md says what is proved of each.
- * What is not proved: this header, three functions of the heap under the library (malloc, realloc and free), the compiler, and that
- * a caller keeps the rules that follow.
+ * What is not proved: this header and the functions of bindings/c, which see to null pointers, hand a task to what is proved, and are the
+ * heap under it, over malloc, realloc and free; the compiler; and that a caller keeps the rules that follow.
  *
  * What nothing checks:
  *  - A length counts the bytes that lie at its pointer, or the rows. Where the length is 0 the pointer may be null.
  *  - What is lent for a call (a task, all that it points to, and a schedule) is written by nobody while the call runs, and shares no
  *    byte with the answer.
- *  - An answer was begun by XVSH_ANSWER or is one that an earlier call filled, and no other call writes it at the same time.
+ *  - An answer was begun by XVSH_ANSWER, is all zeroes, or is one that an earlier call filled, and no other call writes it at the same time.
  *
  * Who owns what. A task and what it points to stay the caller's; a call keeps none of it. The bytes of an answer are the caller's
  * from the call's return until xvsh_answer_free; each call of this header frees first what its answer held. They lie in memory of
  * malloc. Nothing is kept between calls: a session is its schedule, which the caller holds.
  *
- * Null. A pointer to a task, to an answer and to `more` isn't null. Of a pair of a pointer and a length, a null of length 0 is as no
- * bytes; any other null is the fault XVSH_NULL.
+ * Null. Of a pair of a pointer and a length, a null of length 0 is as no bytes. Any other null is the fault XVSH_NULL: one in a pair, a
+ * null task, and a null answer, in which nothing can be told. xvsh_answer_free of a null does nothing, and xvsh_next_file of one is false.
  *
  * Threads. The library has no state, starts no thread, takes no lock, and reads no file, clock or environment. Any number of calls
  * may run at once, each on an answer of its own. No call from a signal handler, and none in the child of a fork of a process that
@@ -23,29 +23,32 @@
  *
  * Faults. A call returns 0, or the number of a fault: then the answer has that number as `status`, what it is about as `place`, and
  * nothing else. xvsh_fault_name and xvsh_fault_text have the name and the text of a number. A number is never given to another
- * fault; new ones may come, so have a default. No call aborts, and each returns: xvsh_run and xvsh_trace take at most `turns` events,
+ * fault; new ones may come, so have a default. No call aborts, and each returns: xvsh_run, xvsh_trace and xvsh_draw take at most `turns` events,
  * xvsh_replay and xvsh_look those of the schedule, xvsh_explore finds at most `states` states, and xvsh_plain asks for at most the
- * task's budget of memory, where it has one. xvsh_check and xvsh_explain read the script once, and run nothing.
+ * task's budget of memory, where it has one. The checks and xvsh_explain run nothing; xvsh_explain_why runs the script by its meaning.
  *
- * Versions. xvsh_version() is 1,000,000 times the first number, 1,000 times the second, and the third. Structs and calls change only
- * with the first number, or, as long as that is 0, with the second: compare xvsh_version() / 1000 with XVSH_VERSION / 1000. The shared
- * library's soname has these numbers, so that a program is never run with one whose structs differ: libxvsh.so.0.2, and then .so.0.3.
+ * Versions. xvsh_version_number() is 1,000,000 times the first number, 1,000 times the second, and the third. As long as the first is 0,
+ * the shared library's soname has the first and the second, now libxvsh.so.0.3, and else the first alone. Under one soname these never
+ * change: the size of a struct and the place of each of its members, what a function takes and gives, and the number of a fault, of an
+ * order and of what was full. These may come, with the third number: functions, faults, and what else can be full; members of an object
+ * of JSON may come at any time. A program that was linked to the library runs with each later one of its soname. One that
+ * loads it by itself compares xvsh_version_number() / 1000 with XVSH_VERSION / 1000 as long as the first number is 0.
+ *
+ * Everything here is a function of the library, and nothing else is exported by the shared one.
  */
 #ifndef XVSH_H
 #define XVSH_H
 #include <stdbool.h>
 #include <stddef.h>
 #include <stdint.h>
-#include <stdlib.h>
-#include <string.h>
 #ifdef __cplusplus
 extern "C" {
 #endif
 
 #define XVSH_VERSION_MAJOR 0
-#define XVSH_VERSION_MINOR 2
+#define XVSH_VERSION_MINOR 3
 #define XVSH_VERSION_PATCH 0
-#define XVSH_VERSION 2000u             /* 1,000,000 * 0 + 1,000 * 2 + 0 */
+#define XVSH_VERSION 3000u             /* 1,000,000 * 0 + 1,000 * 3 + 0 */
 
 /* Limits. What passes one is a fault. */
 #define XVSH_MAX_SCRIPT 1048576u       /* bytes of a script */
@@ -96,7 +99,8 @@ typedef enum {
   XVSH_BAD_TURNS = 66,        /* 0, or more than XVSH_MAX_TURNS */
   XVSH_BAD_ORDER = 67,        /* no xvsh_order */
   XVSH_BAD_STATES = 68,       /* 0, or more than XVSH_MAX_STATES */
-  XVSH_NULL = 69              /* a null pointer with a length other than 0 */
+  XVSH_NULL = 69,             /* a null pointer with a length other than 0; a null task, or a null answer */
+  XVSH_GIVEN_UP = 70          /* the watch of the call had it given up */
 } xvsh_status;
 
 /* Which process takes the next turn of a run. */
@@ -120,7 +124,8 @@ typedef struct { const xvsh_sizes *at; size_t length; } xvsh_table;
 typedef struct {
   xvsh_bytes out;      /* the standard output */
   xvsh_bytes diag;     /* the diagnostics of a run */
-  xvsh_bytes events;   /* a line an event: `D HART PROCESS` or `T HART PROCESS`; of xvsh_trace the lines of the trace */
+  xvsh_bytes events;   /* a line an event: `D HART PROCESS` or `T HART PROCESS`; of xvsh_trace the lines of the trace,
+                          of xvsh_draw the page */
   xvsh_bytes json;     /* of xvsh_check, xvsh_explain, xvsh_explore and xvsh_look an object of JSON, and LF */
   xvsh_bytes block;    /* the files at the end, in byte order of their names: of each its name, and behind it its bytes */
   xvsh_table sizes;    /* how long these are: a row a file; xvsh_next_file walks them */
@@ -144,190 +149,91 @@ typedef struct {
 #define XVSH_ANSWER { XVSH_NO_BYTES, XVSH_NO_BYTES, XVSH_NO_BYTES, XVSH_NO_BYTES, XVSH_NO_BYTES, \
                       { XVSH_AT_(xvsh_sizes, ""), 0 }, 0, 0, 0, 0, 0 }
 
-/* The calls of the library as they are, for bindings: as those below, where no pointer is null and the answer holds nothing. */
+/* The version of the library that runs. xvsh_version is the same. */
+uint32_t xvsh_version_number(void);
 uint32_t xvsh_version(void);
-void xvsh_fault_call(uint32_t number, xvsh_bytes *words);
-void xvsh_plain_call(const xvsh_task *task, xvsh_answer *answer);
-void xvsh_run_call(const xvsh_task *task, uint64_t turns, uint32_t order, uint64_t number, xvsh_answer *answer);
-void xvsh_replay_call(const xvsh_task *task, const uint8_t *schedule, size_t length, xvsh_answer *answer);
-void xvsh_check_call(const xvsh_task *task, uint32_t strict, xvsh_answer *answer);
-void xvsh_explain_call(const xvsh_task *task, xvsh_answer *answer);
-void xvsh_explore_call(const xvsh_task *task, uint64_t states, uint32_t thorough, xvsh_answer *answer);
-void xvsh_trace_call(const xvsh_task *task, uint64_t turns, uint32_t order, uint64_t number, xvsh_answer *answer);
-void xvsh_look_call(const xvsh_task *task, const uint8_t *schedule, size_t length, xvsh_answer *answer);
 
 /* The bytes of a C string without its 0; of a null none. */
-static inline xvsh_bytes xvsh_text(const char *text) {
-  xvsh_bytes bytes = XVSH_NO_BYTES;
-  if (text) { bytes.at = XVSH_AT_(uint8_t, text); bytes.length = strlen(text); }
-  return bytes;
-}
-
-/* Used below: frees bytes of an answer, which are none of the caller's to write. */
-static inline void xvsh_free_(const void *at, size_t length) {
-  if (!length) return;
-#ifdef __cplusplus
-  free(const_cast<void *>(at));
-#else
-  free((void *)(uintptr_t)at);
-#endif
-}
+xvsh_bytes xvsh_text(const char *text);
 
 /* Frees what an answer holds, and begins it anew. */
-static inline void xvsh_answer_free(xvsh_answer *answer) {
-  static const xvsh_answer begun = XVSH_ANSWER;
-  xvsh_free_(answer->out.at, answer->out.length);
-  xvsh_free_(answer->diag.at, answer->diag.length);
-  xvsh_free_(answer->events.at, answer->events.length);
-  xvsh_free_(answer->json.at, answer->json.length);
-  xvsh_free_(answer->block.at, answer->block.length);
-  xvsh_free_(answer->sizes.at, answer->sizes.length);
-  *answer = begun;
-}
+void xvsh_answer_free(xvsh_answer *answer);
 
 /* A fault's name, as "LineTooLong"; no bytes for a number that is none. The bytes are the library's, for ever. */
-static inline xvsh_bytes xvsh_fault_name(uint32_t number) {
-  xvsh_bytes words[2] = { XVSH_NO_BYTES, XVSH_NO_BYTES };
-  xvsh_fault_call(number, words);
-  return words[0];
-}
+xvsh_bytes xvsh_fault_name(uint32_t number);
 
 /* A fault's text, as "a line has more than 511 bytes". */
-static inline xvsh_bytes xvsh_fault_text(uint32_t number) {
-  xvsh_bytes words[2] = { XVSH_NO_BYTES, XVSH_NO_BYTES };
-  xvsh_fault_call(number, words);
-  return words[1];
-}
+xvsh_bytes xvsh_fault_text(uint32_t number);
 
 /* A file of an answer. */
 typedef struct { xvsh_bytes name, bytes; bool soft; size_t next, from; } xvsh_left;
 
 /* Walks the files of an answer: begin with an xvsh_left that is all 0, and go on while it returns true. */
-static inline bool xvsh_next_file(const xvsh_answer *answer, xvsh_left *left) {
-  if (left->next >= answer->sizes.length) return false;
-  const xvsh_sizes *sizes = &answer->sizes.at[left->next++];
-  left->name.at = answer->block.at + left->from;
-  left->name.length = sizes->name;
-  left->bytes.at = left->name.at + sizes->name;
-  left->bytes.length = sizes->bytes;
-  left->soft = sizes->soft != 0;
-  left->from += sizes->name + sizes->bytes;
-  return true;
-}
-
-/* Used below: a task without null pointers, and room for the files of one that had some. A 202nd file and those behind it are left
- * out, since one of the 201 before it is a fault. */
-typedef struct { xvsh_task task; xvsh_file files[XVSH_MAX_FILES + 1]; } xvsh_safe_task_;
-
-static inline bool xvsh_make_safe_(xvsh_bytes *bytes) {
-  if (!bytes->at) { bytes->at = XVSH_AT_(uint8_t, ""); return bytes->length == 0; }
-  return true;
-}
-
-/* Frees what the answer held. False where a pointer is null and its length isn't 0: then the answer tells that. */
-static inline bool xvsh_begin_(const xvsh_task *task, xvsh_safe_task_ *safe, xvsh_answer *answer) {
-  xvsh_answer_free(answer);
-  safe->task = *task;
-  bool good = xvsh_make_safe_(&safe->task.script);
-  good = xvsh_make_safe_(&safe->task.input) && good;
-  size_t count = task->files.length, null = 0;
-  if (!task->files.at) {
-    static const xvsh_files none = XVSH_NO_FILES;
-    safe->task.files = none;
-    good = good && count == 0;
-    count = 0;
-  }
-  if (count > XVSH_MAX_FILES + 1) count = XVSH_MAX_FILES + 1;
-  for (size_t i = 0; i < count; i++) null += !task->files.at[i].name.at || !task->files.at[i].bytes.at;
-  if (null) {
-    for (size_t i = 0; i < count; i++) {
-      safe->files[i] = task->files.at[i];
-      good = xvsh_make_safe_(&safe->files[i].name) && good;
-      good = xvsh_make_safe_(&safe->files[i].bytes) && good;
-    }
-    safe->task.files.at = safe->files;
-    safe->task.files.length = count;
-  }
-  if (!good) answer->status = XVSH_NULL;
-  return good;
-}
+bool xvsh_next_file(const xvsh_answer *answer, xvsh_left *left);
 
 /* Runs the script by its meaning: each pipe's left side to its end before its right side starts. Gives out, the files, and whether
  * the script is settled (fine): then no order of its processes changes any of it, soft files left out. */
-static inline uint32_t xvsh_plain(const xvsh_task *task, xvsh_answer *answer) {
-  xvsh_safe_task_ safe;
-  if (xvsh_begin_(task, &safe, answer)) xvsh_plain_call(&safe.task, answer);
-  return answer->status;
-}
+uint32_t xvsh_plain(const xvsh_task *task, xvsh_answer *answer);
 
 /* Runs the script by its processes on one hart, in at most `turns` events, from 1 to XVSH_MAX_TURNS, and in this xvsh_order, whose
  * `number` is 0 where it needs none. Gives out, diag, the files, the events, and what was full. */
-static inline uint32_t xvsh_run(const xvsh_task *task, uint64_t turns, uint32_t order, uint64_t number, xvsh_answer *answer) {
-  xvsh_safe_task_ safe;
-  if (xvsh_begin_(task, &safe, answer)) xvsh_run_call(&safe.task, turns, order, number, answer);
-  return answer->status;
-}
-
-/* Used below: no null schedule. */
-static inline bool xvsh_begin_events_(const xvsh_task *task, xvsh_bytes *schedule, xvsh_safe_task_ *safe, xvsh_answer *answer) {
-  if (!xvsh_begin_(task, safe, answer)) return false;
-  if (xvsh_make_safe_(schedule)) return true;
-  answer->status = XVSH_NULL;
-  return false;
-}
+uint32_t xvsh_run(const xvsh_task *task, uint64_t turns, uint32_t order, uint64_t number, xvsh_answer *answer);
 
 /* Runs it by the events of a schedule of one to eight harts: a run's, or any other. Gives what xvsh_run gives. */
-static inline uint32_t xvsh_replay(const xvsh_task *task, xvsh_bytes schedule, xvsh_answer *answer) {
-  xvsh_safe_task_ safe;
-  if (xvsh_begin_events_(task, &schedule, &safe, answer)) xvsh_replay_call(&safe.task, schedule.at, schedule.length, answer);
-  return answer->status;
-}
+uint32_t xvsh_replay(const xvsh_task *task, xvsh_bytes schedule, xvsh_answer *answer);
 
 /* Checks the lines of the script, as `xvsh check --json`. Gives that object (docs/FORMATS.md) as json, and fine where no line holds a
  * `&` or a clash; with `strict` other than 0 only where each line is a command too. Nothing is run: neither the input nor the files
  * are looked at. */
-static inline uint32_t xvsh_check(const xvsh_task *task, uint32_t strict, xvsh_answer *answer) {
-  xvsh_safe_task_ safe;
-  if (xvsh_begin_(task, &safe, answer)) xvsh_check_call(&safe.task, strict, answer);
-  return answer->status;
-}
+uint32_t xvsh_check(const xvsh_task *task, uint32_t strict, xvsh_answer *answer);
+
+/* Checks the same, and tells in how many turns a run by its processes is finished, whatever their order, on this input and these files: as
+ * `xvsh check --turns --json`, whose object it gives as json. Fine is as of xvsh_check. */
+uint32_t xvsh_check_turns(const xvsh_task *task, uint32_t strict, xvsh_answer *answer);
+
+/* Checks the same, and tells how many processes, open files, descriptors, files and bytes in a file it may need at most, whatever the order
+ * of its processes, on this input and these files, and with which line first that is more than xv6 has: as `xvsh check --room --json`,
+ * whose object it gives as json. Fine where the lines are, and there is room for it. */
+uint32_t xvsh_check_room(const xvsh_task *task, uint32_t strict, xvsh_answer *answer);
 
 /* Tells in sentences what is wrong or unexpected in the lines of the script, as `xvsh explain --json`. Gives that object as json, and
  * fine where no line has a note and none may need more processes, open files or descriptors than there are. Nothing is run, as with xvsh_check. */
-static inline uint32_t xvsh_explain(const xvsh_task *task, xvsh_answer *answer) {
-  xvsh_safe_task_ safe;
-  if (xvsh_begin_(task, &safe, answer)) xvsh_explain_call(&safe.task, answer);
-  return answer->status;
-}
+uint32_t xvsh_explain(const xvsh_task *task, xvsh_answer *answer);
+
+/* Tells the same, which names no file has when a line uses them, and each reason why the script isn't settled on this input and these
+ * files: as `xvsh explain --why --json`, whose object it gives as json. Fine where there is none of all that. The script is run by its
+ * meaning to find that out, so XVSH_TOO_LARGE is a fault of it; the task's budget doesn't bound that run. */
+uint32_t xvsh_explain_why(const xvsh_task *task, xvsh_answer *answer);
 
 /* Tries every order of the script's processes, as `xvsh explore --json`, of at most `states` states of the kernel, from 1 to
  * XVSH_MAX_STATES, for each of which memory is kept. A settled script none of whose files is soft has one outcome, and is explored
  * only with `thorough` other than 0. Gives that object as json, fine where all outcomes that were found have one output and one set of
  * files, and whole where every order was tried, or what it leaves is known without. Where something was full, or some order never ends,
  * the object's `status` and `code` say so. */
-static inline uint32_t xvsh_explore(const xvsh_task *task, uint64_t states, uint32_t thorough, xvsh_answer *answer) {
-  xvsh_safe_task_ safe;
-  if (xvsh_begin_(task, &safe, answer)) xvsh_explore_call(&safe.task, states, thorough, answer);
-  return answer->status;
-}
+uint32_t xvsh_explore(const xvsh_task *task, uint64_t states, uint32_t thorough, xvsh_answer *answer);
+
+/* Who is asked whether a call is to go on, in the thread of the call: every XVSH_REQUESTS_A_LOOK requests for memory that the call makes,
+ * with their number so far. Where it returns 0 the call is given up. It may make calls of its own. */
+typedef struct { uint32_t (*goes_on)(void *context, uint64_t requests); void *context; } xvsh_watch;
+#define XVSH_REQUESTS_A_LOOK 1024u
+
+/* Explores as xvsh_explore does, and asks the watch meanwhile; as that call where the watch, or its function, is null. A call that is given
+ * up is refused all memory from then on, frees what it holds, and returns XVSH_GIVEN_UP. */
+uint32_t xvsh_explore_watched(const xvsh_task *task, uint64_t states, uint32_t thorough, const xvsh_watch *watch, xvsh_answer *answer);
 
 /* Runs the script as xvsh_run does, and gives what that gives, but for events the lines of the run's trace, as `xvsh run --trace`
  * writes them: each an object of JSON and LF (docs/FORMATS.md). A trace has some 200 bytes an event, and more where files are long. */
-static inline uint32_t xvsh_trace(const xvsh_task *task, uint64_t turns, uint32_t order, uint64_t number, xvsh_answer *answer) {
-  xvsh_safe_task_ safe;
-  if (xvsh_begin_(task, &safe, answer)) xvsh_trace_call(&safe.task, turns, order, number, answer);
-  return answer->status;
-}
+uint32_t xvsh_trace(const xvsh_task *task, uint64_t turns, uint32_t order, uint64_t number, xvsh_answer *answer);
+
+/* Runs the script as xvsh_run does, and gives what that gives, but for events a page of HTML that draws the run, as `xvsh draw` writes it of
+ * the run's trace: it needs nothing from elsewhere. */
+uint32_t xvsh_draw(const xvsh_task *task, uint64_t turns, uint32_t order, uint64_t number, xvsh_answer *answer);
 
 /* Tells how a run stands after the events of a schedule, which need not be those of a whole run: a session is such a schedule, which
  * grows. Gives as json an object of `stands`, which is "runnable", "finished", or "stuck" where the run isn't finished and nobody can
  * take a turn, and of `ps`, `pipes`, `files` and `out`, each the object that `xvsh step --json` answers to that command; and fine where
  * the run is finished. A process that is running on a hart, which hasn't made its call yet, is told as runnable. */
-static inline uint32_t xvsh_look(const xvsh_task *task, xvsh_bytes schedule, xvsh_answer *answer) {
-  xvsh_safe_task_ safe;
-  if (xvsh_begin_events_(task, &schedule, &safe, answer)) xvsh_look_call(&safe.task, schedule.at, schedule.length, answer);
-  return answer->status;
-}
+uint32_t xvsh_look(const xvsh_task *task, xvsh_bytes schedule, xvsh_answer *answer);
 
 #ifdef __cplusplus
 }

@@ -1,6 +1,6 @@
 """Builds the wheel of the module xvsh, with the shared library in it, for pip (PEP 517), with Python's own modules alone.
 
-The library is that at XVSH_LIBRARY, else lib/libxvsh.so of this checkout. Of one library and one module the wheel is the same, byte for
+The library is that at XVSH_LIBRARY, else that of dist/ of this checkout, if it is of these sources, else lib/libxvsh.so. Of one library and one module the wheel is the same, byte for
 byte: its files have the time SOURCE_DATE_EPOCH, or that of 1980 where it isn't set.
 """
 from __future__ import annotations
@@ -9,7 +9,9 @@ import base64
 import hashlib
 import os
 import re
+import subprocess
 import sys
+import tempfile
 import time
 import zipfile
 from typing import Any
@@ -25,9 +27,16 @@ def _read(*path: str) -> bytes:
 
 
 def _library() -> bytes:
-    path = os.environ.get("XVSH_LIBRARY") or os.path.normpath(os.path.join(HERE, "..", "..", "lib", "libxvsh.so"))
+    named = os.environ.get("XVSH_LIBRARY")
+    top = os.path.normpath(os.path.join(HERE, "..", ".."))
+    build = os.path.join(top, "bindings", "build")
+    if not named and os.path.exists(build):
+        with tempfile.TemporaryDirectory() as room:
+            if subprocess.run([build, "--packed", "--to", room], stderr=subprocess.DEVNULL).returncode == 0:
+                return _read(room, "libxvsh.so")
+    path = named or os.path.join(top, "lib", "libxvsh.so")
     if not os.path.exists(path):
-        sys.exit(f"xvsh: {path} isn't there: bindings/build builds it, and XVSH_LIBRARY names one that is elsewhere")
+        sys.exit(f"xvsh: {path} isn't there: bindings/build puts it there, and XVSH_LIBRARY names one that is elsewhere")
     return _read(path)
 
 

@@ -3,8 +3,11 @@
 #include "xvsh.h"
 #include <pthread.h>
 #include <stdio.h>
+#include <stdlib.h>
+#include <string.h>
+#include <time.h>
 
-_Static_assert(sizeof(xvsh_task) == 64 && sizeof(xvsh_answer) == 120 && sizeof(xvsh_sizes) == 24, "the layout of version 0.2");
+_Static_assert(sizeof(xvsh_task) == 64 && sizeof(xvsh_answer) == 120 && sizeof(xvsh_sizes) == 24, "the layout of version 0.3");
 
 static long failed, tested;
 
@@ -38,8 +41,12 @@ static bool refused(const xvsh_task *task, uint32_t fault, uint64_t place) {
   right = xvsh_run(task, 1000000, XVSH_KERNEL, 0, &answer) == fault && answer.place == place && is_nothing(&answer) && right;
   right = xvsh_replay(task, xvsh_text(""), &answer) == fault && answer.place == place && is_nothing(&answer) && right;
   right = xvsh_trace(task, 1000000, XVSH_KERNEL, 0, &answer) == fault && answer.place == place && is_nothing(&answer) && right;
+  right = xvsh_draw(task, 1000000, XVSH_KERNEL, 0, &answer) == fault && answer.place == place && is_nothing(&answer) && right;
   right = xvsh_look(task, xvsh_text(""), &answer) == fault && answer.place == place && is_nothing(&answer) && right;
   right = xvsh_explore(task, 1000000, 1, &answer) == fault && answer.place == place && is_nothing(&answer) && right;
+  right = xvsh_check_turns(task, 0, &answer) == fault && answer.place == place && is_nothing(&answer) && right;
+  right = xvsh_check_room(task, 0, &answer) == fault && answer.place == place && is_nothing(&answer) && right;
+  right = xvsh_explain_why(task, &answer) == fault && answer.place == place && is_nothing(&answer) && right;
   /* a check and an explanation look at the script alone */
   bool of_script = fault == XVSH_NULL || fault == XVSH_SCRIPT_TOO_LONG || fault == XVSH_LINE_TOO_LONG || fault == XVSH_BYTE_ZERO;
   uint32_t wanted = of_script ? fault : XVSH_OK;
@@ -137,7 +144,7 @@ static void limits(void) {
   TEST(xvsh_plain(&task, &answer) == XVSH_OK && answer.sizes.length == XVSH_MAX_FILES && answer.block.length == 3 * XVSH_MAX_FILES);
   task.files.length = XVSH_MAX_FILES + 1;
   TEST(refused(&task, XVSH_TOO_MANY_FILES, XVSH_MAX_FILES + 1));
-  files[7].bytes.at = NULL; /* so the header copies the rows */
+  files[7].bytes.at = NULL; /* so the rows are copied */
   TEST(refused(&task, XVSH_TOO_MANY_FILES, XVSH_MAX_FILES + 1));
   task.files.length = SIZE_MAX / sizeof *files;
   TEST(refused(&task, XVSH_TOO_MANY_FILES, XVSH_MAX_FILES + 1));
@@ -195,7 +202,20 @@ static void asks(void) {
                 "echo a;);););););););););););););););););););););););););););););););););););););););););););););););););););););););););););););)\n";
   task = task_of(deep, NULL, 0);
   TEST(xvsh_explain(&task, &answer) == XVSH_OK && tells(&answer, "\"lack\":{\"line\":1,\"table\":\"processes\",\"need\":65,\"most\":64}") && !answer.fine);
+  TEST(xvsh_check_room(&task, 0, &answer) == XVSH_OK && tells(&answer, "\"lack\":{\"line\":1,\"table\":\"processes\",\"need\":65,\"most\":64}") && !answer.fine);
+  TEST(xvsh_check_turns(&task, 0, &answer) == XVSH_OK && tells(&answer, ",\"turns\":") && answer.fine);
+  task = task_of("cat f | wc\n", NULL, 0);
+  TEST(xvsh_explain_why(&task, &answer) == XVSH_OK && tells(&answer, "\"missing\":[{\"line\":1,\"name\":\"f\"}],\"settled\":true") && !answer.fine);
+  TEST(xvsh_check_room(&task, 1, &answer) == XVSH_OK && tells(&answer, "\"status\":\"harmless\"") && answer.fine && !answer.whole);
+  xvsh_file file = { xvsh_text("f"), xvsh_text("a\n") };
+  task = task_of("cat f | wc\n", &file, 1);
+  TEST(xvsh_explain_why(&task, &answer) == XVSH_OK && tells(&answer, "\"status\":\"nothing to tell\"") && answer.fine);
+  task = task_of("cat f | tee f\n", &file, 1);
+  TEST(xvsh_explain_why(&task, &answer) == XVSH_OK && tells(&answer, "\"reasons\":[{\"kind\":\"clash\",\"line\":1,") && !answer.fine);
+  TEST(xvsh_check_room(&task, 0, &answer) == XVSH_OK && tells(&answer, "\"room\":null") && !answer.fine);
   task = task_of("echo a\n\n)\n", NULL, 0);
+  TEST(xvsh_check_turns(&task, 0, &answer) == XVSH_OK && answer.fine && xvsh_check_turns(&task, 1, &answer) == XVSH_OK && !answer.fine);
+  TEST(xvsh_check_room(&task, 0, &answer) == XVSH_OK && answer.fine && xvsh_check_room(&task, 1, &answer) == XVSH_OK && !answer.fine);
   TEST(xvsh_check(&task, 0, &answer) == XVSH_OK && tells(&answer, "\"kind\":\"fault\",\"line\":3") && answer.fine);
   TEST(xvsh_check(&task, 1, &answer) == XVSH_OK && tells(&answer, "\"code\":3") && !answer.fine);
   TEST(xvsh_check(&task, UINT32_MAX, &answer) == XVSH_OK && tells(&answer, "\"code\":3") && !answer.fine);
@@ -321,6 +341,9 @@ static void *again(void *unused) {
     if (i % 100 == 0) {
       right = xvsh_check(&task, 1, &answer) == XVSH_OK && answer.fine && right;
       right = xvsh_explain(&task, &answer) == XVSH_OK && answer.fine && right;
+      right = xvsh_check_turns(&task, 1, &answer) == XVSH_OK && answer.fine && right;
+      right = xvsh_check_room(&task, 1, &answer) == XVSH_OK && answer.fine && right;
+      right = xvsh_explain_why(&task, &answer) == XVSH_OK && answer.fine && right;
       right = xvsh_explore(&task, 100000, 0, &answer) == XVSH_OK && answer.fine && right;
       right = xvsh_look(&task, xvsh_text("D 0 1\nT 0 1\n"), &answer) == XVSH_OK && !answer.fine && right;
       right = xvsh_trace(&task, 100000, XVSH_DRAWN, (uint64_t)i, &answer) == XVSH_OK && is(answer.out, "hello\n3 3 10 \n") && right;
@@ -367,8 +390,11 @@ static void *deepest(void *unused) {
     right = xvsh_run(&task, 100000, XVSH_KERNEL, 0, &answer) == XVSH_OK && right;
     right = xvsh_check(&task, 0, &answer) == XVSH_OK && right;
     right = xvsh_explain(&task, &answer) == XVSH_OK && right;
+    right = xvsh_check_turns(&task, 0, &answer) == XVSH_OK && xvsh_check_room(&task, 0, &answer) == XVSH_OK && right;
+    right = xvsh_explain_why(&task, &answer) == XVSH_OK && right;
     right = xvsh_explore(&task, 50, 1, &answer) == XVSH_OK && right;
     right = xvsh_trace(&task, 100000, XVSH_KERNEL, 0, &answer) == XVSH_OK && right;
+    right = xvsh_draw(&task, 100000, XVSH_KERNEL, 0, &answer) == XVSH_OK && right;
     right = xvsh_look(&task, xvsh_text("D 0 1\nT 0 1\nD 0 2\nT 0 2\n"), &answer) == XVSH_OK && right;
   }
   xvsh_answer_free(&answer);
@@ -387,6 +413,42 @@ static void stack(size_t size) {
   pthread_attr_destroy(&attributes);
 }
 
+/* Processor seconds of this thread. */
+static double seconds(void) {
+  struct timespec now;
+  clock_gettime(CLOCK_THREAD_CPUTIME_ID, &now);
+  return (double)now.tv_sec + 1e-9 * (double)now.tv_nsec;
+}
+
+typedef struct { uint64_t most; double stopped; } limit;
+
+static uint32_t is_below(void *context, uint64_t requests) {
+  limit *until = context;
+  if (requests < until->most) return 1;
+  until->stopped = seconds();
+  return 0;
+}
+
+/* A call that is given up ends soon, whatever it holds by then, and leaves nothing. `most`: the most processor seconds that takes, or 0. */
+static void watched(double most) {
+  xvsh_answer answer = XVSH_ANSWER;
+  xvsh_task task = task_of("(echo a; echo b; echo c)&; (echo d; echo e; echo f)&; (echo g; echo h; echo i)&\n", NULL, 0);
+  for (uint64_t requests = 1; requests <= 1 << 20; requests *= 16) {
+    limit until = { requests, 0 };
+    xvsh_watch watch = { is_below, &until };
+    TEST(xvsh_explore_watched(&task, XVSH_MAX_STATES, 1, &watch, &answer) == XVSH_GIVEN_UP && answer.status == XVSH_GIVEN_UP && answer.place == 0 && is_nothing(&answer));
+    double took = seconds() - until.stopped;
+    if (most > 0 && took > most) fprintf(stderr, "given up after %llu requests in %.3f seconds\n", (unsigned long long)requests, took);
+    TEST(most <= 0 || took <= most);
+  }
+  limit never = { UINT64_MAX, 0 };
+  xvsh_watch watch = { is_below, &never };
+  task = task_of("echo a &; echo b\n", NULL, 0);
+  TEST(xvsh_explore_watched(&task, 100000, 0, &watch, &answer) == XVSH_OK && tells(&answer, "\"number\":4,\"output\":\"ba\\n\\n\"") && answer.whole);
+  TEST(xvsh_explore_watched(&task, 100000, 0, NULL, &answer) == XVSH_OK && answer.whole);
+  xvsh_answer_free(&answer);
+}
+
 int main(int count, char **arguments) {
   long repeats_asked = count > 1 ? atol(arguments[1]) : 1000;
   nulls();
@@ -397,6 +459,8 @@ int main(int count, char **arguments) {
   appends();
   budgets();
   words();
+  /* under valgrind and sanitizers, which get a larger stack, time says nothing */
+  watched(count > 2 ? 0 : 0.05);
   threads(repeats_asked);
   stack(count > 2 ? (size_t)atol(arguments[2]) : 1 << 20);
   printf("%ld tested, %ld failed\n", tested, failed);

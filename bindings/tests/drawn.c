@@ -3,6 +3,8 @@
  * a fault has a name and nothing else, a table's lengths add up to its block, an object is one line, and a run's events are replayed to
  * the same output. usage: drawn COUNT [SEED] */
 #include <stdio.h>
+#include <stdlib.h>
+#include <string.h>
 #include "xvsh.h"
 
 static uint64_t seed;
@@ -117,9 +119,13 @@ static void ask(const xvsh_task *task, xvsh_answer *answer, xvsh_answer *other, 
   told(xvsh_plain(task, answer), answer, "plain", number);
   told(xvsh_check(task, drawn(2), answer), answer, "check", number);
   told(xvsh_explain(task, answer), answer, "explain", number);
+  told(xvsh_check_turns(task, drawn(2), answer), answer, "check_turns", number);
+  told(xvsh_check_room(task, drawn(2), answer), answer, "check_room", number);
+  told(xvsh_explain_why(task, answer), answer, "explain_why", number);
   told(xvsh_explore(task, drawn(20) ? 1 + drawn(60) : drawn(2) * UINT64_MAX, drawn(2), answer), answer, "explore", number);
   told(xvsh_trace(task, drawn(20000), drawn(7), drawn(70), answer), answer, "trace", number);
   xvsh_bytes empty = XVSH_NO_BYTES;
+  told(xvsh_draw(task, drawn(20000), drawn(7), drawn(70), answer), answer, "draw", number);
   bool ran = told(xvsh_run(task, 20000, drawn(6), drawn(64), answer), answer, "run", number);
   if (ran && told(xvsh_replay(task, answer->events, other), other, "replay", number)) hold(same(answer->out, other->out) && same(answer->block, other->block), "replay", number);
   xvsh_bytes schedule = any_schedule(ran ? answer->events : empty);

@@ -98,6 +98,10 @@ class Program:
         """The object that a command prints."""
         return json.loads(self.prints(*words, "--json", given=given, schedule=schedule))
 
+    def draws(self, trace):
+        """The page that the program draws of a trace."""
+        return subprocess.run([self.path, "draw", "-"], input=trace, stdout=subprocess.PIPE, check=True).stdout
+
     def place(self, name, data):
         """The path of a file beside the script, which has these bytes now."""
         path = os.path.join(self.room, name)
@@ -121,6 +125,9 @@ def asks_differ(program, text, stdin, given, append, draw):
     strict, thorough, states = draw.random() < 0.5, draw.random() < 0.3, draw.choice([1, 50, 400])
     why = object_differs("check", program.prints("check", "--json", *["--strict"] * strict, given=False), lambda: xvsh.check(text, strict=strict))
     why = why or object_differs("explain", program.prints("explain", "--json", given=False), lambda: xvsh.explain(text))
+    for flag, call in (("--turns", xvsh.check_turns), ("--room", xvsh.check_room)):
+        why = why or object_differs(f"check {flag}", program.prints("check", flag, "--json", *["--strict"] * strict), lambda: call(text, stdin, given, strict=strict))
+    why = why or object_differs("explain --why", program.prints("explain", "--why", "--json", *program.append), lambda: xvsh.explain_why(text, stdin, given, append=append))
     words = ["explore", "--json", "--states", str(states), *["--all"] * thorough, *program.append]
     return why or object_differs("explore", program.prints(*words), lambda: xvsh.explore(text, stdin, given, append=append, states=states, thorough=thorough))
 
@@ -170,6 +177,10 @@ def same(program, text, stdin, given, append, draw):
     printed = program.prints("run", *WORDS_OF[order](seed), "--turns", "1000000", *program.append, "--trace", "-")
     if traced.trace != printed or (traced.out, traced.files, traced.diag, traced.full, traced.schedule) != (run.out, run.files, run.diag, run.full, run.schedule):
         return f"trace: {traced} beside {printed!r} and {run}"
+    drawn = xvsh.draw(text, stdin, given, append=append, turns=1_000_000, order=order, seed=seed)
+    page = program.draws(printed)
+    if drawn.html != page or (drawn.run.out, drawn.run.files, drawn.run.diag) != (run.out, run.files, run.diag):
+        return f"draw: {drawn} beside {page!r} and {run}"
     turns = [event.pid for event in run if event.kind == "trap"]
     why = look_differs(program, text, stdin, given, append, turns[: draw.randrange(len(turns) + 1)])
     if why:

@@ -2,6 +2,8 @@
  * Linked with -Wl,--wrap=malloc,--wrap=realloc,--wrap=free. */
 #include "xvsh.h"
 #include <stdio.h>
+#include <stdlib.h>
+#include <string.h>
 
 void *__real_malloc(size_t size);
 void *__real_realloc(void *block, size_t size);
@@ -43,6 +45,10 @@ static uint32_t call(int kind, xvsh_answer *answer) {
     case 6: return xvsh_explore(&task, 100000, 0, answer);
     case 7: return xvsh_explore(&racy, 100000, 1, answer);
     case 8: return xvsh_trace(&task, 100000, XVSH_KERNEL, 0, answer);
+    case 13: return xvsh_draw(&task, 100000, XVSH_KERNEL, 0, answer);
+    case 10: return xvsh_check_turns(&task, 0, answer);
+    case 11: return xvsh_check_room(&task, 1, answer);
+    case 12: return xvsh_explain_why(&task, answer);
     default: return xvsh_look(&task, xvsh_text("D 0 1\nT 0 1\nD 0 2\nT 0 2\n"), answer);
   }
 }
@@ -55,7 +61,7 @@ static bool same(xvsh_bytes one, xvsh_bytes other) {
  * memory was refused, and goes on; then it says so, and a schedule may lead nowhere. */
 static bool is_right(int kind, const xvsh_answer *answer, const xvsh_answer *wanted) {
   if (answer->status == XVSH_MEMORY) return true;
-  if ((kind == 1 || kind == 8) && answer->status == XVSH_SPENT) return true;
+  if ((kind == 1 || kind == 8 || kind == 13) && answer->status == XVSH_SPENT) return true;
   bool by_events = kind == 2 || kind == 3 || kind == 9;
   if (by_events && answer->status >= XVSH_NOT_RUNNABLE && answer->status <= XVSH_UNFINISHED) return true;
   if (answer->status != wanted->status) return false;
@@ -75,7 +81,7 @@ int main(void) {
   xvsh_answer run = XVSH_ANSWER;
   if (call(1, &run) != XVSH_OK) return 1;
   events = run.events;
-  for (int kind = 0; kind < 10; kind++) {
+  for (int kind = 0; kind < 14; kind++) {
     xvsh_answer answer = XVSH_ANSWER, wanted = XVSH_ANSWER;
     left = -1;
     asked = 0;

@@ -1,10 +1,13 @@
-/* Stands for the library where it isn't built, to test what is around it: the header, bindings/pack, dist/install, the Python module.
+/* Stands for what is proved of the library where it isn't built, to test what is around that: the header, the functions in C, bindings/pack,
+ * dist/install, the Python module.
  *
  * A call answers with what it was given: the script as the output, the call's name and numbers as the diagnostics, a schedule as the
  * events, and the files as they are. The script `fault N P` is the fault N at the place P, and `full N` is one whose run found N full.
  * STANDIN_VERSION is the version in place of the header's. */
-#include "xvsh.h"
+#include "calls.h"
 #include <stdio.h>
+#include <stdlib.h>
+#include <string.h>
 
 static xvsh_bytes copied(const void *from, size_t length) {
   xvsh_bytes made = XVSH_NO_BYTES;
@@ -96,6 +99,12 @@ void xvsh_trace_call(const xvsh_task *task, uint64_t turns, uint32_t order, uint
   if (!answer->status) answer->events = copied(line, sizeof line - 1);
 }
 
+void xvsh_draw_call(const xvsh_task *task, uint64_t turns, uint32_t order, uint64_t number, xvsh_answer *answer) {
+  static const char page[] = "<!doctype html>\n";
+  run("draw", task, turns, order, number, answer);
+  if (!answer->status) answer->events = copied(page, sizeof page - 1);
+}
+
 void xvsh_replay_call(const xvsh_task *task, const uint8_t *schedule, size_t length, xvsh_answer *answer) {
   answered(task, "replay", "", answer);
   if (!answer->status) answer->events = copied(schedule, length);
@@ -110,10 +119,43 @@ void xvsh_explain_call(const xvsh_task *task, xvsh_answer *answer) {
   answered(task, "explain", json, answer);
 }
 
+void xvsh_check_turns_call(const xvsh_task *task, uint32_t strict, xvsh_answer *answer) {
+  answered(task, strict ? "strict" : "turns", "{\"findings\": [], \"turns\": 7}\n", answer);
+}
+
+void xvsh_check_room_call(const xvsh_task *task, uint32_t strict, xvsh_answer *answer) {
+  static const char json[] = "{\"findings\": [], \"room\": {\"size\": {\"need\": null, \"most\": 9}}, "
+    "\"lack\": {\"table\": \"size\", \"need\": 10, \"most\": 9}}\n";
+  answered(task, strict ? "strict" : "room", json, answer);
+}
+
+void xvsh_explain_why_call(const xvsh_task *task, xvsh_answer *answer) {
+  static const char json[] = "{\"notes\": [], \"missing\": [{\"line\": 2, \"name\": \"g\"}], \"settled\": false, "
+    "\"reasons\": [{\"kind\": \"cut pipe\", \"line\": 1, \"name\": \"f\", \"again\": 3}]}\n";
+  answered(task, "why", json, answer);
+}
+
+struct tried { bool ok; void *at; };
+struct tried rattle_alloc(size_t size, size_t align);
+void rattle_dealloc(void *block);
+
+/* The script `ask N` asks for memory N times, of which one refusal is the fault XVSH_MEMORY, and `shrug N` goes on without it. */
+static bool asks(const xvsh_task *task) {
+  bool refused = false;
+  size_t ask = number_in(task, "ask ", 0), shrug = number_in(task, "shrug ", 0);
+  for (size_t i = 0; i < ask + shrug && !(refused && ask); i++) {
+    struct tried got = rattle_alloc(100, 8);
+    if (got.ok) rattle_dealloc(got.at);
+    refused = !got.ok || refused;
+  }
+  return !(refused && ask);
+}
+
 void xvsh_explore_call(const xvsh_task *task, uint64_t states, uint32_t thorough, xvsh_answer *answer) {
   char json[256];
   snprintf(json, sizeof json, "{\"states\": %llu, \"stuck\": null, \"outcomes\": [{\"output\": \"a\", \"files\": [{\"name\": \"f\", \"bytes\": \"b\"}], "
            "\"schedule\": [1, 2]}], \"thorough\": %u}\n", (unsigned long long)states, (unsigned)thorough);
+  if (!asks(task)) { answer->status = XVSH_MEMORY; return; }
   answered(task, "explore", json, answer);
 }
 

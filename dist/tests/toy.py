@@ -58,11 +58,15 @@ def same(found, due, what):
     check(found == due, f"{what}: found {found!r}, and not {due!r}")
 
 
+def is_packed(top, crate):
+    """Returns whether dist/ of a checkout holds what is built of this crate's sources, as it does but for one that is being changed."""
+    with open(os.path.join(top, "dist", "record"), encoding="utf-8") as file:
+        recorded = re.search(rf"(?m)^{crate}\.sources (\w+)$", file.read())
+    return recorded is not None and run([os.path.join(top, "dist", "digest"), crate])[1] == f"{recorded[1]}\n"
+
+
 def has_program():
-    """Returns whether dist/ of this checkout holds the program of its sources, as it does but for one that is being changed."""
-    with open(os.path.join(ROOT, "dist", "record"), encoding="utf-8") as file:
-        recorded = re.search(r"(?m)^xvsh_main\.sources (\w+)$", file.read())[1]
-    return run([os.path.join(ROOT, "dist", "digest"), "xvsh_main"])[1] == f"{recorded}\n"
+    return is_packed(ROOT, "xvsh_main")
 
 
 class Toy:
@@ -93,7 +97,22 @@ class Toy:
             file.write(gzip.compress(program, mtime=0))
         status, digest, told = run([self.path("dist/digest"), "xvsh_main"])
         same((status, told), (0, ""), "dist/digest")
+        write(self.path("dist/names"), "xvsh_main xvsh_main\n")
         write(self.path("dist/record"), f"xvsh_main.sources {digest}xvsh_main.program {hashlib.sha256(program).hexdigest()}\n")
+
+    def pack_library(self, folder):
+        """Packs the library of a folder into dist/, as that of the sources that are there."""
+        record = f"xvsh_c.sources {run([self.path('dist/digest'), 'xvsh_c'])[1]}"
+        for name in ("libxvsh.a", "libxvsh.so"):
+            with open(os.path.join(folder, name), "rb") as file:
+                made = file.read()
+            with open(self.path(f"dist/{name}.gz"), "wb") as file:
+                file.write(gzip.compress(made, mtime=0))
+            record += f"{name}.program {hashlib.sha256(made).hexdigest()}\n"
+        with open(self.path("dist/record"), "a", encoding="utf-8") as file:
+            file.write(record)
+        with open(self.path("dist/names"), "a", encoding="utf-8") as file:
+            file.write("xvsh_c libxvsh.a libxvsh.so\n")
 
     def call(self, *words, env=None, launcher=None, **how):
         return run([launcher or self.path("xvsh"), *words], env={**self.env, **(env or {})}, **how)

@@ -5,8 +5,9 @@
     b'1 1 3 \\n'
 
 Over ctypes, with no dependency. The first call that needs the library loads libxvsh.so from the path in XVSH_LIBRARY, else from beside
-this file, where `pip install` puts it, else from lib/ of the checkout that this file stands in, else where the system looks. Where there
-is none it raises ImportError: `bindings/build` of the checkout builds it. `grade` runs the program, and needs no library.
+this file, where `pip install` puts it, else from lib/ of the checkout that this file stands in, where `bindings/build` puts it, which is
+called where lib/ has none and dist/ has it; else where the system looks. Where there is none it raises ImportError. `grade` runs the
+program, and needs no library.
 
 Each call raises the faults of what it is given: LineTooLong, ByteZero and ScriptTooLong of the script; where it takes them, TooLong,
 BadName and TooManyFiles of the files, and InputTooLong of the input; and Memory. Its own are told at each. What is no number where one is due
@@ -25,30 +26,32 @@ import ctypes.util
 import dataclasses
 import enum
 import functools
+import html
 import json
 import operator
 import os
-from collections.abc import Iterable, Iterator, Mapping
+import subprocess
+from collections.abc import Callable, Iterable, Iterator, Mapping
 from typing import Any, Union
 
 from ._show import Cell, Shown, code, counted, escaped, files as files_cell, table
 from .grading import AnyPath, Difference, Graded, GradeError, NoProgram, Report, TimedOut, Verdict, grade
 
 __all__ = [
-    "Answer", "AnyPath", "BadName", "BadOrder", "BadStates", "BadTurns", "ByteZero", "Bytes", "Check", "Difference", "Event", "Explanation", "Exploration",
-    "Fault", "File", "Files", "Finding", "GradeError", "Graded", "InputTooLong", "LineTooLong", "Memory", "NoEvent", "NoProgram", "NotRunnable",
-    "NotRunning", "Note", "Order", "Outcome", "Parting", "Pipe", "Plain", "Process", "Report", "Run", "ScriptTooLong", "Session", "Spent",
-    "TakenName", "TimedOut", "TooLarge", "TooLong", "TooManyFiles", "Unfinished", "Verdict", "XvshError", "check", "explain", "explore", "grade",
-    "plain", "replay", "run", "version",
+    "Answer", "AnyPath", "BadName", "BadOrder", "BadStates", "BadTurns", "ByteZero", "Bytes", "Check", "Difference", "Drawing", "Event", "Explanation", "Exploration",
+    "Fault", "File", "Files", "Finding", "GivenUp", "GradeError", "Graded", "InputTooLong", "Lack", "LineTooLong", "Memory", "MissingName", "Need", "NoEvent",
+    "NoProgram", "NotRunnable", "NotRunning", "Note", "Order", "Outcome", "Parting", "Pipe", "Plain", "Process", "Reason", "Report", "RoomCheck", "Run",
+    "ScriptTooLong", "Session", "Spent", "TakenName", "TimedOut", "TooLarge", "TooLong", "TooManyFiles", "TurnsCheck", "Unfinished", "Verdict", "Whys",
+    "XvshError", "check", "check_room", "check_turns", "draw", "explain", "explain_why", "explore", "grade", "plain", "replay", "run", "version",
 ]
-__version__ = "0.2.0"
+__version__ = "0.3.0"
 
 Bytes = Union[bytes, bytearray, memoryview, str]
 Files = Mapping[str, Bytes]
 
 MAX_TURNS = 1_000_000_000
 MAX_STATES = 10_000_000
-_VERSION = 2_000
+_VERSION = 3_000
 
 
 class Fault(enum.IntEnum):
@@ -72,6 +75,7 @@ class Fault(enum.IntEnum):
     BadTurns = 66
     BadOrder = 67
     BadStates = 68
+    GivenUp = 70
 
 
 class XvshError(ValueError):
@@ -161,6 +165,10 @@ class BadStates(XvshError):
     """The states are none of 1 to MAX_STATES."""
 
 
+class GivenUp(XvshError):
+    """The watch of the call had it given up."""
+
+
 _PLACES: dict[int, str] = {fault: "event" for fault in Fault} | dict.fromkeys((Fault.LineTooLong, Fault.ByteZero, Fault.NoEvent), "line")
 _PLACES |= dict.fromkeys((Fault.TooLong, Fault.BadName, Fault.TooManyFiles, Fault.TakenName), "file")
 _ERRORS: dict[int, type[XvshError]] = {
@@ -168,7 +176,7 @@ _ERRORS: dict[int, type[XvshError]] = {
     Fault.TooManyFiles: TooManyFiles, Fault.TooLarge: TooLarge, Fault.Memory: Memory, Fault.Spent: Spent,
     Fault.NoEvent: NoEvent, Fault.NotRunnable: NotRunnable, Fault.NotRunning: NotRunning, Fault.Unfinished: Unfinished,
     Fault.TakenName: TakenName, Fault.ScriptTooLong: ScriptTooLong, Fault.InputTooLong: InputTooLong, Fault.BadTurns: BadTurns,
-    Fault.BadOrder: BadOrder, Fault.BadStates: BadStates,
+    Fault.BadOrder: BadOrder, Fault.BadStates: BadStates, Fault.GivenUp: GivenUp,
 }
 
 
@@ -214,28 +222,42 @@ class _Answer(c.Structure):
     ]
 
 
+_goes_on = c.CFUNCTYPE(c.c_uint32, c.c_void_p, c.c_uint64)
+
+
+class _Watch(c.Structure):
+    _fields_ = [("goes_on", _goes_on), ("context", c.c_void_p)]
+
+
 def _find() -> str:
     here = os.path.dirname(os.path.abspath(__file__))
+    top = os.path.normpath(os.path.join(here, "..", "..", ".."))
     named = os.environ.get("XVSH_LIBRARY")
-    beside = [os.path.join(here, "libxvsh.so"), os.path.join(here, "..", "..", "..", "lib", "libxvsh.so")]
-    for path in [named] if named else beside:
+    beside, built = os.path.join(here, "libxvsh.so"), os.path.join(top, "lib", "libxvsh.so")
+    for path in [named] if named else [beside, built]:
         if os.path.exists(path):
             return path
+    build, told = os.path.join(top, "bindings", "build"), ""
+    if not named and os.path.exists(build):
+        ran = subprocess.run([build, "--packed"], stdin=subprocess.DEVNULL, stderr=subprocess.PIPE, text=True, check=False)
+        if ran.returncode == 0:
+            return built
+        told = f" ({ran.stderr.strip()})"
     found = None if named else ctypes.util.find_library("xvsh")
     if found:
         return found
     raise ImportError(
-        f"there is no {named or 'libxvsh.so'}: bindings/build of a checkout of xvsh builds lib/libxvsh.so, where Rattle's command rt is installed; "
-        "XVSH_LIBRARY names one that is elsewhere"
+        f"there is no {named or 'libxvsh.so'}{told}: bindings/build of a checkout of xvsh puts it into lib/, and XVSH_LIBRARY names one that is elsewhere"
     )
 
 
-_free = c.CDLL(None).free
-_free.argtypes, _free.restype = [c.c_void_p], None
 _task, _answer = c.POINTER(_Task), c.POINTER(_Answer)
+# what each call takes between the task and the answer
 _numbers: dict[str, list[Any]] = {
-    "plain": [], "run": [c.c_uint64, c.c_uint32, c.c_uint64], "replay": [c.c_char_p, c.c_size_t], "check": [c.c_uint32], "explain": [],
-    "explore": [c.c_uint64, c.c_uint32], "trace": [c.c_uint64, c.c_uint32, c.c_uint64], "look": [c.c_char_p, c.c_size_t],
+    "plain": [], "run": [c.c_uint64, c.c_uint32, c.c_uint64], "replay": [_Bytes], "check": [c.c_uint32], "explain": [],
+    "check_turns": [c.c_uint32], "check_room": [c.c_uint32], "explain_why": [],
+    "draw": [c.c_uint64, c.c_uint32, c.c_uint64],
+    "explore": [c.c_uint64, c.c_uint32], "explore_watched": [c.c_uint64, c.c_uint32, c.POINTER(_Watch)], "trace": [c.c_uint64, c.c_uint32, c.c_uint64], "look": [_Bytes],
 }
 
 
@@ -247,9 +269,10 @@ def _library() -> c.CDLL:
     if lib.xvsh_version() // 1000 != _VERSION // 1000:
         raise ImportError(f"libxvsh.so is of version {lib.xvsh_version()}, and the module xvsh of {_VERSION}: they differ before the third number")
     for name, more in _numbers.items():
-        function = getattr(lib, f"xvsh_{name}_call")
-        function.argtypes, function.restype = [_task, *more, _answer], None
-    lib.xvsh_fault_call.argtypes, lib.xvsh_fault_call.restype = [c.c_uint32, c.POINTER(_Bytes)], None
+        function = getattr(lib, f"xvsh_{name}")
+        function.argtypes, function.restype = [_task, *more, _answer], c.c_uint32
+    lib.xvsh_fault_text.argtypes, lib.xvsh_fault_text.restype = [c.c_uint32], _Bytes
+    lib.xvsh_answer_free.argtypes, lib.xvsh_answer_free.restype = [_answer], None
     return lib
 
 
@@ -271,10 +294,6 @@ def _number(value: int, bits: int, what: str) -> int:
     return number
 
 
-_NOTHING = c.c_char_p(b"")
-_EMPTY = c.cast(_NOTHING, c.c_void_p).value
-
-
 def _view(kept: list[Any], data: bytes) -> tuple[int | None, int]:
     held = c.c_char_p(data)
     kept.append(held)
@@ -286,9 +305,7 @@ def _text(bytes_: _Bytes) -> bytes:
 
 
 def _fault_text(number: int) -> str:
-    words = (_Bytes * 2)(_Bytes(_EMPTY, 0), _Bytes(_EMPTY, 0))
-    _library().xvsh_fault_call(number, words)
-    return _text(words[1]).decode()
+    return _text(_library().xvsh_fault_text(number)).decode()
 
 
 @dataclasses.dataclass(frozen=True, repr=False)
@@ -368,6 +385,18 @@ class Run(Answer):
             yield Event(n, "dispatch" if letter == b"D" else "trap", int(hart), int(pid))
 
 
+@dataclasses.dataclass(frozen=True, repr=False)
+class Drawing(Shown):
+    """A finished run, which has no schedule here, and the page of HTML that draws it. A notebook shows the page in a frame of its own."""
+
+    run: Run
+    html: bytes
+
+    def _repr_html_(self) -> str:
+        page = html.escape(self.html.decode("utf-8", "replace"), quote=True)
+        return f'<iframe srcdoc="{page}" sandbox="" style="width:100%;height:40em;border:0" title="a drawing of a run"></iframe>'
+
+
 def _traced(trace: bytes) -> Iterator[Event]:
     for line in trace.splitlines():
         record = json.loads(line)
@@ -404,6 +433,42 @@ class Check(Shown):
 
 
 @dataclasses.dataclass(frozen=True, repr=False)
+class TurnsCheck(Check):
+    """What a check found that counts turns: in how many a run by processes is finished, whatever their order, or None where these are more than
+    1,000,000,000."""
+
+    turns: int | None
+
+
+@dataclasses.dataclass(frozen=True)
+class Need:
+    """How much of a table a script needs at most, or None where that is more than 1,000,000, and how much there is."""
+
+    need: int | None
+    most: int
+
+
+@dataclasses.dataclass(frozen=True)
+class Lack:
+    """With which line first a script may need more of a table than there is: the need up to that line, and how much there is. The line is None
+    where the files that are there are too many already."""
+
+    line: int | None
+    table: str
+    need: int | None
+    most: int
+
+
+@dataclasses.dataclass(frozen=True, repr=False)
+class RoomCheck(Check):
+    """What a check found that tells room; it is `harmless` where there is room, too. `room` has a Need of each of `processes`, `open_files`,
+    `descriptors`, `files` and `size` (bytes of a file), and is None where a line has a clash or a `&`."""
+
+    room: dict[str, Need] | None = dataclasses.field(hash=False)
+    lack: Lack | None
+
+
+@dataclasses.dataclass(frozen=True, repr=False)
 class Note(Shown):
     """What is wrong or unexpected in a line, counted from 1, in a sentence; the places that it marks, each from a byte of the line's text, counted from 0, up to another."""
 
@@ -428,6 +493,43 @@ class Explanation(Shown):
         if lack:
             rows.append((lack.get("line"), None, f"may need {lack['need'] or 'more than 1000000'} {lack['table'].replace('_', ' ')}; there are {lack['most']}"))
         return table("fine" if self.fine else "not fine", ("line", "text", "note"), rows)
+
+
+@dataclasses.dataclass(frozen=True)
+class MissingName:
+    """The first name that a line, counted from 1, uses and that no file has when the line runs."""
+
+    line: int
+    name: str
+
+
+@dataclasses.dataclass(frozen=True)
+class Reason:
+    """Why a script isn't settled, as docs/FORMATS.md has it: a `background`, a `clash` of a kind on the file `name`, a `cut pipe` whose left side
+    writes the file `name`, which the line `again` names again, or a `loose input`, which a command of the line `user` uses."""
+
+    kind: str
+    line: int
+    clash: str | None = None
+    name: str | None = None
+    again: int | None = None
+    user: int | None = None
+
+
+@dataclasses.dataclass(frozen=True, repr=False)
+class Whys(Explanation):
+    """The notes on a script on its files and its input; it is `fine` where there is none, no name is missing, no line may not have room, and it
+    is `settled`. Where it isn't, there are `reasons`."""
+
+    missing: tuple[MissingName, ...]
+    settled: bool
+    reasons: tuple[Reason, ...]
+
+    def _repr_html_(self) -> str:
+        shown = super()._repr_html_()
+        rows: list[tuple[Cell, ...]] = [(it.line, "no file has this name when the line runs", escaped(os.fsencode(it.name))) for it in self.missing]
+        rows += [(it.line, it.kind, None if it.name is None else escaped(os.fsencode(it.name))) for it in self.reasons]
+        return shown + table("settled" if self.settled else "not settled", ("line", "what", "file"), rows)
 
 
 @dataclasses.dataclass(frozen=True)
@@ -532,23 +634,15 @@ def _call(name: str, script: Bytes, input: Bytes, files: Files | None, append: b
     kept: list[Any] = []
     budget = _number(budget, 64, "a budget is")
     rows = [_File(_view(kept, os.fsencode(name)), _view(kept, _raw(data))) for name, data in (files or {}).items()]
-    given = (_File * max(len(rows), 1))(*rows)
+    given = (_File * len(rows))(*rows)
     task = _Task(_view(kept, _raw(script)), _view(kept, _raw(input)), given, len(rows), budget, 1 if append else 0)
     answer = _Answer()
-    for field in ("out", "diag", "events", "json", "block"):
-        getattr(answer, field).at = _EMPTY
-    answer.sizes = c.cast(_NOTHING, c.POINTER(_Sizes))
-    getattr(_library(), f"xvsh_{name}_call")(task, *more, answer)
-    if answer.status:
+    if getattr(_library(), f"xvsh_{name}")(task, *more, answer):
         raise _error_of(answer.status, answer.place)
     try:
         return _Call(answer)
     finally:
-        for held in (answer.out, answer.diag, answer.events, answer.json, answer.block):
-            if held.length:
-                _free(held.at)
-        if answer.count:
-            _free(c.cast(answer.sizes, c.c_void_p))
+        _library().xvsh_answer_free(answer)
 
 
 def plain(script: Bytes, input: Bytes = b"", files: Files | None = None, *, append: bool = False, budget: int = 0) -> Plain:
@@ -577,11 +671,25 @@ def run(
     return Run(call.out, call.files, call.diag, schedule, call.full, call.events)
 
 
+def draw(
+    script: Bytes, input: Bytes = b"", files: Files | None = None, *, append: bool = False, turns: int = 10_000_000, order: Order = Order.KERNEL, seed: int = 0,
+) -> Drawing:
+    """Runs the script as `run` does, and draws the run, as `xvsh draw` draws its trace. The faults are those of `run`.
+
+    >>> import xvsh
+    >>> xvsh.draw("echo hi").html[:15].lower()
+    b'<!doctype html>'
+    """
+    numbers = _number(turns, 64, "turns are"), _number(order, 32, "an order is"), _number(seed, 64, "a seed is")
+    call = _call("draw", script, input, files, append, 0, *numbers)
+    return Drawing(Run(call.out, call.files, call.diag, b"", call.full), call.events)
+
+
 def replay(script: Bytes, schedule: Bytes, input: Bytes = b"", files: Files | None = None, *, append: bool = False) -> Run:
     """Runs it by the events of a schedule: a run's, or any other, of one to eight harts. NoEvent of a line that is none; NotRunnable and
     NotRunning of an event that can't take place; Unfinished where all took place and the run isn't finished."""
-    events = _raw(schedule)
-    return _run_of(_call("replay", script, input, files, append, 0, events, len(events)))
+    kept: list[Any] = []
+    return _run_of(_call("replay", script, input, files, append, 0, _Bytes(*_view(kept, _raw(schedule)))))
 
 
 def _run_of(call: _Call) -> Run:
@@ -596,12 +704,41 @@ def check(script: Bytes, *, strict: bool = False) -> Check:
     [('background', 2)]
     """
     call = _call("check", script, b"", None, False, 0, 1 if strict else 0)
-    made = json.loads(call.json)
-    findings = tuple(
+    return Check(call.fine, _findings_of(json.loads(call.json)), call.json)
+
+
+def _findings_of(made: dict[str, Any]) -> tuple[Finding, ...]:
+    return tuple(
         Finding(it["kind"], it["line"], it.get("fault"), it.get("first"), it.get("clash"), _name_of(it["name"]) if "name" in it else None)
         for it in made["findings"]
     )
-    return Check(call.fine, findings, call.json)
+
+
+def check_turns(script: Bytes, input: Bytes = b"", files: Files | None = None, *, strict: bool = False) -> TurnsCheck:
+    r"""Tells the same, and in how many turns a run by processes is finished, whatever their order.
+
+    >>> import xvsh
+    >>> checked = xvsh.check_turns("echo hi | wc")
+    >>> checked.harmless, checked.turns >= len([event for event in xvsh.run("echo hi | wc") if event.kind == "trap"])
+    (True, True)
+    """
+    call = _call("check_turns", script, input, files, False, 0, 1 if strict else 0)
+    made = json.loads(call.json)
+    return TurnsCheck(call.fine, _findings_of(made), call.json, made["turns"])
+
+
+def check_room(script: Bytes, input: Bytes = b"", files: Files | None = None, *, strict: bool = False) -> RoomCheck:
+    r"""Tells the same, and how much of xv6's tables a run may need at most, whatever the order of its processes.
+
+    >>> import xvsh
+    >>> xvsh.check_room("echo a | cat").room["processes"]
+    Need(need=5, most=64)
+    """
+    call = _call("check_room", script, input, files, False, 0, 1 if strict else 0)
+    made = json.loads(call.json)
+    room = {name: Need(it["need"], it["most"]) for name, it in made["room"].items()} if made["room"] else None
+    lack = Lack(made["lack"].get("line"), made["lack"]["table"], made["lack"]["need"], made["lack"]["most"]) if "lack" in made else None
+    return RoomCheck(call.fine, _findings_of(made), call.json, room, lack)
 
 
 def explain(script: Bytes) -> Explanation:
@@ -612,29 +749,73 @@ def explain(script: Bytes) -> Explanation:
     no program has this name: there are cat, echo, grep, head, tee and wc
     """
     call = _call("explain", script, b"", None, False, 0)
-    made = json.loads(call.json)
-    notes = tuple(
+    return Explanation(call.fine, _notes_of(json.loads(call.json)), call.json)
+
+
+def _notes_of(made: dict[str, Any]) -> tuple[Note, ...]:
+    return tuple(
         Note(it["kind"], it["line"], tuple((place["first"], place["past"]) for place in it["places"]), it["sentence"], _bytes_of(it["text"]))
         for it in made["notes"]
     )
-    return Explanation(call.fine, notes, call.json)
+
+
+def explain_why(script: Bytes, input: Bytes = b"", files: Files | None = None, *, append: bool = False) -> Whys:
+    """Tells the same, which names no file has when a line uses them, and why the script isn't settled on this input and these files. TooLarge
+    where the script makes a file too large, or one too many.
+
+    >>> import xvsh
+    >>> whys = xvsh.explain_why("cat f | tee f; cat g", files={"f": "a"})
+    >>> whys.missing, [(reason.kind, reason.name) for reason in whys.reasons]
+    ((MissingName(line=1, name='g'),), [('clash', 'f')])
+    """
+    call = _call("explain_why", script, input, files, append, 0)
+    made = json.loads(call.json)
+    missing = tuple(MissingName(it["line"], _name_of(it["name"])) for it in made["missing"])
+    reasons = tuple(
+        Reason(it["kind"], it["line"], it.get("clash"), _name_of(it["name"]) if "name" in it else None, it.get("again"), it.get("user")) for it in made["reasons"]
+    )
+    return Whys(call.fine, _notes_of(made), call.json, missing, made["settled"], reasons)
 
 
 def explore(
     script: Bytes, input: Bytes = b"", files: Files | None = None, *, append: bool = False, states: int = 200_000, thorough: bool = False,
+    watch: Callable[[int], bool] | None = None,
 ) -> Exploration:
     """Tries every order of the script's processes, of at most `states` states of the kernel, from 1 to MAX_STATES, for each of which
     memory is kept. A settled script none of whose files is soft has one outcome, and is explored only if it is to be `thorough`.
     TooLarge where a run has more turns than can be counted; BadStates.
 
+    `watch` is called meanwhile, every 1,024 requests for memory, with the number of these so far; where it returns what is false, the call is
+    given up, and is GivenUp; where it raises, as at Ctrl-C, the call is given up and the error raised again.
+
     >>> import xvsh
     >>> [outcome.out for outcome in xvsh.explore("echo a &; echo b").outcomes]
     [b'a\\nb\\n', b'ab\\n\\n', b'b\\na\\n', b'ba\\n\\n']
     """
-    call = _call("explore", script, input, files, append, 0, _number(states, 64, "states are"), 1 if thorough else 0)
+    numbers = _number(states, 64, "states are"), 1 if thorough else 0
+    call = _call_watched(watch, script, input, files, append, *numbers) if watch else _call("explore", script, input, files, append, 0, *numbers)
     made = json.loads(call.json)
     stuck = None if made["stuck"] is None else _schedule(made["stuck"])
     return Exploration(call.fine, call.whole, made["states"], tuple(map(_outcome_of, made["outcomes"])), stuck, call.json)
+
+
+def _call_watched(watch: Callable[[int], bool], script: Bytes, input: Bytes, files: Files | None, append: bool, *numbers: int) -> _Call:
+    raised: list[BaseException] = []
+
+    def goes_on(_context: Any, requests: int) -> int:
+        try:
+            return 1 if watch(requests) else 0
+        except BaseException as error:
+            raised.append(error)
+            return 0
+
+    held = _Watch(_goes_on(goes_on), None)
+    try:
+        return _call("explore_watched", script, input, files, append, 0, *numbers, held)
+    except GivenUp:
+        if raised:
+            raise raised[0] from None
+        raise
 
 
 def _bytes_of(value: Any) -> bytes:
@@ -700,7 +881,8 @@ class Session:
         """Looks at what these turns lead to."""
         events = _schedule(turns)
         script, input, files, append = self._task
-        call = _call("look", script, input, files, append, 0, events, len(events))
+        kept: list[Any] = []
+        call = _call("look", script, input, files, append, 0, _Bytes(*_view(kept, events)))
         self._finished, self._made, self._json = call.fine, json.loads(call.json), call.json
         self._turns = list(turns)
 

@@ -1,1 +1,5 @@
 mod Asked
+mod Explained
+mod Lines
+mod Refusals
+mod Roomy

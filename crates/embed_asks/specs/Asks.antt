@@ -8,7 +8,9 @@ use Rattle.script_notes.specs.Explained.{HasNothingToTell}
 use Rattle.xvsh_read.specs.declared.fault.Fault.{Fault}
 use Rattle.xvsh_read.specs.declared.fault.Fault.TheVariants.{Unreadable as unreadable, TooLong as too_long, LineTooLong as line_too_long, ByteZero as byte_zero, BadName as bad_name, TakenName as taken_name, TooManyFiles as too_many_files, TooLarge as too_large, Memory as refused}
 use Rattle.room_bounds.specs.declared.lack.Lack.{Lack}
-use Rattle.xvsh_checks.specs.Check.{AreHarmless}
+use Rattle.xvsh_checks.specs.declared.finding.Findings.{Findings}
+use Rattle.xvsh_checks.specs.Check.{AreTold, AreHarmless}
+use Rattle.xvsh_checks.specs.Values.{findings_text}
 use Rattle.xvsh_checks.specs.Lacks.{IsLackOfText}
 use Rattle.embed_task.specs.declared.task.Task.{Task}
 use Rattle.embed_task.specs.declared.fault.StartFault.{StartFault}
@@ -60,6 +62,14 @@ IsAskFault script (NotRunning n) = ⊥
 IsAskFault script Unfinished = ⊥
 IsAskFault script BadOrder = ⊥
 IsAskFault script BadStates = ⊥
+
+-- this is what is told of the lines of the task's script, and whether they are harmless, strictly or not
+pub record AreFound (task : Task) (strict : Bool) (found : Findings) : Type 0 where
+  pub lines : List ScriptLine
+  pub cut : IsScript task.script.now lines
+  pub short : length task.script.now ≤ max_input
+  pub told : AreTold 1 lines (findings_text found.list.items)
+  pub harmless : IsTrue found.is_harmless ↔ AreHarmless strict lines
 
 -- the answer is fine exactly where no line of the task's script holds a `&` or a clash, and strictly each is a command
 pub record IsCheckAnswer (task : Task) (strict : Bool) (answer : AskAnswer) : Type 0 where

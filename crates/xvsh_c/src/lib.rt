@@ -3,11 +3,13 @@
 
 mod answer;
 mod asks;
+mod draws;
 mod explores;
 mod handing;
 mod looks;
 mod plain;
 mod runs;
+mod tells;
 mod version;
 mod words;
 

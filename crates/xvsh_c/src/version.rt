@@ -3,5 +3,5 @@
 /// `xvsh_version`: 1,000,000 times the first number of the version, 1,000 times the second, and the third.
 #[unsafe(no_mangle)]
 pub extern "C" fn xvsh_version() -> u32 {
-    2_000
+    3_000
 }

@@ -34,6 +34,7 @@ fn words_of(number: u32) -> (&'static str, &'static str) {
         67 => ("BadOrder", "there is no such order"),
         68 => ("BadStates", "the states are not 1 to 10,000,000"),
         69 => ("Null", "a pointer is null, and its length is not 0"),
+        70 => ("GivenUp", "the call was given up"),
         _ => ("", ""),
     }
 }

@@ -1,11 +1,9 @@
 //! Grades students' scripts: what each prints, and whether it prints that every time.
 //!
-//!     bindings/build
 //!     cargo run --offline --manifest-path examples/rust/Cargo.toml
-mod xvsh;
+use xvsh::Task;
 
 fn main() {
-    let fruit: [(&[u8], &[u8]); 1] = [(b"fruit", b"apple pie\nplum\nfig\n")];
     let wanted = b"apple pie\n2 3 15 \n";
     let scripts: [&[u8]; 3] = [
         b"grep p fruit | head -1 ; grep p fruit | wc\n",
@@ -14,13 +12,13 @@ fn main() {
     ];
     for (number, script) in scripts.iter().enumerate() {
         println!("script {}", number + 1);
-        match xvsh::plain(script, b"", &fruit) {
+        match Task::new(script).file("fruit", "apple pie\nplum\nfig\n").plain() {
             Ok(answer) => {
                 let right = if answer.out() == wanted { "right" } else { "wrong" };
                 let settled = if answer.is_settled() { "settled" } else { "not settled" };
                 println!("  {right}, {settled}, {} files", answer.files().len());
             }
-            Err(fault) => println!("  refused: {} (fault {}, line {})", fault.text, fault.number, fault.place),
+            Err(error) => println!("  refused: {} (fault {}, line {})", error.fault.text(), error.fault.number(), error.place),
         }
     }
 }

@@ -2,7 +2,7 @@ use Rattle.std.proofs.Common.{◌≤◌, length, sym, subst, arith}
 use Rattle.embed_task.specs.Starting.{max_input}
 use Rattle.embed_asks.specs.Asks.{IsAskFault}
 use Rattle.embed_asks.proofs.Asked.{asked}
-use Rattle.embed_asks.proofs.checking.check_of.Goals as goal
+use Rattle.embed_asks.proofs.finding.find_of.Goals as goal
 
 pub returns-in-Err-clause-fault : goal.returns-in-Err-clause-fault
 returns-in-Err-clause-fault c =

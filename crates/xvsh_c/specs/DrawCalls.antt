@@ -1,0 +1,27 @@
+-- What a call of a drawing leaves: what the library below tells of the task, or a fault that is due.
+use Rattle.std.specs.Prelude.{◌≡◌, ℕ, None}
+use Rattle.embed_task.specs.declared.task.Task.{Task}
+use Rattle.embed_task.specs.declared.fault.EmbedFault.{EmbedFault}
+use Rattle.embed_task.specs.declared.fault.EmbedFault.TheVariants.{BadOrder}
+use Rattle.embed_runs.specs.Orders.{order_by}
+use Rattle.embed_runs.specs.Runs.{IsRunAnswer, IsRunFault}
+use Rattle.embed_draws.specs.declared.drawing.DrawAnswer.{DrawAnswer}
+use Rattle.xvsh_c.specs.declared.answer.Answer.{Answer}
+use Rattle.xvsh_c.specs.Answers.{TellsFault}
+use Rattle.xvsh_c.specs.RunCalls.{full_number}
+
+-- the answer tells what a run leaves, and the page that draws it
+pub record TellsDrawn (answer : Answer) (told : DrawAnswer) : Type 0 where
+  pub status : answer.status ≡ 0
+  pub out : answer.out.now ≡ told.run.out.items
+  pub diag : answer.diag.now ≡ told.run.diag.items
+  pub events : answer.events.now ≡ told.page.items
+  pub sizes : answer.sizes.now ≡ told.run.files.sizes.items
+  pub block : answer.block.now ≡ told.run.files.block.items
+  pub full : answer.full ≡ full_number told.run.full
+
+-- a call of `xvsh_draw_call` left this answer: there is no such order, or what its run tells
+pub data DrawCall (task : Task) (turns order number : ℕ) (answer : Answer) : Type 0 where
+  no_order : order_by order number ≡ None → TellsFault answer BadOrder → DrawCall task turns order number answer
+  drawn : (told : DrawAnswer) → IsRunAnswer task told.run → TellsDrawn answer told → DrawCall task turns order number answer
+  failed : (fault : EmbedFault) → IsRunFault task turns fault → TellsFault answer fault → DrawCall task turns order number answer

@@ -1,0 +1,46 @@
+//! Pages of runs.
+ghost use Rattle.xvsh_c.specs.DrawCalls.{DrawCall, TellsDrawn};
+
+use crate::answer::{Answer, put_fault};
+use crate::handing::{given_out, table_out};
+use crate::runs::full_number;
+use embed_draws::{DrawAnswer, draw_of};
+use embed_runs::order_by;
+use embed_task::{EmbedFault, Task};
+use std::alloc::Global;
+
+// Puts what a run leaves into an answer, with its page for its events.
+fn put_drawn(told: DrawAnswer, answer: &mut Answer)
+    ensures { TellsDrawn answer.new told }
+{
+    answer.clear();
+    let DrawAnswer { run, page } = told;
+    answer.full = full_number(run.full);
+    answer.sizes = table_out(run.files.sizes);
+    answer.block = given_out(run.files.block);
+    answer.events = given_out(page);
+    answer.diag = given_out(run.diag);
+    answer.out = given_out(run.out);
+}
+
+/// `xvsh_draw_call`: runs a script as `xvsh_run_call`, and draws the run.
+#[unsafe(no_mangle)]
+pub extern "C" fn xvsh_draw_call(
+    alloc: Global,
+    task: &Task<'_>,
+    turns: u64,
+    order: u32,
+    number: u64,
+    answer: &mut Answer,
+)
+    ensures { DrawCall task.now turns order number answer.new }
+{
+    let Some(order) = order_by(order, number) else {
+        put_fault(EmbedFault::BadOrder, answer);
+        return;
+    };
+    match draw_of(alloc, task, turns, order) {
+        Ok(told) => put_drawn(told, answer),
+        Err(fault) => put_fault(fault, answer),
+    }
+}
