@@ -2,4 +2,3 @@ mod Asked
 mod Explained
 mod Lines
 mod Refusals
-mod Roomy

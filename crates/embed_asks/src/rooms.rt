@@ -1,19 +1,13 @@
 //! The check of a script, with the room that it needs.
-ghost use Rattle.std.specs.Prelude.{◌↔◌, Bool, List, false, IfErr, IfOk, IsTrue};
-ghost use Rattle.mem_files.specs.Name.{Name, Bytes};
-ghost use Rattle.script_load.specs.Line.{ScriptLine, lines_of};
-ghost use Rattle.room_model.specs.Roomy.{IsRoomyScript};
-ghost use Rattle.xvsh_checks.specs.Check.{AreHarmless};
-ghost use Rattle.xvsh_checks.specs.Room.{IsRoomFound};
+ghost use Rattle.std.specs.Prelude.{IfErr, IfOk};
 ghost use Rattle.embed_asks.specs.Tells.{IsRoomAnswer, IsTellFault};
 
 use crate::answer::code_of;
 use crate::finding::find_of;
-use embed_task::{Begun, EmbedFault, Task, begin};
+use embed_task::{EmbedFault, Task, begin};
 use result_json::room_result;
-use room_bounds::{first_without_room, is_roomy, room_of};
 use std::alloc::Global;
-use xvsh_checks::{Findings, RoomFound};
+use xvsh_checks::{Findings, RoomFound, find_room, is_fine};
 
 /// What is told of a script and of its room.
 #[derive(Drop)]
@@ -24,38 +18,6 @@ pub struct RoomAnswer {
     pub found: RoomFound,
     /// The object of JSON that tells both, and LF.
     pub json: Vec<u8>,
-}
-
-// What is known of the room of a script, in which no line has a clash or a `&`, or one has.
-fn room_found(is_clear: bool, begun: &Begun, stdin: &[u8]) -> RoomFound
-    ensures { (IsTrue is_clear ↔ AreHarmless false (lines_of begun.now.script.lines)) → IsRoomFound (lines_of begun.now.script.lines) stdin.now begun.now.files result }
-{
-    if is_clear {
-        RoomFound::Known {
-            room: room_of(&begun.script, stdin, &begun.files),
-            lack: first_without_room(&begun.script, stdin, &begun.files),
-        }
-    } else {
-        RoomFound::Unknown
-    }
-}
-
-// Whether it has room by what was found.
-fn has_room(found: &RoomFound) -> bool
-    ensures { (lines : List ScriptLine) (input : Bytes) (files : List (Name × Bytes)) → IsRoomFound lines input files found.now → IsTrue result ↔ (AreHarmless false lines × IsRoomyScript lines input files) }
-{
-    match found {
-        RoomFound::Known { room, .. } => is_roomy(room),
-        RoomFound::Unknown => false,
-    }
-}
-
-// Whether a script whose lines are harmless or aren't has room, too.
-fn is_fine(is_harmless: bool, found: &RoomFound) -> bool
-    ensures { (strict : Bool) (lines : List ScriptLine) (input : Bytes) (files : List (Name × Bytes)) → (IsTrue is_harmless ↔ AreHarmless strict lines) → IsRoomFound lines input files found.now
-        → IsTrue result ↔ (AreHarmless strict lines × IsRoomyScript lines input files) }
-{
-    is_harmless && has_room(found)
 }
 
 /// Checks the script of a task, strictly or not, and tells how much of xv6's tables it needs at most on the task's input and files,
@@ -75,11 +37,7 @@ pub fn room_check_of(
         Ok(begun) => begun,
         Err(fault) => return Err(EmbedFault::Start(fault)),
     };
-    let clear = match find_of(alloc, task, false) {
-        Ok(clear) => clear,
-        Err(fault) => return Err(fault),
-    };
-    let found = room_found(clear.is_harmless, &begun, task.stdin);
+    let found = find_room(&begun.script, task.stdin, &begun.files);
     let mut findings = match find_of(alloc, task, is_strict) {
         Ok(findings) => findings,
         Err(fault) => return Err(fault),

@@ -1,5 +1,5 @@
 //! The explanation of a script on its files and its input.
-ghost use Rattle.std.specs.Prelude.{◌≡◌, ◌↔◌, ◌⊎◌, [], None, IfErr, IfOk, IsTrue, false, map};
+ghost use Rattle.std.specs.Prelude.{◌≡◌, ◌↔◌, ◌⊎◌, [], None, IfErr, IfOk, IsTrue, map};
 ghost use Rattle.mem_files.specs.Files.{files};
 ghost use Rattle.script_load.specs.Line.{lines_of};
 ghost use Rattle.script_notes.specs.Explained.{IsExplained};
@@ -8,20 +8,17 @@ ghost use Rattle.missing_names.specs.Missing.{missing_names};
 ghost use Rattle.missing_names.specs.Texts.{shown};
 ghost use Rattle.reason_sentences.specs.Sentences.{reason_text};
 ghost use Rattle.reason_sentences.specs.Whys.{AreReasonTexts};
-ghost use Rattle.xvsh_checks.specs.Check.{AreHarmless};
-ghost use Rattle.xvsh_checks.specs.Lacks.{IsLackNoted};
 ghost use Rattle.embed_asks.specs.Tells.{AreWhysOf, IsNotesFault, IsReasonsFault, IsWhysAnswer, IsWhysFault};
 
 use crate::answer::code_of;
-use crate::finding::find_of;
 use embed_task::{Begun, EmbedFault, StartFault, Task, begin};
 use missing_names::{Missing, missing_names};
 use plain_run::{PlainFault, Reason, plain_with_reasons};
 use result_json::{ExplainValues, explain_result};
-use room_bounds::{Lack, first_crowded};
+use room_bounds::Lack;
 use script_notes::{LineNote, notes_of};
 use std::alloc::{AllocError, Global};
-use xvsh_checks::NotedWhys;
+use xvsh_checks::{NotedWhys, lack_of};
 
 /// What is told of a script on its files and its input.
 #[derive(Drop)]
@@ -62,17 +59,6 @@ fn missing_of(alloc: Global, begun: &Begun) -> Result<Vec<Missing>, AllocError>
     missing_names(alloc, &begun.script, &begun.files)
 }
 
-// With which line first what was begun may not have room, where no line has a clash or a `&`.
-fn lack_of(is_clear: bool, begun: &Begun) -> Option<Lack>
-    ensures { (IsTrue is_clear ↔ AreHarmless false (lines_of begun.now.script.lines)) → IsLackNoted (lines_of begun.now.script.lines) result }
-{
-    if is_clear {
-        first_crowded(&begun.script)
-    } else {
-        None
-    }
-}
-
 // Whether there are none.
 fn are_none(notes: &[LineNote]) -> bool
     ensures { IsTrue result ↔ (written notes.now ≡ []) }
@@ -102,14 +88,9 @@ fn is_nothing(
     is_told_nothing(notes, lack) && missing.is_empty() && reasons.is_empty()
 }
 
-// What is told of what was begun, whose script has these bytes, and in which no line has a clash or a `&`, or one has.
-fn noted_of(
-    alloc: Global,
-    begun: &Begun,
-    task: &Task<'_>,
-    is_clear: bool,
-) -> Result<NotedWhys, EmbedFault>
-    ensures told { IfOk result (λ noted. (IsTrue is_clear ↔ AreHarmless false (lines_of begun.now.script.lines)) → AreWhysOf task.now begun.now.script.profile (lines_of begun.now.script.lines) begun.now.files noted) }
+// What is told of what was begun, whose script has these bytes.
+fn noted_of(alloc: Global, begun: &Begun, task: &Task<'_>) -> Result<NotedWhys, EmbedFault>
+    ensures told { IfOk result (AreWhysOf task.now begun.now.script.profile (lines_of begun.now.script.lines) begun.now.files) }
     ensures fault { IfErr result (λ fault. IsNotesFault task.now.script.now fault ⊎ IsReasonsFault begun.now.script.profile (lines_of begun.now.script.lines) task.now.stdin.now begun.now.files fault) }
 {
     let notes = match notes_on(alloc, task.script) {
@@ -124,7 +105,7 @@ fn noted_of(
         Ok(missing) => missing,
         Err(_) => return Err(EmbedFault::Memory),
     };
-    let lack = lack_of(is_clear, begun);
+    let lack = lack_of(&begun.script);
     let is_fine = is_nothing(
         notes.as_slice(),
         missing.as_slice(),
@@ -164,11 +145,7 @@ pub fn whys_of(alloc: Global, task: &Task<'_>) -> Result<WhysAnswer, EmbedFault>
         Ok(begun) => begun,
         Err(fault) => return Err(EmbedFault::Start(fault)),
     };
-    let clear = match find_of(alloc, task, false) {
-        Ok(clear) => clear,
-        Err(fault) => return Err(fault),
-    };
-    let noted = match noted_of(alloc, &begun, task, clear.is_harmless) {
+    let noted = match noted_of(alloc, &begun, task) {
         Ok(noted) => noted,
         Err(fault) => return Err(fault),
     };

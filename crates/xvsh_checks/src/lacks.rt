@@ -11,7 +11,7 @@ use std::alloc::{AllocError, Global};
 
 /// The first line with which a script may need more processes, open files or descriptors than there are, or `None`; of a script with
 /// a clash or a `&` the first with which it may need more processes or descriptors.
-pub(crate) fn lack_of(script: &Script<Global>) -> Option<Lack>
+pub fn lack_of(script: &Script<Global>) -> Option<Lack>
     ensures { IsLackNoted (lines_of script.now.lines) result }
 {
     if is_clear(script.lines.as_slice()) {

@@ -43,8 +43,8 @@ pub(crate) fn is_clear(lines: &[Line<Global>]) -> bool
     true
 }
 
-// What is known of the room of a script.
-fn room_found(script: &Script<Global>, stdin: &[u8], given: &Files<Global>) -> RoomFound
+/// What is known of the room that a script needs on this standard input and these files.
+pub fn find_room(script: &Script<Global>, stdin: &[u8], given: &Files<Global>) -> RoomFound
     ensures { IsRoomFound (lines_of script.now.lines) stdin.now given.now result }
 {
     if is_clear(script.lines.as_slice()) {
@@ -70,8 +70,9 @@ fn has_room(found: &RoomFound) -> bool
     }
 }
 
-// Whether a script whose lines are harmless or aren't has room, too.
-fn is_fine(is_harmless: bool, found: &RoomFound) -> bool
+/// Whether a script has harmless lines, and room too: by whether its lines are harmless, strictly or not, and by what is known of its
+/// room.
+pub fn is_fine(is_harmless: bool, found: &RoomFound) -> bool
     ensures { (strict : Bool) (lines : List ScriptLine) (input : Bytes) (files : List (Name × Bytes)) → (IsTrue is_harmless ↔ AreHarmless strict lines) → IsRoomFound lines input files found.now
         → IsTrue result ↔ (AreHarmless strict lines × IsRoomyScript lines input files) }
 {
@@ -243,7 +244,7 @@ pub fn run_room<'a, H: Host>(
     ensures fault { IfErr result (IsRoomFault (H.input host.old) (H.file host.old) request.now.script.now request.now.files.now) }
 {
     let start = start_of(alloc, request, host)?;
-    let found = room_found(&start.script, start.stdin.as_slice(), &start.files);
+    let found = find_room(&start.script, start.stdin.as_slice(), &start.files);
     let mut checked = check(alloc, &start.script, request.is_strict)?;
     let told = room_report(alloc, &found)?;
     checked.text.extend_from_slice(told.as_slice())?;
@@ -270,7 +271,7 @@ pub fn run_find_room<'a, H: Host>(
     ensures fault { IfErr result (IsRoomFault (H.input host.old) (H.file host.old) request.now.script.now request.now.files.now) }
 {
     let start = start_of(alloc, request, host)?;
-    let found = room_found(&start.script, start.stdin.as_slice(), &start.files);
+    let found = find_room(&start.script, start.stdin.as_slice(), &start.files);
     let mut findings = find(alloc, &start.script, request.is_strict)?;
     findings.is_harmless = is_fine(findings.is_harmless, &found);
     Ok(RoomFindings { findings, found })

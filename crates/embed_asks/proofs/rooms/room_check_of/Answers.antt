@@ -1,4 +1,3 @@
-use Rattle.std.proofs.Common.{false}
 use Rattle.script_load.specs.Line.{lines_of}
 use Rattle.embed_asks.specs.Tells.{no_start, not_found, no_memory}
 use Rattle.embed_asks.proofs.Lines.{told_of, harmless_of}
@@ -10,25 +9,20 @@ returns-in-Err-clause-fault c = no_start c.in-Err.ensures.fault
 pub returns-in-Err-find_of-clause-fault : goal.returns-in-Err-find_of-clause-fault
 returns-in-Err-find_of-clause-fault c = not_found c.in-Err-find_of.ensures.fault
 
-pub returns-in-Err-find_of-2-clause-fault : goal.returns-in-Err-find_of-2-clause-fault
-returns-in-Err-find_of-2-clause-fault c = not_found c.in-Err-find_of-2.ensures.fault
-
 pub returns-in-Ok-room_result-clause-told : goal.returns-in-Ok-room_result-clause-told
 returns-in-Ok-room_result-clause-told c =
     let task = c.args.task.now in
     let begun = c.in-Ok.begun in
     let lines = lines_of begun.script.lines in
-    let clear = c.in-Ok-find_of.clear in
-    let found = c.in-Ok-find_of-2.findings in
+    let found = c.in-Ok-find_of.findings in
     let starts = c.in-Ok.ensures.starts in
-    let room = c.room_found-found.ensures (harmless_of task false clear lines c.in-Ok-find_of.ensures.found starts.cut) in
     record {
       lines = lines;
       given = begun.files;
       starts = starts;
-      told = told_of task c.args.is_strict found lines c.in-Ok-find_of-2.ensures.found starts.cut;
-      room = room;
-      fine = c.is_fine.ensures c.args.is_strict lines task.stdin.now begun.files (harmless_of task c.args.is_strict found lines c.in-Ok-find_of-2.ensures.found starts.cut) room;
+      told = told_of task c.args.is_strict found lines c.in-Ok-find_of.ensures.found starts.cut;
+      room = c.find_room-found.ensures;
+      fine = c.is_fine.ensures c.args.is_strict lines task.stdin.now begun.files (harmless_of task c.args.is_strict found lines c.in-Ok-find_of.ensures.found starts.cut) c.find_room-found.ensures;
     }
 
 pub returns-clause-fault : goal.returns-clause-fault

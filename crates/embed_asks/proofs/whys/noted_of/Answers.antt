@@ -16,13 +16,13 @@ pub returns-in-Err-missing_of-clause-fault : goal.returns-in-Err-missing_of-clau
 returns-in-Err-missing_of-clause-fault c = inr no_reasons_memory
 
 pub returns-clause-told : goal.returns-clause-told
-returns-clause-told c clear =
+returns-clause-told c =
     let begun = c.args.begun.now in
     let lack = c.lack_of-lack.result in
     let notes = c.in-Ok.notes.items in
     let missing = c.in-Ok-missing_of.missing.items in
     let is = c.is_nothing-is_fine.result in
-    are_whys c.args.task.now begun.script.profile (lines_of begun.script.lines) begun.files _ c.in-Ok.ensures.told c.in-Ok-missing_of.ensures (c.lack_of-lack.ensures clear) c.in-Ok-reasons_of.ensures.reasons
+    are_whys c.args.task.now begun.script.profile (lines_of begun.script.lines) begun.files _ c.in-Ok.ensures.told c.in-Ok-missing_of.ensures c.lack_of-lack.ensures c.in-Ok-reasons_of.ensures.reasons
     (subst (λ rs. IsTrue is ↔ ((written notes ≡ []) × (missing ≡ []) × (lack ≡ None) × (rs ≡ []))) c.as_slice-3.ensures.value
     (subst (λ ms. IsTrue is ↔ ((written notes ≡ []) × (ms ≡ []) × (lack ≡ None) × (c.as_slice-3.result.now ≡ []))) c.as_slice-2.ensures.value
     (subst (λ ns. IsTrue is ↔ ((written ns ≡ []) × (c.as_slice-2.result.now ≡ []) × (lack ≡ None) × (c.as_slice-3.result.now ≡ []))) c.as_slice.ensures.value c.is_nothing-is_fine.ensures)))

@@ -1,15 +1,11 @@
-use Rattle.std.proofs.Common.{◌⊎◌, false, inl, inr, subst}
+use Rattle.std.proofs.Common.{◌⊎◌, inl, inr, subst}
 use Rattle.script_load.specs.Line.{lines_of}
-use Rattle.embed_asks.specs.Tells.{AreWhysOf, IsReasonsFault, IsWhysFault, no_start, not_found, no_memory, not_told, no_reasons}
-use Rattle.embed_asks.proofs.Lines.{harmless_of}
+use Rattle.embed_asks.specs.Tells.{AreWhysOf, IsReasonsFault, IsWhysFault, no_start, no_memory, not_told, no_reasons}
 use Rattle.embed_asks.proofs.Refusals.{refused}
 use Rattle.embed_asks.proofs.whys.whys_of.Goals as goal
 
 pub returns-in-Err-clause-fault : goal.returns-in-Err-clause-fault
 returns-in-Err-clause-fault c = not_told (no_start c.in-Err.ensures.fault)
-
-pub returns-in-Err-find_of-clause-fault : goal.returns-in-Err-find_of-clause-fault
-returns-in-Err-find_of-clause-fault c = not_told (not_found c.in-Err-find_of.ensures.fault)
 
 pub returns-in-Err-noted_of-clause-fault : goal.returns-in-Err-noted_of-clause-fault
 returns-in-Err-noted_of-clause-fault c =
@@ -26,8 +22,7 @@ returns-in-Ok-object_of-clause-told c =
       lines = lines;
       given = begun.files;
       starts = starts;
-      whys = subst (λ profile. AreWhysOf task profile lines begun.files noted) c.in-Ok.ensures.profile
-          (c.in-Ok-noted_of.ensures.told (harmless_of task false c.in-Ok-find_of.clear lines c.in-Ok-find_of.ensures.found starts.cut));
+      whys = subst (λ profile. AreWhysOf task profile lines begun.files noted) c.in-Ok.ensures.profile c.in-Ok-noted_of.ensures.told;
     }
 
 pub returns-clause-fault : goal.returns-clause-fault
