@@ -6,8 +6,8 @@ pub const MOST_BYTES: usize = 1_048_576;
 /// The most states through which a test may have orders tried (own).
 pub const MOST_STATES: usize = 10_000_000;
 
-/// Through how many orders are tried where neither the test nor the suite says (own).
-pub const STATES: usize = 200_000;
+/// The most states through which orders are tried, where neither the test nor the suite says (own).
+pub const STATES: usize = 10_000;
 
 /// The most events that a test may allow a run (own).
 pub const MOST_TURNS: u64 = 1_000_000_000;
