@@ -1,5 +1,5 @@
 -- What is due of a test is due of the same test, and by a verdict that says the same.
-use Rattle.std.proofs.Common.{◌≡◌, ℕ, ◌<◌, ◌≤◌, List, Bool, false, Some, All, length, map, get_or, inl, inr, refl, sym, ap, subst, ◌∙◌}
+use Rattle.std.proofs.Common.{◌≡◌, ℕ, ◌<◌, ◌≤◌, List, Bool, false, Some, All, length, map, inl, inr, refl, sym, subst, ◌∙◌}
 use Rattle.std.specs.Prelude.{◌⊎◌, None}
 use Rattle.std.proofs.lemmas.List.{get_or-map, length-map}
 use Rattle.std.proofs.lemmas.List.Elements.{All-map}
@@ -23,14 +23,12 @@ use Rattle.order_model.specs.Outcome.{RunOutcome, outcome_of}
 use Rattle.order_model.specs.Explored.{AreAllOutcomes, IsNeverStuck}
 use Rattle.order_search.specs.Told.{IsReplayed, LeadsToSleep}
 use Rattle.order_search.specs.declared.outcomes.Outcome.{Outcome}
-use Rattle.grade_verdicts.specs.Agrees.{Agrees, AgreesIn, AgreesWith, HasFile}
+use Rattle.grade_verdicts.specs.Agrees.{Agrees, AgreesIn}
 use Rattle.grade_verdicts.specs.Judged.{AreMost, limited, unlimited, EndsInTime, without_limit, ended, HasNoRoom, HasWrongRun, InEveryRun, IsInTime, IsJudged, judged, no_script, too_long, IsKnown, IsMeant, IsNotRight, IsPass, IsPassed, IsPassedInEveryOrder, IsRace, IsSpent, asleep, by_turns, IsUnlimited, IsUnsure, IsVerdict, IsWrong, by_meaning, in_every_order, IsWrongSoFar, start_of}
 use Rattle.grade_verdicts.specs.Same.{IsCopyOf, IsSameExpected, IsSameTask, named}
 use Rattle.grade_verdicts.specs.declared.expected.Expected.{Expected}
-use Rattle.grade_verdicts.specs.declared.expected.ExpectedFile.{ExpectedFile}
 use Rattle.grade_verdicts.specs.declared.expected.Task.{Task}
 use Rattle.grade_verdicts.specs.declared.verdict.Race.{Race}
-use Rattle.grade_verdicts.specs.declared.verdict.Refusal.{Refusal}
 use Rattle.grade_verdicts.specs.declared.verdict.Refusal.TheVariants.{Script, Line}
 use Rattle.grade_verdicts.specs.declared.verdict.Verdict.{Verdict}
 use Rattle.grade_verdicts.specs.declared.verdict.Verdict.TheVariants.{Pass, PassEveryOrder, Wrong, WrongSoFar, Race as IsRacing, Unsure, Refused, TooLarge, NoRoom, Spent}

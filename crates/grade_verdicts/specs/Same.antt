@@ -1,5 +1,5 @@
 -- When two tests are one, and when two verdicts say the same.
-use Rattle.std.specs.Prelude.{◌≡◌, List, Option, None, MatchOption, IsSomeAnd, map}
+use Rattle.std.specs.Prelude.{◌≡◌, None, MatchOption, IsSomeAnd, map}
 use Rattle.mem_files.specs.Name.{Name, Bytes}
 use Rattle.grade_verdicts.specs.declared.expected.Expected.{Expected}
 use Rattle.grade_verdicts.specs.declared.expected.ExpectedFile.{ExpectedFile}

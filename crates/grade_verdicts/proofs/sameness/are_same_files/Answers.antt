@@ -1,4 +1,4 @@
-use Rattle.std.proofs.Common.{◌≡◌, ◌<◌, true, false, length, arith, ap, sym, subst, ◌∙◌, rules}
+use Rattle.std.proofs.Common.{◌≡◌, ◌<◌, true, false, length, arith, sym, ◌∙◌}
 use Rattle.grade_verdicts.specs.Same.{named}
 use Rattle.grade_verdicts.proofs.Sames.{at_place, one_more}
 use Rattle.grade_verdicts.proofs.sameness.are_same_files.Goals as goal
