@@ -1,1 +1,3 @@
 pub mod Known
+mod Sames
+pub mod Shared

@@ -47,7 +47,7 @@ pub struct Race {
 }
 
 /// Why a script is refused (own).
-#[derive(Debug, Drop)]
+#[derive(Clone, Copy, Debug)]
 pub enum Refusal {
     /// It can't be read.
     Script(LoadFault),

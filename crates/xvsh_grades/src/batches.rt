@@ -10,7 +10,9 @@ ghost use Rattle.xvsh_grades.specs.declared.marks.Mark.{Mark};
 ghost use Rattle.xvsh_grades.specs.declared.marks.Piece.{Piece};
 
 use crate::marks::{Mark, Piece, mark_all};
+use crate::plan::Plan;
 use crate::request::Grading;
+use grade_jobs::Known;
 use grade_tests::{GradeFault, Loaded};
 use grade_verdicts::Verdict;
 use std::alloc::{AllocError, Global};
@@ -32,20 +34,13 @@ pub struct Script<'a> {
     pub bytes: Vec<u8>,
 }
 
-/// How scripts are judged: the tests without a script of their own, by how many threads, and how many verdicts there will be.
-#[derive(Clone, Copy)]
-pub struct Plan<'t, 'p> {
-    pub alloc: Global,
-    pub tests: &'p [&'t Loaded],
-    pub threads: usize,
-    pub of: usize,
-}
-
 /// The scripts that wait to be judged, and what was found before.
 #[derive(Drop)]
 pub struct Book<'t, 'a> {
     pub marks: Vec<Mark<'t, 'a>>,
     pub waiting: Vec<Script<'a>>,
+    /// What was judged, so that the same isn't judged again.
+    pub known: Known<'t>,
     /// How many bytes more may wait.
     pub room: usize,
 }
@@ -105,13 +100,14 @@ fn judge_scripts<'t, 'a, R: Threads + Wait + Clock + Sync>(
     rt: &R,
     plan: &Plan<'t, '_>,
     scripts: &[Script<'a>],
+    known: &mut Known<'t>,
     marks: &mut Vec<Mark<'t, 'a>>,
 ) -> Result<(), AllocError>
     ensures { OnOk result ((own : List Loaded) (reads : List ScriptRead) → AreMarks own (map (λ test. test.now) plan.now.tests.now) reads marks.old.items
         → AreMarks own (map (λ test. test.now) plan.now.tests.now) (reads ++ map read_of scripts.now) marks.new.items) }
 {
     let pieces = pieces_of(plan, scripts)?;
-    mark_all(rt, plan.alloc, pieces.as_slice(), plan.threads, marks)?;
+    mark_all(rt, plan, pieces.as_slice(), known, marks)?;
     Ok(())
 }
 
@@ -151,6 +147,7 @@ impl<'t, 'a> Book<'t, 'a> {
         Book {
             marks: Vec::new(alloc),
             waiting: Vec::new(alloc),
+            known: Known::new(alloc),
             room: BATCH_BYTES,
         }
     }
@@ -172,7 +169,13 @@ impl<'t, 'a> Book<'t, 'a> {
         ensures empty { OnOk result (self.new.waiting.items ≡ []) }
         ensures stays { H.file host.new ≡ H.file host.old }
     {
-        judge_scripts(rt, plan, self.waiting.as_slice(), &mut self.marks)?;
+        judge_scripts(
+            rt,
+            plan,
+            self.waiting.as_slice(),
+            &mut self.known,
+            &mut self.marks,
+        )?;
         tell(host, self.waiting.len(), self.marks.len(), plan.of);
         self.waiting.clear();
         self.room = BATCH_BYTES;

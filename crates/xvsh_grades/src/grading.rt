@@ -8,8 +8,9 @@ ghost use Rattle.xvsh_grades.specs.Marks.{AreMarks, IsGraded, IsReadAt, ScriptRe
 ghost use Rattle.xvsh_grades.specs.Passed.{IsReportOf};
 ghost use Rattle.xvsh_grades.specs.declared.marks.Mark.{Mark};
 
-use crate::batches::{Book, Plan};
+use crate::batches::Book;
 use crate::marks::{Mark, Piece, mark_all};
+use crate::plan::Plan;
 use crate::reporting::report_of;
 use crate::request::{GradeRequest, Grading, Report};
 use grade_tests::{Asked, GradeFault, Loaded, read_tests};
@@ -77,16 +78,18 @@ fn judge_own<'t, 'a, R: Threads + Wait + Clock + Sync, H: Grading>(
     plan: &Plan<'t, '_>,
     host: &mut H,
     pieces: &[Piece<'t, 'a, 't>],
-    marks: &mut Vec<Mark<'t, 'a>>,
+    book: &mut Book<'t, 'a>,
 ) -> Result<(), AllocError>
-    ensures found { OnOk result ((found : List Mark) × (marks.new.items ≡ marks.old.items ++ found) × AllZip IsMarkOf pieces.now found) }
+    ensures found { OnOk result ((found : List Mark) × (book.new.marks.items ≡ book.old.marks.items ++ found) × AllZip IsMarkOf pieces.now found) }
+    ensures waiting { book.new.waiting ≡ book.old.waiting }
     ensures stays { H.file host.new ≡ H.file host.old }
 {
     let mut done = 0;
     'batches: while done < pieces.len() {
         let end = done.saturating_add(BATCH).min(pieces.len());
-        mark_all(rt, plan.alloc, &pieces[done..end], plan.threads, marks)?;
-        host.graded(marks.len(), plan.of);
+        let part = &pieces[done..end];
+        mark_all(rt, plan, part, &mut book.known, &mut book.marks)?;
+        host.graded(book.marks.len(), plan.of);
         done = end;
     }
     Ok(())
@@ -113,7 +116,7 @@ fn judge_suite<'t, 'a, R: Threads + Wait + Clock + Sync, H: Grading>(
         of: of.saturating_add(own.len()),
     };
     let mut book = Book::new(alloc);
-    judge_own(rt, &plan, host, own.as_slice(), &mut book.marks)?;
+    judge_own(rt, &plan, host, own.as_slice(), &mut book)?;
     book.take_all(rt, &plan, host, request.scripts)?;
     Ok(book.marks)
 }

@@ -7,6 +7,7 @@ mod batches;
 mod ending;
 mod grading;
 mod marks;
+mod plan;
 mod reporting;
 mod request;
 

@@ -5,7 +5,8 @@ ghost use Rattle.std.specs.List.{AllZip};
 ghost use Rattle.xvsh_grades.specs.Jobs.{IsFoundOf, IsJobOf, IsMarkOf};
 ghost use Rattle.xvsh_grades.specs.declared.marks.Mark.{Mark};
 
-use grade_jobs::{Job, judge_all};
+use crate::plan::Plan;
+use grade_jobs::{Job, Known, judge_all};
 use grade_tests::Loaded;
 use grade_verdicts::Verdict;
 use std::alloc::{AllocError, Global};
@@ -33,7 +34,7 @@ pub struct Piece<'t, 'a, 'b> {
 }
 
 // The job of a piece.
-fn job_of<'j>(piece: &'j Piece<'_, '_, '_>) -> Job<'j>
+fn job_of<'t, 'b>(piece: &Piece<'t, '_, 'b>) -> Job<'t, 'b>
     ensures { IsJobOf piece.now result }
 {
     Job {
@@ -44,7 +45,10 @@ fn job_of<'j>(piece: &'j Piece<'_, '_, '_>) -> Job<'j>
 }
 
 // The jobs of the pieces, in their order.
-fn jobs_of<'j>(alloc: Global, pieces: &'j [Piece<'_, '_, '_>]) -> Result<Vec<Job<'j>>, AllocError>
+fn jobs_of<'t, 'b>(
+    alloc: Global,
+    pieces: &[Piece<'t, '_, 'b>],
+) -> Result<Vec<Job<'t, 'b>>, AllocError>
     ensures { IfOk result (λ jobs. AllZip IsJobOf pieces.now jobs.items) }
 {
     let mut jobs = Vec::with_capacity(alloc, pieces.len())?;
@@ -55,16 +59,16 @@ fn jobs_of<'j>(alloc: Global, pieces: &'j [Piece<'_, '_, '_>]) -> Result<Vec<Job
 }
 
 // The verdicts of the pieces, in their order: each has one, and it is due, or `None` where memory was refused to it.
-fn judge_pieces<R: Threads + Wait + Clock + Sync>(
+fn judge_pieces<'t, R: Threads + Wait + Clock + Sync>(
     rt: &R,
-    alloc: Global,
-    pieces: &[Piece<'_, '_, '_>],
-    threads: usize,
+    plan: &Plan<'t, '_>,
+    pieces: &[Piece<'t, '_, '_>],
+    known: &mut Known<'t>,
 ) -> Result<Vec<Option<Verdict>>, AllocError>
     ensures { IfOk result (λ verdicts. AllZip IsFoundOf pieces.now verdicts.items) }
 {
-    let jobs = jobs_of(alloc, pieces)?;
-    let verdicts = judge_all(rt, alloc, jobs.as_slice(), threads)?;
+    let jobs = jobs_of(plan.alloc, pieces)?;
+    let verdicts = judge_all(rt, plan.alloc, jobs.as_slice(), plan.threads, known)?;
     Ok(verdicts)
 }
 
@@ -91,16 +95,16 @@ fn add_marks<'t, 'a>(
     Ok(())
 }
 
-/// Judges the pieces by at most so many threads, and adds their verdicts, in order.
+/// Judges the pieces by at most so many threads, but for those that were judged before, and adds their verdicts, in order.
 pub(crate) fn mark_all<'t, 'a, R: Threads + Wait + Clock + Sync>(
     rt: &R,
-    alloc: Global,
+    plan: &Plan<'t, '_>,
     pieces: &[Piece<'t, 'a, '_>],
-    threads: usize,
+    known: &mut Known<'t>,
     marks: &mut Vec<Mark<'t, 'a>>,
 ) -> Result<(), AllocError>
     ensures { OnOk result ((found : List Mark) × (marks.new.items ≡ marks.old.items ++ found) × AllZip IsMarkOf pieces.now found) }
 {
-    let verdicts = judge_pieces(rt, alloc, pieces, threads)?;
+    let verdicts = judge_pieces(rt, plan, pieces, known)?;
     add_marks(pieces, verdicts, marks)
 }

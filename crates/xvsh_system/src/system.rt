@@ -1,6 +1,6 @@
 ghost use Rattle.std.specs.Prelude.{None};
 
-use crate::terminal::{Progress, Terminal};
+use crate::terminal::{Progress, Step, Terminal};
 use crate::ticking::Ticker;
 use std::alloc::Global;
 use std::fs::{File, create_dir_all};
@@ -135,7 +135,11 @@ impl<R: Files + Print, E> Traces for System<'_, R, E> {
 
 impl<R: Files + Clock, E: Write> Watch for System<'_, R, E> {
     fn found(&mut self, count: usize) {
-        self.show_progress(count, " states");
+        self.show_progress(Step {
+            count,
+            of: None,
+            what: "states",
+        });
     }
 
     fn ended(&mut self) {
@@ -144,8 +148,12 @@ impl<R: Files + Clock, E: Write> Watch for System<'_, R, E> {
 }
 
 impl<R: Input + Files + Wait + Clock + Eprint, E: Write> Grading for System<'_, R, E> {
-    fn graded(&mut self, done: usize, _of: usize) {
-        self.show_progress(done, " verdicts");
+    fn graded(&mut self, done: usize, of: usize) {
+        self.show_progress(Step {
+            count: done,
+            of: Some(of),
+            what: "verdicts",
+        });
     }
 
     fn ended(&mut self) {
@@ -163,12 +171,12 @@ impl<R: Files, E: Write> Hints for System<'_, R, E> {
 
 impl<R: Files + Clock, E: Write> System<'_, R, E> {
     // Shows how far something is, if it is time to.
-    fn show_progress(&mut self, count: usize, what: &str) {
-        if !self.terminal.shows || !self.progress.is_due(count) {
+    fn show_progress(&mut self, step: Step<'_>) {
+        if !self.terminal.shows || !self.progress.is_due(step.count) {
             return;
         }
         if let Ok(now) = self.rt.monotonic() {
-            self.progress.show(&mut self.terminal.err, count, what, now);
+            self.progress.show(&mut self.terminal.err, step, now);
         }
     }
 

@@ -27,6 +27,14 @@ fn next_after(now: Duration) -> Option<Duration> {
     now.checked_add(Duration::from_secs(PAUSE))
 }
 
+/// How far something is: so many, of how many where that is known, of what.
+#[derive(Clone, Copy)]
+pub struct Step<'w> {
+    pub count: usize,
+    pub of: Option<usize>,
+    pub what: &'w str,
+}
+
 /// Shows on a terminal how far a search is.
 #[derive(Drop)]
 pub struct Progress {
@@ -52,8 +60,9 @@ impl Progress {
         count >= self.next
     }
 
-    // Shows so many of something, if it is time to.
-    pub fn show<E: Write>(&mut self, err: &mut E, count: usize, what: &str, now: Duration) {
+    // Shows how far something is, if it is time to.
+    pub fn show<E: Write>(&mut self, err: &mut E, step: Step<'_>, now: Duration) {
+        let Step { count, of, what } = step;
         self.next = count.saturating_add(STEP);
         let Some(due) = self.due else {
             self.due = next_after(now);
@@ -62,7 +71,10 @@ impl Progress {
         if now >= due {
             self.is_shown = true;
             self.due = next_after(now);
-            let _ = write!(err, "\r{count}{what}\x1b[K");
+            let _ = match of {
+                None => write!(err, "\r{count} {what}\x1b[K"),
+                Some(of) => write!(err, "\r{count} of {of} {what}\x1b[K"),
+            };
         }
     }
 

@@ -8,6 +8,6 @@ batches-preserved g c =
     let states = c.batches.invariant in
     record {
       within = omega arith;
-      found = grown_by IsMarkOf c.args.pieces.now c.batches.done c.min-end.result c.args.marks.now.items c.batches.marks.items c.mark_all.new.marks.items (omega arith) states.found c.in_ok-mark_all.ensures;
+      found = grown_by IsMarkOf c.args.pieces.now c.batches.done c.min-end.result c.args.book.now.marks.items c.batches.book.marks.items c.mark_all.new.marks.items (omega arith) states.found c.in_ok-mark_all.ensures;
       stays = c.graded.ensures.stays ∙ states.stays;
     }

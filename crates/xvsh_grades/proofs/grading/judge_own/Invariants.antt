@@ -8,7 +8,8 @@ use Rattle.xvsh_grades.proofs.grading.judge_own.Given as goal
 abbrev pub invariant-batches : goal.invariant-batches
 invariant-batches g l = record {
   within : l.done ≤ length l.pieces;
-  found : (found : List Mark) × (l.marks.items ≡ l.fn.marks.items ++ found) × AllZip IsMarkOf (take l.done l.pieces) found;
+  found : (found : List Mark) × (l.book.marks.items ≡ l.fn.book.marks.items ++ found) × AllZip IsMarkOf (take l.done l.pieces) found;
+  waiting : l.book.waiting ≡ l.fn.book.waiting;
   stays : g.H.Host.file l.host ≡ g.H.Host.file l.fn.host;
 }
 

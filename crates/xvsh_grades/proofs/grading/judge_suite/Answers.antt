@@ -19,5 +19,5 @@ returns g c =
     let same = ap (map (λ test. test.now)) c.as_slice.ensures.value ∙ c.in_ok-others.ensures in (
       took.0,
       subst (λ file. AllZip (IsReadAt (told_at None file)) c.args.request.now.scripts.now took.0) c.judge_own.ensures.stays took.1,
-      subst (λ others. AreMarks own others took.0 c.take_all.new.self.marks.items) same (took.2 own (of_marks own others [] _ begun c.new-book.ensures.waiting)),
+      subst (λ others. AreMarks own others took.0 c.take_all.new.self.marks.items) same (took.2 own (of_marks own others [] _ begun (ap (λ w. w.items) c.in_ok-judge_own.ensures.waiting ∙ c.new-book.ensures.waiting))),
     )
