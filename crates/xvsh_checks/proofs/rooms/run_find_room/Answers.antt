@@ -20,6 +20,6 @@ returns-clause-ran g c =
     let start = c.in_ok-start.start in
     let lines = lines_of start.script.lines in
     let found = c.in_ok-findings.findings in
-    let room = subst (λ s. IsRoomFound lines s start.files c.room_found-found.result) c.as_slice.ensures.value c.room_found-found.ensures in
-    ran_room (g.H.Host.input c.args.host.now) (g.H.Host.file c.args.host.now) request.script.now request.files.now lines start.files start.stdin.items (findings_text found.list.items) _ request.is_strict c.is_fine.result c.room_found-found.result
+    let room = subst (λ s. IsRoomFound lines s start.files c.find_room-found.result) c.as_slice.ensures.value c.find_room-found.ensures in
+    ran_room (g.H.Host.input c.args.host.now) (g.H.Host.file c.args.host.now) request.script.now request.files.now lines start.files start.stdin.items (findings_text found.list.items) _ request.is_strict c.is_fine.result c.find_room-found.result
     c.in_ok-start.ensures.start c.in_ok-findings.ensures.told room refl (c.is_fine.ensures request.is_strict lines start.stdin.items start.files c.in_ok-findings.ensures.harmless room)

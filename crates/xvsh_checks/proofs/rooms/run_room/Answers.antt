@@ -27,7 +27,7 @@ returns-clause-ran g c =
     let start = c.in_ok-start.start in
     let lines = lines_of start.script.lines in
     let checked = c.in_ok-checked.checked in
-    let room = subst (λ s. IsRoomFound lines s start.files c.room_found-found.result) c.as_slice.ensures.value c.room_found-found.ensures in
+    let room = subst (λ s. IsRoomFound lines s start.files c.find_room-found.result) c.as_slice.ensures.value c.find_room-found.ensures in
     let whole = c.in_ok-extend_from_slice.ensures.items ∙ ap (λ t. checked.text.items ++ t) (c.as_slice-2.ensures.value ∙ c.in_ok-told.ensures) in
-    ran_room (g.H.Host.input c.args.host.now) (g.H.Host.file c.args.host.now) request.script.now request.files.now lines start.files start.stdin.items checked.text.items _ request.is_strict c.is_fine.result c.room_found-found.result
+    ran_room (g.H.Host.input c.args.host.now) (g.H.Host.file c.args.host.now) request.script.now request.files.now lines start.files start.stdin.items checked.text.items _ request.is_strict c.is_fine.result c.find_room-found.result
     c.in_ok-start.ensures.start c.in_ok-checked.ensures.told room whole (c.is_fine.ensures request.is_strict lines start.stdin.items start.files c.in_ok-checked.ensures.harmless room)
