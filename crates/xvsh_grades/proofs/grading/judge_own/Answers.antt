@@ -9,5 +9,6 @@ batches-preserved g c =
     record {
       within = omega arith;
       found = grown_by IsMarkOf c.args.pieces.now c.batches.done c.min-end.result c.args.book.now.marks.items c.batches.book.marks.items c.mark_all.new.marks.items (omega arith) states.found c.in_ok-mark_all.ensures;
+      waiting = states.waiting;
       stays = c.graded.ensures.stays ∙ states.stays;
     }
