@@ -315,7 +315,7 @@ static void words(void) {
     TEST((name.length == 0) == (text.length == 0));
     named += name.length > 0;
   }
-  TEST(named == 19 && xvsh_fault_name(XVSH_OK).length == 0 && xvsh_fault_name(UINT32_MAX).length == 0);
+  TEST(named == 20 && xvsh_fault_name(XVSH_OK).length == 0 && xvsh_fault_name(UINT32_MAX).length == 0);
   TEST(is(xvsh_fault_name(XVSH_TOO_LONG), "TooLong") && is(xvsh_fault_name(XVSH_LINE_TOO_LONG), "LineTooLong"));
   TEST(is(xvsh_fault_name(XVSH_BYTE_ZERO), "ByteZero") && is(xvsh_fault_name(XVSH_BAD_NAME), "BadName"));
   TEST(is(xvsh_fault_name(XVSH_TOO_MANY_FILES), "TooManyFiles") && is(xvsh_fault_name(XVSH_TOO_LARGE), "TooLarge"));
