@@ -92,13 +92,19 @@ module _ {S : Type 0} (e pid : ℕ) where
   no_trace_of k None plain = refl
   no_trace_of k (Some f) plain = no_trace_if k (nat_le f.count 1) f.object plain
 
-  away_lost : (k : KernelState S) (fd : ℕ) (o : Option ℕ) → taken_away (L k) pid fd o ≡ L (taken_away k pid fd o)
+  pub away_lost : (k : KernelState S) (fd : ℕ) (o : Option ℕ) → taken_away (L k) pid fd o ≡ L (taken_away k pid fd o)
   away_lost k fd None = refl
   away_lost k fd (Some d) = λ i. record (taken_away k pid fd (Some d)) { entries = change_both less_held less_held refl refl k.entries e d (λ _. refl) i }
 
   -- if pid holds the entry too, it is no pipe's end
   abbrev pub CanGo : KernelState S → Type 0
   CanGo k = (fd : ℕ) → entry_of (fds_at k pid) fd ≡ Some e → HasPlain (entry_at k.entries e)
+
+  -- another entry is closed
+  pub closed_other_lost : (k : KernelState S) (fd d : ℕ) → d ≢ e → closed_by (L k) pid fd (Some d) ≡ L (closed_by k pid fd (Some d))
+  closed_other_lost k fd d ne =
+      ap (λ (x : Option Opened). let_go_of (taken_away (L k) pid fd (Some d)) (Ok (last_object x))) (get_or-set_other k.entries e d (less_held (entry_at k.entries e)) None ne) ∙
+      ap (λ (j : KernelState S). let_go_of j (close_answer k.entries (Some d))) (away_lost k fd (Some d)) ∙ let_go_of_lost (taken_away k pid fd (Some d)) (close_answer k.entries (Some d))
 
   closed_by_lost : (k : KernelState S) (fd : ℕ) (o : Option ℕ) → entry_of (fds_at k pid) fd ≡ o → CanGo k → closed_by (L k) pid fd o ≡ L (closed_by k pid fd o)
   closed_by_lost k fd None held go = refl
@@ -111,9 +117,7 @@ module _ {S : Type 0} (e pid : ℕ) where
         (ap (λ (x : Option Opened). let_go_of (taken_away (L k) pid fd (Some e)) (Ok (last_object x))) (changed_entry less_held refl k.entries e) ∙
         no_trace_of (taken_away (L k) pid fd (Some e)) (less_held (entry_at k.entries e)) (plain_less (entry_at k.entries e) plain) ∙ away_lost k fd (Some e) ∙
         sym (ap L (no_trace_of (taken_away k pid fd (Some e)) (entry_at k.entries e) plain)))
-    by (inr ne) =
-        ap (λ (x : Option Opened). let_go_of (taken_away (L k) pid fd (Some d)) (Ok (last_object x))) (get_or-set_other k.entries e d (less_held (entry_at k.entries e)) None ne) ∙
-        ap (λ (j : KernelState S). let_go_of j (close_answer k.entries (Some d))) (away_lost k fd (Some d)) ∙ let_go_of_lost (taken_away k pid fd (Some d)) (close_answer k.entries (Some d))
+    by (inr ne) = closed_other_lost k fd d ne
 
   pub let_go_entries : (k : KernelState S) (r : Result (Option Object) FdFault) → (let_go_of k r).entries ≡ k.entries
   let_go_entries k (Err fault) = refl
@@ -125,7 +129,7 @@ module _ {S : Type 0} (e pid : ℕ) where
   let_go_entries k (Ok (Some (PipeRead id))) = refl
   let_go_entries k (Ok (Some (PipeWrite id))) = refl
 
-  let_go_fds : (k : KernelState S) (r : Result (Option Object) FdFault) → fds_at (let_go_of k r) pid ≡ fds_at k pid
+  pub let_go_fds : (k : KernelState S) (r : Result (Option Object) FdFault) → fds_at (let_go_of k r) pid ≡ fds_at k pid
   let_go_fds k (Err fault) = refl
   let_go_fds k (Ok None) = refl
   let_go_fds k (Ok (Some Input)) = refl
@@ -158,7 +162,7 @@ module _ {S : Type 0} (e pid : ℕ) where
       ap (λ (j : KernelState S). closed j pid n) (below_lost k n go) ∙ closed_by_lost (closed_below k pid n) n (entry_of (fds_at (closed_below k pid n) pid) n) refl (below_go k n go)
 
   -- the reply to a close says only whether the descriptor was open
-  reply_lost : (k : KernelState S) (o : Option ℕ) → close_reply (close_answer (L k).entries o) ≡ close_reply (close_answer k.entries o)
+  pub reply_lost : (k : KernelState S) (o : Option ℕ) → close_reply (close_answer (L k).entries o) ≡ close_reply (close_answer k.entries o)
   reply_lost k None = refl
   reply_lost k (Some d) = refl
 

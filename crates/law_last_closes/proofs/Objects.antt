@@ -68,7 +68,7 @@ module _ {S : Type 0} (object : Object) (e q : ℕ) where
   abbrev On : KernelState S → Type 0
   On k = IsOpenOn object (entry_at k.entries e)
 
-  closed_on : (k : KernelState S) (gd : ℕ) → On k → On (closed k q gd)
+  pub closed_on : (k : KernelState S) (gd : ℕ) → On k → On (closed k q gd)
   closed_on k gd is =
       let o = entry_of (fds_at k q) gd in
       subst (λ (t : Entries). IsOpenOn object (entry_at t e)) (sym (let_go_entries e q (taken_away k q gd o) (close_answer k.entries o))) (on_released object e k.entries o is)

@@ -42,11 +42,11 @@ use Rattle.law_private_turns.proofs.Begun.{after_still}
 use Rattle.law_private_turns.proofs.Shared.{given_sound, given_runs}
 use Rattle.law_private_turns.proofs.Turned.{set_twice, idle_told, turn_is, turn_keeps, ready_slot}
 use Rattle.order_model.specs.Numbers.{SameButNumbers}
-use Rattle.order_model.specs.Closes.{IsPlain, FindsFree, FindsFreeNext, ClosesPlain}
+use Rattle.order_model.specs.Closes.{IsPlain, FindsFree, FindsFreeNext, ClosesNext}
 use Rattle.law_last_closes.specs.Either.{InEitherOrder}
 use Rattle.law_last_closes.proofs.Closing.{HasPlain, CanGo, no_trace_of}
 use Rattle.law_last_closes.proofs.Objects.{IsOpenOn, outcome_on}
-use Rattle.law_last_closes.proofs.Acted.{CanLose, acted_lost}
+use Rattle.law_last_closes.proofs.Acted.{CanLose, CanGoBy, goes_by, acted_lost}
 
 pub at_events : {S : Type 0} (k l : KernelState S) (n : ℕ) → SameButNumbers k l → SameButNumbers (record k { events = n }) (record l { events = n })
 at_events k l n a = record { numbering = a.numbering; is = record { entries = a.is.entries; rest = ap (λ (j : KernelState _). record j { events = n }) a.is.rest } }
@@ -124,29 +124,29 @@ module _ {S : Type 0} (call : S → Reply → Call) (next : S → Reply → S) (
             alive : is_zombie (retold_slot left (at d.table p)) ≡ false
             alive = ap (λ (y : Slot S). is_zombie (retold_slot left y)) h.there ∙ sym (ap is_zombie h.there) ∙ holds_alive x (at d.table p) h
 
-      pub shared : 0 < holders_in (fds_at (retold p left d) q) e → 1 < count_of (entry_at d.entries e)
-      shared some =
+      -- more descriptors hold the entry than q's
+      pub more_hold : holders_in (fds_at (retold p left d) q) e < count_of (entry_at d.entries e)
+      more_hold =
           let fds : fds_at (retold p left d) q ≡ fds_at d q = ap fds_of (kept d.table p q (retold_slot left (at d.table p)) other) in
           let mine : 1 ≤ holders_in (fds_at d p) e = holds_one (fds_at d p) fd e (ap (λ (f : Descriptors). entry_of f fd) (ap fds_of h.there ∙ h.fds) ∙ c.holds) in
           let theirs : holders_in (fds_at (retold p left d) q) e ≡ holders_in (fds_at d q) e = ap (λ (f : Descriptors). holders_in f e) fds in
           let counted : HasHolders (Some file) (holders (tables d.table) e) = subst (λ (o : Option Opened). HasHolders o (holders (tables d.table) e)) used (sound.counts e) in
-          omega (arith, some, mine, theirs, counted.0, ap count_of used, two_holders e d.table p q (λ is. other (sym is)))
+          omega (arith, mine, theirs, counted.0, ap count_of used, two_holders e d.table p q (λ is. other (sym is)))
 
-      can_lose : CanGo e q (retold p left d) → CanLose e q (retold p left d)
-      can_lose go =
+      can_lose : CanLose e q (retold p left d)
+      can_lose =
           record {
             file = file;
             used = used;
-            go = go;
-            shared = shared;
+            shared = λ some. omega (arith, some, more_hold);
             running = count_by is_running (retold_table p left d.table);
             mid = mid (retold_table p left d.table) (released d.entries e) q sound_given (ap is_running (kept d.table p q (retold_slot left (at d.table p)) other) ∙ runs);
           }
 
-      pub acted_given : (after : S) (b : Call) → CanGo e q (retold p left d) → FindsFree d b → SameButNumbers (acted (given_up d) q after b false) (given_up (acted d q after b false))
+      pub acted_given : (after : S) (b : Call) → CanGoBy e q (retold p left d) b → FindsFree d b → SameButNumbers (acted (given_up d) q after b false) (given_up (acted d q after b false))
       acted_given after b go free =
           subst (λ (j : KernelState S). SameButNumbers (acted (given_up d) q after b false) (record j { entries = released j.entries e })) (acted_told p left q other after d b false (ap is_free h.there) (holds_alive x (at d.table p) h))
-          (acted_lost e q after (retold p left d) b false (can_lose go) (free_too b free)) where
+          (acted_lost e q after (retold p left d) b false can_lose go (free_too b free)) where
             free_too : (b : Call) → FindsFree d b → FindsFree (retold p left d) b
             free_too Fork free = tt
             free_too (Exec found) free = tt
@@ -181,7 +181,8 @@ module _ {S : Type 0} (call : S → Reply → Call) (next : S → Reply → S) (
         let alike : Alike (act later) (act (given_up d)) =
         acted_alike later (given_up d) k.events k.events q (next y.machine y.reply) (call y.machine y.reply) false names names (omega arith) (omega arith) (relike (given_up d) later (given_up d) (given_up d) (alike_itself (given_up d)) refl refl) in
         let same : SameButNumbers (act (given_up d)) (given_up l) =
-        acted_given q other d d_holds (given_sound call next k q y still there ready) (given_runs k q y there) file used on (next y.machine y.reply) (call y.machine y.reply) (λ gd held. plain_on plain d (subst (IsOpenOn object) (sym used) on)) free in
+        acted_given q other d d_holds (given_sound call next k q y still there ready) (given_runs k q y there) file used on (next y.machine y.reply) (call y.machine y.reply)
+        (goes_by e q (retold p left d) (call y.machine y.reply) (λ gd held. plain_on plain d (subst (IsOpenOn object) (sym used) on))) free in
         record {
           after = turned call next a q y false;
           second = turn_is call next a q y a_still a_there ready;
@@ -192,10 +193,10 @@ module _ {S : Type 0} (call : S → Reply → Call) (next : S → Reply → S) (
           same = at_events (act (given_up d)) (given_up l) (l.events + 1 + 1) same;
         }
 
-module _ {S : Type 0} (call : S → Reply → Call) (next : S → Reply → S) where
+module _ {S : Type 0} (call : S → Reply → Call) (next : S → Reply → S) (kind : Object → Type 0) where
   -- what q's turn leaves to p, which closes the descriptor
-  stays_by : (l : KernelState S) (p : ℕ) (x : Process S) (fd e : ℕ) (object : Object) → Closes call next p x fd e object → IsPlain object → IsStill l → Holds x (at l.table p) → IsOpenOn object (entry_at l.entries e) → ClosesPlain call next l p
-  stays_by l p x fd e object c plain still h on =
+  stays_by : (l : KernelState S) (p : ℕ) (x : Process S) (fd e : ℕ) (object : Object) → Closes call next p x fd e object → kind object → IsStill l → Holds x (at l.table p) → IsOpenOn object (entry_at l.entries e) → ClosesNext call next kind l p
+  stays_by l p x fd e object c of still h on =
       let o = is_open e l.table l.entries still.sound p 1 x h (omega arith) (holds_one x.fds fd e c.holds) in
       let same : o.0.object ≡ object = subst (IsOpenOn object) o.1 on in
       record {
@@ -208,12 +209,12 @@ module _ {S : Type 0} (call : S → Reply → Call) (next : S → Reply → S) w
         holds = ap (λ (f : Descriptors). entry_of f fd) h.fds ∙ c.holds;
         file = o.0;
         used = o.1;
-        plain = subst IsPlain (sym same) plain;
+        of = subst kind (sym same) of;
       }
 
   -- p still closes it after any turn of another process
-  pub plain_stays : (k l : KernelState S) (p q : ℕ) → IsStill k → ClosesPlain call next k p → q ≢ p → after_turn call next k q ≡ Some l → ClosesPlain call next l p
-  plain_stays k l p q still e other second =
+  pub close_stays : (k l : KernelState S) (p q : ℕ) → IsStill k → ClosesNext call next kind k p → q ≢ p → after_turn call next k q ≡ Some l → ClosesNext call next kind l p
+  close_stays k l p q still e other second =
       let x : Process S = e.process in
       let c : Closes call next p x e.fd e.entry e.file.object = record { calls = e.calls; holds = e.holds } in
       let h = holds_itself x (at k.table p) e.there e.ready in
@@ -225,20 +226,21 @@ module _ {S : Type 0} (call : S → Reply → Call) (next : S → Reply → S) w
       let is_l : now ≡ l = cc in
       let on : IsOpenOn e.file.object (entry_at now.entries e.entry) =
       outcome_on e.file.object e.entry q d (next y.machine y.reply) (call y.machine y.reply) now (record { file = e.file; used = e.used; on = refl }) (every_call_ends d q (next y.machine y.reply) (call y.machine y.reply) false) in
-      subst (λ (j : KernelState S). ClosesPlain call next j p) is_l
-      (stays_by now p x e.fd e.entry e.file.object c e.plain (turn_still call next k q y false still r.there r.ready) (turn_keeps call next k p q x y other h) on)
+      subst (λ (j : KernelState S). ClosesNext call next kind j p) is_l
+      (stays_by now p x e.fd e.entry e.file.object c e.of (turn_still call next k q y false still r.there r.ready) (turn_keeps call next k p q x y other h) on)
 
+module _ {S : Type 0} (call : S → Reply → Call) (next : S → Reply → S) where
   -- a turn that closes what is no pipe's end, and another process's turn
-  pub plain_either : (k a l : KernelState S) (p q : ℕ) → IsStill k → ClosesPlain call next k p → q ≢ p → FindsFreeNext call next k q → after_turn call next k p ≡ Some a → after_turn call next k q ≡ Some l → InEitherOrder call next a l p q
+  pub plain_either : (k a l : KernelState S) (p q : ℕ) → IsStill k → ClosesNext call next IsPlain k p → q ≢ p → FindsFreeNext call next k q → after_turn call next k p ≡ Some a → after_turn call next k q ≡ Some l → InEitherOrder call next a l p q
   plain_either k a l p q still e other free first second =
       let x : Process S = e.process in
       let c : Closes call next p x e.fd e.entry e.file.object = record { calls = e.calls; holds = e.holds } in
       let h = holds_itself x (at k.table p) e.there e.ready in
       let r = ready_slot (at k.table q) (could_turn call next k (record { pid = q; refused = false }) (l, second)) in
-      let own_a : Some (gives_up call next p x e.fd e.entry e.file.object k) ≡ Some a = sym (own call next p x e.fd e.entry e.file.object c e.plain k still h (subst (IsOpenOn e.file.object) (sym e.used) refl)) ∙ first in
+      let own_a : Some (gives_up call next p x e.fd e.entry e.file.object k) ≡ Some a = sym (own call next p x e.fd e.entry e.file.object c e.of k still h (subst (IsOpenOn e.file.object) (sym e.used) refl)) ∙ first in
       let is_a : gives_up call next p x e.fd e.entry e.file.object k ≡ a = cc in
       let own_l : Some (turned call next k q r.process false) ≡ Some l = sym (turn_is call next k q r.process still r.there r.ready) ∙ second in
       let is_l : turned call next k q r.process false ≡ l = cc in
       subst (λ (j : KernelState S). InEitherOrder call next j l p q) is_a
       (subst (λ (j : KernelState S). InEitherOrder call next (gives_up call next p x e.fd e.entry e.file.object k) j p q) is_l
-      (either_by call next p x e.fd e.entry e.file.object c e.plain k q r.process other still h r.there r.ready e.file e.used refl (free r.process r.there)))
+      (either_by call next p x e.fd e.entry e.file.object c e.of k q r.process other still h r.there r.ready e.file e.used refl (free r.process r.there)))

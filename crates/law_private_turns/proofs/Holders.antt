@@ -17,7 +17,7 @@ use Rattle.law_private_turns.proofs.Staying.{Holds}
 pub holds_one : (fds : Descriptors) (fd e : ℕ) → entry_of fds fd ≡ Some e → 1 ≤ holders_in fds e
 holds_one fds fd e is = there_is_counted (is_entry e) fds fd None (within_list fds fd e is) (ap (is_entry e) is ∙ eq-eqb e e refl)
 
-free_holds_none : (e : ℕ) → holders_in (replicate DESCRIPTORS None) e ≡ 0
+pub free_holds_none : (e : ℕ) → holders_in (replicate DESCRIPTORS None) e ≡ 0
 free_holds_none e = refl
 
 counted_as : (x : Option OpenFile) (n : ℕ) → HasHolders x n → count_of x ≡ n

@@ -101,7 +101,7 @@ module _ {S : Type 0} (pid : ℕ) where
   held_answer : (k : KernelState S) (fd : ℕ) → close_answer (woke k).entries (entry_of (fds_at (woke k) pid) fd) ≡ close_answer k.entries (entry_of (fds_at k pid) fd)
   held_answer k fd = ap (λ (l : Descriptors). close_answer (woke k).entries (entry_of l fd)) (fds k)
 
-  closed_told : (k : KernelState S) (fd : ℕ) → closed (woke k) pid fd ≡ woke (closed k pid fd)
+  pub closed_told : (k : KernelState S) (fd : ℕ) → closed (woke k) pid fd ≡ woke (closed k pid fd)
   closed_told k fd =
       let held = entry_of (fds_at k pid) fd in
       (λ i. let_go_of (taken_away (woke k) pid fd (entry_of (fds k i) fd)) (held_answer k fd i)) ∙
@@ -132,7 +132,7 @@ module _ {S : Type 0} (pid : ℕ) where
   ends_told k id = ap (λ (l : KernelState S). with_open l pid (PipeWrite id)) (reader_told k id) ∙ open_told (with_reader k pid id) (PipeWrite id)
 
   module _ (after : S) where
-    answering : (k : KernelState S) (reply : Reply) → answered (woke k) pid after reply ≡ woke (answered k pid after reply)
+    pub answering : (k : KernelState S) (reply : Reply) → answered (woke k) pid after reply ≡ woke (answered k pid after reply)
     answering k reply = λ i. record (woke k) { table = ready_told k.table pid after reply i }
 
     refusing : (k : KernelState S) (full : Full) → refused_for (woke k) pid after full ≡ woke (refused_for k pid after full)

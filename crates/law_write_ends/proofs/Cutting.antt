@@ -126,12 +126,14 @@ not_less : (id : ℕ) (x : Option Opened) → IsNotWriter id x → IsNotWriter i
 not_less id None ne = tt
 not_less id (Some f) ne = not_if id (nat_le f.count 1) _ ne
 
-not_released : (id : ℕ) (t : Entries) (o : Option ℕ) (d : ℕ) → ((i : ℕ) → IsNotWriter id (entry_at t i)) → IsNotWriter id (entry_at (released_by_close t o) d)
-not_released id t None d none = none d
+pub not_released : (id : ℕ) (t : Entries) (o : Option ℕ) (d : ℕ) → IsNotWriter id (entry_at t d) → IsNotWriter id (entry_at (released_by_close t o) d)
+not_released id t None d none = none
 not_released id t (Some i) d none = by (cases_eq d i) where
   by : (d ≡ i) ⊎ (d ≢ i) → IsNotWriter id (entry_at (released_by_close t (Some i)) d)
-  by (inl is) = subst (λ (j : ℕ). IsNotWriter id (entry_at (released_by_close t (Some i)) j)) (sym is) (subst (IsNotWriter id) (sym (changed_entry less_held refl t i)) (not_less id (entry_at t i) (none i)))
-  by (inr ne) = subst (IsNotWriter id) (sym (get_or-set_other t i d (less_held (entry_at t i)) None ne)) (none d)
+  by (inl is) =
+      let P : ℕ → Type 0 = λ j. IsNotWriter id (entry_at (released_by_close t (Some j)) d) in
+      subst P is (subst (IsNotWriter id) (sym (changed_entry less_held refl t d)) (not_less id (entry_at t d) none))
+  by (inr ne) = subst (IsNotWriter id) (sym (get_or-set_other t i d (less_held (entry_at t i)) None ne)) none
 
 module _ {S : Type 0} (id pid : ℕ) where
   -- the write end is closed, and nobody is woken
@@ -165,7 +167,7 @@ module _ {S : Type 0} (id pid : ℕ) where
     pub none : (d : ℕ) → IsNotWriter id (entry_at k.entries d)
     pub apart : AreApart k.pipes
 
-  closed_by_cut : (k : KernelState S) (fd : ℕ) (o : Option ℕ) → IsCut k → closed_by (cut k) pid fd o ≡ cut (closed_by k pid fd o)
+  pub closed_by_cut : (k : KernelState S) (fd : ℕ) (o : Option ℕ) → IsCut k → closed_by (cut k) pid fd o ≡ cut (closed_by k pid fd o)
   closed_by_cut k fd None c = refl
   closed_by_cut k fd (Some d) c = last_cut (taken_away k pid fd (Some d)) (entry_at k.entries d) c.apart (c.none d)
 
@@ -183,7 +185,7 @@ module _ {S : Type 0} (id pid : ℕ) where
     by None = apart
     by (Some p) = apart_closed k.pipes other (after_close_write p) apart
 
-  let_go_of_apart : (k : KernelState S) (r : Result (Option Object) FdFault) → AreApart k.pipes → AreApart (let_go_of k r).pipes
+  pub let_go_of_apart : (k : KernelState S) (r : Result (Option Object) FdFault) → AreApart k.pipes → AreApart (let_go_of k r).pipes
   let_go_of_apart k (Err fault) apart = apart
   let_go_of_apart k (Ok None) apart = apart
   let_go_of_apart k (Ok (Some object)) apart = let_go_apart k object apart
@@ -193,7 +195,7 @@ module _ {S : Type 0} (id pid : ℕ) where
       let o = entry_of (fds_at k pid) fd in
       let away : KernelState S = taken_away k pid fd o in
       record {
-        none = λ d. subst (λ (t : Entries). IsNotWriter id (entry_at t d)) (sym (let_go_entries 0 pid away (close_answer k.entries o))) (not_released id k.entries o d c.none);
+        none = λ d. subst (λ (t : Entries). IsNotWriter id (entry_at t d)) (sym (let_go_entries 0 pid away (close_answer k.entries o))) (not_released id k.entries o d (c.none d));
         apart = let_go_of_apart away (close_answer k.entries o) c.apart;
       }
 

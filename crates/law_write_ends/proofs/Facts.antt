@@ -1,11 +1,12 @@
--- What right ends of pipes say where a process is the last holder of a write end.
-use Rattle.std.proofs.Common.{◌≡◌, ◌≢◌, ℕ, ◌-◌, ◌≤◌, Bool, true, false, Option, Some, None, refl, ap, ◌∙◌, arith}
-use Rattle.std.proofs.lemmas.Bool.{eq-eqb, le-leb}
+-- What right ends of pipes say of an entry that is a write end.
+use Rattle.std.proofs.Common.{◌≡◌, ◌≢◌, ℕ, ◌≤◌, Bool, true, false, Option, Some, None, refl, ap, ◌∙◌, arith, get_or-set_other}
+use Rattle.std.proofs.Math.ListN.{set}
+use Rattle.std.proofs.lemmas.Bool.{eq-eqb}
 use Rattle.std.proofs.lemmas.List.Sums.{sum_by-set}
-use Rattle.std.specs.Prelude.{cond, count_by, if◌then◌else◌}
+use Rattle.std.specs.Prelude.{cond, count_by}
 use Rattle.byte_pipe.specs.PipeState.{PipeState}
 use Rattle.fd_table.specs.declared.names.Object.TheVariants.{PipeRead, PipeWrite}
-use Rattle.fd_table.specs.Entries.{OpenFile as Opened, Entries, entry_at, less_held, released}
+use Rattle.fd_table.specs.Entries.{OpenFile as Opened, Entries, entry_at}
 use Rattle.fd_table.proofs.Lists.{within_list}
 use Rattle.proc_table.specs.Slots.{tally}
 use Rattle.kernel_model.specs.Pipes.{Pipes, pipe_of}
@@ -54,22 +55,18 @@ module _ (id : ℕ) (E : Entries) (pipes : Pipes) (agree : EndsAgree E pipes) wh
         let some = there_is_counted (has_object (writes_pipe id)) E e None (within_list E e f is) passes in
         writer_by (pipe_of pipes id) (omega (arith, some, agree.writers id))
 
-    module _ (last : f.count ≤ 1) where
-      pub gone : less_held (entry_at E e) ≡ None
-      gone = ap less_held is ∙ ap (λ (b : Bool). if b then None else Some (record { object = f.object; count = f.count - 1; offset = f.offset })) (le-leb f.count 1 last)
+    -- no other entry is this write end
+    none_left : count_by (has_object (writes_pipe id)) (set E e None) ≡ 0
+    none_left =
+        let one = sum_by-set (λ (x : Option Opened). cond {A = ℕ} (has_object (writes_pipe id) x) 1 0) E e None None (within_list E e f is) in
+        let was : cond {A = ℕ} (has_object (writes_pipe id) (entry_at E e)) 1 0 ≡ 1 = ap (λ (b : Bool). cond {A = ℕ} b 1 0) passes in
+        omega (arith, one, was, agree.writers id, tally_few (write_end_open (pipe_of pipes id)))
 
-      -- no other entry is this write end
-      none_left : count_by (has_object (writes_pipe id)) (released E e) ≡ 0
-      none_left =
-          let one = sum_by-set (λ (x : Option Opened). cond {A = ℕ} (has_object (writes_pipe id) x) 1 0) E e (less_held (entry_at E e)) None (within_list E e f is) in
-          let was : cond {A = ℕ} (has_object (writes_pipe id) (entry_at E e)) 1 0 ≡ 1 = ap (λ (b : Bool). cond {A = ℕ} b 1 0) passes in
-          let now : cond {A = ℕ} (has_object (writes_pipe id) (less_held (entry_at E e))) 1 0 ≡ 0 = ap (λ (x : Option Opened). cond {A = ℕ} (has_object (writes_pipe id) x) 1 0) gone in
-          omega (arith, one, was, now, agree.writers id, tally_few (write_end_open (pipe_of pipes id)))
-
-      pub no_writer : (d : ℕ) → IsNotWriter id (entry_at (released E e) d)
-      no_writer d = by (entry_at (released E e) d) refl where
-        by : (o : Option Opened) → entry_at (released E e) d ≡ o → IsNotWriter id o
-        by None at_d = tt
-        by (Some g) at_d = λ same.
-            let some = there_is_counted (has_object (writes_pipe id)) (released E e) d None (within_list (released E e) d g at_d) (ap (has_object (writes_pipe id)) at_d ∙ ap (writes_pipe id) same ∙ eq-eqb id id refl) in
-            omega (arith, some, none_left)
+    pub only_writer : (d : ℕ) → d ≢ e → IsNotWriter id (entry_at E d)
+    only_writer d ne = by (entry_at E d) refl where
+      by : (o : Option Opened) → entry_at E d ≡ o → IsNotWriter id o
+      by None at_d = tt
+      by (Some g) at_d = λ same.
+          let there : entry_at (set E e None) d ≡ Some g = get_or-set_other E e d None None ne ∙ at_d in
+          let some = there_is_counted (has_object (writes_pipe id)) (set E e None) d None (within_list (set E e None) d g there) (ap (has_object (writes_pipe id)) there ∙ ap (writes_pipe id) same ∙ eq-eqb id id refl) in
+          omega (arith, some, none_left)

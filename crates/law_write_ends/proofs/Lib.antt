@@ -2,6 +2,8 @@ pub mod Pipes
 pub mod Cutting
 pub mod Facts
 pub mod Stays
+pub mod Many
+pub mod Gone
 pub mod Turned
 pub mod Empty
 pub mod Runs

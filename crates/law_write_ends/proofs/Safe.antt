@@ -1,23 +1,24 @@
--- Private turns, closes of what is no pipe's end and closes of last write ends give way to nobody's turn, where whatever is opened
--- later finds free entries.
-use Rattle.std.proofs.Common.{◌≡◌, ◌≢◌, ◌⊎◌, ℕ, [], ◌∷◌, Option, Some, inl, inr, refl, sym, ap, ◌∙◌}
+-- Private turns and closes of what is no pipe's read end give way to nobody's turn, where whatever is opened later finds free entries.
+use Rattle.std.proofs.Common.{◌≡◌, ◌≢◌, ◌⊎◌, ℕ, [], ◌∷◌, Option, Some, inl, inr, refl, sym, ap, subst, ◌∙◌}
 use Rattle.user_calls.specs.declared.calls.Call.{Call}
 use Rattle.user_calls.specs.declared.calls.Reply.{Reply}
+use Rattle.fd_table.specs.declared.names.Object.{Object}
+use Rattle.fd_table.specs.declared.names.Object.TheVariants.{Input, Out, Diag, File, PipeRead, PipeWrite}
 use Rattle.kernel_model.specs.KernelState.{KernelState}
 use Rattle.order_model.specs.Alike.{IsStill}
 use Rattle.order_model.specs.Turns.{by_turns, after_turn, quiet_turns}
 use Rattle.order_model.specs.Reduced.{IsSafe, Joins}
 use Rattle.order_model.specs.Begun.{IsBegun}
 use Rattle.order_model.specs.Anyhow.{AlikeAnyhow, DoesAnyhow, itself, likened}
-use Rattle.order_model.specs.Closes.{HasRoomAhead, ClosesPlain, ClosesLastWriter, GivesWay, GivesWayBegun}
+use Rattle.order_model.specs.Closes.{HasRoomAhead, IsPlain, IsNoReadEnd, ClosesNext, GivesWay, GivesWayBegun}
 use Rattle.law_private_turns.proofs.Begun.{begun_on, begun_still}
 use Rattle.law_last_closes.proofs.Anyhow.{awake_anyhow, joined, numbers_anyhow}
 use Rattle.law_last_closes.proofs.Safe.{privates_safe_anyhow}
-use Rattle.law_last_closes.proofs.Turned.{plain_either, plain_stays}
+use Rattle.law_last_closes.proofs.Turned.{plain_either, close_stays}
 use Rattle.law_write_ends.specs.Writers.{FindsBytesNext, ReadsEmptyNext}
 use Rattle.law_write_ends.proofs.Finding.{finds_or_put_nothing}
 use Rattle.law_write_ends.proofs.Runs.{ends, fresh}
-use Rattle.law_write_ends.proofs.Turned.{empty_read, writer_either, writer_stays}
+use Rattle.law_write_ends.proofs.Turned.{empty_read, writer_either}
 
 module _ {S : Type 0} (call : S → Reply → Call) (next : S → Reply → S) where
   pub room_on : (k l : KernelState S) (q : ℕ) → HasRoomAhead call next k → after_turn call next k q ≡ Some l → HasRoomAhead call next l
@@ -36,49 +37,61 @@ module _ {S : Type 0} (call : S → Reply → Call) (next : S → Reply → S) w
     begun_l : IsBegun call next l
     begun_l = begun_on call next k l (q ∷ []) begun second
 
-    on_l : ClosesPlain call next l p ⊎ ClosesLastWriter call next l p → GivesWayBegun call next l p
+    on_l : ClosesNext call next IsNoReadEnd l p → GivesWayBegun call next l p
     on_l closes = record { gives = inr (record { child = child; closes = closes; room = room_on k l q room second }); begun = begun_l }
 
     -- both orders come to kernels that are alike
     in_order : (after both : KernelState S) → after_turn call next a q ≡ Some after → after_turn call next l p ≡ Some both → AlikeAnyhow after both → DoesAnyhow call next after both
     in_order after both here there alike = likened after both both (begun_on call next a after (q ∷ []) begun_a here) (begun_on call next l both (p ∷ []) begun_l there) alike (itself both)
 
-    plain_joins : ClosesPlain call next k p → JoinsHere
-    plain_joins e =
-        let b = plain_either call next k a l p q still e ne (room [] k q refl) first second in
-        record {
-          both = b.both;
-          taken = b.taken;
-          still = on_l (inl (plain_stays call next k l p q still e ne second));
-          joins = inr (b.after, b.second, in_order b.after b.both b.second b.taken (numbers_anyhow b.after b.between b.both b.alike b.same));
-        }
-
-    writer_joins : ClosesLastWriter call next k p → JoinsHere
-    writer_joins e = by (finds_or_put_nothing call next k begun e.pipe q) where
+    module _ (e : ClosesNext call next IsNoReadEnd k p) where
       stays : GivesWayBegun call next l p
-      stays = on_l (inr (writer_stays call next k l p q still (ends call next k begun) (fresh call next k begun) e ne second))
+      stays = on_l (close_stays call next IsNoReadEnd k l p q still e ne second)
 
-      by : FindsBytesNext call next k e.pipe q ⊎ ReadsEmptyNext call next k e.pipe q → JoinsHere
-      by (inl finds) =
-          let b = writer_either call next k a l p q still (ends call next k begun) (fresh call next k begun) e ne (room [] k q refl) finds first second in
+      -- the same close, of an object of which more is known
+      of_kind : (kind : Object → Type 0) → kind e.file.object → ClosesNext call next kind k p
+      of_kind kind of = record { process = e.process; there = e.there; ready = e.ready; fd = e.fd; calls = e.calls; entry = e.entry; holds = e.holds; file = e.file; used = e.used; of = of }
+
+      plain_joins : IsPlain e.file.object → JoinsHere
+      plain_joins plain =
+          let b = plain_either call next k a l p q still (of_kind IsPlain plain) ne (room [] k q refl) first second in
           record {
             both = b.both;
             taken = b.taken;
             still = stays;
-            joins = inr (b.after, b.second, in_order b.after b.both b.second b.taken (joined b.after b.between b.both b.alike b.same));
-          }
-      by (inr reads) =
-          let b = empty_read call next k a l p q still (ends call next k begun) (fresh call next k begun) e ne reads first second in
-          record {
-            both = b.both;
-            taken = b.taken;
-            still = stays;
-            joins = inl (likened a b.both b.both begun_a (begun_on call next l b.both (p ∷ []) begun_l b.taken) (awake_anyhow a b.both b.alike) (itself b.both));
+            joins = inr (b.after, b.second, in_order b.after b.both b.second b.taken (numbers_anyhow b.after b.between b.both b.alike b.same));
           }
 
-    closes_join : ClosesPlain call next k p ⊎ ClosesLastWriter call next k p → JoinsHere
-    closes_join (inl e) = plain_joins e
-    closes_join (inr e) = writer_joins e
+      writer_joins : (pipe : ℕ) → e.file.object ≡ PipeWrite pipe → JoinsHere
+      writer_joins pipe writes = by (finds_or_put_nothing call next k begun pipe q) where
+        it : ClosesNext call next (λ o. o ≡ PipeWrite pipe) k p
+        it = of_kind (λ o. o ≡ PipeWrite pipe) writes
+
+        by : FindsBytesNext call next k pipe q ⊎ ReadsEmptyNext call next k pipe q → JoinsHere
+        by (inl finds) =
+            let b = writer_either call next k a l p q pipe still (ends call next k begun) (fresh call next k begun) it ne first second (room [] k q refl) (λ one. finds) in
+            record {
+              both = b.both;
+              taken = b.taken;
+              still = stays;
+              joins = inr (b.after, b.second, in_order b.after b.both b.second b.taken (joined b.after b.between b.both b.alike b.same));
+            }
+        by (inr reads) =
+            let b = empty_read call next k a l p q pipe still (ends call next k begun) (fresh call next k begun) it ne first second reads in
+            record {
+              both = b.both;
+              taken = b.taken;
+              still = stays;
+              joins = inl (likened a b.both b.both begun_a (begun_on call next l b.both (p ∷ []) begun_l b.taken) (awake_anyhow a b.both b.alike) (itself b.both));
+            }
+
+      closes_join : (object : Object) → e.file.object ≡ object → IsNoReadEnd object → JoinsHere
+      closes_join Input is none = plain_joins (subst IsPlain (sym is) tt)
+      closes_join Out is none = plain_joins (subst IsPlain (sym is) tt)
+      closes_join Diag is none = plain_joins (subst IsPlain (sym is) tt)
+      closes_join (File name mode) is none = plain_joins (subst IsPlain (sym is) tt)
+      closes_join (PipeRead pipe) is none = absurd none
+      closes_join (PipeWrite pipe) is none = writer_joins pipe is
 
   pub gives_way_safe : IsSafe (after_turn call next) (DoesAnyhow call next) (GivesWayBegun call next)
   gives_way_safe k a l p q e ne first second = by e.gives where
@@ -86,4 +99,4 @@ module _ {S : Type 0} (call : S → Reply → Call) (next : S → Reply → S) w
     by (inl private) =
         let b = privates_safe_anyhow call next k a l p q (record { private = private; begun = e.begun }) ne first second in
         record { both = b.both; taken = b.taken; still = record { gives = inl b.still.private; begun = b.still.begun }; joins = b.joins }
-    by (inr c) = closes_join k a l p q e.begun (λ is. ne (sym is)) c.child c.room first second c.closes
+    by (inr c) = closes_join k a l p q e.begun (λ is. ne (sym is)) c.child c.room first second c.closes c.closes.file.object refl c.closes.of

@@ -1,4 +1,4 @@
--- A turn that closes the last write end of a pipe, and any other process's turn.
+-- A turn that closes the write end of a pipe, and any other process's turn.
 use Rattle.std.proofs.Common.{◌≡◌, ◌≢◌, ℕ, ◌+◌, ◌<◌, ◌≤◌, true, false, Option, Some, None, List, ◌∷◌, length, refl, sym, ap, subst, ◌∙◌, arith}
 use Rattle.std.proofs.Math.ListN.{set}
 use Rattle.user_calls.specs.declared.calls.Call.{Call}
@@ -51,8 +51,7 @@ use Rattle.proc_table.specs.declared.states.Status.TheVariants.{Runnable}
 use Rattle.proc_table.specs.Calls.{all_woken, woken, woken_status}
 use Rattle.proc_table.proofs.Changes.{mapped}
 use Rattle.std.proofs.lemmas.List.{map-set}
-use Rattle.kernel_model.specs.Pipes.{Pipes, pipe_of, writer_gone}
-use Rattle.kernel_model.specs.Replies.{wakes}
+use Rattle.kernel_model.specs.Pipes.{pipe_of, writer_gone}
 use Rattle.order_model.specs.Idle.{renamed_pipe}
 use Rattle.order_model.specs.Woke.{woke, AlikeAwake}
 use Rattle.law_orders.proofs.Entries.{pipe_renamed, writer_renamed}
@@ -63,8 +62,8 @@ use Rattle.law_private_turns.proofs.Woken.{all_woken_woke}
 use Rattle.order_model.specs.Numbers.{SameButNumbers}
 use Rattle.law_entry_numbers.proofs.Acted.{let_go_same}
 use Rattle.order_model.specs.Closes.{FindsFree, FindsFreeNext}
-use Rattle.law_last_closes.proofs.Turned.{Closes, left, given_up, table_left, names_given, shared, acted_given, at_events}
-use Rattle.order_model.specs.Closes.{ClosesLastWriter}
+use Rattle.law_last_closes.proofs.Turned.{Closes, left, given_up, table_left, names_given, more_hold, acted_given, at_events}
+use Rattle.order_model.specs.Closes.{ClosesNext}
 use Rattle.law_write_ends.specs.Writers.{FindsBytesNext, ReadsEmptyNext, IsDoneAlready, InEitherOrderAwake}
 use Rattle.proc_table.specs.Calls.{slept}
 use Rattle.kernel_model.specs.Replies.{sleeps}
@@ -73,9 +72,19 @@ use Rattle.order_model.specs.Woke.{woke_table}
 use Rattle.law_private_turns.specs.Retold.{Left}
 use Rattle.law_write_ends.proofs.Empty.{table_woke, slept_woke, read_waits}
 use Rattle.law_write_ends.proofs.Pipes.{writer_edited}
-use Rattle.law_write_ends.proofs.Cutting.{cut, cut_pipes, IsCut, HasBytes, FindsBytes, ReadsBytes, acted_cut}
-use Rattle.law_write_ends.proofs.Facts.{reader_there, writer_there, named, gone, no_writer}
+use Rattle.law_write_ends.proofs.Cutting.{cut, cut_pipes, HasBytes, FindsBytes, ReadsBytes, acted_cut}
+use Rattle.law_write_ends.proofs.Facts.{reader_there, writer_there, named, only_writer}
 use Rattle.law_write_ends.proofs.Stays.{IsLast, HoldsNot, outcome_last}
+use Rattle.law_write_ends.proofs.Many.{ClosesNothing, IsMany, outcome_many}
+use Rattle.law_write_ends.proofs.Gone.{Closing, IsLastOn, last_on, shared_is_not_last, freed_with_last, shut_by, shut, gone, let_go_shut, gone_shut, IsHeld, is_cut, closing_shut}
+use Rattle.law_last_closes.proofs.Acted.{CanGoBy, goes_by}
+use Rattle.law_last_closes.proofs.Objects.{IsOpenOn, outcome_on}
+use Rattle.law_private_turns.proofs.Unheard.{acted_told}
+use Rattle.law_private_turns.proofs.Staying.{holds_alive}
+use Rattle.law_private_turns.proofs.Turned.{Ready}
+use Rattle.law_entry_numbers.proofs.Numberings.{same_itself}
+use Rattle.proc_table.specs.Slots.{is_free}
+use Rattle.kernel_model.specs.Descriptors.{let_go}
 
 -- ---- wake-ups
 
@@ -111,36 +120,74 @@ holds_some : (xs : List ℕ) → xs ≢ [] → (length xs == 0) ≡ false
 holds_some [] ne = absurd (ne refl)
 holds_some (x ∷ xs) ne = ne_eqb (length (x ∷ xs)) 0 (λ none. omega (arith, none))
 
+-- a call that closes nothing closes no pipe's end
+goes_nowhere : {S : Type 0} (e q : ℕ) (k : KernelState S) (b : Call) → ClosesNothing b → CanGoBy e q k b
+goes_nowhere e q k Fork none = tt
+goes_nowhere e q k (Exec found) none = tt
+goes_nowhere e q k Exit none = absurd none
+goes_nowhere e q k Wait none = tt
+goes_nowhere e q k MakePipe none = tt
+goes_nowhere e q k (Read fd n) none = tt
+goes_nowhere e q k (Write fd b) none = tt
+goes_nowhere e q k (OpenFile name mode) none = tt
+goes_nowhere e q k (Close fd) none = absurd none
+goes_nowhere e q k (Dup fd) none = tt
+
 -- ---- the turn
 
 module _ {S : Type 0} (call : S → Reply → Call) (next : S → Reply → S) (p : ℕ) (x : Process S) (fd e id : ℕ) (c : Closes call next p x fd e (PipeWrite id)) where
+  abbrev chan : Channel
+  chan = PipeBytes id
+
+  abbrev lf : Left S
+  lf = left call next p x fd e (PipeWrite id)
+
+  abbrev told : KernelState S → KernelState S
+  told k = retold p lf k
+
   abbrev gave : KernelState S → KernelState S
   gave k = given_up call next p x fd e (PipeWrite id) k
 
-  abbrev ends : KernelState S → KernelState S
-  ends k = wakes (PipeBytes id) (cut id p (gave k))
+  -- what the turn comes to, and with its two events
+  abbrev lets : KernelState S → KernelState S
+  lets k = gone id e p (told k)
 
   abbrev both_events : KernelState S → KernelState S
-  both_events k = record (ends k) { events = k.events + 1 + 1 }
+  both_events k = record (lets k) { events = k.events + 1 + 1 }
 
-  own : (l : KernelState S) → IsStill l → Holds x (at l.table p) → IsLast (PipeWrite id) e (entry_at l.entries e) → after_turn call next l p ≡ Some (both_events l)
-  own l still h last =
+  abbrev IsLet : Option Object → Type 0
+  IsLet o = IsLastOn (PipeWrite id) o
+
+  timed : (j : KernelState S) (n : ℕ) (o : Option Object) → IsLet o → let_go_of (record j { events = n }) (Ok o) ≡ record (let_go_of j (Ok o)) { events = n }
+  timed j n None is = refl
+  timed j n (Some object) is = let P : Object → Type 0 = λ o. let_go (record j { events = n }) o ≡ record (let_go j o) { events = n } in subst P (sym is) refl
+
+  answered_after : (j : KernelState S) (m : S) (o : Option Object) → IsLet o → answered (let_go_of j (Ok o)) p m Done ≡ let_go_of (answered j p m Done) (Ok o)
+  answered_after j m None is = refl
+  answered_after j m (Some object) is =
+      let P : Object → Type 0 = λ o. answered (let_go j o) p m Done ≡ let_go (answered j p m Done) o in
+      subst P (sym is) (λ i. record (let_go j (PipeWrite id)) { table = ready_woken chan j.table p m Done i })
+
+  own : (l : KernelState S) → IsStill l → Holds x (at l.table p) → IsOpenOn (PipeWrite id) (entry_at l.entries e) → after_turn call next l p ≡ Some (both_events l)
+  own l still h on =
       let d : KernelState S = counted (given_0 l p) in
       let own_fds : fds_at d p ≡ x.fds = ap fds_of (written (with_status (Running 0)) refl l.table p) ∙ ap (λ (y : Slot S). fds_of (with_status (Running 0) y)) h.there ∙ h.fds in
       let entry : entry_of (fds_at d p) fd ≡ Some e = ap (λ (f : Descriptors). entry_of f fd) own_fds ∙ c.holds in
       let after : S = next x.machine x.reply in
+      let o : Option Object = last_object (entry_at l.entries e) in
+      let is : IsLet o = last_on (PipeWrite id) (entry_at l.entries e) on in
       turn_is call next l p h.now still h.there (ap is_runnable_status h.ready) ∙
       ap Some ((λ i. acted d p (next (h.machine i) (h.reply i)) (call (h.machine i) (h.reply i)) false) ∙ ap (λ (b : Call). acted d p after b false) c.calls ∙
       (λ i. answered (closed_by d p fd (entry i)) p after (close_reply (close_answer d.entries (entry i)))) ∙
-      (λ i. answered (let_go_of (taken_away d p fd (Some e)) (Ok (last i))) p after Done) ∙
-      (λ i. record d { table = readied (all_woken (PipeBytes id) (fds_set d.table p (set (own_fds i) fd None))) p after Done; entries = released d.entries e; pipes = writer_edited d.pipes id i }) ∙
-      (λ i. record d { table = ready_woken (PipeBytes id) (fds_set d.table p (set x.fds fd None)) p after Done i; entries = released d.entries e; pipes = cut_pipes id d.pipes }) ∙
-      (λ i. record d { table = all_woken (PipeBytes id) (table_left call next p x fd e (PipeWrite id) l.table h i); entries = released d.entries e; pipes = cut_pipes id d.pipes }))
+      answered_after (taken_away d p fd (Some e)) after o is ∙
+      (λ i. let_go_of (record d { table = readied (fds_set d.table p (set (own_fds i) fd None)) p after Done; entries = released d.entries e }) (Ok o)) ∙
+      (λ i. let_go_of (record d { table = table_left call next p x fd e (PipeWrite id) l.table h i; entries = released d.entries e }) (Ok o)) ∙
+      timed (gave l) (l.events + 1 + 1) o is)
 
   -- ---- both orders
 
   module _ (k : KernelState S) (q : ℕ) (y : Process S) (other : q ≢ p) (still : IsStill k) (h : Holds x (at k.table p)) (there : at k.table q ≡ Some y) (runs : y.status ≡ Runnable) (file : Opened) (used : entry_at k.entries e ≡ Some file)
-      (writes : file.object ≡ PipeWrite id) (last : file.count ≤ 1) (agree : EndsAgree k.entries k.pipes) (fresh : (n : ℕ) → k.events < n → pipe_of k.pipes n ≡ None) where
+      (writes : file.object ≡ PipeWrite id) (agree : EndsAgree k.entries k.pipes) (fresh : (n : ℕ) → k.events < n → pipe_of k.pipes n ≡ None) where
     ready : is_runnable_status y.status ≡ true
     ready = ap is_runnable_status runs
 
@@ -159,6 +206,12 @@ module _ {S : Type 0} (call : S → Reply → Call) (next : S → Reply → S) (
     abbrev l : KernelState S
     l = turned call next k q y false
 
+    abbrev act : KernelState S → KernelState S
+    act j = acted j q after b false
+
+    abbrev last : Option Object
+    last = last_object (entry_at k.entries e)
+
     d_holds : Holds x (at d.table p)
     d_holds = in_own x p q other k.table _ h
 
@@ -168,88 +221,136 @@ module _ {S : Type 0} (call : S → Reply → Call) (next : S → Reply → S) (
     d_runs : is_running (at d.table q) ≡ true
     d_runs = given_runs k q y there
 
-    q_fds : fds_at (retold p (left call next p x fd e (PipeWrite id)) d) q ≡ fds_at d q
+    on_here : IsOpenOn (PipeWrite id) (entry_at k.entries e)
+    on_here = subst (IsOpenOn (PipeWrite id)) (sym used) writes
+
+    l_on : IsOpenOn (PipeWrite id) (entry_at l.entries e)
+    l_on = outcome_on (PipeWrite id) e q d after b l (record { file = file; used = used; on = writes }) (every_call_ends d q after b false)
+
+    is_let : IsLet last
+    is_let = last_on (PipeWrite id) (entry_at k.entries e) on_here
+
+    q_fds : fds_at (told d) q ≡ fds_at d q
     q_fds = ap fds_of (kept d.table p q _ other)
 
-    -- q doesn't hold the entry
-    nobody : 0 < holders_in (fds_at (retold p (left call next p x fd e (PipeWrite id)) d) q) e → ⊥
-    nobody some =
-        let two = shared call next p x fd e (PipeWrite id) c q other d d_holds d_sound d_runs file used writes some in
-        omega (arith, two, last, ap count_of used)
+    held : IsHeld id e q (told d)
+    held = record {
+      on = on_here;
+      others = only_writer id k.entries k.pipes agree e file used writes;
+      apart = agree.apart;
+      more = more_hold call next p x fd e (PipeWrite id) c q other d d_holds d_sound d_runs file used writes;
+    }
 
-    holds_not : HoldsNot (PipeWrite id) e q d
-    holds_not gd is = nobody (omega (arith, holds_one (fds_at d q) gd e is, ap (λ (f : Descriptors). holders_in f e) q_fds))
+    -- p's slot isn't seen by q's call
+    told_call : act (told d) ≡ told l
+    told_call = acted_told p lf q other after d b false (ap is_free d_holds.there) (holds_alive x (at d.table p) d_holds)
 
-    last_here : IsLast (PipeWrite id) e (entry_at k.entries e)
-    last_here = ap last_object used ∙ ap (λ (r : Bool). if r then Some file.object else None) (le-leb file.count 1 last) ∙ ap Some writes
+    numbers : CanGoBy e q (told d) b → FindsFree d b → SameButNumbers (act g) (gave l)
+    numbers go free = acted_given call next p x fd e (PipeWrite id) c q other d d_holds d_sound d_runs file used writes after b go free
 
-    l_last : IsLast (PipeWrite id) e (entry_at l.entries e)
-    l_last = outcome_last (PipeWrite id) e q d after b l holds_not (λ some. nobody (omega (arith, some, ap (λ (f : Descriptors). holders_in f e) q_fds))) last_here (every_call_ends d q after b false)
+    -- what q's call comes to after p's turn, but for who sleeps, and from there, but for numbers, what p's turn comes to after q's
+    record Comes : Type 0 where
+      kernel : KernelState S
+      awake : woke (act (shut id e q (told d))) ≡ woke kernel
+      same : SameButNumbers kernel (lets l)
 
-    is_cut : IsCut id q g
-    is_cut = record { none = no_writer id k.entries k.pipes agree e file used writes last; apart = agree.apart }
+    -- ---- a call that closes something
+
+    closing_comes : Closing b → Comes
+    closing_comes closing = record {
+      kernel = lets l;
+      awake =
+          closing_shut id e q after (told d) held b false closing ∙ ap (λ (j : KernelState S). woke (shut id e q j)) told_call ∙ sym (gone_shut id e q (told l) l_on);
+      same = same_itself (lets l);
+    }
+
+    -- ---- another call, where more descriptors hold the entry
+
+    shared_comes : ClosesNothing b → FindsFree d b → 1 < file.count → Comes
+    shared_comes closes_nothing free many =
+        let k_many : IsMany (entry_at k.entries e) = subst IsMany (sym used) many in
+        let l_many : IsMany (entry_at l.entries e) = outcome_many e q d after b l closes_nothing k_many (every_call_ends d q after b false) in
+        record {
+          kernel = act g;
+          awake = ap (λ (o : Option Object). woke (act (shut_by id e q (told d) o))) (shared_is_not_last (entry_at k.entries e) k_many);
+          same = subst (λ (o : Option Object). SameButNumbers (act g) (let_go_of (gave l) (Ok o))) (sym (shared_is_not_last (entry_at l.entries e) l_many)) (numbers (goes_nowhere e q (told d) b closes_nothing) free);
+        }
+
+    -- ---- the last descriptor that holds it
+
+    module _ (one : file.count ≤ 1) where
+      last_here : last ≡ Some (PipeWrite id)
+      last_here = ap last_object used ∙ ap (λ (r : Bool). if r then Some file.object else None) (le-leb file.count 1 one) ∙ ap Some writes
+
+      -- q doesn't hold the entry
+      nobody : 0 < holders_in (fds_at (told d) q) e → ⊥
+      nobody some = omega (arith, some, held.more, one, ap count_of used)
+
+      holds_not : HoldsNot (PipeWrite id) e q d
+      holds_not gd is = nobody (omega (arith, holds_one (fds_at d q) gd e is, ap (λ (f : Descriptors). holders_in f e) q_fds))
+
+      l_last : IsLast (PipeWrite id) e (entry_at l.entries e)
+      l_last = outcome_last (PipeWrite id) e q d after b l holds_not (λ some. nobody (omega (arith, some, ap (λ (f : Descriptors). holders_in f e) q_fds))) last_here (every_call_ends d q after b false)
 
     past : (n : ℕ) → k.events < n → id ≢ n
     past n later is = named id k.entries k.pipes agree e file used writes (ap (pipe_of k.pipes) is ∙ fresh n later)
 
-    abbrev act : KernelState S → KernelState S
-    act j = acted j q after b false
+    module _ (one : file.count ≤ 1) where
+      -- what q reads
+      y_fds : fds_at g q ≡ y.fds
+      y_fds = q_fds ∙ ap fds_of (written (with_status (Running 0)) refl k.table q) ∙ ap (λ (z : Slot S). fds_of (with_status (Running 0) z)) there
 
-    -- q's call, and what p's turn does to it
-    numbers : FindsFree d b → SameButNumbers (act g) (gave l)
-    numbers free =
-        acted_given call next p x fd e (PipeWrite id) c q other d d_holds d_sound d_runs file used writes after b
-        (λ gd held. absurd (nobody (holds_one (fds_at (retold p (left call next p x fd e (PipeWrite id)) d) q) gd e held))) free
+      entry_before : (i : ℕ) (f : Opened) → entry_at (released k.entries e) i ≡ Some f → entry_at k.entries i ≡ Some f
+      entry_before i f is = by (cases_eq i e) where
+        by : (i ≡ e) ⊎ (i ≢ e) → entry_at k.entries i ≡ Some f
+        by (inl same) =
+            let none : None ≡ Some f = sym (changed_entry less_held refl k.entries e ∙ freed_with_last (entry_at k.entries e) (PipeWrite id) (last_here one)) ∙ ap (entry_at (released k.entries e)) (sym same) ∙ is in
+            absurd (let z : ⊥ = cc in z)
+        by (inr ne) = sym (get_or-set_other k.entries e i (less_held (entry_at k.entries e)) None ne) ∙ is
 
-    -- what q reads
-    y_fds : fds_at g q ≡ y.fds
-    y_fds = q_fds ∙ ap fds_of (written (with_status (Running 0)) refl k.table q) ∙ ap (λ (z : Slot S). fds_of (with_status (Running 0) z)) there
+      finds_by : (rd n : ℕ) → b ≡ Read rd n → FindsBytesNext call next k id q → (o : Option ℕ) → entry_of y.fds rd ≡ o → (f : Opened) → file_at (released k.entries e) o ≡ Some f → f.object ≡ PipeRead id → HasBytes id k.pipes
+      finds_by rd n is finds None held f at_o reads = absurd (let z : ⊥ = cc in z)
+      finds_by rd n is finds (Some i) held f at_o reads =
+          let before = entry_before i f at_o in
+          let r = reader_there id k.entries k.pipes agree i f before reads in
+          record { pipe = r.0; there = r.1; reader = r.2; some = holds_some r.0.bytes (finds y rd n f r.0 there is (ap (file_at k.entries) held ∙ before) reads r.1) }
 
-    entry_before : (i : ℕ) (f : Opened) → entry_at (released k.entries e) i ≡ Some f → entry_at k.entries i ≡ Some f
-    entry_before i f is = by (cases_eq i e) where
-      by : (i ≡ e) ⊎ (i ≢ e) → entry_at k.entries i ≡ Some f
-      by (inl same) =
-          let none : None ≡ Some f = sym (changed_entry less_held refl k.entries e ∙ gone id k.entries k.pipes agree e file used writes last) ∙ ap (entry_at (released k.entries e)) (sym same) ∙ is in
-          absurd (let z : ⊥ = cc in z)
-      by (inr ne) = sym (get_or-set_other k.entries e i (less_held (entry_at k.entries e)) None ne) ∙ is
+      finds_in : (rd n : ℕ) → b ≡ Read rd n → FindsBytesNext call next k id q → (x : Option Opened) → file_at (released k.entries e) (entry_of y.fds rd) ≡ x → FindsBytes id q after g x
+      finds_in rd n is finds None at_x = tt
+      finds_in rd n is finds (Some f) at_x = λ reads. finds_by rd n is finds (entry_of y.fds rd) refl f at_x reads
 
-    finds_by : (rd n : ℕ) → b ≡ Read rd n → FindsBytesNext call next k id q → (o : Option ℕ) → entry_of y.fds rd ≡ o → (f : Opened) → file_at (released k.entries e) o ≡ Some f → f.object ≡ PipeRead id → HasBytes id k.pipes
-    finds_by rd n is finds None held f at_o reads = absurd (let z : ⊥ = cc in z)
-    finds_by rd n is finds (Some i) held f at_o reads =
-        let before = entry_before i f at_o in
-        let r = reader_there id k.entries k.pipes agree i f before reads in
-        record { pipe = r.0; there = r.1; reader = r.2; some = holds_some r.0.bytes (finds y rd n f r.0 there is (ap (file_at k.entries) held ∙ before) reads r.1) }
+      reads_by : FindsBytesNext call next k id q → (m : Call) → b ≡ m → ReadsBytes id q after g m
+      reads_by finds Fork is = tt
+      reads_by finds (Exec found) is = tt
+      reads_by finds Exit is = tt
+      reads_by finds Wait is = tt
+      reads_by finds MakePipe is = tt
+      reads_by finds (Read rd n) is =
+          subst (λ (f : Descriptors). FindsBytes id q after g (file_at (released k.entries e) (entry_of f rd))) (sym y_fds) (finds_in rd n is finds (file_at (released k.entries e) (entry_of y.fds rd)) refl)
+      reads_by finds (Write wd bytes) is = tt
+      reads_by finds (OpenFile name mode) is = tt
+      reads_by finds (Close gd) is = tt
+      reads_by finds (Dup gd) is = tt
 
-    finds_in : (rd n : ℕ) → b ≡ Read rd n → FindsBytesNext call next k id q → (x : Option Opened) → file_at (released k.entries e) (entry_of y.fds rd) ≡ x → FindsBytes id q after g x
-    finds_in rd n is finds None at_x = tt
-    finds_in rd n is finds (Some f) at_x = λ reads. finds_by rd n is finds (entry_of y.fds rd) refl f at_x reads
-
-    reads_by : FindsBytesNext call next k id q → (m : Call) → b ≡ m → ReadsBytes id q after g m
-    reads_by finds Fork is = tt
-    reads_by finds (Exec found) is = tt
-    reads_by finds Exit is = tt
-    reads_by finds Wait is = tt
-    reads_by finds MakePipe is = tt
-    reads_by finds (Read rd n) is =
-        subst (λ (f : Descriptors). FindsBytes id q after g (file_at (released k.entries e) (entry_of f rd))) (sym y_fds) (finds_in rd n is finds (file_at (released k.entries e) (entry_of y.fds rd)) refl)
-    reads_by finds (Write wd bytes) is = tt
-    reads_by finds (OpenFile name mode) is = tt
-    reads_by finds (Close gd) is = tt
-    reads_by finds (Dup gd) is = tt
+      last_comes : FindsFree d b → FindsBytesNext call next k id q → Comes
+      last_comes free finds =
+          let go : CanGoBy e q (told d) b = goes_by e q (told d) b (λ gd holds. absurd (nobody one (holds_one (fds_at (told d) q) gd e holds))) in
+          record {
+            kernel = let_go (act g) (PipeWrite id);
+            awake =
+                ap (λ (o : Option Object). woke (act (shut_by id e q (told d) o))) (last_here one) ∙
+                ap woke (acted_cut id q after g b false (is_cut id e q (told d) held (PipeWrite id) (last_here one)) (past (k.events + 1 + 1) (omega arith)) (reads_by finds b refl)) ∙
+                sym (let_go_shut id e q (act g) (PipeWrite id) refl);
+            same = subst (λ (o : Option Object). SameButNumbers (let_go (act g) (PipeWrite id)) (let_go_of (gave l) (Ok o))) (sym (l_last one)) (let_go_same (act g) (gave l) (numbers go free) (Ok (Some (PipeWrite id))));
+          }
 
     -- ---- the other order
 
-    abbrev chan : Channel
-    chan = PipeBytes id
+    abbrev shut_told : KernelState S
+    shut_told = shut id e q (told d)
 
     abbrev u : KernelState S
-    u = record (cut id q g) { events = k.events + 1 + 1 + 1 + 1 }
-
-    woke_same : (j : KernelState S) → woke (wakes chan j) ≡ woke j
-    woke_same j = λ i. record (woke j) { table = all_woken_woke chan j.table i }
-
-    awake_call : woke (act (wakes chan u)) ≡ woke (act u)
-    awake_call = sym (acted_woke q after (wakes chan u) b false) ∙ ap (λ (j : KernelState S). woke (act j)) (woke_same u) ∙ acted_woke q after u b false
+    u = record shut_told { events = k.events + 1 + 1 + 1 + 1 }
 
     within : id ≤ k.events
     within = by (nat_le id k.events) refl where
@@ -257,65 +358,67 @@ module _ {S : Type 0} (call : S → Reply → Call) (next : S → Reply → S) (
       by true is = leb-true id k.events is
       by false is = absurd (past id (leb-false id k.events is) refl)
 
-    cut_names : HasNamesUpTo k.events (cut id q g)
-    cut_names = names_cut id q k.events g within (names_given call next p x fd e (PipeWrite id) c k.events d (given_names call next k q y false still there ready))
+    g_names : HasNamesUpTo k.events g
+    g_names = names_given call next p x fd e (PipeWrite id) c k.events d (given_names call next k q y false still there ready)
 
-    renamed_call : Alike (act u) (act (cut id q g))
+    shut_names : (o : Option Object) → HasNamesUpTo k.events (shut_by id e q (told d) o)
+    shut_names None = g_names
+    shut_names (Some object) = names_cut id q k.events g within g_names
+
+    shut_events : (o : Option Object) → (shut_by id e q (told d) o).events ≡ k.events + 1 + 1
+    shut_events None = refl
+    shut_events (Some object) = refl
+
+    renamed_call : Alike (act u) (act shut_told)
     renamed_call =
-        acted_alike u (cut id q g) k.events k.events q after b false cut_names cut_names (omega arith) (omega arith) (relike (cut id q g) u (cut id q g) (cut id q g) (alike_itself (cut id q g)) refl refl)
+        acted_alike u shut_told k.events k.events q after b false (shut_names last) (shut_names last) (omega arith) (omega (arith, shut_events last)) (relike shut_told u shut_told shut_told (alike_itself shut_told) refl refl)
 
-    given_is : counted (given_0 (both_events k) q) ≡ wakes chan u
-    given_is = λ i. record (counted (given_0 (both_events k) q)) {
-      table = (run_woken chan (retold_table p (left call next p x fd e (PipeWrite id)) k.table) q 0 ∙ ap (all_woken chan) (status_told p (left call next p x fd e (PipeWrite id)) q other k.table (Running 0))) i;
-    }
+    -- q is dispatched after p's turn
+    given_by : (o : Option Object) → IsLet o → woke (counted (given_0 (record (let_go_of (gave k) (Ok o)) { events = k.events + 1 + 1 }) q)) ≡ woke (record (shut_by id e q (told d) o) { events = k.events + 1 + 1 + 1 + 1 })
+    given_by None is = λ i. woke (record (counted (given_0 (record (gave k) { events = k.events + 1 + 1 }) q)) { table = status_told p lf q other k.table (Running 0) i })
+    given_by (Some object) is =
+        let P : Object → Type 0 = λ o. woke (counted (given_0 (record (let_go (gave k) o) { events = k.events + 1 + 1 }) q)) ≡ woke (record (cut id q (gave d)) { events = k.events + 1 + 1 + 1 + 1 }) in
+        let there : KernelState S = counted (given_0 (record (let_go (gave k) (PipeWrite id)) { events = k.events + 1 + 1 }) q) in
+        subst P (sym is)
+        (ap (λ (t : Table S). record (woke there) { table = woke_table t }) (run_woken chan (retold_table p lf k.table) q 0 ∙ ap (all_woken chan) (status_told p lf q other k.table (Running 0))) ∙
+        (λ i. record (woke there) { table = all_woken_woke chan (retold_table p lf d.table) i; pipes = writer_edited k.pipes id i }))
 
-    a_there : at (both_events k).table q ≡ Some y
-    a_there =
-        mapped (woken chan) refl (retold_table p (left call next p x fd e (PipeWrite id)) k.table) q ∙ ap (woken chan) (kept k.table p q _ other ∙ there) ∙
-        (λ i. Some (record y { status = woken_status chan (runs i) })) ∙ sym (λ i. Some (record y { status = runs i }))
+    awake_call : (i j : KernelState S) → woke i ≡ woke j → woke (act i) ≡ woke (act j)
+    awake_call i j is = sym (acted_woke q after i b false) ∙ ap (λ (m : KernelState S). woke (act m)) is ∙ acted_woke q after j b false
 
-    abbrev between : KernelState S
-    between = record (wakes chan (cut id q (act g))) { events = l.events + 1 + 1 }
+    there_by : (o : Option Object) → IsLet o → at (let_go_of (gave k) (Ok o)).table q ≡ Some y
+    there_by None is = kept k.table p q _ other ∙ there
+    there_by (Some object) is =
+        let P : Object → Type 0 = λ o. at (let_go (gave k) o).table q ≡ Some y in
+        subst P (sym is)
+        (mapped (woken chan) refl (retold_table p lf k.table) q ∙ ap (woken chan) (kept k.table p q _ other ∙ there) ∙
+        (λ i. Some (record y { status = woken_status chan (runs i) })) ∙ sym (λ i. Some (record y { status = runs i })))
 
-    alike_between : FindsBytesNext call next k id q → AlikeAwake (turned call next (both_events k) q y false) between
-    alike_between finds =
-        let aa : AlikeAwake (act u) (act (cut id q g)) = alike_awake (act u) (act (cut id q g)) renamed_call in
-        let cut_call : act (cut id q g) ≡ cut id q (act g) = acted_cut id q after g b false is_cut (past (k.events + 1 + 1) (omega arith)) (reads_by finds b refl) in
-        record {
-          first = aa.first;
-          second = aa.second;
-          first_one_to_one = aa.first_one_to_one;
-          second_one_to_one = aa.second_one_to_one;
-          same =
-              ap (idle_kernel aa.first 0) (ap (λ (j : KernelState S). woke (act j)) given_is ∙ awake_call) ∙ aa.same ∙ ap (λ (j : KernelState S). idle_kernel aa.second 0 (woke j)) cut_call ∙
-              ap (idle_kernel aa.second 0) (sym (woke_same (cut id q (act g))));
-        }
-
-    same_between : FindsFree d b → SameButNumbers between (both_events l)
-    same_between free =
-        let gone_so = let_go_same (act g) (gave l) (numbers free) (Ok (Some (PipeWrite id))) in
-        at_events (wakes chan (cut id q (act g))) (ends l) (l.events + 1 + 1)
-        (subst (λ (pipes : Pipes). SameButNumbers (wakes chan (record (act g) { pipes = pipes })) (ends l)) (writer_edited (act g).pipes id)
-        (subst (λ (pipes : Pipes). SameButNumbers (wakes chan (record (act g) { pipes = writer_gone (act g).pipes id (pipe_of (act g).pipes id) })) (wakes chan (record (gave l) { pipes = pipes }))) (writer_edited (gave l).pipes id) gone_so))
-
-    either_by : FindsFree d b → FindsBytesNext call next k id q → InEitherOrderAwake call next (both_events k) l p q
-    either_by free finds =
-        let a_taken : after_turn call next k p ≡ Some (both_events k) = own k still h last_here in
+    either_by : Comes → InEitherOrderAwake call next (both_events k) l p q
+    either_by comes =
+        let a_taken : after_turn call next k p ≡ Some (both_events k) = own k still h on_here in
         let a_still : IsStill (both_events k) = after_still call next k (both_events k) p still a_taken in
         let l_still : IsStill l = turn_still call next k q y false still there ready in
+        let aa : AlikeAwake (act u) (act shut_told) = alike_awake (act u) (act shut_told) renamed_call in
         record {
           after = turned call next (both_events k) q y false;
-          second = turn_is call next (both_events k) q y a_still a_there ready;
+          second = turn_is call next (both_events k) q y a_still (there_by last is_let) ready;
           both = both_events l;
-          taken = own l l_still (turn_keeps call next k p q x y other h) l_last;
-          between = between;
-          alike = alike_between finds;
-          same = same_between free;
+          taken = own l l_still (turn_keeps call next k p q x y other h) l_on;
+          between = record comes.kernel { events = l.events + 1 + 1 };
+          alike = record {
+            first = aa.first;
+            second = aa.second;
+            first_one_to_one = aa.first_one_to_one;
+            second_one_to_one = aa.second_one_to_one;
+            same = ap (idle_kernel aa.first 0) (awake_call (counted (given_0 (both_events k) q)) u (given_by last is_let)) ∙ aa.same ∙ ap (idle_kernel aa.second 0) comes.awake;
+          };
+          same = at_events comes.kernel (lets l) (l.events + 1 + 1) comes.same;
         }
 
     -- ---- a read of the empty pipe
 
-    module _ (rd n : ℕ) (f : Opened) (pp : PipeState) (is : b ≡ Read rd n) (held : file_at k.entries (entry_of y.fds rd) ≡ Some f) (reads : f.object ≡ PipeRead id) (pipe : pipe_of k.pipes id ≡ Some pp) (empty : pp.bytes ≡ []) (put : y.put ≡ 0) where
+    module _ (rd n : ℕ) (f : Opened) (pp : PipeState) (is : b ≡ Read rd n) (holds : file_at k.entries (entry_of y.fds rd) ≡ Some f) (reads : f.object ≡ PipeRead id) (pipe : pipe_of k.pipes id ≡ Some pp) (empty : pp.bytes ≡ []) (put : y.put ≡ 0) where
       open_too : pp.writer ≡ true
       open_too =
           let w = writer_there id k.entries k.pipes agree e file used writes in
@@ -326,30 +429,29 @@ module _ {S : Type 0} (call : S → Reply → Call) (next : S → Reply → S) (
       slept_now : l ≡ sleeps d q chan 0
       slept_now =
           ap (λ (m : Call). acted d q after m false) is ∙
-          read_waits d q after id pp pipe empty open_too rd n y.fds f (ap fds_of (written (with_status (Running 0)) refl k.table q) ∙ ap (λ (z : Slot S). fds_of (with_status (Running 0) z)) there) held reads
+          read_waits d q after id pp pipe empty open_too rd n y.fds f (ap fds_of (written (with_status (Running 0)) refl k.table q) ∙ ap (λ (z : Slot S). fds_of (with_status (Running 0) z)) there) holds reads
 
-      abbrev lf : Left S
-      lf = left call next p x fd e (PipeWrite id)
+      tables_same : woke_table (retold_table p lf k.table) ≡ woke_table (retold_table p lf (slept (dispatched k.table q 0) q chan 0))
+      tables_same = sym (table_woke p lf (slept (dispatched k.table q 0) q chan 0) ∙ ap (retold_table p lf) (slept_woke k.table q y chan there runs put) ∙ sym (table_woke p lf k.table))
 
-      tables_same : woke_table (all_woken chan (retold_table p lf (slept (dispatched k.table q 0) q chan 0))) ≡ woke_table (all_woken chan (retold_table p lf k.table))
-      tables_same =
-          all_woken_woke chan (retold_table p lf (slept (dispatched k.table q 0) q chan 0)) ∙ table_woke p lf (slept (dispatched k.table q 0) q chan 0) ∙ ap (retold_table p lf) (slept_woke k.table q y chan there runs put) ∙
-          sym (all_woken_woke chan (retold_table p lf k.table) ∙ table_woke p lf k.table)
+      shut_same : (o : Option Object) → idle_kernel (λ name. name) 0 (woke (shut_by id e p (told k) o)) ≡ idle_kernel (λ name. name) 0 (woke (shut_by id e p (told (sleeps d q chan 0)) o))
+      shut_same None = λ i. idle_kernel (λ name. name) 0 (record (woke (gave k)) { table = tables_same i })
+      shut_same (Some object) = λ i. idle_kernel (λ name. name) 0 (record (woke (cut id p (gave k))) { table = tables_same i })
 
       done_already : IsDoneAlready call next (both_events k) l p
       done_already =
           let l_still : IsStill l = turn_still call next k q y false still there ready in
           record {
             both = both_events l;
-            taken = own l l_still (turn_keeps call next k p q x y other h) l_last;
+            taken = own l l_still (turn_keeps call next k p q x y other h) l_on;
             alike = record {
               first = λ name. name;
               second = λ name. name;
               first_one_to_one = λ i j same. same;
               second_one_to_one = λ i j same. same;
               same =
-                  (λ i. idle_kernel (λ name. name) 0 (record (woke (both_events k)) { table = sym tables_same i })) ∙
-                  ap (λ (j : KernelState S). idle_kernel (λ name. name) 0 (woke (both_events j))) (sym slept_now);
+                  ap (idle_kernel (λ name. name) 0) (gone_shut id e p (told k) on_here) ∙ shut_same last ∙
+                  ap (λ (j : KernelState S). idle_kernel (λ name. name) 0 (woke (shut id e p (told j)))) (sym slept_now) ∙ ap (idle_kernel (λ name. name) 0) (sym (gone_shut id e p (told l) l_on));
             };
           }
 
@@ -366,78 +468,82 @@ module _ {S : Type 0} (call : S → Reply → Call) (next : S → Reply → S) w
   free_too k q (Close fd) free = tt
   free_too k q (Dup fd) free = tt
 
-  -- the close of the last write end, and another process's turn
-  pub writer_either : (k a l : KernelState S) (p q : ℕ) → IsStill k → EndsAgree k.entries k.pipes → ((n : ℕ) → k.events < n → pipe_of k.pipes n ≡ None) → (e : ClosesLastWriter call next k p) → q ≢ p → FindsFreeNext call next k q
-      → FindsBytesNext call next k e.pipe q → after_turn call next k p ≡ Some a → after_turn call next k q ≡ Some l → InEitherOrderAwake call next a l p q
-  writer_either k a l p q still agree fresh e other free finds first second =
-      let x : Process S = e.process in
-      let c : Closes call next p x e.fd e.entry (PipeWrite e.pipe) = record { calls = e.calls; holds = e.holds } in
-      let h = holds_itself x (at k.table p) e.there e.ready in
-      let r = ready_slot (at k.table q) (could_turn call next k (record { pid = q; refused = false }) (l, second)) in
-      let y : Process S = r.process in
-      let runs = runnable_by y.status r.ready in
-      let here = last_here call next p x e.fd e.entry e.pipe c k q y other still h r.there runs e.file e.used e.writes e.last agree fresh in
-      let own_a : Some (both_events call next p x e.fd e.entry e.pipe c k) ≡ Some a = sym (own call next p x e.fd e.entry e.pipe c k still h here) ∙ first in
-      let is_a : both_events call next p x e.fd e.entry e.pipe c k ≡ a = cc in
-      let own_l : Some (turned call next k q y false) ≡ Some l = sym (turn_is call next k q y still r.there r.ready) ∙ second in
-      let is_l : turned call next k q y false ≡ l = cc in
-      subst (λ (j : KernelState S). InEitherOrderAwake call next j l p q) is_a
-      (subst (λ (j : KernelState S). InEitherOrderAwake call next (both_events call next p x e.fd e.entry e.pipe c k) j p q) is_l
-      (either_by call next p x e.fd e.entry e.pipe c k q y other still h r.there runs e.file e.used e.writes e.last agree fresh (free_too k q (call y.machine y.reply) (free y r.there)) finds))
+  module _ (k a l : KernelState S) (p q pipe : ℕ) (still : IsStill k) (agree : EndsAgree k.entries k.pipes) (fresh : (n : ℕ) → k.events < n → pipe_of k.pipes n ≡ None) (e : ClosesNext call next (λ o. o ≡ PipeWrite pipe) k p) (other : q ≢ p)
+      (first : after_turn call next k p ≡ Some a) (second : after_turn call next k q ≡ Some l) where
+    abbrev x : Process S
+    x = e.process
 
-  -- what the last holder of an entry knows of it
-  from_last : (object : Object) (o : Option Opened) → last_object o ≡ Some object → (f : Opened) × (o ≡ Some f) × (f.object ≡ object) × (f.count ≤ 1)
-  from_last object None is = absurd (let z : ⊥ = cc in z)
-  from_last object (Some f) is = by (nat_le f.count 1) refl is where
-    by : (r : Bool) → nat_le f.count 1 ≡ r → (if r then Some f.object else None) ≡ Some object → (g : Opened) × (Some f ≡ Some g) × (g.object ≡ object) × (g.count ≤ 1)
-    by true few is = (f, refl, (let same : f.object ≡ object = cc in same), leb-true f.count 1 few)
-    by false few is = absurd (let z : ⊥ = cc in z)
+    its : Closes call next p x e.fd e.entry (PipeWrite pipe)
+    its = record { calls = e.calls; holds = e.holds }
 
-  -- p still closes it after any turn of another process
-  pub writer_stays : (k l : KernelState S) (p q : ℕ) → IsStill k → EndsAgree k.entries k.pipes → ((n : ℕ) → k.events < n → pipe_of k.pipes n ≡ None) → ClosesLastWriter call next k p → q ≢ p → after_turn call next k q ≡ Some l → ClosesLastWriter call next l p
-  writer_stays k l p q still agree fresh e other second =
-      let x : Process S = e.process in
-      let c : Closes call next p x e.fd e.entry (PipeWrite e.pipe) = record { calls = e.calls; holds = e.holds } in
-      let h = holds_itself x (at k.table p) e.there e.ready in
-      let r = ready_slot (at k.table q) (could_turn call next k (record { pid = q; refused = false }) (l, second)) in
-      let y : Process S = r.process in
-      let now : KernelState S = turned call next k q y false in
-      let own_l : Some now ≡ Some l = sym (turn_is call next k q y still r.there r.ready) ∙ second in
-      let is_l : now ≡ l = cc in
-      let kept_h = turn_keeps call next k p q x y other h in
-      let f = from_last (PipeWrite e.pipe) (entry_at now.entries e.entry) (l_last call next p x e.fd e.entry e.pipe c k q y other still h r.there (runnable_by y.status r.ready) e.file e.used e.writes e.last agree fresh) in
-      subst (λ (j : KernelState S). ClosesLastWriter call next j p) is_l (record {
-        process = kept_h.now;
-        there = kept_h.there;
-        ready = kept_h.ready;
-        fd = e.fd;
-        calls = (λ i. call (kept_h.machine i) (kept_h.reply i)) ∙ e.calls;
-        entry = e.entry;
-        holds = ap (λ (g : Descriptors). entry_of g e.fd) kept_h.fds ∙ e.holds;
-        file = f.0;
-        used = f.1;
-        pipe = e.pipe;
-        writes = f.2;
-        last = f.3;
-      })
+    h : Holds x (at k.table p)
+    h = holds_itself x (at k.table p) e.there e.ready
 
-  -- q's read of the empty pipe isn't needed
-  pub empty_read : (k a l : KernelState S) (p q : ℕ) → IsStill k → EndsAgree k.entries k.pipes → ((n : ℕ) → k.events < n → pipe_of k.pipes n ≡ None) → (e : ClosesLastWriter call next k p) → q ≢ p → ReadsEmptyNext call next k e.pipe q
-      → after_turn call next k p ≡ Some a → after_turn call next k q ≡ Some l → IsDoneAlready call next a l p
-  empty_read k a l p q still agree fresh e other r first second =
-      let x : Process S = e.process in
-      let c : Closes call next p x e.fd e.entry (PipeWrite e.pipe) = record { calls = e.calls; holds = e.holds } in
-      let h = holds_itself x (at k.table p) e.there e.ready in
-      let can = ready_slot (at k.table q) (could_turn call next k (record { pid = q; refused = false }) (l, second)) in
-      let y : Process S = r.process in
-      let both : Some can.process ≡ Some y = sym can.there ∙ r.there in
-      let it : can.process ≡ y = cc in
-      let runs : y.status ≡ Runnable = ap (λ (z : Process S). z.status) (sym it) ∙ runnable_by can.process.status can.ready in
-      let here = last_here call next p x e.fd e.entry e.pipe c k q y other still h r.there runs e.file e.used e.writes e.last agree fresh in
-      let own_a : Some (both_events call next p x e.fd e.entry e.pipe c k) ≡ Some a = sym (own call next p x e.fd e.entry e.pipe c k still h here) ∙ first in
-      let is_a : both_events call next p x e.fd e.entry e.pipe c k ≡ a = cc in
-      let own_l : Some (turned call next k q y false) ≡ Some l = sym (turn_is call next k q y still r.there (ap is_runnable_status runs)) ∙ second in
-      let is_l : turned call next k q y false ≡ l = cc in
-      subst (λ (j : KernelState S). IsDoneAlready call next j l p) is_a
-      (subst (λ (j : KernelState S). IsDoneAlready call next (both_events call next p x e.fd e.entry e.pipe c k) j p) is_l
-      (done_already call next p x e.fd e.entry e.pipe c k q y other still h r.there runs e.file e.used e.writes e.last agree fresh r.fd r.most r.file r.pipe r.calls r.holds r.reads r.named r.empty r.put))
+    r : Ready (at k.table q)
+    r = ready_slot (at k.table q) (could_turn call next k (record { pid = q; refused = false }) (l, second))
+
+    abbrev y : Process S
+    y = r.process
+
+    runs : y.status ≡ Runnable
+    runs = runnable_by y.status r.ready
+
+    is_a : both_events call next p x e.fd e.entry pipe its k ≡ a
+    is_a =
+        let both : Some (both_events call next p x e.fd e.entry pipe its k) ≡ Some a = sym (own call next p x e.fd e.entry pipe its k still h (subst (IsOpenOn (PipeWrite pipe)) (sym e.used) e.of)) ∙ first in
+        cc
+
+    is_l : turned call next k q y false ≡ l
+    is_l =
+        let both : Some (turned call next k q y false) ≡ Some l = sym (turn_is call next k q y still r.there r.ready) ∙ second in
+        cc
+
+    abbrev It : Type 0
+    It = Comes call next p x e.fd e.entry pipe its k q y other still h r.there runs e.file e.used e.of agree fresh
+
+    by_comes : It → InEitherOrderAwake call next a l p q
+    by_comes comes =
+        subst (λ (j : KernelState S). InEitherOrderAwake call next j l p q) is_a
+        (subst (λ (j : KernelState S). InEitherOrderAwake call next (both_events call next p x e.fd e.entry pipe its k) j p q) is_l
+        (either_by call next p x e.fd e.entry pipe its k q y other still h r.there runs e.file e.used e.of agree fresh comes))
+
+    -- the close of a write end, and another process's turn
+    pub writer_either : FindsFreeNext call next k q → (e.file.count ≤ 1 → FindsBytesNext call next k pipe q) → InEitherOrderAwake call next a l p q
+    writer_either free finds = by_comes (by_count (nat_le e.file.count 1) refl) where
+      free_here : FindsFree (counted (given_0 k q)) (call y.machine y.reply)
+      free_here = free_too k q (call y.machine y.reply) (free y r.there)
+
+      closing : (b : Call) → call y.machine y.reply ≡ b → Closing b → It
+      closing b is it = closing_comes call next p x e.fd e.entry pipe its k q y other still h r.there runs e.file e.used e.of agree fresh (subst Closing (sym is) it)
+
+      keeping : 1 < e.file.count → (b : Call) → call y.machine y.reply ≡ b → ClosesNothing b → It
+      keeping many b is it = shared_comes call next p x e.fd e.entry pipe its k q y other still h r.there runs e.file e.used e.of agree fresh (subst ClosesNothing (sym is) it) free_here many
+
+      by_call : 1 < e.file.count → (b : Call) → call y.machine y.reply ≡ b → It
+      by_call many Fork is = keeping many Fork is tt
+      by_call many (Exec found) is = keeping many (Exec found) is tt
+      by_call many Exit is = closing Exit is tt
+      by_call many Wait is = keeping many Wait is tt
+      by_call many MakePipe is = keeping many MakePipe is tt
+      by_call many (Read fd n) is = keeping many (Read fd n) is tt
+      by_call many (Write fd b) is = keeping many (Write fd b) is tt
+      by_call many (OpenFile name mode) is = keeping many (OpenFile name mode) is tt
+      by_call many (Close fd) is = closing (Close fd) is tt
+      by_call many (Dup fd) is = keeping many (Dup fd) is tt
+
+      by_count : (one : Bool) → nat_le e.file.count 1 ≡ one → It
+      by_count true is =
+          let one : e.file.count ≤ 1 = leb-true e.file.count 1 is in
+          last_comes call next p x e.fd e.entry pipe its k q y other still h r.there runs e.file e.used e.of agree fresh one free_here (finds one)
+      by_count false is = by_call (leb-false e.file.count 1 is) (call y.machine y.reply) refl
+
+    -- q's read of the empty pipe isn't needed
+    pub empty_read : ReadsEmptyNext call next k pipe q → IsDoneAlready call next a l p
+    empty_read w =
+        let both : Some y ≡ Some w.process = sym r.there ∙ w.there in
+        let it : y ≡ w.process = cc in
+        let up : w.process.status ≡ Runnable = ap (λ (z : Process S). z.status) (sym it) ∙ runs in
+        let is_l_too : turned call next k q w.process false ≡ l = ap (λ (z : Process S). turned call next k q z false) (sym it) ∙ is_l in
+        subst (λ (j : KernelState S). IsDoneAlready call next j l p) is_a
+        (subst (λ (j : KernelState S). IsDoneAlready call next (both_events call next p x e.fd e.entry pipe its k) j p) is_l_too
+        (done_already call next p x e.fd e.entry pipe its k q w.process other still h w.there up e.file e.used e.of agree fresh w.fd w.most w.file w.pipe w.calls w.holds w.reads w.named w.empty w.put))

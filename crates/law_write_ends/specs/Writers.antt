@@ -1,4 +1,4 @@
--- The close of a pipe's last write end, and two turns in either order.
+-- The close of a pipe's write end, and two turns in either order.
 use Rattle.std.specs.Prelude.{◌≡◌, ◌≢◌, ℕ, [], Some}
 use Rattle.user_calls.specs.declared.calls.Call.{Call}
 use Rattle.user_calls.specs.declared.calls.Call.TheVariants.{Read}

@@ -1,6 +1,7 @@
 //! Laws: each function's contract is the law, and its body is empty. They are of any machines.
 
-ghost use Rattle.std.specs.Prelude.{◌≡◌, ◌≢◌, ◌⊎◌, ℕ, ◌<◌, Some, None};
+ghost use Rattle.std.specs.Prelude.{◌≡◌, ◌≢◌, ◌⊎◌, ℕ, ◌<◌, ◌≤◌, Some, None};
+ghost use Rattle.fd_table.specs.declared.names.Object.TheVariants.{PipeWrite};
 ghost use Rattle.kernel_model.specs.KernelState.{KernelState};
 ghost use Rattle.kernel_model.specs.Pipes.{pipe_of};
 ghost use Rattle.order_model.specs.Alike.{IsStill};
@@ -8,26 +9,24 @@ ghost use Rattle.order_model.specs.Begun.{IsBegun};
 ghost use Rattle.order_model.specs.Turns.{after_turn};
 ghost use Rattle.law_kernel.specs.Ends.{EndsAgree};
 ghost use Rattle.order_model.specs.Anyhow.{DoesAnyhow};
-ghost use Rattle.order_model.specs.Closes.{ClosesLastWriter, FindsFreeNext, GivesWayBegun};
+ghost use Rattle.order_model.specs.Closes.{ClosesNext, FindsFreeNext, GivesWayBegun};
 ghost use Rattle.order_model.specs.Reduced.{IsSafe};
 ghost use Rattle.law_write_ends.specs.Writers.{FindsBytesNext, InEitherOrderAwake, IsDoneAlready, ReadsEmptyNext};
 
 use user_calls::Machine;
 
-/// A turn that closes the last descriptor of a pipe's write end can be taken before or after any other process's turn, if that finds
-/// free entries for what it opens, and bytes in this pipe if it reads from it: both orders come to the same but for who sleeps, the
-/// numbers of entries, names of pipes and the count of events. It stays such a turn until it is taken. If the other process, which has
-/// put nothing, reads from this pipe while it is empty, its turn isn't needed: the close alone does already what both turns do. Each
-/// pipe's open ends are one entry each, as in every run, and no pipe has the name of an event to come.
-pub fn the_close_of_a_last_write_end_can_be_made_in_either_order<M: Machine>()
-    ensures either { (k a l : KernelState M.State) (p q : ℕ) → IsStill k → EndsAgree k.entries k.pipes → ((n : ℕ) → k.events < n → pipe_of k.pipes n ≡ None)
-        → (e : ClosesLastWriter M.call_of M.next_of k p) → q ≢ p → FindsFreeNext M.call_of M.next_of k q → FindsBytesNext M.call_of M.next_of k e.pipe q
-        → after_turn M.call_of M.next_of k p ≡ Some a → after_turn M.call_of M.next_of k q ≡ Some l → InEitherOrderAwake M.call_of M.next_of a l p q }
-    ensures empty { (k a l : KernelState M.State) (p q : ℕ) → IsStill k → EndsAgree k.entries k.pipes → ((n : ℕ) → k.events < n → pipe_of k.pipes n ≡ None)
-        → (e : ClosesLastWriter M.call_of M.next_of k p) → q ≢ p → ReadsEmptyNext M.call_of M.next_of k e.pipe q
-        → after_turn M.call_of M.next_of k p ≡ Some a → after_turn M.call_of M.next_of k q ≡ Some l → IsDoneAlready M.call_of M.next_of a l p }
-    ensures stays { (k l : KernelState M.State) (p q : ℕ) → IsStill k → EndsAgree k.entries k.pipes → ((n : ℕ) → k.events < n → pipe_of k.pipes n ≡ None)
-        → ClosesLastWriter M.call_of M.next_of k p → q ≢ p → after_turn M.call_of M.next_of k q ≡ Some l → ClosesLastWriter M.call_of M.next_of l p }
+/// A turn that closes a descriptor of a pipe's write end, the last one or not, can be taken before or after any other process's turn, if
+/// that finds free entries for what it opens and, where the descriptor is the last one, bytes in this pipe if it reads from it: both
+/// orders come to the same but for who sleeps, the numbers of entries, names of pipes and the count of events. If the other process,
+/// which has put nothing, reads from this pipe while it is empty, its turn isn't needed: the close alone does already what both turns
+/// do. Each pipe's open ends are one entry each, as in every run, and no pipe has the name of an event to come.
+pub fn the_close_of_a_write_end_can_be_made_in_either_order<M: Machine>()
+    ensures either { (k a l : KernelState M.State) (p q pipe : ℕ) → IsStill k → EndsAgree k.entries k.pipes → ((n : ℕ) → k.events < n → pipe_of k.pipes n ≡ None)
+        → (e : ClosesNext M.call_of M.next_of (λ o. o ≡ PipeWrite pipe) k p) → q ≢ p → after_turn M.call_of M.next_of k p ≡ Some a → after_turn M.call_of M.next_of k q ≡ Some l
+        → FindsFreeNext M.call_of M.next_of k q → (e.file.count ≤ 1 → FindsBytesNext M.call_of M.next_of k pipe q) → InEitherOrderAwake M.call_of M.next_of a l p q }
+    ensures empty { (k a l : KernelState M.State) (p q pipe : ℕ) → IsStill k → EndsAgree k.entries k.pipes → ((n : ℕ) → k.events < n → pipe_of k.pipes n ≡ None)
+        → ClosesNext M.call_of M.next_of (λ o. o ≡ PipeWrite pipe) k p → q ≢ p → after_turn M.call_of M.next_of k p ≡ Some a → after_turn M.call_of M.next_of k q ≡ Some l
+        → ReadsEmptyNext M.call_of M.next_of k pipe q → IsDoneAlready M.call_of M.next_of a l p }
 {}
 
 /// So it is in every kernel to which turns lead from a boot: it is still, each open end of a pipe is one entry, and no pipe has the
@@ -47,7 +46,7 @@ pub fn a_reader_finds_bytes_or_has_put_nothing<M: Machine>()
 
 /// So such a close gives way to nobody's turn in a kernel of a run where whatever is opened from then on finds free entries; nor does
 /// the close of a file, of the input, the output or the diagnostics, nor a turn that is private anyhow: it can be taken before any
-/// other process's turn or after it, and stays such a turn until it is taken.
+/// other process's turn or after it, and stays such a turn until it is taken. Only a pipe's read end is left out.
 pub fn such_closes_give_way_to_nobody<M: Machine>()
     ensures { IsSafe (after_turn M.call_of M.next_of) (DoesAnyhow M.call_of M.next_of) (GivesWayBegun M.call_of M.next_of) }
 {}

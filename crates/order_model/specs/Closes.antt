@@ -1,5 +1,4 @@
--- Closes that give way to nobody's turn: of what is no pipe's end, and of a pipe's last write end, where whatever is opened later
--- finds free entries.
+-- Closes that give way to nobody's turn: of what is no pipe's read end, where whatever is opened later finds free entries.
 use Rattle.std.specs.Prelude.{◌≡◌, ◌≢◌, ◌⊎◌, ℕ, ◌<◌, ◌≤◌, List, Some}
 use Rattle.user_calls.specs.declared.calls.Call.{Call}
 use Rattle.user_calls.specs.declared.calls.Call.TheVariants.{Fork, Exec, Exit, Wait, MakePipe, Read, Write, OpenFile, Close, Dup}
@@ -28,7 +27,7 @@ FindsFree k (OpenFile name mode) = 0 < free_count k.entries
 FindsFree k (Close fd) = Unit {0}
 FindsFree k (Dup fd) = Unit {0}
 
--- the object is no end of a pipe
+-- the object is no end of a pipe, or no read end
 abbrev pub IsPlain : Object → Type 0
 IsPlain Input = Unit {0}
 IsPlain Out = Unit {0}
@@ -36,6 +35,14 @@ IsPlain Diag = Unit {0}
 IsPlain (File name mode) = Unit {0}
 IsPlain (PipeRead id) = ⊥
 IsPlain (PipeWrite id) = ⊥
+
+abbrev pub IsNoReadEnd : Object → Type 0
+IsNoReadEnd Input = Unit {0}
+IsNoReadEnd Out = Unit {0}
+IsNoReadEnd Diag = Unit {0}
+IsNoReadEnd (File name mode) = Unit {0}
+IsNoReadEnd (PipeRead id) = ⊥
+IsNoReadEnd (PipeWrite id) = Unit {0}
 
 module _ {S : Type 0} (call : S → Reply → Call) (next : S → Reply → S) where
   -- if the call that q makes next opens something, it finds free entries for it
@@ -46,8 +53,8 @@ module _ {S : Type 0} (call : S → Reply → Call) (next : S → Reply → S) w
   abbrev pub HasRoomAhead : KernelState S → Type 0
   HasRoomAhead k = (pids : List ℕ) (m : KernelState S) (q : ℕ) → after_turns call next k pids ≡ Some m → FindsFreeNext m q
 
-  -- the process p is Runnable, and next closes a descriptor of what is no pipe's end
-  pub record ClosesPlain (k : KernelState S) (p : ℕ) : Type 0 where
+  -- the process p is Runnable, and next closes a descriptor of an object of this kind
+  pub record ClosesNext (kind : Object → Type 0) (k : KernelState S) (p : ℕ) : Type 0 where
     pub process : Process S
     pub there : at k.table p ≡ Some process
     pub ready : process.status ≡ Runnable
@@ -57,27 +64,12 @@ module _ {S : Type 0} (call : S → Reply → Call) (next : S → Reply → S) w
     pub holds : entry_of process.fds fd ≡ Some entry
     pub file : Opened
     pub used : entry_at k.entries entry ≡ Some file
-    pub plain : IsPlain file.object
+    pub of : kind file.object
 
-  -- or the last descriptor of a pipe's write end
-  pub record ClosesLastWriter (k : KernelState S) (p : ℕ) : Type 0 where
-    pub process : Process S
-    pub there : at k.table p ≡ Some process
-    pub ready : process.status ≡ Runnable
-    pub fd : ℕ
-    pub calls : call process.machine process.reply ≡ Close fd
-    pub entry : ℕ
-    pub holds : entry_of process.fds fd ≡ Some entry
-    pub file : Opened
-    pub used : entry_at k.entries entry ≡ Some file
-    pub pipe : ℕ
-    pub writes : file.object ≡ PipeWrite pipe
-    pub last : file.count ≤ 1
-
-  -- the turn of the process p, not init, is such a close, in a kernel that has room
+  -- the turn of the process p, not init, closes what is no pipe's read end, in a kernel that has room
   pub record ClosesInRoom (k : KernelState S) (p : ℕ) : Type 0 where
     pub child : p ≢ 0
-    pub closes : ClosesPlain k p ⊎ ClosesLastWriter k p
+    pub closes : ClosesNext IsNoReadEnd k p
     pub room : HasRoomAhead k
 
   -- it is such a close, or private
