@@ -8,7 +8,7 @@ use Rattle.proc_table.specs.declared.states.Status.TheVariants.{Runnable}
 use Rattle.proc_table.specs.Slots.{Process, at}
 use Rattle.kernel_model.specs.KernelState.{KernelState}
 use Rattle.order_model.specs.Privately.{IsPrivateCall, executes, dups, closes}
-use Rattle.order_model.specs.Closes.{ClosesPlain, ClosesLastWriter, GivesWay}
+use Rattle.order_model.specs.Closes.{GivesWay}
 
 -- the call never puts its process to sleep
 abbrev pub Sleepless : Call → Type 0
@@ -39,7 +39,6 @@ module _ {S : Type 0} (call : S → Reply → Call) (next : S → Reply → S) w
   pub giver : (k : KernelState S) (p : ℕ) → GivesWay call next k p → Giver k p
   giver k p (inl e) =
       record { child = e.child; process = e.process; there = e.there; ready = e.ready; calls = private_sleepless e.process.fds (call e.process.machine e.process.reply) e.calls }
-  giver k p (inr e) = by e.closes where
-    by : ClosesPlain call next k p ⊎ ClosesLastWriter call next k p → Giver k p
-    by (inl c) = record { child = e.child; process = c.process; there = c.there; ready = c.ready; calls = subst Sleepless (sym c.calls) tt }
-    by (inr c) = record { child = e.child; process = c.process; there = c.there; ready = c.ready; calls = subst Sleepless (sym c.calls) tt }
+  giver k p (inr e) =
+      let c = e.closes in
+      record { child = e.child; process = c.process; there = c.there; ready = c.ready; calls = subst Sleepless (sym c.calls) tt }

@@ -1,5 +1,5 @@
 -- Kernels to which turns lead from a kernel at its start.
-use Rattle.std.proofs.Common.{◌≡◌, ◌≢◌, ◌⊎◌, ◌≤◌, inl, inr, ℕ, zero, suc, List, [], ◌∷◌, ◌++◌, Bool, true, false, Option, Some, None, length, refl, sym, ap, subst, ◌∙◌, map, arith}
+use Rattle.std.proofs.Common.{◌≡◌, ◌≢◌, inl, inr, ℕ, zero, suc, List, [], ◌∷◌, ◌++◌, Bool, true, false, Option, Some, None, length, refl, sym, ap, subst, ◌∙◌, map, arith}
 use Rattle.std.specs.Prelude.{if◌then◌else◌, ◌&&◌, not, nat_lt, is_some, position, count_by, cond}
 use Rattle.std.proofs.lemmas.List.Sums.{sum_by-cons}
 use Rattle.user_calls.specs.declared.calls.Call.{Call}
@@ -24,11 +24,11 @@ use Rattle.order_model.specs.Key.{key, place_in}
 use Rattle.order_model.specs.Woke.{woke_status, woke_slot, woke_table, woke}
 use Rattle.order_model.specs.Anyhow.{bare_status, bare_slot, bare_table}
 use Rattle.order_model.specs.Privately.{IsPrivateCall}
-use Rattle.order_model.specs.Closes.{HasRoomAhead, IsPlain, ClosesPlain, ClosesLastWriter, GivesWay}
+use Rattle.order_model.specs.Closes.{HasRoomAhead, IsNoReadEnd, ClosesNext, GivesWay}
 use Rattle.order_model.specs.Outcome.{outcome_of}
 use Rattle.order_model.specs.Turns.{by_turns, quiet_turns, after_turns, after_turn, turn_events, turn_notes}
 use Rattle.order_search.specs.Led.{start_kernel}
-use Rattle.order_search.specs.Shown.{ClosesAtOnce, IsClosedAtOnce, IsPrivateSlot, IsClosingSlot, IsGivingSlot}
+use Rattle.order_search.specs.Shown.{IsClosedAtOnce, IsPrivateSlot, IsClosingSlot, IsGivingSlot}
 use Rattle.order_search.specs.Places.{IsOrderly, names_in, place_among}
 use Rattle.order_search.proofs.Placing.{place_is}
 use Rattle.law_kernel.proofs.EntriesLong.{every_run_has_entries}
@@ -147,19 +147,19 @@ private_slot call name (Some p) idle e =
 record Freed (x : Option OpenFile) : Type 0 where
   file : OpenFile
   is : x ≡ Some file
-  how : IsPlain file.object ⊎ ((pipe : ℕ) × (file.object ≡ PipeWrite pipe) × (file.count ≤ 1))
+  how : IsNoReadEnd file.object
 
-freed_object : (name : ℕ → ℕ) (o : Object) (count : ℕ) → ClosesAtOnce (renamed_object name o) count → IsPlain o ⊎ ((pipe : ℕ) × (o ≡ PipeWrite pipe) × (count ≤ 1))
-freed_object name Input count free = inl tt
-freed_object name Out count free = inl tt
-freed_object name Diag count free = inl tt
-freed_object name (File file mode) count free = inl tt
-freed_object name (PipeRead id) count free = absurd free
-freed_object name (PipeWrite id) count free = inr (id, refl, free)
+freed_object : (name : ℕ → ℕ) (o : Object) → IsNoReadEnd (renamed_object name o) → IsNoReadEnd o
+freed_object name Input free = tt
+freed_object name Out free = tt
+freed_object name Diag free = tt
+freed_object name (File file mode) free = tt
+freed_object name (PipeRead id) free = absurd free
+freed_object name (PipeWrite id) free = tt
 
 freed : (name : ℕ → ℕ) (x : Option OpenFile) → IsClosedAtOnce (renamed_entry name x) → Freed x
 freed name None free = absurd free
-freed name (Some f) free = record { file = f; is = refl; how = freed_object name f.object f.count free }
+freed name (Some f) free = record { file = f; is = refl; how = freed_object name f.object free }
 
 entry_named : (name : ℕ → ℕ) (E : Entries) (e : ℕ) → entry_at (map (renamed_entry name) E) e ≡ renamed_entry name (entry_at E e)
 entry_named name [] e = refl
@@ -167,13 +167,11 @@ entry_named name (x ∷ E) zero = refl
 entry_named name (x ∷ E) (suc e) = entry_named name E e
 
 module _ {S : Type 0} (call : S → Reply → Call) (next : S → Reply → S) where
-  closing_by : (k : KernelState S) (pid : ℕ) (p : Process S) → at k.table pid ≡ Some p → p.status ≡ Runnable → (fd : ℕ) → call p.machine p.reply ≡ Close fd → (entry : ℕ) → entry_of p.fds fd ≡ Some entry → Freed (entry_at k.entries entry) → ClosesPlain call next k pid ⊎ ClosesLastWriter call next k pid
-  closing_by k pid p there ready fd calls entry holds f = by f.how where
-    by : IsPlain f.file.object ⊎ ((pipe : ℕ) × (f.file.object ≡ PipeWrite pipe) × (f.file.count ≤ 1)) → ClosesPlain call next k pid ⊎ ClosesLastWriter call next k pid
-    by (inl plain) = inl (record { process = p; there = there; ready = ready; fd = fd; calls = calls; entry = entry; holds = holds; file = f.file; used = f.is; plain = plain })
-    by (inr w) = inr (record { process = p; there = there; ready = ready; fd = fd; calls = calls; entry = entry; holds = holds; file = f.file; used = f.is; pipe = w.0; writes = w.1; last = w.2 })
+  closing_by : (k : KernelState S) (pid : ℕ) (p : Process S) → at k.table pid ≡ Some p → p.status ≡ Runnable → (fd : ℕ) → call p.machine p.reply ≡ Close fd → (entry : ℕ) → entry_of p.fds fd ≡ Some entry → Freed (entry_at k.entries entry) → ClosesNext call next IsNoReadEnd k pid
+  closing_by k pid p there ready fd calls entry holds f =
+      record { process = p; there = there; ready = ready; fd = fd; calls = calls; entry = entry; holds = holds; file = f.file; used = f.is; of = f.how }
 
-  closing_slot : (k : KernelState S) (pid : ℕ) (name : ℕ → ℕ) (E : Entries) (x : Slot S) → at k.table pid ≡ x → is_running x ≡ false → E ≡ map (renamed_entry name) k.entries → IsClosingSlot call E (idle_slot name x) → ClosesPlain call next k pid ⊎ ClosesLastWriter call next k pid
+  closing_slot : (k : KernelState S) (pid : ℕ) (name : ℕ → ℕ) (E : Entries) (x : Slot S) → at k.table pid ≡ x → is_running x ≡ false → E ≡ map (renamed_entry name) k.entries → IsClosingSlot call E (idle_slot name x) → ClosesNext call next IsNoReadEnd k pid
   closing_slot k pid name E None there idle entries e = absurd (let is = e.is in let z : ⊥ = cc in z)
   closing_slot k pid name E (Some p) there idle entries e =
       let is = e.is in

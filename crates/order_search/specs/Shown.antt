@@ -1,17 +1,16 @@
 -- What is shown of the kept parts of a kernel. No public clause cites this module.
-use Rattle.std.specs.Prelude.{◌≡◌, ◌⊎◌, ℕ, ◌≤◌, Bool, true, Option, Some, None}
+use Rattle.std.specs.Prelude.{◌≡◌, ◌⊎◌, ℕ, Bool, true, Option, Some, None}
 use Rattle.std.specs.Rc.{rc_value}
 use Rattle.std.specs.declared.rc.Rc.{Rc}
 use Rattle.user_calls.specs.declared.calls.Call.{Call}
 use Rattle.user_calls.specs.declared.calls.Call.TheVariants.{Close}
 use Rattle.user_calls.specs.declared.calls.Reply.{Reply}
-use Rattle.fd_table.specs.declared.names.Object.{Object}
-use Rattle.fd_table.specs.declared.names.Object.TheVariants.{Input, Out, Diag, File, PipeRead, PipeWrite}
 use Rattle.fd_table.specs.Entries.{Entries, OpenFile, entry_at}
 use Rattle.fd_table.specs.Descriptors.{Descriptors, entry_of}
 use Rattle.proc_table.specs.declared.states.Status.TheVariants.{Runnable}
 use Rattle.proc_table.specs.Slots.{Slot, Process}
 use Rattle.order_model.specs.Privately.{IsPrivateCall}
+use Rattle.order_model.specs.Closes.{IsNoReadEnd}
 use Rattle.order_search.specs.declared.private.NextCall.{NextCall}
 use Rattle.order_search.specs.declared.private.NextCall.TheVariants.{Private, Closes, Unknown}
 
@@ -33,18 +32,10 @@ IsNextCall fds call Private = IsPrivateCall fds call
 IsNextCall fds call (Closes entry) = (fd : ℕ) × (call ≡ Close fd) × (entry_of fds fd ≡ Some entry)
 IsNextCall fds call Unknown = Unit {0}
 
--- a descriptor of this object, held by so many, can be closed at once: it is no pipe's end, or the last of a write end
-abbrev pub ClosesAtOnce : Object → ℕ → Type 0
-ClosesAtOnce Input count = Unit {0}
-ClosesAtOnce Out count = Unit {0}
-ClosesAtOnce Diag count = Unit {0}
-ClosesAtOnce (File name mode) count = Unit {0}
-ClosesAtOnce (PipeRead id) count = ⊥
-ClosesAtOnce (PipeWrite id) count = count ≤ 1
-
+-- a descriptor of the entry can be closed at once: it is in use, and no pipe's read end
 abbrev pub IsClosedAtOnce : Option OpenFile → Type 0
 IsClosedAtOnce None = ⊥
-IsClosedAtOnce (Some f) = ClosesAtOnce f.object f.count
+IsClosedAtOnce (Some f) = IsNoReadEnd f.object
 
 -- the slot's process is Runnable, and its next call is such a close
 pub record IsClosingSlot {S : Type 0} (call : S → Reply → Call) (E : Entries) (x : Slot S) : Type 0 where

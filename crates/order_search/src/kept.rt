@@ -270,12 +270,15 @@ impl Opened {
 
     // Whether a descriptor of it can be closed at once.
     fn is_closed_at_once(&self) -> bool
-        ensures { result ≡ true → IsClosedAtOnce (Some self.now) }
+        ensures { IsTrue result ↔ IsClosedAtOnce (Some self.now) }
     {
         match &self.object {
-            Object::Input | Object::Out | Object::Diag | Object::File(..) => true,
+            Object::Input
+            | Object::Out
+            | Object::Diag
+            | Object::File(..)
+            | Object::PipeWrite(_) => true,
             Object::PipeRead(_) => false,
-            Object::PipeWrite(_) => self.count <= 1,
         }
     }
 
@@ -337,13 +340,13 @@ impl Same for Entries {
 }
 
 impl Entries {
-    ghost use Rattle.std.specs.Prelude.{◌≡◌, true};
+    ghost use Rattle.std.specs.Prelude.{◌≡◌, ◌↔◌, IsTrue};
     ghost use Rattle.fd_table.specs.Entries.{entry_at};
     ghost use Rattle.order_search.specs.Shown.{IsClosedAtOnce};
 
     // Whether a descriptor of the entry of this number can be closed at once.
     pub fn is_closed_at_once(&self, number: u8) -> bool
-        ensures { result ≡ true → IsClosedAtOnce (entry_at self.now number) }
+        ensures { IsTrue result ↔ IsClosedAtOnce (entry_at self.now number) }
     {
         let place = usize::from(number);
         if place >= self.slots.len() {

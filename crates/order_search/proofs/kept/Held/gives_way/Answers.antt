@@ -34,6 +34,6 @@ returns-then-room g c = λ yes.
         calls = ap (λ (p : Process g.row.M-State.Denot). call p.machine p.reply) (sym c.self.view_is) ∙ known.1;
         entry = c.in-Closes.entry;
         holds = ap (λ (p : Process g.row.M-State.Denot). entry_of p.fds known.0) (sym c.self.view_is) ∙ known.2;
-        at_once = c.is_closed_at_once.ensures yes;
+        at_once = c.is_closed_at_once.ensures.0 yes;
       },
     )
