@@ -89,8 +89,11 @@ holders_less fds fd d e held =
 
 own_holder_less : (fds : Descriptors) (fd e : ℕ) → entry_of fds fd ≡ Some e → holders_in (set fds fd None) e + 1 ≡ holders_in fds e
 own_holder_less fds fd e held =
-    omega (arith, sum_by-set (λ (x : Option ℕ). cond {A = ℕ} (is_entry e x) 1 0) fds fd None None (within_list fds fd e held),
-    ap (λ (x : Option ℕ). cond {A = ℕ} (is_entry e x) 1 0) held ∙ ap (λ (b : Bool). cond {A = ℕ} b 1 0) (eq-eqb e e refl))
+    omega (
+      arith,
+      sum_by-set (λ (x : Option ℕ). cond {A = ℕ} (is_entry e x) 1 0) fds fd None None (within_list fds fd e held),
+      ap (λ (x : Option ℕ). cond {A = ℕ} (is_entry e x) 1 0) held ∙ ap (λ (b : Bool). cond {A = ℕ} b 1 0) (eq-eqb e e refl),
+    )
 
 module _ {S : Type 0} (id e pid : ℕ) where
   abbrev L : KernelState S → KernelState S

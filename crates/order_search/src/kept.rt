@@ -272,14 +272,7 @@ impl Opened {
     fn is_closed_at_once(&self) -> bool
         ensures { IsTrue result ↔ IsClosedAtOnce (Some self.now) }
     {
-        match &self.object {
-            Object::Input
-            | Object::Out
-            | Object::Diag
-            | Object::File(..)
-            | Object::PipeWrite(_) => true,
-            Object::PipeRead(_) => false,
-        }
+        !matches!(self.object, Object::PipeRead(_))
     }
 
     pub fn add_to(&self, digest: &mut Digest) {
