@@ -1,0 +1,1 @@
+grep error log | tee errors

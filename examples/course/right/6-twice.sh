@@ -1,0 +1,1 @@
+echo hello > hi; cat hi hi

@@ -1,0 +1,2 @@
+cat notes | tee copy | wc > counts
+cat counts

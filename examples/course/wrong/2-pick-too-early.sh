@@ -1,0 +1,1 @@
+head -2 log | grep error

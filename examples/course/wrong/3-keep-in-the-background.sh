@@ -1,0 +1,2 @@
+grep error log > errors &
+cat errors

@@ -1,0 +1,2 @@
+cat a &
+cat b

@@ -1,0 +1,1 @@
+grep error log > errors | wc < errors

@@ -1,0 +1,1 @@
+cat list > new; echo end >> new

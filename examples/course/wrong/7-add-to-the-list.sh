@@ -1,0 +1,1 @@
+(cat list; echo end) > list; cat list > new
