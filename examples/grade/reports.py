@@ -319,5 +319,6 @@ def write(path, text):
 
 
 def exit_with(status, sentence):
-    print(f"{os.path.basename(sys.argv[0])}: {sentence}", file=sys.stderr)
+    if sys.stderr is not None:
+        print(f"{os.path.basename(sys.argv[0])}: {sentence}", file=sys.stderr)
     sys.exit(status)
