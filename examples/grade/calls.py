@@ -153,7 +153,8 @@ class Suite:
         return self.own if is_own else self.others
 
     def bounds(self, is_own, is_limited):
-        """Returns the bounds on states with which its tests are judged, one after the other, as far as time goes; the last one is none."""
+        """Returns the bounds on states with which its tests are judged, one after the other, as far as time goes; the last one is the largest that a
+        test has."""
         most = max([states for _, _, states in self.tests(is_own)], default=STATES)
         bound, found = STATES, []
         while is_limited and bound * TIMES <= most:
@@ -202,7 +203,7 @@ class Judge:
 
     def check(self, path, scripts):
         """WrongSuite where the program says that the suite at a path is wrong, or doesn't fit to these scripts."""
-        status, out, said = self.calls.run(["grade", "--json", "--states=1", "--", path, *scripts], self.seconds)
+        status, out, said = self.calls.run(["grade", "--json", f"--jobs={self.threads}", "--states=1", "--", path, *scripts], self.seconds)
         if status not in (0, 3, 4) or not out:
             raise WrongSuite(status, said)
 
