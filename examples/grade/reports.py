@@ -318,7 +318,12 @@ def write(path, text):
         exit_with(1, f"cannot write {path}: {error.strerror}")
 
 
-def exit_with(status, sentence):
+def tell(sentence):
+    """Writes a line to standard error, unless that is closed."""
     if sys.stderr is not None:
-        print(f"{os.path.basename(sys.argv[0])}: {sentence}", file=sys.stderr)
+        print(sentence, file=sys.stderr)
+
+
+def exit_with(status, sentence):
+    tell(f"{os.path.basename(sys.argv[0])}: {sentence}")
     sys.exit(status)
