@@ -18,7 +18,7 @@ use Rattle.law_answers.proofs.Readings.{as_begun}
 use Rattle.law_answers.proofs.Statuses.{ended_well}
 
 module _ (input : Option Bytes) (file : Path → Option Bytes) (profile : Profile) (script : Path) (paths : List (Bor Path)) where
-  run_means : (harts turns : ℕ) (lists : Lists) (why text diag : Bytes) → RanStrict input file profile script paths harts turns lists None true why text diag → IsMeaningAt input file profile script paths lists text
+  run_means : (harts : ℕ) (turns : Option ℕ) (lists : Lists) (why text diag : Bytes) → RanStrict input file profile script paths harts turns lists None true why text diag → IsMeaningAt input file profile script paths lists text
   run_means harts turns lists why text diag gave =
       let run = gave.ran in
       let settled : IsSettledScript profile run.lines run.stdin (files run.given) = gave.settled.0 refl in
@@ -36,7 +36,7 @@ module _ (input : Option Bytes) (file : Path → Option Bytes) (profile : Profil
   abbrev pub WritesMeaning : Lists → Option Bytes → Option Bytes → Type 0
   WritesMeaning lists out out' = (text : Bytes) × IsMeaningAt input file profile script paths lists text × Appends out out' text
 
-  pub strict_means : (harts turns : ℕ) (lists : Lists) (out out' err err' : Option Bytes) → Ends input file out out' err err' (asks_strict profile script paths harts turns lists) 0 → WritesMeaning lists out out'
+  pub strict_means : (harts : ℕ) (turns : Option ℕ) (lists : Lists) (out out' err err' : Option Bytes) → Ends input file out out' err err' (asks_strict profile script paths harts turns lists) 0 → WritesMeaning lists out out'
   strict_means harts turns lists out out' err err' ends =
       let well = ended_well input file out out' err err' (asks_strict profile script paths harts turns lists) ends in
       (well.text, run_means harts turns lists well.did.0 well.text well.did.1 well.did.2, well.printed)

@@ -54,7 +54,7 @@ EndsIn s o asked status = Ends s.input s.file o.out o.out_after o.err o.err_afte
 abbrev pub run_in : Setting → How → Asked
 run_in s how = asks_run s.profile s.script s.paths how no_lists
 
-abbrev pub strict_in : Setting → ℕ → ℕ → Lists → Asked
+abbrev pub strict_in : Setting → ℕ → Option ℕ → Lists → Asked
 strict_in s harts turns lists = asks_strict s.profile s.script s.paths harts turns lists
 
 abbrev pub plain_in : Setting → Bool → Asked

@@ -29,7 +29,7 @@ ghost use Rattle.xvsh_explores.specs.Explores.{RanExplore};
 ghost use Rattle.xvsh_ends.specs.Ends.{How, RanBy};
 ghost use Rattle.xvsh.specs.Drive.{EndsOn};
 ghost use Rattle.law_answers.specs.Settings.{EndsIn, IsKnown, IsSettledIn, LeavesInput, MeantIn, Outputs, RanIn, Setting, WriteTheSame, WritesMeaningIn, plain_in, run_in, strict_in};
-ghost use Rattle.law_answers.specs.Spending.{IsSpentIn};
+ghost use Rattle.law_answers.specs.Spending.{IsGivenUpIn, IsSpentIn};
 ghost use Rattle.law_answers.specs.Unless.{IsRightUnlessRefused, PrintsUnlessRefused};
 ghost use Rattle.law_answers.specs.Words.{AreOfStrictRun, WroteMeaningOf};
 ghost use Rattle.law_answers.specs.Written.{IsValueText, no_lists};
@@ -38,7 +38,7 @@ ghost use Rattle.law_answers.specs.Written.{IsValueText, no_lists};
 /// script's recursive meaning, and then the lists that were requested: the files that it lists are the meaning's but for soft
 /// names. Without lists it is that output and nothing else. So is what `replay` prints, whatever the schedule says.
 pub fn a_run_prints_the_meaning()
-    ensures run { (s : Setting) (harts turns : ℕ) (lists : Lists) (text diag : Bytes) (r : RanRun s.input s.file s.profile s.script s.paths harts turns lists None text diag)
+    ensures run { (s : Setting) (harts : ℕ) (turns : Option ℕ) (lists : Lists) (text diag : Bytes) (r : RanRun s.input s.file s.profile s.script s.paths harts turns lists None text diag)
         → IsSettledScript s.profile r.lines r.stdin (files r.given) → IsValueText (script_meaning s.profile r.lines r.stdin (files r.given)) lists r.on.events text }
     ensures replay { (s : Setting) (schedule : Path) (lists : Lists) (text diag : Bytes) (r : RanReplay s.input s.file s.profile s.script s.paths schedule lists None text diag)
         → IsSettledScript s.profile r.lines r.stdin (files r.given) → IsValueText (script_meaning s.profile r.lines r.stdin (files r.given)) lists r.events text }
@@ -47,7 +47,7 @@ pub fn a_run_prints_the_meaning()
 /// And where such a script has room in xv6's tables by its bounds, nothing but memory is full in any run of `run` or `replay` that is
 /// printed: so what it prints is the meaning, unless it reports that memory was refused.
 pub fn a_printed_run_of_a_roomy_script_fills_nothing_but_memory()
-    ensures run { (s : Setting) (harts turns : ℕ) (lists : Lists) (full : Option Full) (text diag : Bytes) (r : RanRun s.input s.file s.profile s.script s.paths harts turns lists full text diag)
+    ensures run { (s : Setting) (harts : ℕ) (turns : Option ℕ) (lists : Lists) (full : Option Full) (text diag : Bytes) (r : RanRun s.input s.file s.profile s.script s.paths harts turns lists full text diag)
         → IsSettledScript s.profile r.lines r.stdin (files r.given) → IsRoomyScript r.lines r.stdin r.given → (full ≡ None) ⊎ (full ≡ Some Memory) }
     ensures replay { (s : Setting) (schedule : Path) (lists : Lists) (full : Option Full) (text diag : Bytes) (r : RanReplay s.input s.file s.profile s.script s.paths schedule lists full text diag)
         → IsSettledScript s.profile r.lines r.stdin (files r.given) → IsRoomyScript r.lines r.stdin r.given → (full ≡ None) ⊎ (full ≡ Some Memory) }
@@ -56,8 +56,15 @@ pub fn a_printed_run_of_a_roomy_script_fills_nothing_but_memory()
 /// Nor does such a script want for turns: where `run` has as many as are enough for it, the number that `check --turns` tells, or more,
 /// it reports that they are spent only where memory was refused in some run that spends its turns, on however many harts.
 pub fn turns_of_a_roomy_script_are_spent_only_where_memory_is_refused()
-    ensures run { (s : Setting) (harts turns : ℕ) → IsRunFault s.input s.file s.profile s.script s.paths harts turns Spent → IsSpentIn s turns }
-    ensures strict { (s : Setting) (harts turns : ℕ) → IsStrictFault s.input s.file s.profile s.script s.paths harts turns Spent → IsSpentIn s turns }
+    ensures run { (s : Setting) (harts : ℕ) (turns : Option ℕ) → IsRunFault s.input s.file s.profile s.script s.paths harts turns Spent → IsSpentIn s turns }
+    ensures strict { (s : Setting) (harts : ℕ) (turns : Option ℕ) → IsStrictFault s.input s.file s.profile s.script s.paths harts turns Spent → IsSpentIn s turns }
+{}
+
+/// And by itself `run` has as many: where no number is asked for, and that of `check --turns` is within 1,000,000,000, it reports that the
+/// turns of such a script are spent only where memory was refused in some run that spends its turns, on however many harts.
+pub fn a_roomy_script_has_turns_enough_by_itself()
+    ensures run { (s : Setting) (harts : ℕ) → IsRunFault s.input s.file s.profile s.script s.paths harts None Spent → IsGivenUpIn s }
+    ensures strict { (s : Setting) (harts : ℕ) → IsStrictFault s.input s.file s.profile s.script s.paths harts None Spent → IsGivenUpIn s }
 {}
 
 /// What `explore` knows of such a script without trying an order, its output, is what each run by processes prints, unless that reports
@@ -97,8 +104,8 @@ pub fn status_0_and_settled_is_one_output()
 /// Of `run --strict` status 0 alone says it: the script is settled on what was read, and its recursive meaning was written, with
 /// the lists that were requested. So two such runs without lists, on as many harts as may be, wrote the same to standard output.
 pub fn status_0_of_a_strict_run_is_the_meaning()
-    ensures meaning { (s : Setting) (harts turns : ℕ) (lists : Lists) (o : Outputs) → EndsIn s o (strict_in s harts turns lists) 0 → WritesMeaningIn s lists o }
-    ensures two { (s : Setting) (harts turns others more : ℕ) (one two : Outputs) → IsKnown s
+    ensures meaning { (s : Setting) (harts : ℕ) (turns : Option ℕ) (lists : Lists) (o : Outputs) → EndsIn s o (strict_in s harts turns lists) 0 → WritesMeaningIn s lists o }
+    ensures two { (s : Setting) (harts others : ℕ) (turns more : Option ℕ) (one two : Outputs) → IsKnown s
         → EndsIn s one (strict_in s harts turns no_lists) 0 → EndsIn s two (strict_in s others more no_lists) 0 → WriteTheSame one two }
 {}
 

@@ -22,7 +22,7 @@ use Rattle.xvsh_ends.specs.declared.request.Request.{Request}
 use Rattle.xvsh_ends.specs.declared.request.Request.TheVariants.{Run, Replay, Plain, Check, Explain, Explore, Draw}
 use Rattle.xvsh_given.specs.Given.{text_path}
 use Rattle.xvsh_given.specs.declared.given.Inputs.{Inputs}
-use Rattle.xvsh.specs.declared.request.TheConstants.{HARTS, TURNS, STATES}
+use Rattle.xvsh.specs.declared.request.TheConstants.{HARTS, STATES}
 
 -- whether a flag is among the words: it is where it has the value `true`, and not where it has `false` or no value
 abbrev pub IsFlag : Found → List ℕ → Bool → Type 0
@@ -47,11 +47,11 @@ IsNumber bits default found id number =
 abbrev pub IsWord : Found → List ℕ → Option (Bor Path) → Type 0
 IsWord found id word = option_map (λ text. text.now) word ≡ first_value found id
 
--- what the order of the turns is drawn by, if it is: the number of the words, which has 64 bits
-abbrev pub IsSeed : Found → Option ℕ → Type 0
-IsSeed found seed =
-    (one_text found (codes "seed") ≡ None → seed ≡ None)
-    × ((text : List ℕ) → one_text found (codes "seed") ≡ Some text → IsNumeral 10 (without_leading_plus text) → digits_value 10 (without_leading_plus text) < 2 ^ 64 → seed ≡ Some (digits_value 10 (without_leading_plus text)))
+-- the number of 64 bits under a name, if there is one
+abbrev pub IsNumberOrNone : Found → List ℕ → Option ℕ → Type 0
+IsNumberOrNone found id number =
+    (one_text found id ≡ None → number ≡ None)
+    × ((text : List ℕ) → one_text found id ≡ Some text → IsNumeral 10 (without_leading_plus text) → digits_value 10 (without_leading_plus text) < 2 ^ 64 → number ≡ Some (digits_value 10 (without_leading_plus text)))
 
 -- how many harts a run has if the words don't say: one, where they say in which order its processes take their turns
 abbrev pub default_harts : Option (Bor Path) → Option ℕ → ℕ
@@ -103,9 +103,9 @@ pub record IsSourceOf (found : Found) (source : Source) : Type 0 where
 pub record IsRunOf (found : Found) (request : RunRequest) : Type 0 where
   pub source : IsSourceOf found request.source
   pub order : IsWord found (codes "order") request.order
-  pub seed : IsSeed found request.seed
+  pub seed : IsNumberOrNone found (codes "seed") request.seed
   pub harts : IsNumber 8 (default_harts request.order request.seed) found (codes "harts") request.harts
-  pub turns : IsNumber 64 TURNS found (codes "turns") request.turns
+  pub turns : IsNumberOrNone found (codes "turns") request.turns
   pub files : IsFlag found (codes "files") request.lists.files
   pub schedule : IsFlag found (codes "schedule") request.lists.events
   pub strict : IsFlag found (codes "strict") request.is_strict

@@ -155,11 +155,12 @@ fn ending_on<R: Threads + Wait + Clock + Sync, H: Host + Traces + Watch>(
 /// standard error; its form is in `docs/FORMATS.md`, and the status is that of the text.
 ///
 /// `run [--harts N | --seed N | --order ORDER] [--turns N] [--schedule] [--trace FILE] [--append] [--files] [--strict] SCRIPT
-/// [FILE]..` reads the same and runs the script by its processes, on 4 harts or N, of which each is a thread, in at most 10,000,000
-/// turns or N; with `--seed` or `--order` on one hart, in an order of turns that N or ORDER stands for. It writes the output,
-/// with `--files` all files, and with `--schedule` a line an event, and to standard error the diagnostics, and then, where
-/// something was full, what. With `--strict` it finds out first whether the script is settled, and the status of one that isn't
-/// is 3, unless something was full, and a line behind the diagnostics says a reason why it isn't.
+/// [FILE]..` reads the same and runs the script by its processes, on 4 harts or N, of which each is a thread, in at most N turns, or
+/// without `--turns` in 10,000,000, or as many as are known to be enough, if these are more; with `--seed` or `--order` on one hart,
+/// in an order of turns that N or ORDER stands for. It writes the output, with `--files` all files, and with `--schedule` a line an
+/// event, and to standard error the diagnostics, and then, where something was full, what. With `--strict` it finds out first whether
+/// the script is settled, and the status of one that isn't is 3, unless something was full, and a line behind the diagnostics says a
+/// reason why it isn't.
 /// `replay [--trace FILE] [--append] [--files] SCHEDULE SCRIPT [FILE]..` runs a script by the
 /// events of a schedule in that form, which it reads first. With `--trace` both write first what each event did to a file, or for
 /// `-` to standard output, and then nothing else goes there; a trace that can't be written is a fault of status 1.

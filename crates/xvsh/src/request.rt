@@ -1,7 +1,7 @@
 //! The request that the words of a command line make.
 ghost use Rattle.std.specs.Prelude.{◌≡◌, ◌≢◌, None, Some, IfSome, codes};
 ghost use Rattle.clap.specs.Matches.{found_of, subcommand_name_of};
-ghost use Rattle.xvsh.specs.Words.{AreInputsOf, IsScriptOf, IsTextOf, path_beside, IsCheckOf, IsDrawOf, IsExplainOf, IsExploreOf, IsFlag, IsNamed, IsNumber, IsPath, ArePaths, IsPlainOf, IsReplayOf, IsRequestOf, IsRunOf, IsSeed, IsSourceOf, IsWord, default_harts, tells_why};
+ghost use Rattle.xvsh.specs.Words.{AreInputsOf, IsScriptOf, IsTextOf, path_beside, IsCheckOf, IsDrawOf, IsExplainOf, IsExploreOf, IsFlag, IsNamed, IsNumber, IsNumberOrNone, IsPath, ArePaths, IsPlainOf, IsReplayOf, IsRequestOf, IsRunOf, IsSourceOf, IsWord, default_harts, tells_why};
 
 use clap::ArgMatches;
 use script_load::Profile;
@@ -14,9 +14,6 @@ use xvsh_read::{STDIN, Source, profile_of};
 
 /// How many harts a run has, if the words name none (own).
 const HARTS: u8 = 4;
-
-/// The most turns of a run, if the words name none (own).
-const TURNS: u64 = 10_000_000;
 
 /// The most states of an exploration, if the words name none (own).
 const STATES: u64 = 200_000;
@@ -107,15 +104,6 @@ fn harts_of(words: &ArgMatches<'_>, default: u8) -> u8
     }
 }
 
-fn turns_of(words: &ArgMatches<'_>) -> u64
-    ensures { IsNumber 64 TURNS (found_of words.now) (codes "turns") result }
-{
-    match words.get_one::<u64>("turns") {
-        Some(turns) => turns,
-        None => TURNS,
-    }
-}
-
 fn states_of(words: &ArgMatches<'_>) -> u64
     ensures { IsNumber 64 STATES (found_of words.now) (codes "states") result }
 {
@@ -153,11 +141,11 @@ fn order_of<'m>(words: &'m ArgMatches<'_>) -> Option<&'m str>
     words.get_str("order")
 }
 
-// What the order of the turns is drawn by, if it is.
-fn seed_of(words: &ArgMatches<'_>) -> Option<u64>
-    ensures { IsSeed (found_of words.now) result }
+// The number under a name, if there is one.
+fn number_of(words: &ArgMatches<'_>, name: &str) -> Option<u64>
+    ensures { IsNumberOrNone (found_of words.now) name.now result }
 {
-    words.get_one::<u64>("seed")
+    words.get_one::<u64>(name)
 }
 
 // The path of the folder for schedules, if there is to be one.
@@ -178,11 +166,11 @@ fn run_of<'m>(words: &'m ArgMatches<'_>) -> RunRequest<'m>
     ensures { IsRunOf (found_of words.now) result }
 {
     let order = order_of(words);
-    let seed = seed_of(words);
+    let seed = number_of(words, "seed");
     RunRequest {
         source: source_of(words),
         harts: harts_of(words, default_harts(order, seed)),
-        turns: turns_of(words),
+        turns: number_of(words, "turns"),
         order,
         seed,
         lists: Lists {
@@ -297,7 +285,7 @@ fn draw_of<'m>(words: &'m ArgMatches<'_>) -> DrawRequest<'m>
 }
 
 /// The request that parsed words make: the command that they name, with its words and, where they name none, `-` for a path,
-/// 4 harts, 10,000,000 turns and 200,000 states. `None` where they name no command.
+/// 4 harts and 200,000 states. `None` where they name no command.
 pub fn request_of<'m>(matches: &'m ArgMatches<'_>) -> Option<Request<'m>>
     ensures request { IfSome result (IsRequestOf matches.now) }
     ensures none { result ≡ None → IsNamed (subcommand_name_of matches.now) → ⊥ }

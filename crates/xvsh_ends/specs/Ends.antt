@@ -40,14 +40,15 @@ use Rattle.xvsh_ends.specs.declared.ending.Ending.{Ending}
 use Rattle.xvsh_ends.specs.declared.ending.Line.{Line}
 use Rattle.xvsh_ends.specs.declared.ending.Line.TheVariants.{Fixed, Made}
 
--- how a script is run by its processes: on so many harts in at most so many turns, or by the schedule at a path
+-- how a script is run by its processes: on so many harts in at most so many turns, or where no number is asked for in as many as it may
+-- have, or by the schedule at a path
 pub data How : Type 0 where
-  on_harts : ℕ → ℕ → How
+  on_harts : ℕ → Option ℕ → How
   by_schedule : Path → How
 
 -- what the words of the command line ask for: a run of the script at a path under a profile, on the files at these paths,
 -- by its meaning, with a list of the files or without, and strictly or not, or by its processes, with lists or without, or
--- strictly on so many harts in at most so many turns; a check of the script at a path, or one that reports its turns on these
+-- strictly on so many harts in at most so many turns, if a number is asked for; a check of the script at a path, or one that reports its turns on these
 -- files too; notes on the script at a path in sentences, or these and why it is settled on these files or isn't; its outcomes in every order, found among at most so many states, with every
 -- order tried of a settled script too or not; the help; or no command
 pub data Asked : Type 0 where
@@ -55,7 +56,7 @@ pub data Asked : Type 0 where
   -- the same, with the diagnostics that every order of the script's processes writes
   asks_diagnosed : Profile → Path → List (Bor Path) → Bool → Bool → Asked
   asks_run : Profile → Path → List (Bor Path) → How → Lists → Asked
-  asks_strict : Profile → Path → List (Bor Path) → ℕ → ℕ → Lists → Asked
+  asks_strict : Profile → Path → List (Bor Path) → ℕ → Option ℕ → Lists → Asked
   asks_check : Path → Bool → Asked
   asks_turns : Path → List (Bor Path) → Bool → Asked
   -- the same with the room that it needs
@@ -161,8 +162,8 @@ module _ (input : Option Bytes) (file : Path → Option Bytes) where
     ran : {profile : Profile} {script : Path} {paths : List (Bor Path)} {how : How} {lists : Lists} {text : Bytes} (diag : Bytes) (full : Option Full) → RanBy how profile script paths lists full text diag → Due (asks_run profile script paths how lists) text (diag ++ full_text full) (full_status full 0)
     no_run : {profile : Profile} {script : Path} {paths : List (Bor Path)} {how : How} {lists : Lists} (fault : ProcessFault) → IsFaultBy how profile script paths fault → Due (asks_run profile script paths how lists) [] (run_fault_told fault) (run_status fault)
     -- the same of a strict run, with a reason behind its diagnostics why the script isn't settled, whose status says that too, where nothing was full
-    ran_strict : {profile : Profile} {script : Path} {paths : List (Bor Path)} {harts turns : ℕ} {lists : Lists} {text : Bytes} (diag why : Bytes) (is_settled : Bool) (full : Option Full) → RanStrict input file profile script paths harts turns lists full is_settled why text diag → Due (asks_strict profile script paths harts turns lists) text ((diag ++ why) ++ full_text full) (full_status full (verdict_status true is_settled))
-    no_strict : {profile : Profile} {script : Path} {paths : List (Bor Path)} {harts turns : ℕ} {lists : Lists} (fault : ProcessFault) → IsStrictFault input file profile script paths harts turns fault → Due (asks_strict profile script paths harts turns lists) [] (run_fault_told fault) (run_status fault)
+    ran_strict : {profile : Profile} {script : Path} {paths : List (Bor Path)} {harts : ℕ} {turns : Option ℕ} {lists : Lists} {text : Bytes} (diag why : Bytes) (is_settled : Bool) (full : Option Full) → RanStrict input file profile script paths harts turns lists full is_settled why text diag → Due (asks_strict profile script paths harts turns lists) text ((diag ++ why) ++ full_text full) (full_status full (verdict_status true is_settled))
+    no_strict : {profile : Profile} {script : Path} {paths : List (Bor Path)} {harts : ℕ} {turns : Option ℕ} {lists : Lists} (fault : ProcessFault) → IsStrictFault input file profile script paths harts turns fault → Due (asks_strict profile script paths harts turns lists) [] (run_fault_told fault) (run_status fault)
     -- the report of a check, by whether the script holds no `&` and no clash, and strictly no line that is no command; or why there is none
     checked : {script : Path} {strict : Bool} {text : Bytes} (is_harmless : Bool) → RanCheck input file script strict is_harmless text → Due (asks_check script strict) text [] (check_status is_harmless)
     no_check : {script : Path} {strict : Bool} (fault : Fault) → IsCheckFault input file script fault → Due (asks_check script strict) [] (fault_told fault) (status_of fault)

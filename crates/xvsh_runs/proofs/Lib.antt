@@ -1,3 +1,4 @@
+mod Clear
 mod Events
 mod Harts
 pub mod Moved

@@ -1,43 +1,56 @@
 -- A run of what was read is a run of the script at its path, and so is a fault of one.
-use Rattle.std.proofs.Common.{◌≡◌, ℕ, false, List, Option, Result, Ok, Err, subst}
+use Rattle.std.proofs.Common.{◌≡◌, false, List, Option, Result, Ok, Err, subst}
 use Rattle.std.specs.Prelude.{IfOk, IfErr}
 use Rattle.std.specs.Borrow.{Bor}
-use Rattle.mem_files.specs.Name.{Name, Bytes}
+use Rattle.mem_files.specs.Name.{Bytes}
 use Rattle.script_load.specs.declared.profile.Profile.{Profile}
-use Rattle.script_load.specs.Line.{ScriptLine}
+use Rattle.script_load.specs.Line.{lines_of}
 use Rattle.run_model.specs.ScriptRun.{script_kernel}
 use Rattle.xvsh_read.specs.Path.{Path}
 use Rattle.xvsh_read.specs.Starting.{Starts}
+use Rattle.xvsh_read.specs.declared.starting.Start.{Start}
 use Rattle.xvsh_read.specs.Writing.{out_text}
 use Rattle.xvsh_runs.specs.declared.fault.ProcessFault.{ProcessFault}
-use Rattle.xvsh_runs.specs.declared.report.Lists.{Lists}
 use Rattle.xvsh_runs.specs.declared.report.Run.{Run}
-use Rattle.xvsh_runs.specs.Runs.{RanOn, RanRun}
+use Rattle.xvsh_runs.specs.declared.request.RunRequest.{RunRequest}
+use Rattle.xvsh_runs.specs.Kernels.{kernel_of}
+use Rattle.xvsh_runs.specs.Runs.{RanOn, RanRun, DidRunFrom}
 use Rattle.xvsh_runs.specs.Values.{HasValues, RanValues}
-use Rattle.xvsh_runs.specs.Why.{IsHartsFault, IsRunFault, no_run}
+use Rattle.xvsh_runs.specs.Why.{IsHartsFault, IsRefusedFrom, IsRunFault, no_run}
 
-module _ (input : Option Bytes) (file : Path → Option Bytes) (profile own : Profile) (script : Path) (paths : List (Bor Path)) (lines : List ScriptLine) (given : List (Name × Bytes)) (stdin : Bytes) (starts : Starts input file false script paths lines given stdin) (same : own ≡ profile) (harts turns : ℕ) where
-  pub prepared_ran : (lists : Lists) (result : Result Run ProcessFault) → IfOk result (λ run. RanOn (script_kernel own lines stdin given) harts turns lists run.full (out_text run.output) run.output.err.items) →
-      IfOk result (λ run. RanRun input file profile script paths harts turns lists run.full (out_text run.output) run.output.err.items)
-  prepared_ran lists (Err fault) ran = tt
-  prepared_ran lists (Ok run) ran = record {
-    lines = lines;
-    given = given;
-    stdin = stdin;
+module _ (input : Option Bytes) (file : Path → Option Bytes) (profile : Profile) (script : Path) (paths : List (Bor Path)) (start : Start) (starts : Starts input file false script paths (lines_of start.script.lines) start.files start.stdin.items) (same : start.script.profile ≡ profile) where
+  pub prepared_one : (request : RunRequest) (run : Run) → DidRunFrom start request run.full (out_text run.output) run.output.err.items →
+      RanRun input file profile script paths request.harts request.turns request.lists run.full (out_text run.output) run.output.err.items
+  prepared_one request run ran = record {
+    lines = lines_of start.script.lines;
+    given = start.files;
+    stdin = start.stdin.items;
     starts = starts;
-    on = subst (λ p. RanOn (script_kernel p lines stdin given) harts turns lists run.full (out_text run.output) run.output.err.items) same ran;
+    limit = ran.limit;
+    limited = ran.limited;
+    on = subst (λ p. RanOn (script_kernel p (lines_of start.script.lines) start.stdin.items start.files) request.harts ran.limit request.lists run.full (out_text run.output) run.output.err.items) same ran.on;
   }
 
-  pub prepared_values : (result : Result Run ProcessFault) → IfOk result (HasValues (script_kernel own lines stdin given)) → IfOk result (RanValues input file false profile script paths)
+  pub prepared_ran : (request : RunRequest) (result : Result Run ProcessFault) → IfOk result (λ run. DidRunFrom start request run.full (out_text run.output) run.output.err.items) →
+      IfOk result (λ run. RanRun input file profile script paths request.harts request.turns request.lists run.full (out_text run.output) run.output.err.items)
+  prepared_ran request (Err fault) ran = tt
+  prepared_ran request (Ok run) ran = prepared_one request run ran
+
+  pub prepared_values : (result : Result Run ProcessFault) → IfOk result (HasValues (kernel_of start)) → IfOk result (RanValues input file false profile script paths)
   prepared_values (Err fault) values = tt
   prepared_values (Ok run) values = record {
-    lines = lines;
-    given = given;
-    stdin = stdin;
+    lines = lines_of start.script.lines;
+    given = start.files;
+    stdin = start.stdin.items;
     starts = starts;
-    values = subst (λ p. HasValues (script_kernel p lines stdin given) run) same values;
+    values = subst (λ p. HasValues (script_kernel p (lines_of start.script.lines) start.stdin.items start.files) run) same values;
   }
 
-  pub prepared_fault : (result : Result Run ProcessFault) → IfErr result (IsHartsFault (script_kernel own lines stdin given) harts turns) → IfErr result (IsRunFault input file profile script paths harts turns)
-  prepared_fault (Ok run) why = tt
-  prepared_fault (Err fault) why = no_run lines given stdin starts (subst (λ p. IsHartsFault (script_kernel p lines stdin given) harts turns fault) same why)
+  pub prepared_refused : (request : RunRequest) (fault : ProcessFault) → IsRefusedFrom start request fault → IsRunFault input file profile script paths request.harts request.turns fault
+  prepared_refused request fault why =
+      no_run (lines_of start.script.lines) start.files start.stdin.items why.limit starts why.limited
+      (subst (λ p. IsHartsFault (script_kernel p (lines_of start.script.lines) start.stdin.items start.files) request.harts why.limit fault) same why.why)
+
+  pub prepared_fault : (request : RunRequest) (result : Result Run ProcessFault) → IfErr result (IsRefusedFrom start request) → IfErr result (IsRunFault input file profile script paths request.harts request.turns)
+  prepared_fault request (Ok run) why = tt
+  prepared_fault request (Err fault) why = prepared_refused request fault why

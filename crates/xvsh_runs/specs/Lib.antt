@@ -1,4 +1,5 @@
 pub mod Kernels
+pub mod Limit
 pub mod Lists
 pub mod Orders
 pub mod Runs

@@ -21,8 +21,8 @@ use Rattle.xvsh_runs.specs.Why.{IsRunFault}
 use Rattle.xvsh_plain.specs.Running.{IsMeaningFault}
 
 -- what follows is by what the host states of standard input and of the files at paths, of the script at a path under a
--- profile and on the files at these paths, and of a run on so many harts in at most so many turns
-module _ (input : Option Bytes) (file : Path → Option Bytes) (profile : Profile) (script : Path) (paths : List (Bor Path)) (harts turns : ℕ) where
+-- profile and on the files at these paths, and of a run on so many harts, for which so many turns were asked, or none
+module _ (input : Option Bytes) (file : Path → Option Bytes) (profile : Profile) (script : Path) (paths : List (Bor Path)) (harts : ℕ) (turns : Option ℕ) where
   -- a run prints this, and this is whether its script is settled on what it began with, and the sentence of a reason, where it isn't
   pub record RanStrict (lists : Lists) (full : Option Full) (is_settled : Bool) (why text diag : Bytes) : Type 0 where
     pub ran : RanRun input file profile script paths harts turns lists full text diag

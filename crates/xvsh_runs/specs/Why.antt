@@ -3,6 +3,7 @@ use Rattle.std.specs.Prelude.{◌≡◌, ◌-◌, ◌⊎◌, ℕ, false, List, O
 use Rattle.std.specs.Borrow.{Bor}
 use Rattle.std.specs.Str.{bytes_eq}
 use Rattle.mem_files.specs.Name.{Name, Bytes}
+use Rattle.mem_files.specs.Files.{files}
 use Rattle.script_load.specs.declared.profile.Profile.{Profile}
 use Rattle.script_load.specs.Line.{ScriptLine}
 use Rattle.sh_machine.specs.State.{User}
@@ -21,6 +22,9 @@ use Rattle.xvsh_read.specs.declared.fault.Fault.TheVariants.{Memory}
 use Rattle.xvsh_read.specs.Path.{Path}
 use Rattle.xvsh_read.specs.Reading.{Agree, told_at, IsReadFault}
 use Rattle.xvsh_read.specs.Starting.{Starts, IsStartFault}
+use Rattle.xvsh_read.specs.declared.starting.Start.{Start}
+use Rattle.xvsh_runs.specs.Kernels.{kernel_of}
+use Rattle.xvsh_runs.specs.Limit.{IsLimit, IsLimitOf}
 use Rattle.xvsh_runs.specs.Orders.{IsOrderFault}
 use Rattle.xvsh_runs.specs.declared.fault.ProcessFault.{ProcessFault}
 use Rattle.xvsh_runs.specs.declared.fault.ProcessFault.TheVariants.{Common, BadHarts, BadTurns, Spent, SharedInput, NoEvent, NotRunnable, NotRunning, Unfinished}
@@ -33,6 +37,15 @@ pub data IsHartsFault (start : KernelState User) (harts turns : ℕ) : ProcessFa
   harts_out_of_range : AreBadHarts harts → IsHartsFault start harts turns BadHarts
   turns_out_of_range : AreBadTurns turns → IsHartsFault start harts turns BadTurns
   turns_spent : IsSpentFrom start turns → IsHartsFault start harts turns Spent
+
+-- why there is none of what was read, for which so many turns were asked, or none
+pub record IsFaultFrom (start : Start) (harts : ℕ) (turns : Option ℕ) (fault : ProcessFault) : Type 0 where
+  pub limit : ℕ
+  pub limited : IsLimitOf start turns limit
+  pub why : IsHartsFault (kernel_of start) harts limit fault
+
+abbrev pub IsRefusedFrom : Start → RunRequest → ProcessFault → Type 0
+IsRefusedFrom start request = IsFaultFrom start request.harts request.turns
 
 -- why the bytes of a schedule at a path are not read as events: memory was refused, or a line is none
 pub data IsLinesFault (path : Path) (bytes : Bytes) : ProcessFault → Type 0 where
@@ -60,10 +73,10 @@ IsBytesFault start path bytes fault =
 -- under a profile and on the files at these paths
 module _ (input : Option Bytes) (file : Path → Option Bytes) (profile : Profile) (script : Path) (paths : List (Bor Path)) where
   -- why `run` prints no run: a word names no order of turns, it couldn't begin, or there is none
-  pub data IsRunFault (harts turns : ℕ) : ProcessFault → Type 0 where
+  pub data IsRunFault (harts : ℕ) (turns : Option ℕ) : ProcessFault → Type 0 where
     bad_order : {fault : ProcessFault} → IsOrderFault fault → IsRunFault harts turns fault
     no_start : {fault : Fault} → IsStartFault input file false script paths fault → IsRunFault harts turns (Common fault)
-    no_run : {fault : ProcessFault} (lines : List ScriptLine) (given : List (Name × Bytes)) (stdin : Bytes) → Starts input file false script paths lines given stdin → IsHartsFault (script_kernel profile lines stdin given) harts turns fault → IsRunFault harts turns fault
+    no_run : {fault : ProcessFault} (lines : List ScriptLine) (given : List (Name × Bytes)) (stdin : Bytes) (limit : ℕ) → Starts input file false script paths lines given stdin → IsLimit lines stdin (files given) turns limit → IsHartsFault (script_kernel profile lines stdin given) harts limit fault → IsRunFault harts turns fault
 
   -- why `replay` prints none: its schedule and its script are both standard input, its schedule can't be read, it can't
   -- begin, or there is no run by its events

@@ -2,6 +2,7 @@
 #![tactic(auto)]
 
 mod fault;
+mod limit;
 mod ordering;
 mod replaying;
 mod report;

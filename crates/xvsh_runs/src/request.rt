@@ -9,8 +9,10 @@ pub struct RunRequest<'a> {
     pub source: Source<'a>,
     /// How many harts run it, 1 to 8.
     pub harts: u8,
-    /// The most events that it may take, 1 to 1,000,000,000.
-    pub turns: u64,
+    /// The most events that it may take, 1 to 1,000,000,000. If left out, as many as are enough for a script without `&` whose
+    /// commands can't meet at a file, but no fewer than 10,000,000; and 10,000,000 of any other script, and where more than
+    /// 1,000,000,000 would be enough.
+    pub turns: Option<u64>,
     /// The word of the order in which one hart gives the turns; more than one find their own.
     pub order: Option<&'a str>,
     /// What that order is drawn by, where no word names one.

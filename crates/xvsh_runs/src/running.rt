@@ -6,9 +6,10 @@ ghost use Rattle.xvsh_read.specs.Writing.{out_text};
 ghost use Rattle.xvsh_runs.specs.Kernels.{kernel_of};
 ghost use Rattle.xvsh_runs.specs.Runs.{DidRun, DidRunFrom};
 ghost use Rattle.xvsh_runs.specs.Values.{HasValues, RanValues};
-ghost use Rattle.xvsh_runs.specs.Why.{IsHartsFault, IsRunRefusal};
+ghost use Rattle.xvsh_runs.specs.Why.{IsHartsFault, IsRefusedFrom, IsRunRefusal};
 
 use crate::fault::ProcessFault;
+use crate::limit::limit_of;
 use crate::ordering::order_of;
 use crate::report::{Run, run_of};
 use crate::request::RunRequest;
@@ -69,23 +70,29 @@ fn run_on_threads<'a, R: Threads + Wait + Clock + Sync>(
     Ok(report)
 }
 
+// On how many harts a script is run, in at most how many turns, and in which order on one.
+struct Course {
+    harts: u8,
+    turns: u64,
+    order: Order,
+}
+
 // Runs what was read: one hart needs no second thread and no lock.
 fn run_started<'a, R: Threads + Wait + Clock + Sync>(
     rt: &R,
     alloc: Global,
     start: &Start,
-    request: &RunRequest<'a>,
-    order: Order,
+    course: &Course,
 ) -> Result<Report<Global>, ProcessFault<'a>>
     ensures run { IfOk result (IsRunFrom (kernel_of start.now)) }
-    ensures harts { IfOk result (λ report. AreOfHarts request.now.harts report.schedule) }
-    ensures turns { IfOk result (λ report. length report.schedule ≤ request.now.turns) }
-    ensures fault { IfErr result (IsHartsFault (kernel_of start.now) request.now.harts request.now.turns) }
+    ensures harts { IfOk result (λ report. AreOfHarts course.now.harts report.schedule) }
+    ensures turns { IfOk result (λ report. length report.schedule ≤ course.now.turns) }
+    ensures fault { IfErr result (IsHartsFault (kernel_of start.now) course.now.harts course.now.turns) }
 {
-    if request.harts == 1 {
-        run_alone(alloc, start, request.turns, order)
+    if course.harts == 1 {
+        run_alone(alloc, start, course.turns, course.order)
     } else {
-        run_on_threads(rt, alloc, start, request.harts, request.turns)
+        run_on_threads(rt, alloc, start, course.harts, course.turns)
     }
 }
 
@@ -97,18 +104,24 @@ pub(crate) fn run_prepared<'a, R: Threads + Wait + Clock + Sync>(
     request: &RunRequest<'a>,
     order: Order,
 ) -> Result<Run, ProcessFault<'a>>
-    ensures ran { IfOk result (λ run. DidRunFrom (kernel_of start) request.now run.full (out_text run.output) run.output.err.items) }
+    ensures ran { IfOk result (λ run. DidRunFrom start request.now run.full (out_text run.output) run.output.err.items) }
     ensures values { IfOk result (HasValues (kernel_of start)) }
-    ensures fault { IfErr result (IsHartsFault (kernel_of start) request.now.harts request.now.turns) }
+    ensures fault { IfErr result (IsRefusedFrom start request.now) }
 {
-    let report = run_started(rt, alloc, &start, request, order)?;
+    let course = Course {
+        harts: request.harts,
+        turns: limit_of(request.turns, &start),
+        order,
+    };
+    let report = run_started(rt, alloc, &start, &course)?;
     let run = run_of(alloc, start, request.harts, report, request.lists)?;
     Ok(run)
 }
 
 /// `run`: reads the script, the files in order, and standard input unless that is the script, and runs the script by its
-/// processes on so many harts in at most so many turns, on one hart in the order that is asked for. Returns its output with the lists that are requested, its diagnostics,
-/// and what was full, if something was. Nothing is written.
+/// processes on so many harts in at most so many turns, or where none are asked for in as many as it may have, on one hart in the
+/// order that is asked for. Returns its output with the lists that are requested, its diagnostics, and what was full, if something
+/// was. Nothing is written.
 pub fn run_processes<'a, R: Threads + Wait + Clock + Sync, H: Host>(
     rt: &R,
     alloc: Global,

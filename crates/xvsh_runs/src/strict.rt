@@ -34,8 +34,8 @@ pub struct StrictRun {
 }
 
 /// `run --strict`: reads the script, the files in order, and standard input unless that is the script, finds out whether the
-/// script is settled on them, and runs it by its processes on so many harts in at most so many turns, settled or not. Returns
-/// what `run` returns, whether the script is settled, and why it isn't (own). Nothing is written.
+/// script is settled on them, and runs it by its processes as `run` does, settled or not. Returns what `run` returns, whether the
+/// script is settled, and why it isn't (own). Nothing is written.
 pub fn run_strict<'a, R: Threads + Wait + Clock + Sync, H: Host>(
     rt: &R,
     alloc: Global,

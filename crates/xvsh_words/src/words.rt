@@ -255,7 +255,8 @@ const APPEND_HELP: &str =
 const HARTS_HELP: &str =
     "On so many harts (hardware threads, each a thread here), 1 to 8; 4 without it";
 
-const TURNS_HELP: &str = "In at most so many events, 1 to 1000000000; 10000000 without it";
+const TURNS_HELP: &str =
+    "In at most so many events, 1 to 1000000000; without it, 10000000 or more if more are enough";
 
 const SEED_HELP: &str = "On one hart, each turn by a process that is drawn; N stands for one order";
 

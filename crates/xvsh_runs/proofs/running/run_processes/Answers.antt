@@ -1,4 +1,3 @@
-use Rattle.script_load.specs.Line.{lines_of}
 use Rattle.xvsh_read.proofs.Faults.{at_fault}
 use Rattle.xvsh_runs.specs.Why.{bad_order, no_start}
 use Rattle.xvsh_runs.proofs.Prepared.{prepared_ran, prepared_values, prepared_fault}
@@ -15,14 +14,14 @@ returns-in_err-start-clause-fault g c =
 pub returns-clause-ran : goal.returns-clause-ran
 returns-clause-ran g c =
     let start = c.in_ok-start.start in
-    prepared_ran (g.H.Host.input c.args.host.now) (g.H.Host.file c.args.host.now) c.args.request.now.source.profile start.script.profile c.args.request.now.source.script.now c.args.request.now.source.files.now (lines_of start.script.lines) start.files start.stdin.items c.in_ok-start.ensures.prepared c.in_ok-start.ensures.profile c.args.request.now.harts c.args.request.now.turns c.args.request.now.lists c.run_prepared.result c.run_prepared.ensures.ran
+    prepared_ran (g.H.Host.input c.args.host.now) (g.H.Host.file c.args.host.now) c.args.request.now.source.profile c.args.request.now.source.script.now c.args.request.now.source.files.now start c.in_ok-start.ensures.prepared c.in_ok-start.ensures.profile c.args.request.now c.run_prepared.result c.run_prepared.ensures.ran
 
 pub returns-clause-fault : goal.returns-clause-fault
 returns-clause-fault g c =
     let start = c.in_ok-start.start in
-    prepared_fault (g.H.Host.input c.args.host.now) (g.H.Host.file c.args.host.now) c.args.request.now.source.profile start.script.profile c.args.request.now.source.script.now c.args.request.now.source.files.now (lines_of start.script.lines) start.files start.stdin.items c.in_ok-start.ensures.prepared c.in_ok-start.ensures.profile c.args.request.now.harts c.args.request.now.turns c.run_prepared.result c.run_prepared.ensures.fault
+    prepared_fault (g.H.Host.input c.args.host.now) (g.H.Host.file c.args.host.now) c.args.request.now.source.profile c.args.request.now.source.script.now c.args.request.now.source.files.now start c.in_ok-start.ensures.prepared c.in_ok-start.ensures.profile c.args.request.now c.run_prepared.result c.run_prepared.ensures.fault
 
 pub returns-clause-values : goal.returns-clause-values
 returns-clause-values g c =
     let start = c.in_ok-start.start in
-    prepared_values (g.H.Host.input c.args.host.now) (g.H.Host.file c.args.host.now) c.args.request.now.source.profile start.script.profile c.args.request.now.source.script.now c.args.request.now.source.files.now (lines_of start.script.lines) start.files start.stdin.items c.in_ok-start.ensures.prepared c.in_ok-start.ensures.profile c.args.request.now.harts c.args.request.now.turns c.run_prepared.result c.run_prepared.ensures.values
+    prepared_values (g.H.Host.input c.args.host.now) (g.H.Host.file c.args.host.now) c.args.request.now.source.profile c.args.request.now.source.script.now c.args.request.now.source.files.now start c.in_ok-start.ensures.prepared c.in_ok-start.ensures.profile c.run_prepared.result c.run_prepared.ensures.values

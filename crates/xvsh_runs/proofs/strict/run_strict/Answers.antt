@@ -8,13 +8,12 @@ use Rattle.meaning_model.specs.Settled.{IsSettledScript}
 use Rattle.plain_run.specs.Reasons.{IsReason}
 use Rattle.reason_sentences.specs.Whys.{IsWhy}
 use Rattle.run_model.specs.ScriptRun.{script_kernel}
-use Rattle.xvsh_read.specs.Writing.{out_text}
 use Rattle.xvsh_read.proofs.Faults.{at_fault}
-use Rattle.xvsh_runs.specs.Runs.{RanOn}
-use Rattle.xvsh_runs.specs.Why.{IsHartsFault, bad_order, no_start, no_run}
+use Rattle.xvsh_runs.specs.Why.{bad_order, no_start}
 use Rattle.xvsh_plain.specs.Running.{IsMeaningFault}
 use Rattle.xvsh_runs.specs.Values.{HasValues}
 use Rattle.xvsh_runs.specs.Strict.{no_verdict, no_strict_run}
+use Rattle.xvsh_runs.proofs.Prepared.{prepared_one, prepared_refused}
 use Rattle.xvsh_runs.proofs.strict.run_strict.Goals as goal
 
 pub returns-in_err-order-clause-fault : goal.returns-in_err-order-clause-fault
@@ -34,8 +33,8 @@ returns-in_err-verdict-clause-fault g c =
 pub returns-in_err-run-clause-fault : goal.returns-in_err-run-clause-fault
 returns-in_err-run-clause-fault g c =
     let start = c.in_ok-start.start in
-    let lines = lines_of start.script.lines in
-    at_fault c.from_residual-in_err-run.result _ _ c.from_residual-in_err-run.ensures.1 (no_strict_run (no_run lines start.files start.stdin.items c.in_ok-start.ensures.prepared (subst (λ profile. IsHartsFault (script_kernel profile lines start.stdin.items start.files) c.args.request.now.harts c.args.request.now.turns c.in_err-run.field-0.0) c.in_ok-start.ensures.profile c.in_err-run.ensures.fault)))
+    at_fault c.from_residual-in_err-run.result _ _ c.from_residual-in_err-run.ensures.1
+    (no_strict_run (prepared_refused (g.H.Host.input c.args.host.now) (g.H.Host.file c.args.host.now) c.args.request.now.source.profile c.args.request.now.source.script.now c.args.request.now.source.files.now start c.in_ok-start.ensures.prepared c.in_ok-start.ensures.profile c.args.request.now c.in_err-run.field-0.0 c.in_err-run.ensures.fault))
 
 pub returns-clause-ran : goal.returns-clause-ran
 returns-clause-ran g c =
@@ -45,13 +44,7 @@ returns-clause-ran g c =
     let stdin = start.stdin.items in
     let same = c.in_ok-start.ensures.profile in
     record {
-      ran = record {
-        lines = lines;
-        given = given;
-        stdin = stdin;
-        starts = c.in_ok-start.ensures.prepared;
-        on = subst (λ profile. RanOn (script_kernel profile lines stdin given) c.args.request.now.harts c.args.request.now.turns c.args.request.now.lists c.in_ok-run.run'.full (out_text c.in_ok-run.run'.output) c.in_ok-run.run'.output.err.items) same c.in_ok-run.ensures.ran;
-      };
+      ran = prepared_one (g.H.Host.input c.args.host.now) (g.H.Host.file c.args.host.now) c.args.request.now.source.profile c.args.request.now.source.script.now c.args.request.now.source.files.now start c.in_ok-start.ensures.prepared same c.args.request.now c.in_ok-run.run' c.in_ok-run.ensures.ran;
       settled = subst (λ profile. IsTrue c.in_ok-verdict.verdict.is_settled ↔ IsSettledScript profile lines stdin (files given)) same c.in_ok-verdict.ensures.settled;
       told = subst (λ profile. IsWhy profile lines stdin (files given) true c.in_ok-verdict.verdict.is_settled c.in_ok-verdict.verdict.why.items) same c.in_ok-verdict.ensures.why;
     }
