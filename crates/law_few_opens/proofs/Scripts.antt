@@ -1,5 +1,5 @@
--- A script's start has as many free entries as the script opens.
-use Rattle.std.proofs.Common.{◌≡◌, ◌+◌, ◌≤◌, List, ◌∷◌, None, refl, arith}
+-- A script's start has as many free entries as the script opens, and what is in use and still opened stays within that.
+use Rattle.std.proofs.Common.{◌≡◌, ◌+◌, ◌≤◌, Bool, List, ◌∷◌, Some, None, refl, arith}
 use Rattle.std.proofs.lemmas.List.Sums.{sum_by-cons}
 use Rattle.std.proofs.lemmas.List.Folds.{sum_by-replicate}
 use Rattle.std.specs.Prelude.{replicate}
@@ -10,6 +10,8 @@ use Rattle.mem_files.specs.Name.{Name, Bytes}
 use Rattle.mem_files.specs.Listing.{AreFiles}
 use Rattle.script_load.specs.declared.profile.Profile.{Profile}
 use Rattle.script_load.specs.Line.{ScriptLine}
+use Rattle.kernel_model.specs.declared.events.Event.{Event}
+use Rattle.kernel_model.specs.Events.{run}
 use Rattle.kernel_model.specs.KernelState.{KernelState}
 use Rattle.run_model.specs.ScriptRun.{script_kernel}
 use Rattle.sh_machine.specs.declared.state.Phase.TheVariants.{Starts}
@@ -18,7 +20,7 @@ use Rattle.sh_machine.specs.Turn.{call_of, next_of}
 use Rattle.order_model.specs.Closes.{HasRoomAhead}
 use Rattle.law_orders.proofs.Booted.{boot_still}
 use Rattle.room_model.specs.Opens.{HasFewOpens}
-use Rattle.law_few_opens.proofs.Spending.{slot_left, table_left, enough_ahead}
+use Rattle.law_few_opens.proofs.Spending.{slot_left, table_left, enough_ahead, IsWithin, every_run_within}
 use Rattle.law_few_opens.proofs.Shells.{of_lines, user_ahead, users_spend}
 
 -- two processes, and 62 free slots
@@ -40,3 +42,6 @@ module _ (profile : Profile) (lines : List ScriptLine) (input : Bytes) (list : L
   pub room_ahead : AreFiles list → HasFewOpens lines → HasRoomAhead call_of next_of start
   room_ahead are few =
       enough_ahead call_of next_of user_ahead users_spend start (boot_still init (shell profile (top Starts lines)) input list are) (omega (arith, free_at_start, left_at_start, few))
+
+  pub opens_within : (events : List Event) (notes : List Bool) (m : KernelState User) → run call_of next_of (Some start) events notes ≡ Some m → IsWithin call_of next_of user_ahead (3 + of_lines lines) m
+  opens_within events notes m is = every_run_within call_of next_of user_ahead users_spend (3 + of_lines lines) start m events notes (omega (arith, free_at_start, left_at_start)) is

@@ -1,13 +1,14 @@
 -- What a process still opens at most, itself and through those that it forks, is spent by its calls. So where all of them together
--- open no more than there are free entries, it stays so.
+-- open no more than there are free entries, it stays so; and what is in use and what is still opened are together no more than at the start.
 use Rattle.std.proofs.Common.{◌≡◌, ◌≢◌, ℕ, zero, suc, ◌+◌, ◌≤◌, List, [], ◌∷◌, Bool, true, false, Option, Some, None, refl, sym, ap, subst, ◌∙◌, arith}
 use Rattle.std.proofs.Math.ListN.{set}
-use Rattle.std.specs.Prelude.{sum_by, length, take, map, is_some, ◌&&◌, if◌then◌else◌, Result, Ok, Err}
+use Rattle.std.specs.Prelude.{sum_by, length, take, map, is_some, ◌&&◌, if◌then◌else◌, Result, Ok, Err, ⊤}
 use Rattle.user_calls.specs.declared.calls.Call.{Call}
 use Rattle.user_calls.specs.declared.calls.Call.TheVariants.{Fork, Exec, Exit, Wait, MakePipe, Read, Write, OpenFile, Close, Dup}
 use Rattle.user_calls.specs.declared.calls.Reply.{Reply}
 use Rattle.user_calls.specs.declared.calls.Reply.TheVariants.{Child, Done, Bytes as Given}
 use Rattle.fd_table.specs.declared.descriptors.TheConstants.{DESCRIPTORS}
+use Rattle.fd_table.specs.declared.entries.TheConstants.{ENTRIES}
 use Rattle.fd_table.specs.declared.faults.FdFault.{FdFault}
 use Rattle.fd_table.specs.declared.names.Object.{Object}
 use Rattle.fd_table.specs.declared.names.Object.TheVariants.{Input, Out, Diag, File, PipeRead, PipeWrite}
@@ -17,11 +18,13 @@ use Rattle.proc_table.specs.declared.states.Channel.{Channel}
 use Rattle.proc_table.specs.declared.states.Channel.TheVariants.{PipeBytes, PipeRoom, Children}
 use Rattle.proc_table.specs.declared.states.Status.{Status}
 use Rattle.proc_table.specs.declared.states.Status.TheVariants.{Runnable, Running, Asleep, Zombie}
-use Rattle.proc_table.specs.Slots.{Slot, Table, Process, at, is_running, is_running_status, is_zombie_status, is_child_of, is_zombie_child_of, parent_of, put_of}
-use Rattle.proc_table.specs.Calls.{made_ready, put_to_sleep, with_fds, with_status, woken, all_woken, given, buried, exited, freed, reaped, zombie_child, forked, newborn, lowest_free}
+use Rattle.proc_table.specs.Slots.{Slot, Table, Process, at, is_running, is_running_on, is_running_on_status, is_running_status, is_zombie_status, is_child_of, is_zombie_child_of, parent_of, put_of}
+use Rattle.proc_table.specs.Calls.{made_ready, put_to_sleep, with_fds, with_status, woken, all_woken, given, buried, exited, freed, reaped, zombie_child, dispatched, forked, newborn, lowest_free}
 use Rattle.proc_table.proofs.Changes.{written, kept, mapped, parent_stays, was_zombie_child}
+use Rattle.kernel_model.specs.declared.events.Event.{Event}
+use Rattle.kernel_model.specs.declared.events.Event.TheVariants.{Dispatch, Trap}
 use Rattle.kernel_model.specs.KernelState.{KernelState, fds_at}
-use Rattle.kernel_model.specs.Events.{counted}
+use Rattle.kernel_model.specs.Events.{acted, can_dispatch, counted, happens, run, then_happens, trapped}
 use Rattle.kernel_model.specs.Modes.{entry_mode}
 use Rattle.kernel_model.specs.Opening.{with_bytes}
 use Rattle.kernel_model.specs.Descriptors.{let_go_of, taken_away, closed, closed_below, opened_at, with_open, with_reader}
@@ -58,6 +61,12 @@ no_both true (Running h) up down = cc
 no_both true (Asleep c) up down = cc
 no_both true Zombie up down = cc
 no_both false s up down = cc
+
+runs_somewhere : (h : ℕ) (s : Status) → is_running_on_status h s ≡ true → is_running_status s ≡ true
+runs_somewhere h Runnable on = absurd (let z : ⊥ = cc in z)
+runs_somewhere h (Running other) on = refl
+runs_somewhere h (Asleep c) on = absurd (let z : ⊥ = cc in z)
+runs_somewhere h Zombie on = absurd (let z : ⊥ = cc in z)
 
 module _ {S : Type 0} (call : S → Reply → Call) (next : S → Reply → S) (ahead : S → ℕ) where
   -- what a machine that gets this reply still opens, where it opens so much after each call
@@ -353,3 +362,50 @@ module _ {S : Type 0} (call : S → Reply → Call) (next : S → Reply → S) (
     -- so whatever is opened later finds free entries
     pub enough_ahead : (k : KernelState S) → IsStill k → HasEnough k → HasRoomAhead call next k
     enough_ahead k still enough pids m q it = finds_free m q (turns_enough k m pids still enough it)
+
+  -- ---- runs, whatever their events
+
+  -- the entries that are in use and those that are still opened are together so many at most
+  abbrev pub IsWithin : ℕ → KernelState S → Type 0
+  IsWithin most k = table_left k.table + ENTRIES ≤ most + free_count k.entries
+
+  module _ (spent : IsSpent) (most : ℕ) where
+    abbrev WithinIf : Option (KernelState S) → Type 0
+    WithinIf None = ⊤
+    WithinIf (Some k) = IsWithin most k
+
+    within_where : (b : Bool) (o : Option (KernelState S)) → (b ≡ true → WithinIf o) → WithinIf (if b then o else None)
+    within_where true o within = within refl
+    within_where false o within = tt
+
+    trap_within : (k : KernelState S) (h pid : ℕ) (x : Slot S) (memory : Bool) → at k.table pid ≡ x → is_running_on h x ≡ true → IsWithin most k → WithinIf (trapped call next k pid x memory)
+    trap_within k h pid None memory there on within = tt
+    trap_within k h pid (Some p) memory there on within =
+        let after : S = next p.machine p.reply in
+        let made : Call = call p.machine p.reply in
+        let c = outcome_costs pid (counted k) after made (acted (counted k) pid after made memory) (ap is_running there ∙ runs_somewhere h p.status on) (ap slot_left there) (spent.each after) (spent.splits p.machine p.reply) (every_call_ends (counted k) pid after made memory) in
+        omega (arith, c.less, c.free, within)
+
+    happens_within : (k : KernelState S) (e : Event) (memory : Bool) → IsWithin most k → WithinIf (happens call next k e memory)
+    happens_within k (Dispatch h pid) memory within =
+        within_where (can_dispatch k.table h pid) (Some (record (counted k) { table = dispatched k.table pid h }))
+        (λ _. omega (arith, within, rewritten (with_status (Running h)) k.table pid (status_left (Running h))))
+    happens_within k (Trap h pid) memory within =
+        within_where (is_running_on h (at k.table pid)) (trapped call next k pid (at k.table pid) memory) (λ on. trap_within k h pid (at k.table pid) memory refl on within)
+
+    then_within : (o : Option (KernelState S)) (e : Event) (memory : Bool) → WithinIf o → WithinIf (then_happens call next o e memory)
+    then_within None e memory within = tt
+    then_within (Some k) e memory within = happens_within k e memory within
+
+    run_within : (o : Option (KernelState S)) (events : List Event) (notes : List Bool) → WithinIf o → WithinIf (run call next o events notes)
+    run_within o [] [] within = within
+    run_within o (e ∷ es) (n ∷ ns) within = run_within (then_happens call next o e n) es ns (then_within o e n within)
+    run_within o [] (n ∷ ns) within = tt
+    run_within o (e ∷ es) [] within = tt
+
+    pub every_run_within : (k m : KernelState S) (events : List Event) (notes : List Bool) → IsWithin most k → run call next (Some k) events notes ≡ Some m → IsWithin most m
+    every_run_within k m events notes within ends = subst WithinIf ends (run_within (Some k) events notes within)
+
+    -- so where these are no more than there are entries, whoever calls finds as many free as it opens
+    pub finds_within : (k : KernelState S) (pid : ℕ) (p : Process S) → at k.table pid ≡ Some p → most ≤ ENTRIES → IsWithin most k → cost (call p.machine p.reply) ≤ free_count k.entries
+    finds_within k pid p there few within = omega (arith, within, few, one_of slot_left refl k.table pid, ap slot_left there)

@@ -11,5 +11,6 @@ pub mod Families
 pub mod Steps
 pub mod Runs
 pub mod FewBehind
+pub mod FewOpens
 pub mod Places
 pub mod FewPlaces

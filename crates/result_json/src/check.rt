@@ -151,11 +151,12 @@ fn write_room(object: &mut Line, room: &Room) -> Result<(), AllocError> {
     object.end_object()
 }
 
-// What a script with a clash or a `&` needs of processes and descriptors; its room as a whole is `null`.
+// What a script with a clash or a `&` needs of processes, open files and descriptors; its room as a whole is `null`.
 fn write_part(object: &mut Line, behind: &Behind) -> Result<(), AllocError> {
     object.nothing("room")?;
     object.begin_object("room_part")?;
     write_table(object, Table::Processes, behind.processes)?;
+    write_table(object, Table::Entries, behind.entries)?;
     write_table(object, Table::Descriptors, behind.descriptors)?;
     object.end_object()
 }
@@ -184,7 +185,7 @@ pub(crate) fn write_lack(object: &mut Line, lack: &Lack) -> Result<(), AllocErro
 /// `open_files`, `descriptors`, `files` and `size`: how much of it the script may `need` at most, `null` where that is more than
 /// 1,000,000, and how much there is at `most`; and where it may not have room `lack`, with the `line`, the `table`, the `need` up to
 /// that line and the `most`; `status` is then `without room`. Where a line has a clash or a `&`, `room` is `null`, and `room_part` has
-/// the members `processes` and `descriptors`; `status` stays `not harmless`.
+/// the members `processes`, `open_files` and `descriptors`; `status` stays `not harmless`.
 ///
 /// `AllocError` where memory for the text is refused.
 pub fn room_result(

@@ -1,9 +1,11 @@
--- What a script needs of processes and descriptors, also where commands run behind `&`.
+-- What a script needs of processes, open-file entries and descriptors, also where commands run behind `&`.
 use Rattle.std.specs.Prelude.{ℕ, ◌<◌, ◌≤◌, List, length, take, Option}
 use Rattle.sh_tree.specs.Tree.{Tree}
 use Rattle.script_load.specs.Line.{ScriptLine}
 use Rattle.meaning_model.specs.Meaning.{script_tree}
 use Rattle.room_model.specs.Descriptors.{script_descriptors}
+use Rattle.room_model.specs.Opens.{most_opens}
+use Rattle.room_behind.specs.Opens.{opens_in_all}
 use Rattle.room_behind.specs.Processes.{at_once, left_behind, processes_at_once}
 use Rattle.room_bounds.specs.Capped.{IsCapped}
 use Rattle.room_bounds.specs.Needs.{AreNeeds}
@@ -24,6 +26,7 @@ pub record AreTogether (tree : Tree) (together : Together) : Type 0 where
 -- of some lines, with what else they need
 pub record IsBegun (lines : List ScriptLine) (begun : Begun) : Type 0 where
   pub together : AreTogether (script_tree lines) begun.together
+  pub opens : IsCapped (most_opens (script_tree lines)) begun.opens
   pub needs : AreNeeds (script_tree lines) begun.needs
 
 -- how much a script needs of processes or of descriptors
@@ -34,17 +37,18 @@ IsNeedBehind Descriptors lines need = IsCapped (script_descriptors lines) need
 IsNeedBehind Files lines need = ⊥
 IsNeedBehind Size lines need = ⊥
 
--- of both
+-- of both, and of entries how many it comes to use in all
 pub record IsBehind (lines : List ScriptLine) (behind : Behind) : Type 0 where
   pub processes : IsNeedBehind Processes lines behind.processes
+  pub entries : IsCapped (opens_in_all lines) behind.entries
   pub descriptors : IsNeedBehind Descriptors lines behind.descriptors
 
--- it needs no more of them than there are
+-- it needs no more processes and descriptors than there are
 pub record FitsBehind (lines : List ScriptLine) : Type 0 where
   pub processes : processes_at_once lines ≤ MOST_PROCESSES
   pub descriptors : script_descriptors lines ≤ MOST_DESCRIPTORS
 
--- the first lines that need too much of one: fewer fit, and so many need so much of it, which is more than it has
+-- the first lines that need too many processes or descriptors: fewer fit, and so many need so much of it, which is more than it has
 pub record IsFirstBehind (lines : List ScriptLine) (lack : Lack) : Type 0 where
   pub within : lack.line ≤ length lines
   pub before : (fewer : ℕ) → fewer < lack.line → FitsBehind (take fewer lines)

@@ -1,4 +1,4 @@
-//! What a script needs of processes and descriptors, also where commands run behind `&`.
+//! What a script needs of processes, open-file entries and descriptors, also where commands run behind `&`.
 ghost use Rattle.std.specs.Prelude.{[], ◌∷◌, ◌++◌, ℕ, List, map, IfNone, IfSome};
 ghost use Rattle.sh_tree.specs.Tree.{Tree, exec, pipe, list, back, tree_of};
 ghost use Rattle.script_load.specs.Line.{ScriptLine, line_of, lines_of};
@@ -10,6 +10,7 @@ use crate::capped::{larger, one_more, sum, sum_with};
 use crate::crowd::needs_after;
 use crate::lack::{Lack, is_within};
 use crate::needs::{Needs, of_nothing};
+use crate::opens::opens_with;
 use crate::table::Table;
 use script_load::{Line, Script};
 use sh_tree::Cmd;
@@ -27,15 +28,19 @@ pub struct Together {
 #[derive(Clone, Copy)]
 pub struct Begun {
     pub together: Together,
+    /// How many open-file entries they come to use in all.
+    pub opens: Option<u64>,
     pub needs: Needs,
 }
 
-/// How much a script needs at most of processes and of descriptors, also where commands run behind `&`; each `None` where it is more
-/// than 1,000,000.
+/// How much a script needs at most of processes, of open-file entries and of descriptors, also where commands run behind `&`; each
+/// `None` where it is more than 1,000,000.
 #[derive(Clone, Copy, Debug)]
 pub struct Behind {
     /// Processes at once, with init.
     pub processes: Option<u64>,
+    /// Open-file entries in all, with the three that are open from the start: no more are ever in use at once.
+    pub entries: Option<u64>,
     /// Descriptors of one process at once.
     pub descriptors: Option<u64>,
 }
@@ -121,6 +126,7 @@ fn nothing_begun() -> Begun
 {
     Begun {
         together: no_command(),
+        opens: Some(0),
         needs: of_nothing(),
     }
 }
@@ -131,6 +137,7 @@ fn begun_with<A: Allocator>(before: Begun, line: &Line<A>) -> Begun
 {
     Begun {
         together: and_line(before.together, line_together(line)),
+        opens: opens_with(before.opens, line),
         needs: needs_after(before.needs, line),
     }
 }
@@ -141,6 +148,7 @@ fn behind_by(begun: Begun) -> Behind
 {
     Behind {
         processes: one_more(begun.together.at_once),
+        entries: sum_with(3, Some(0), begun.opens),
         descriptors: begun.needs.descriptors,
     }
 }
@@ -155,18 +163,19 @@ fn behind_of_lines<A: Allocator>(lines: &[Line<A>]) -> Behind
     behind_by(so_far)
 }
 
-/// How much a script needs at most of processes and of descriptors, whatever its standard input and its files, in whatever order its
-/// processes go on, also where commands run behind `&`. Without `&` it is what `room_of` returns.
+/// How much a script needs at most of processes, of open-file entries and of descriptors, whatever its standard input and its files, in
+/// whatever order its processes go on, also where commands run behind `&`. Of processes and descriptors it is what `room_of` returns where
+/// there is no `&`; of entries it is all that the script comes to use, whether it is let go before or not.
 ///
-/// That no run lacks one of them where this is within xv6's tables are the laws `no_run_is_out_of_processes` and
-/// `no_run_is_out_of_descriptors` of `law_room_behind`. Takes no memory, and time linear in the script.
+/// That no run lacks one of them where this is within xv6's tables are the laws `no_run_is_out_of_processes`,
+/// `no_run_is_out_of_open_files` and `no_run_is_out_of_descriptors` of `law_room_behind`. Takes no memory, and time linear in the script.
 pub fn behind_of<A: Allocator>(script: &Script<A>) -> Behind
     ensures { IsBehind (lines_of script.now.lines) result }
 {
     behind_of_lines(script.lines.as_slice())
 }
 
-// The first of the two tables of which this is too much, with the need of it.
+// The first of processes and descriptors of which this is too much, with the need of it.
 fn first_over(behind: &Behind) -> Option<(Table, Option<u64>)>
     ensures none { (lines : List ScriptLine) → IsBehind lines behind.now → IfNone result (FitsBehind lines) }
     ensures need { (lines : List ScriptLine) → IsBehind lines behind.now → IfSome result (λ over. IsNeedBehind over.0 lines over.1) }

@@ -36,8 +36,8 @@ fn line_opens<A: Allocator>(line: &Line<A>) -> Option<u64>
     }
 }
 
-// Some lines and one more.
-fn opens_with<A: Allocator>(so_far: Option<u64>, line: &Line<A>) -> Option<u64>
+/// Some lines and one more.
+pub(crate) fn opens_with<A: Allocator>(so_far: Option<u64>, line: &Line<A>) -> Option<u64>
     ensures { (lines : List ScriptLine) → IsCapped (most_opens (script_tree lines)) so_far → IsCapped (most_opens (script_tree (lines ++ line_of line.now ∷ []))) result }
 {
     sum_with(0, so_far, line_opens(line))

@@ -53,10 +53,13 @@ abbrev pub lack_text : Option Lack → Bytes
 lack_text None = []
 lack_text (Some lack) = with_need (place_text lack.line) lack.need (table_text lack.table)
 
--- `room: P of 64 processes, D of 16 descriptors; the rest is not known, since a line has a clash or a &` and LF
+-- `room: P of 64 processes, E of 100 open files, D of 16 descriptors; the rest is not known, since a line has a clash or a &` and LF
 abbrev pub part_text : Behind → Bytes
 part_text behind =
-    with_need (with_need (codes "room: ") behind.processes (codes " of 64 processes, ")) behind.descriptors (codes " of 16 descriptors; the rest is not known, since a line has a clash or a &\n")
+    with_need
+    (with_need (with_need (codes "room: ") behind.processes (codes " of 64 processes, ")) behind.entries (codes " of 100 open files, "))
+    behind.descriptors
+    (codes " of 16 descriptors; the rest is not known, since a line has a clash or a &\n")
 
 -- the report of a room
 abbrev pub room_told : RoomFound → Bytes
@@ -73,7 +76,7 @@ abbrev pub IsPartLack : List ScriptLine → Option Lack → Type 0
 IsPartLack lines None = FitsBehind lines
 IsPartLack lines (Some lack) = IsFirstBehind lines lack
 
--- what is known of a script's room: of one with a clash or a `&` how many processes and descriptors it needs
+-- what is known of a script's room: of one with a clash or a `&` how many processes, open files and descriptors it needs
 abbrev pub IsRoomFound : List ScriptLine → Bytes → List (Name × Bytes) → RoomFound → Type 0
 IsRoomFound lines input list (Part behind lack) = (AreHarmless false lines → ⊥) × IsBehind lines behind × IsPartLack lines lack
 IsRoomFound lines input list (Known room lack) = AreHarmless false lines × IsRoom lines input list room × IsLackOf lines input list lack

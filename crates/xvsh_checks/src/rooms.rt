@@ -132,7 +132,7 @@ fn room_line(alloc: Global, room: &Room) -> Result<Vec<u8>, AllocError>
     Ok(text)
 }
 
-// What a script with a clash or a `&` needs of processes and descriptors.
+// What a script with a clash or a `&` needs of processes, open files and descriptors.
 fn part_line(alloc: Global, behind: &Behind) -> Result<Vec<u8>, AllocError>
     ensures { IfOk result (λ text. text.items ≡ part_text behind.now) }
 {
@@ -142,6 +142,12 @@ fn part_line(alloc: Global, behind: &Behind) -> Result<Vec<u8>, AllocError>
         alloc,
         behind.processes,
         b" of 64 processes, ".as_slice(),
+        &mut text,
+    )?;
+    add_need(
+        alloc,
+        behind.entries,
+        b" of 100 open files, ".as_slice(),
         &mut text,
     )?;
     add_need(
@@ -234,7 +240,8 @@ fn start_of<'a, H: Host>(
 
 /// `check --room`: reads the script, the files in order, and standard input unless that is the script, and returns what is reported
 /// of the script's lines, and then how much of xv6's tables it needs at most, whatever the order of its processes, and with which
-/// line first it may need more than there is (own), of a script with a clash or a `&` of processes and descriptors alone; and whether the lines are harmless and have room. Nothing is written.
+/// line first it may need more than there is (own), of a script with a clash or a `&` of processes, open files and descriptors alone, and
+/// with which line of processes and descriptors; and whether the lines are harmless and have room. Nothing is written.
 pub fn run_room<'a, H: Host>(
     alloc: Global,
     request: &CheckRequest<'a>,
