@@ -6,7 +6,7 @@
  *
  * What nothing checks:
  *  - A length counts the bytes that lie at its pointer, or the rows. Where the length is 0 the pointer may be null.
- *  - What is lent for a call (a task, all that it points to, and a schedule) is written by nobody while the call runs, and shares no
+ *  - What is lent for a call (a task, all that it points to, a schedule, a suite) is written by nobody while the call runs, and shares no
  *    byte with the answer.
  *  - An answer was begun by XVSH_ANSWER, is all zeroes, or is one that an earlier call filled, and no other call writes it at the same time.
  *
@@ -22,10 +22,11 @@
  * has threads. A call needs a stack of 1 MiB at most: it grows with how deeply the parentheses of a line of 511 bytes are nested.
  *
  * Faults. A call returns 0, or the number of a fault: then the answer has that number as `status`, what it is about as `place`, and
- * nothing else. xvsh_fault_name and xvsh_fault_text have the name and the text of a number. A number is never given to another
- * fault; new ones may come, so have a default. No call aborts, and each returns: xvsh_run, xvsh_trace and xvsh_draw take at most `turns` events,
- * xvsh_replay and xvsh_look those of the schedule, xvsh_explore finds at most `states` states, and xvsh_plain asks for at most the
- * task's budget of memory, where it has one. The checks and xvsh_explain run nothing; xvsh_explain_why runs the script by its meaning.
+ * nothing else, but for XVSH_BAD_SUITE, which has `diag`. xvsh_fault_name and xvsh_fault_text have the name and the text of a number. A
+ * number is never given to another fault; new ones may come, so have a default. No call aborts, and each returns: xvsh_run, xvsh_trace and
+ * xvsh_draw take at most `turns` events, xvsh_replay and xvsh_look those of the schedule, xvsh_explore finds at most `states` states, and so
+ * does xvsh_grade of each test, and xvsh_plain asks for at most the task's budget of memory, where it has one. The checks and xvsh_explain
+ * run nothing; xvsh_explain_why runs the script by its meaning.
  *
  * Versions. xvsh_version_number() is 1,000,000 times the first number, 1,000 times the second, and the third. As long as the first is 0,
  * the shared library's soname has the first and the second, now libxvsh.so.0.3, and else the first alone. Under one soname these never
@@ -59,6 +60,7 @@ extern "C" {
 #define XVSH_MAX_NAME 14u              /* bytes of a file's name, which has at least one, and none that is 0 or '/' */
 #define XVSH_MAX_TURNS 1000000000u     /* events of a run */
 #define XVSH_MAX_STATES 10000000u      /* states of the kernel that an exploration keeps */
+#define XVSH_MAX_SUITE 1048576u        /* bytes of a suite */
 
 /* Bytes, which need not end in 0. */
 typedef struct { const uint8_t *at; size_t length; } xvsh_bytes;
@@ -100,7 +102,12 @@ typedef enum {
   XVSH_BAD_ORDER = 67,        /* no xvsh_order */
   XVSH_BAD_STATES = 68,       /* 0, or more than XVSH_MAX_STATES */
   XVSH_NULL = 69,             /* a null pointer with a length other than 0; a null task, or a null answer */
-  XVSH_GIVEN_UP = 70          /* the watch of the call had it given up */
+  XVSH_GIVEN_UP = 70,         /* the watch of the call had it given up */
+  XVSH_BAD_SUITE = 71,        /* the suite is wrong, or names a file that isn't there or is too long; place: the line of the suite, from 1;
+                                 diag: what is wrong with it, as `xvsh grade` says it behind the line */
+  XVSH_SUITE_TOO_LONG = 72,
+  XVSH_UNUSED_SCRIPT = 73,    /* each test of the suite has a script of its own, and the suite isn't alone */
+  XVSH_EVERY_WAY = 74         /* a test is to run in every way, which takes threads; place: the test, from 1 */
 } xvsh_status;
 
 /* Which process takes the next turn of a run. */
@@ -123,17 +130,18 @@ typedef struct { const xvsh_sizes *at; size_t length; } xvsh_table;
 /* What a call gives. What a call doesn't speak of is empty or 0. */
 typedef struct {
   xvsh_bytes out;      /* the standard output */
-  xvsh_bytes diag;     /* the diagnostics of a run */
+  xvsh_bytes diag;     /* the diagnostics of a run; of XVSH_BAD_SUITE what is wrong */
   xvsh_bytes events;   /* a line an event: `D HART PROCESS` or `T HART PROCESS`; of xvsh_trace the lines of the trace,
                           of xvsh_draw the page */
-  xvsh_bytes json;     /* of xvsh_check, xvsh_explain, xvsh_explore and xvsh_look an object of JSON, and LF */
+  xvsh_bytes json;     /* of xvsh_check, xvsh_explain, xvsh_explore, xvsh_look and xvsh_grade an object of JSON, and LF */
   xvsh_bytes block;    /* the files at the end, in byte order of their names: of each its name, and behind it its bytes */
   xvsh_table sizes;    /* how long these are: a row a file; xvsh_next_file walks them */
   uint64_t place;      /* what a fault is about, or 0 */
   uint32_t status;     /* XVSH_OK, or the fault */
   uint32_t full;       /* an xvsh_full */
   uint32_t fine;       /* xvsh_plain: 1 where the script is settled; xvsh_check and xvsh_explain: where there is nothing to tell;
-                          xvsh_explore: where all outcomes have one output and one set of files; xvsh_look: where the run is finished */
+                          xvsh_explore: where all outcomes have one output and one set of files; xvsh_look: where the run is finished;
+                          xvsh_grade: where every test was passed */
   uint32_t whole;      /* xvsh_explore: 1 where every order was tried, or what it leaves is known without */
 } xvsh_answer;
 
@@ -220,6 +228,19 @@ typedef struct { uint32_t (*goes_on)(void *context, uint64_t requests); void *co
 /* Explores as xvsh_explore does, and asks the watch meanwhile; as that call where the watch, or its function, is null. A call that is given
  * up is refused all memory from then on, frees what it holds, and returns XVSH_GIVEN_UP. */
 uint32_t xvsh_explore_watched(const xvsh_task *task, uint64_t states, uint32_t thorough, const xvsh_watch *watch, xvsh_answer *answer);
+
+/* Grades the script by the tests of a suite, a text of TOML (docs/GRADING.md), as `xvsh grade --json SUITE SCRIPT` with one job does, where the
+ * script is at `-`: gives that object as json, and fine where every test was passed. A test that has a script of its own is run on that. With
+ * `alone` other than 0 each must have one, and the task's script isn't looked at, as without a SCRIPT. `states` other than 0 is an upper bound
+ * on the states of each test, as --states. Input and what `>>` means are those of each test: the task's aren't looked at.
+ *
+ * A path that stands in the suite, as of input_file, names the task's file of exactly that name, and of two the first; such a name may have
+ * any length, and such a file the bytes that its use may have. No test may ask for every_way, which takes threads. A test to whose judging
+ * memory is refused isn't told as `not judged`: the call is refused with XVSH_MEMORY. */
+uint32_t xvsh_grade(const xvsh_task *task, xvsh_bytes suite, uint64_t states, uint32_t alone, xvsh_answer *answer);
+
+/* Grades as xvsh_grade does, and asks the watch meanwhile, as xvsh_explore_watched does. */
+uint32_t xvsh_grade_watched(const xvsh_task *task, xvsh_bytes suite, uint64_t states, uint32_t alone, const xvsh_watch *watch, xvsh_answer *answer);
 
 /* Runs the script as xvsh_run does, and gives what that gives, but for events the lines of the run's trace, as `xvsh run --trace`
  * writes them: each an object of JSON and LF (docs/FORMATS.md). A trace has some 200 bytes an event, and more where files are long. */

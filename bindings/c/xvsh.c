@@ -111,16 +111,34 @@ static bool begin(const xvsh_task *task, safe_task *safe, xvsh_answer *answer) {
   return good;
 }
 
-/* The same, and no null schedule. */
-static bool begin_events(const xvsh_task *task, xvsh_bytes *schedule, safe_task *safe, xvsh_answer *answer) {
+/* The same, and no null schedule or suite. */
+static bool begin_with(const xvsh_task *task, xvsh_bytes *more, safe_task *safe, xvsh_answer *answer) {
   if (!begin(task, safe, answer)) return false;
-  if (make_safe(schedule)) return true;
+  if (make_safe(more)) return true;
   answer->status = XVSH_NULL;
   return false;
 }
 
 static uint32_t status_of(const xvsh_answer *answer) {
   return answer ? answer->status : XVSH_NULL;
+}
+
+/* Has the thread's requests for memory watched, and returns the call that was watched before: a watch may make calls of its own, watched
+ * ones too. */
+static xvsh_watched_call *watch_on(xvsh_watched_call *now) {
+  xvsh_watched_call *outer = xvsh_watched_now;
+  xvsh_watched_now = now;
+  return outer;
+}
+
+/* Ends that, and tells where the call was given up, whatever it came to. */
+static uint32_t watch_off(const xvsh_watched_call *now, xvsh_watched_call *outer, xvsh_answer *answer) {
+  xvsh_watched_now = outer;
+  if (now->is_over) {
+    xvsh_answer_free(answer);
+    answer->status = XVSH_GIVEN_UP;
+  }
+  return answer->status;
 }
 
 uint32_t xvsh_plain(const xvsh_task *task, xvsh_answer *answer) {
@@ -137,7 +155,7 @@ uint32_t xvsh_run(const xvsh_task *task, uint64_t turns, uint32_t order, uint64_
 
 uint32_t xvsh_replay(const xvsh_task *task, xvsh_bytes schedule, xvsh_answer *answer) {
   safe_task safe;
-  if (begin_events(task, &schedule, &safe, answer)) xvsh_replay_call(&safe.task, schedule.at, schedule.length, answer);
+  if (begin_with(task, &schedule, &safe, answer)) xvsh_replay_call(&safe.task, schedule.at, schedule.length, answer);
   return status_of(answer);
 }
 
@@ -181,16 +199,24 @@ uint32_t xvsh_explore_watched(const xvsh_task *task, uint64_t states, uint32_t t
   safe_task safe;
   if (!watch || !watch->goes_on) return xvsh_explore(task, states, thorough, answer);
   if (!begin(task, &safe, answer)) return status_of(answer);
-  /* a watch may make calls of its own, watched ones too */
-  xvsh_watched_call *outer = xvsh_watched_now, now = { watch, 0, false };
-  xvsh_watched_now = &now;
+  xvsh_watched_call now = { watch, 0, false }, *outer = watch_on(&now);
   xvsh_explore_call(&safe.task, states, thorough, answer);
-  xvsh_watched_now = outer;
-  if (now.is_over) {
-    xvsh_answer_free(answer);
-    answer->status = XVSH_GIVEN_UP;
-  }
-  return answer->status;
+  return watch_off(&now, outer, answer);
+}
+
+uint32_t xvsh_grade(const xvsh_task *task, xvsh_bytes suite, uint64_t states, uint32_t alone, xvsh_answer *answer) {
+  safe_task safe;
+  if (begin_with(task, &suite, &safe, answer)) xvsh_grade_call(&safe.task, suite.at, suite.length, states, alone, answer);
+  return status_of(answer);
+}
+
+uint32_t xvsh_grade_watched(const xvsh_task *task, xvsh_bytes suite, uint64_t states, uint32_t alone, const xvsh_watch *watch, xvsh_answer *answer) {
+  safe_task safe;
+  if (!watch || !watch->goes_on) return xvsh_grade(task, suite, states, alone, answer);
+  if (!begin_with(task, &suite, &safe, answer)) return status_of(answer);
+  xvsh_watched_call now = { watch, 0, false }, *outer = watch_on(&now);
+  xvsh_grade_call(&safe.task, suite.at, suite.length, states, alone, answer);
+  return watch_off(&now, outer, answer);
 }
 
 uint32_t xvsh_trace(const xvsh_task *task, uint64_t turns, uint32_t order, uint64_t number, xvsh_answer *answer) {
@@ -207,6 +233,6 @@ uint32_t xvsh_draw(const xvsh_task *task, uint64_t turns, uint32_t order, uint64
 
 uint32_t xvsh_look(const xvsh_task *task, xvsh_bytes schedule, xvsh_answer *answer) {
   safe_task safe;
-  if (begin_events(task, &schedule, &safe, answer)) xvsh_look_call(&safe.task, schedule.at, schedule.length, answer);
+  if (begin_with(task, &schedule, &safe, answer)) xvsh_look_call(&safe.task, schedule.at, schedule.length, answer);
   return status_of(answer);
 }

@@ -236,6 +236,65 @@ static void asks(void) {
   xvsh_answer_free(&answer);
 }
 
+/* Whether the suite is refused so, with these words. */
+static bool is_refused(const xvsh_task *task, const char *suite, uint32_t alone, uint32_t fault, uint64_t place, const char *said) {
+  xvsh_answer answer = XVSH_ANSWER;
+  bool right = xvsh_grade(task, xvsh_text(suite), 0, alone, &answer) == fault && answer.place == place && is(answer.diag, said);
+  xvsh_bytes none = XVSH_NO_BYTES;
+  if (answer.diag.length) free((void *)(uintptr_t)answer.diag.at);
+  answer.diag = none;
+  right = right && is_nothing(&answer);
+  xvsh_answer_free(&answer);
+  return right;
+}
+
+#define COPIES "[[test]]\nname = \"copies\"\npoints = 3\noutput = \"x\\n\"\ninput_file = \"d/in\"\n"
+
+/* What is due is worked out by docs/GRADING.md. */
+static void grades(void) {
+  static char suite[XVSH_MAX_SUITE + 2], script[XVSH_MAX_SCRIPT + 2];
+  static xvsh_file files[XVSH_MAX_FILES + 1];
+  xvsh_answer answer = XVSH_ANSWER;
+  xvsh_file in[2] = { { xvsh_text("d/in"), xvsh_text("x\n") }, { xvsh_text("d/in"), xvsh_text("y\n") } };
+  xvsh_task task = task_of("cat", in, 2);
+  TEST(xvsh_grade(&task, xvsh_text(COPIES), 0, 0, &answer) == XVSH_OK && answer.fine && !answer.whole);
+  TEST(tells(&answer, "\"points\":3,\"of\":3,\"passed\":1,\"tests\":1,\"scripts\":[{\"script\":\"-\","));
+  task = task_of("head -1 | wc", in, 1);
+  TEST(xvsh_grade(&task, xvsh_text(COPIES), 0, 0, &answer) == XVSH_OK && tells(&answer, "\"verdict\":\"wrong\"") && !answer.fine);
+  task = task_of("", in, 1);
+  TEST(xvsh_grade(&task, xvsh_text(COPIES), 0, 0, &answer) == XVSH_OK && tells(&answer, "\"found\":null") && !answer.fine);
+  TEST(is_refused(&task, COPIES, 1, XVSH_BAD_SUITE, 1, "the test has no script of its own, and none is given"));
+  TEST(is_refused(&task, COPIES "script = \"cat\"\n", 0, XVSH_UNUSED_SCRIPT, 0, ""));
+  TEST(is_refused(&task, COPIES COPIES "every_way = true\n", 0, XVSH_BAD_SUITE, 7, "`name` is that of the test of line 1 too"));
+  TEST(is_refused(&task, COPIES "[[test]]\nname = \"u\"\noutput = \"\"\nevery_way = true\n", 0, XVSH_EVERY_WAY, 2, ""));
+  TEST(is_refused(&task, "", 0, XVSH_BAD_SUITE, 1, "the suite has no [[test]]") && is_refused(&task, "", 1, XVSH_BAD_SUITE, 1, "the suite has no [[test]]"));
+  task = task_of("cat", in, 0);
+  TEST(is_refused(&task, COPIES, 0, XVSH_BAD_SUITE, 5, "cannot read d/in"));
+  TEST(xvsh_grade(&task, xvsh_text("[[test]]\nname = \"o\"\nscript = \"echo a\"\noutput = \"a\\n\"\n"), 0, UINT32_MAX, &answer) == XVSH_OK && answer.fine && tells(&answer, "\"script\":null"));
+  xvsh_bytes none = { NULL, 0 }, some = { NULL, 1 };
+  TEST(xvsh_grade(&task, none, 0, 0, &answer) == XVSH_BAD_SUITE && xvsh_grade(&task, some, 0, 0, &answer) == XVSH_NULL && is_nothing(&answer));
+  /* a bound on states: the 64 runs are right, and not every order is tried */
+  task = task_of("echo a &", NULL, 0);
+  TEST(xvsh_grade(&task, xvsh_text("[[test]]\nname = \"s\"\noutput = \"a\\n\"\n"), 0, 0, &answer) == XVSH_OK && tells(&answer, "\"pass, every order tried\"") && answer.fine);
+  TEST(xvsh_grade(&task, xvsh_text("[[test]]\nname = \"s\"\noutput = \"a\\n\"\n"), 5, 0, &answer) == XVSH_OK && tells(&answer, "\"unsure\"") && !answer.fine);
+  TEST(xvsh_grade(&task, xvsh_text("[[test]]\nname = \"s\"\noutput = \"a\\n\"\n"), UINT64_MAX, 0, &answer) == XVSH_OK && answer.fine);
+  /* a suite as long as one may be, and a byte more; a script that is too long is a verdict */
+  memset(suite, '#', sizeof suite - 1);
+  memcpy(suite, COPIES, sizeof COPIES - 1);
+  memset(script, '\n', sizeof script - 1);
+  xvsh_bytes longest = { (const uint8_t *)suite, XVSH_MAX_SUITE };
+  task = task_of(script, in, 1);
+  TEST(xvsh_grade(&task, longest, 0, 0, &answer) == XVSH_OK && tells(&answer, "\"verdict\":\"too large\""));
+  longest.length++;
+  TEST(xvsh_grade(&task, longest, 0, 0, &answer) == XVSH_SUITE_TOO_LONG && is_nothing(&answer));
+  for (size_t i = 0; i < XVSH_MAX_FILES + 1; i++) files[i] = in[0];
+  task = task_of("cat", files, XVSH_MAX_FILES);
+  TEST(xvsh_grade(&task, xvsh_text(COPIES), 0, 0, &answer) == XVSH_OK && answer.fine);
+  task.files.length++;
+  TEST(is_refused(&task, COPIES, 0, XVSH_TOO_MANY_FILES, XVSH_MAX_FILES + 1, ""));
+  xvsh_answer_free(&answer);
+}
+
 /* The bytes up to the end of the line of this number, from 0, of a schedule. */
 static xvsh_bytes first_lines(xvsh_bytes bytes, size_t count) {
   xvsh_bytes first = { bytes.at, 0 };
@@ -315,7 +374,7 @@ static void words(void) {
     TEST((name.length == 0) == (text.length == 0));
     named += name.length > 0;
   }
-  TEST(named == 20 && xvsh_fault_name(XVSH_OK).length == 0 && xvsh_fault_name(UINT32_MAX).length == 0);
+  TEST(named == 24 && xvsh_fault_name(XVSH_OK).length == 0 && xvsh_fault_name(UINT32_MAX).length == 0);
   TEST(is(xvsh_fault_name(XVSH_TOO_LONG), "TooLong") && is(xvsh_fault_name(XVSH_LINE_TOO_LONG), "LineTooLong"));
   TEST(is(xvsh_fault_name(XVSH_BYTE_ZERO), "ByteZero") && is(xvsh_fault_name(XVSH_BAD_NAME), "BadName"));
   TEST(is(xvsh_fault_name(XVSH_TOO_MANY_FILES), "TooManyFiles") && is(xvsh_fault_name(XVSH_TOO_LARGE), "TooLarge"));
@@ -324,7 +383,9 @@ static void words(void) {
   TEST(is(xvsh_fault_name(XVSH_UNFINISHED), "Unfinished") && is(xvsh_fault_name(XVSH_TAKEN_NAME), "TakenName"));
   TEST(is(xvsh_fault_name(XVSH_SCRIPT_TOO_LONG), "ScriptTooLong") && is(xvsh_fault_name(XVSH_INPUT_TOO_LONG), "InputTooLong"));
   TEST(is(xvsh_fault_name(XVSH_BAD_TURNS), "BadTurns") && is(xvsh_fault_name(XVSH_BAD_ORDER), "BadOrder"));
-  TEST(is(xvsh_fault_name(XVSH_NULL), "Null"));
+  TEST(is(xvsh_fault_name(XVSH_NULL), "Null") && is(xvsh_fault_name(XVSH_GIVEN_UP), "GivenUp") && is(xvsh_fault_name(XVSH_BAD_SUITE), "BadSuite"));
+  TEST(is(xvsh_fault_name(XVSH_SUITE_TOO_LONG), "SuiteTooLong") && is(xvsh_fault_name(XVSH_UNUSED_SCRIPT), "UnusedScript"));
+  TEST(is(xvsh_fault_name(XVSH_EVERY_WAY), "EveryWay"));
   TEST(xvsh_version() == XVSH_VERSION);
 }
 
@@ -334,6 +395,7 @@ static long repeats;
 static void *again(void *unused) {
   xvsh_file files[1] = { { xvsh_text("f"), xvsh_text("a\nb\n") } };
   xvsh_task task = task_of("echo hello | tee g; cat f g | wc\n", files, 1);
+  xvsh_bytes suite = xvsh_text("[[test]]\nname = \"t\"\noutput = \"hello\\n3 3 10 \\n\"\nfiles = { f = \"a\\nb\\n\" }\n");
   xvsh_answer answer = XVSH_ANSWER, other = XVSH_ANSWER;
   bool right = true;
   for (long i = 0; i < repeats; i++) {
@@ -345,6 +407,8 @@ static void *again(void *unused) {
       right = xvsh_check_room(&task, 1, &answer) == XVSH_OK && answer.fine && right;
       right = xvsh_explain_why(&task, &answer) == XVSH_OK && answer.fine && right;
       right = xvsh_explore(&task, 100000, 0, &answer) == XVSH_OK && answer.fine && right;
+      right = xvsh_grade(&task, suite, 0, 0, &answer) == XVSH_OK && answer.fine && right;
+      right = xvsh_grade(&task, xvsh_text("title"), 0, 0, &answer) == XVSH_BAD_SUITE && answer.diag.length > 0 && right;
       right = xvsh_look(&task, xvsh_text("D 0 1\nT 0 1\n"), &answer) == XVSH_OK && !answer.fine && right;
       right = xvsh_trace(&task, 100000, XVSH_DRAWN, (uint64_t)i, &answer) == XVSH_OK && is(answer.out, "hello\n3 3 10 \n") && right;
     }
@@ -395,6 +459,7 @@ static void *deepest(void *unused) {
     right = xvsh_explore(&task, 50, 1, &answer) == XVSH_OK && right;
     right = xvsh_trace(&task, 100000, XVSH_KERNEL, 0, &answer) == XVSH_OK && right;
     right = xvsh_draw(&task, 100000, XVSH_KERNEL, 0, &answer) == XVSH_OK && right;
+    right = xvsh_grade(&task, xvsh_text("[[test]]\nname = \"t\"\noutput = \"\"\nstates = 50\n"), 0, 0, &answer) == XVSH_OK && right;
     right = xvsh_look(&task, xvsh_text("D 0 1\nT 0 1\nD 0 2\nT 0 2\n"), &answer) == XVSH_OK && right;
   }
   xvsh_answer_free(&answer);
@@ -441,11 +506,23 @@ static void watched(double most) {
     if (most > 0 && took > most) fprintf(stderr, "given up after %llu requests in %.3f seconds\n", (unsigned long long)requests, took);
     TEST(most <= 0 || took <= most);
   }
+  /* a grading of the same, whose runs are all right, so that every order is searched; it holds a suite besides */
+  xvsh_bytes suite = xvsh_text("[[test]]\nname = \"t\"\noutput = \"\"\nstates = 10000000\n");
+  xvsh_task wide = task_of("(echo a; echo b; echo c) > f &; (echo d; echo e; echo f) > g &; (echo g; echo h; echo i) > h &\n", NULL, 0);
+  for (uint64_t requests = 1; requests <= 1 << 20; requests *= 16) {
+    limit until = { requests, 0 };
+    xvsh_watch watch = { is_below, &until };
+    TEST(xvsh_grade_watched(&wide, suite, 0, 0, &watch, &answer) == XVSH_GIVEN_UP && answer.status == XVSH_GIVEN_UP && answer.place == 0 && is_nothing(&answer));
+    double took = seconds() - until.stopped;
+    TEST(most <= 0 || took <= most);
+  }
   limit never = { UINT64_MAX, 0 };
   xvsh_watch watch = { is_below, &never };
   task = task_of("echo a &; echo b\n", NULL, 0);
   TEST(xvsh_explore_watched(&task, 100000, 0, &watch, &answer) == XVSH_OK && tells(&answer, "\"number\":4,\"output\":\"ba\\n\\n\"") && answer.whole);
   TEST(xvsh_explore_watched(&task, 100000, 0, NULL, &answer) == XVSH_OK && answer.whole);
+  TEST(xvsh_grade_watched(&task, suite, 0, 0, &watch, &answer) == XVSH_OK && tells(&answer, "\"wrong\"") && !answer.fine);
+  TEST(xvsh_grade_watched(&task, suite, 0, 0, NULL, &answer) == XVSH_OK && tells(&answer, "\"wrong\""));
   xvsh_answer_free(&answer);
 }
 
@@ -455,6 +532,7 @@ int main(int count, char **arguments) {
   limits();
   runs();
   asks();
+  grades();
   looks();
   appends();
   budgets();

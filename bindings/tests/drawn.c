@@ -99,7 +99,8 @@ static bool told(uint32_t status, const xvsh_answer *answer, const char *call, l
   hold(status == answer->status, call, number);
   if (status != XVSH_OK) {
     faults++;
-    hold(xvsh_fault_name(status).length > 0 && is_empty(answer), call, number);
+    bool has_words = status == XVSH_BAD_SUITE && answer->diag.length && answer->place;
+    hold(xvsh_fault_name(status).length > 0 && (has_words || is_empty(answer)), call, number);
     return false;
   }
   size_t length = 0;
@@ -109,6 +110,21 @@ static bool told(uint32_t status, const xvsh_answer *answer, const char *call, l
   hold(!json.length || (json.at[0] == '{' && json.at[json.length - 2] == '}' && memchr(json.at, '\n', json.length) == json.at + json.length - 1), call, number);
   whole++;
   return true;
+}
+
+/* A suite, now and then with a changed byte, or cut, in memory of exactly its length. */
+static xvsh_bytes any_suite(void) {
+  static const char *const suites[] = {
+    "[[test]]\nname = \"t\"\noutput = \"a\\n\"\nstates = 50\n",
+    "states = 50\n[[test]]\nname = \"t\"\noutput_file = \"f\"\ninput = \"b a\\n\"\n[test.files]\ng = { file = \"g\" }\nf = \"x\"\n[test.expect]\nf = \"x\"\n",
+    "states = 50\nbytes = 90\n[[test]]\nname = \"own\"\nscript = \"echo a | cat\"\noutput = \"a\\n\"\n[[test]]\nname = \"theirs\"\npoints = 4\noutput = \"\"\n",
+  };
+  const char *suite = suites[drawn(3)];
+  size_t length = drawn(3) ? strlen(suite) : drawn((uint32_t)strlen(suite));
+  uint8_t *at = room(length);
+  if (length) memcpy(at, suite, length);
+  if (length && drawn(2)) at[drawn((uint32_t)length)] = drawn(3) ? (uint8_t)"\"=[]{}\n#.1tf"[drawn(12)] : (uint8_t)drawn(256);
+  return (xvsh_bytes){ at, length };
 }
 
 static bool same(xvsh_bytes one, xvsh_bytes other) {
@@ -132,6 +148,9 @@ static void ask(const xvsh_task *task, xvsh_answer *answer, xvsh_answer *other, 
   told(xvsh_replay(task, schedule, other), other, "replay of a changed schedule", number);
   told(xvsh_look(task, schedule, other), other, "look", number);
   free((void *)schedule.at);
+  xvsh_bytes suite = any_suite();
+  told(xvsh_grade(task, suite, drawn(2) * 40, drawn(4) == 0, other), other, "grade", number);
+  free((void *)suite.at);
 }
 
 int main(int count, char **words) {

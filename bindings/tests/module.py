@@ -12,6 +12,7 @@ import threading
 import xvsh
 
 HERE = os.path.dirname(os.path.dirname(os.path.dirname(os.path.abspath(__file__))))
+SUITE = '[[test]]\nname = "t"\ninput_file = "in"\noutput = "x\\n"\n'
 SCRIPT, FILES = "echo hello | tee g; cat f g | wc\nlss\n", {"f": "a\nb\n"}
 
 
@@ -73,6 +74,11 @@ def faults():
     refused(Fault.Spent, 0, lambda: xvsh.run(SCRIPT, turns=5, trace=True))
     refused(Fault.InputTooLong, 0, lambda: xvsh.Session("cat", b"x" * 1_048_577))
     refused(Fault.Memory, 0, lambda: xvsh.plain("cat f", files={"f": "x" * 1000}, budget=10))
+    refused(Fault.BadSuite, 1, lambda: xvsh.grade_script("", SCRIPT))
+    refused(Fault.SuiteTooLong, 0, lambda: xvsh.grade_script("#" * 1_048_577, SCRIPT))
+    refused(Fault.UnusedScript, 0, lambda: xvsh.grade_script(SUITE + 'script = "echo a"\n', SCRIPT))
+    refused(Fault.EveryWay, 1, lambda: xvsh.grade_script(SUITE + "every_way = true\n", SCRIPT))
+    refused(Fault.TooManyFiles, 201, lambda: xvsh.grade_script(SUITE, SCRIPT, {str(n): b"" for n in range(201)}))
     assert issubclass(xvsh.Memory, MemoryError) and issubclass(xvsh.XvshError, ValueError)
     for number in (-1, 1 << 64):
         for call in (lambda: xvsh.plain("", budget=number), lambda: xvsh.run("", turns=number), lambda: xvsh.explore("", states=number)):
@@ -168,6 +174,29 @@ def asks():
     assert all(xvsh.replay("echo a &; echo b", it.schedule).out == it.out for it in cut.outcomes)
 
 
+def gradings():
+    """What a suite says of a script, and what is wrong with one, by docs/GRADING.md."""
+    files = {"in": "x\n"}
+    report = xvsh.grade_script(SUITE, "cat", files)
+    assert (report.status, report.points, report.of) == ("all passed", 1, 1) and [(it.script, it.name, it.verdict) for it in report] == [("-", "t", "pass")]
+    race, = xvsh.grade_script(SUITE, "cat &\necho x", files)
+    assert (race.verdict, race.passed, race.difference.file) == ("race", False, None) and race.right != race.wrong
+    unsure, = xvsh.grade_script(SUITE, "cat &", files, states=5)
+    assert (unsure.verdict, unsure.found) == ("unsure", 1), unsure
+    own = xvsh.grade_script(SUITE + 'script = "cat"\n', files=files)
+    assert [(it.script, it.passed) for it in own] == [(None, True)]
+    try:
+        xvsh.grade_script(SUITE, "cat")
+    except xvsh.BadSuite as error:
+        assert (str(error), error.said, error.place) == ("the suite is wrong: cannot read in (line 3)", "cannot read in", 3), error
+    else:
+        raise AssertionError("a file that isn't given")
+    refused(xvsh.Fault.BadSuite, 1, lambda: xvsh.grade_script(SUITE, files=files))
+    asked = []
+    refused(xvsh.Fault.GivenUp, 0, lambda: xvsh.grade_script(SUITE + "states = 1000000\n", "(cat; cat; cat) &\n(cat; cat; cat) &\n", files, watch=lambda n: asked.append(n) or len(asked) < 3))
+    assert asked == [1024, 2048, 3072], asked
+
+
 def traces():
     """A trace has the run's events, each with its record, and leaves what the run leaves."""
     for order in xvsh.Order:
@@ -231,6 +260,10 @@ def growth(count):
         xvsh.plain(SCRIPT, files=FILES)
         xvsh.check(SCRIPT)
         try:
+            xvsh.grade_script(SUITE, SCRIPT)
+        except xvsh.BadSuite:
+            pass
+        try:
             xvsh.plain("echo \0", files=FILES)
         except xvsh.ByteZero:
             pass
@@ -250,12 +283,13 @@ def main():
     sessions()
     views()
     asks()
+    gradings()
     traces()
     schemas()
     forms()
     threads()
     growth(int(sys.argv[1]))
-    print(f"the Python module: faults, sessions, checks, explorations, traces, threads, and {sys.argv[1]} calls that leave nothing")
+    print(f"the Python module: faults, sessions, checks, explorations, gradings, traces, threads, and {sys.argv[1]} calls that leave nothing")
 
 
 if __name__ == "__main__":

@@ -32,7 +32,7 @@ void __wrap_free(void *block) {
 
 static xvsh_file files[1];
 static xvsh_task task, racy;
-static xvsh_bytes events;
+static xvsh_bytes events, suite;
 
 static uint32_t call(int kind, xvsh_answer *answer) {
   switch (kind) {
@@ -49,6 +49,9 @@ static uint32_t call(int kind, xvsh_answer *answer) {
     case 10: return xvsh_check_turns(&task, 0, answer);
     case 11: return xvsh_check_room(&task, 1, answer);
     case 12: return xvsh_explain_why(&task, answer);
+    case 14: return xvsh_grade(&task, suite, 0, 0, answer);
+    case 15: return xvsh_grade(&racy, suite, 0, 0, answer);
+    case 16: return xvsh_grade(&task, xvsh_text("title = 1\n"), 0, 0, answer);
     default: return xvsh_look(&task, xvsh_text("D 0 1\nT 0 1\nD 0 2\nT 0 2\n"), answer);
   }
 }
@@ -65,7 +68,7 @@ static bool is_right(int kind, const xvsh_answer *answer, const xvsh_answer *wan
   bool by_events = kind == 2 || kind == 3 || kind == 9;
   if (by_events && answer->status >= XVSH_NOT_RUNNABLE && answer->status <= XVSH_UNFINISHED) return true;
   if (answer->status != wanted->status) return false;
-  return answer->full == XVSH_HEAP || kind == 9 || (same(answer->out, wanted->out) && same(answer->json, wanted->json));
+  return answer->full == XVSH_HEAP || kind == 9 || (same(answer->out, wanted->out) && same(answer->json, wanted->json) && (answer->status == XVSH_OK || same(answer->diag, wanted->diag)));
 }
 
 int main(void) {
@@ -78,10 +81,11 @@ int main(void) {
   task.files.length = 1;
   racy = task;
   racy.script = xvsh_text("echo a &\n");
+  suite = xvsh_text("[[test]]\nname = \"t\"\noutput = \"a\\n\"\nfiles = { todo = { file = \"todo\" } }\n[[test]]\nname = \"own\"\nscript = \"echo a\"\noutput = \"a\\n\"\n");
   xvsh_answer run = XVSH_ANSWER;
   if (call(1, &run) != XVSH_OK) return 1;
   events = run.events;
-  for (int kind = 0; kind < 14; kind++) {
+  for (int kind = 0; kind < 17; kind++) {
     xvsh_answer answer = XVSH_ANSWER, wanted = XVSH_ANSWER;
     left = -1;
     asked = 0;

@@ -159,6 +159,24 @@ void xvsh_explore_call(const xvsh_task *task, uint64_t states, uint32_t thorough
   answered(task, "explore", json, answer);
 }
 
+/* The suite `wrong N WORDS` is wrong in line N, for these words; any other passes a script that has its text. */
+void xvsh_grade_call(const xvsh_task *task, const uint8_t *suite, size_t length, uint64_t states, uint32_t alone, xvsh_answer *answer) {
+  static const char wrong[] = "wrong ", form[] = "{\"format\": \"xvsh-result\", \"version\": 1, \"command\": \"grade\", \"status\": \"s\", \"points\": %llu, "
+    "\"of\": %u, \"passed\": 0, \"tests\": 0, \"scripts\": []}\n";
+  char json[256];
+  snprintf(json, sizeof json, form, (unsigned long long)states, (unsigned)alone);
+  if (!asks(task)) { answer->status = XVSH_MEMORY; return; }
+  if (length > sizeof wrong && memcmp(suite, wrong, sizeof wrong - 1) == 0) {
+    answer->status = XVSH_BAD_SUITE;
+    answer->place = suite[sizeof wrong - 1] - (uint8_t)'0';
+    answer->diag = copied(suite + sizeof wrong + 1, length - sizeof wrong - 1);
+    return;
+  }
+  answered(task, "grade", json, answer);
+  if (answer->status) return;
+  answer->fine = length == task->script.length && (length == 0 || memcmp(suite, task->script.at, length) == 0);
+}
+
 void xvsh_look_call(const xvsh_task *task, const uint8_t *schedule, size_t length, xvsh_answer *answer) {
   static const char json[] = "{\"stands\": \"runnable\", \"ps\": {\"processes\": [{\"pid\": 0, \"parent\": 0, \"prog\": \"init\", \"state\": \"runnable\", "
     "\"next\": {\"name\": \"wait\"}}]}, \"pipes\": {\"pipes\": []}, \"files\": {\"files\": []}, \"out\": {\"out\": \"\", \"diag\": \"\"}}\n";

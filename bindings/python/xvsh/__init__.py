@@ -7,7 +7,7 @@
 Over ctypes, with no dependency. The first call that needs the library loads libxvsh.so from the path in XVSH_LIBRARY, else from beside
 this file, where `pip install` puts it, else from lib/ of the checkout that this file stands in, where `bindings/build` puts it, which is
 called where lib/ has none and dist/ has it; else where the system looks. Where there is none it raises ImportError. `grade` runs the
-program, and needs no library.
+program, and needs no library; `grade_script` grades bytes in memory by the library.
 
 Each call raises the faults of what it is given: LineTooLong, ByteZero and ScriptTooLong of the script; where it takes them, TooLong,
 BadName and TooManyFiles of the files, and InputTooLong of the input; and Memory. Its own are told at each. What is no number where one is due
@@ -35,14 +35,16 @@ from collections.abc import Callable, Iterable, Iterator, Mapping
 from typing import Any, Union
 
 from ._show import Cell, Shown, code, counted, escaped, files as files_cell, table
-from .grading import AnyPath, Difference, Graded, GradeError, NoProgram, Report, TimedOut, Verdict, grade
+from .grading import AnyPath, Difference, Graded, GradeError, NoProgram, Report, TimedOut, Verdict, _report_of, grade
 
 __all__ = [
-    "Answer", "AnyPath", "BadName", "BadOrder", "BadStates", "BadTurns", "ByteZero", "Bytes", "Check", "Difference", "Drawing", "Event", "Explanation", "Exploration",
+    "Answer", "AnyPath", "BadName", "BadOrder", "BadStates", "BadSuite", "BadTurns", "ByteZero", "Bytes", "Check", "Difference", "Drawing", "Event", "EveryWay", "Explanation",
+    "Exploration",
     "Fault", "File", "Files", "Finding", "GivenUp", "GradeError", "Graded", "InputTooLong", "Lack", "LineTooLong", "Memory", "MissingName", "Need", "NoEvent",
     "NoProgram", "NotRunnable", "NotRunning", "Note", "Order", "Outcome", "Parting", "Pipe", "Plain", "Process", "Reason", "Report", "RoomCheck", "Run",
-    "ScriptTooLong", "Session", "Spent", "TakenName", "TimedOut", "TooLarge", "TooLong", "TooManyFiles", "TurnsCheck", "Unfinished", "Verdict", "Whys",
-    "XvshError", "check", "check_room", "check_turns", "draw", "explain", "explain_why", "explore", "grade", "plain", "replay", "run", "version",
+    "ScriptTooLong", "Session", "Spent", "SuiteTooLong", "TakenName", "TimedOut", "TooLarge", "TooLong", "TooManyFiles", "TurnsCheck", "Unfinished", "UnusedScript",
+    "Verdict", "Whys", "XvshError", "check", "check_room", "check_turns", "draw", "explain", "explain_why", "explore", "grade", "grade_script", "plain", "replay", "run",
+    "version",
 ]
 __version__ = "0.3.0"
 
@@ -76,6 +78,10 @@ class Fault(enum.IntEnum):
     BadOrder = 67
     BadStates = 68
     GivenUp = 70
+    BadSuite = 71
+    SuiteTooLong = 72
+    UnusedScript = 73
+    EveryWay = 74
 
 
 class XvshError(ValueError):
@@ -89,7 +95,7 @@ class XvshError(ValueError):
         super().__init__(f"{text} ({_PLACES.get(fault, 'place')} {place})" if place else text)
         self.fault, self.place, self._text = fault, place, text
 
-    def __reduce__(self) -> tuple[type[XvshError], tuple[int, int, str]]:
+    def __reduce__(self) -> tuple[type[XvshError], tuple[Any, ...]]:
         return type(self), (self.fault, self.place, self._text)
 
 
@@ -169,20 +175,49 @@ class GivenUp(XvshError):
     """The watch of the call had it given up."""
 
 
+class BadSuite(XvshError):
+    """The suite is wrong, or names a file that isn't there or is too long; the place is the line of the suite, from 1, and `said` is what is
+    wrong with it, as `xvsh grade` says it behind the line."""
+
+    said: str
+
+    def __init__(self, fault: int, place: int, text: str, said: str = "") -> None:
+        super().__init__(fault, place, f"{text}: {said}" if said else text)
+        self.said, self._text = said, text
+
+    def __reduce__(self) -> tuple[type[XvshError], tuple[Any, ...]]:
+        return type(self), (self.fault, self.place, self._text, self.said)
+
+
+class SuiteTooLong(XvshError):
+    """The suite has more than 1,048,576 bytes."""
+
+
+class UnusedScript(XvshError):
+    """Each test of the suite has a script of its own, and a script is given."""
+
+
+class EveryWay(XvshError):
+    """A test is to run in every way, which takes threads; the place is the test, from 1."""
+
+
 _PLACES: dict[int, str] = {fault: "event" for fault in Fault} | dict.fromkeys((Fault.LineTooLong, Fault.ByteZero, Fault.NoEvent), "line")
-_PLACES |= dict.fromkeys((Fault.TooLong, Fault.BadName, Fault.TooManyFiles, Fault.TakenName), "file")
+_PLACES |= dict.fromkeys((Fault.TooLong, Fault.BadName, Fault.TooManyFiles, Fault.TakenName), "file") | {Fault.BadSuite: "line", Fault.EveryWay: "test"}
 _ERRORS: dict[int, type[XvshError]] = {
     Fault.TooLong: TooLong, Fault.LineTooLong: LineTooLong, Fault.ByteZero: ByteZero, Fault.BadName: BadName,
     Fault.TooManyFiles: TooManyFiles, Fault.TooLarge: TooLarge, Fault.Memory: Memory, Fault.Spent: Spent,
     Fault.NoEvent: NoEvent, Fault.NotRunnable: NotRunnable, Fault.NotRunning: NotRunning, Fault.Unfinished: Unfinished,
     Fault.TakenName: TakenName, Fault.ScriptTooLong: ScriptTooLong, Fault.InputTooLong: InputTooLong, Fault.BadTurns: BadTurns,
-    Fault.BadOrder: BadOrder, Fault.BadStates: BadStates, Fault.GivenUp: GivenUp,
+    Fault.BadOrder: BadOrder, Fault.BadStates: BadStates, Fault.GivenUp: GivenUp, Fault.BadSuite: BadSuite, Fault.SuiteTooLong: SuiteTooLong,
+    Fault.UnusedScript: UnusedScript, Fault.EveryWay: EveryWay,
 }
 
 
-def _error_of(number: int, place: int) -> XvshError:
-    """The error of a fault; of one that a newer library has and this module doesn't know it is XvshError itself."""
+def _error_of(number: int, place: int, said: str) -> XvshError:
+    """The error of a fault; of one that a newer library has and this module doesn't know it is XvshError itself. Of a suite it has what was said."""
     text = _fault_text(number) or f"fault {number}"
+    if number == Fault.BadSuite:
+        return BadSuite(Fault.BadSuite, place, text, said)
     return _ERRORS[number](Fault(number), place, text) if number in _ERRORS else XvshError(number, place, text)
 
 
@@ -258,6 +293,7 @@ _numbers: dict[str, list[Any]] = {
     "check_turns": [c.c_uint32], "check_room": [c.c_uint32], "explain_why": [],
     "draw": [c.c_uint64, c.c_uint32, c.c_uint64],
     "explore": [c.c_uint64, c.c_uint32], "explore_watched": [c.c_uint64, c.c_uint32, c.POINTER(_Watch)], "trace": [c.c_uint64, c.c_uint32, c.c_uint64], "look": [_Bytes],
+    "grade": [_Bytes, c.c_uint64, c.c_uint32], "grade_watched": [_Bytes, c.c_uint64, c.c_uint32, c.POINTER(_Watch)],
 }
 
 
@@ -636,10 +672,10 @@ def _call(name: str, script: Bytes, input: Bytes, files: Files | None, append: b
     rows = [_File(_view(kept, os.fsencode(name)), _view(kept, _raw(data))) for name, data in (files or {}).items()]
     given = (_File * len(rows))(*rows)
     task = _Task(_view(kept, _raw(script)), _view(kept, _raw(input)), given, len(rows), budget, 1 if append else 0)
-    answer = _Answer()
-    if getattr(_library(), f"xvsh_{name}")(task, *more, answer):
-        raise _error_of(answer.status, answer.place)
+    answer, function = _Answer(), getattr(_library(), f"xvsh_{name}")
     try:
+        if function(task, *more, answer):
+            raise _error_of(answer.status, answer.place, _text(answer.diag).decode("utf-8", "replace"))
         return _Call(answer)
     finally:
         _library().xvsh_answer_free(answer)
@@ -793,13 +829,41 @@ def explore(
     [b'a\\nb\\n', b'ab\\n\\n', b'b\\na\\n', b'ba\\n\\n']
     """
     numbers = _number(states, 64, "states are"), 1 if thorough else 0
-    call = _call_watched(watch, script, input, files, append, *numbers) if watch else _call("explore", script, input, files, append, 0, *numbers)
+    call = _call_watched(watch, "explore", script, input, files, append, *numbers)
     made = json.loads(call.json)
     stuck = None if made["stuck"] is None else _schedule(made["stuck"])
     return Exploration(call.fine, call.whole, made["states"], tuple(map(_outcome_of, made["outcomes"])), stuck, call.json)
 
 
-def _call_watched(watch: Callable[[int], bool], script: Bytes, input: Bytes, files: Files | None, append: bool, *numbers: int) -> _Call:
+def grade_script(suite: Bytes, script: Bytes | None = None, files: Files | None = None, *, states: int | None = None, watch: Callable[[int], bool] | None = None) -> Report:
+    r"""Grades a script by the tests of a suite, both in memory, as `xvsh grade --json` with one job, and returns that report, in which the script
+    is at `-`. Without a script each test of the suite must have its own. docs/GRADING.md says what a suite is.
+
+    `suite` is TOML of at most 1,048,576 bytes. `files` are those that it names by paths, at most 200: a path as it stands in the suite is
+    the name of its bytes. `states` is an upper bound on the states through which each test tries orders, whatever the suite says; None, or
+    0: none. `watch` is as of `explore`.
+
+    BadSuite, with the line and what is `said` of it; SuiteTooLong; UnusedScript where no test is run on the script; EveryWay of a test with
+    `every_way`, which takes threads: `grade` runs it; TooManyFiles; GivenUp; and Memory, also where it is refused to the judging of a test. A
+    script that is too long, or refused, is a verdict, and no error.
+
+    >>> import xvsh
+    >>> report = xvsh.grade_script('[[test]]
+name = "counts"
+output = "1 1 3 \n"
+', "echo hi | wc")
+    >>> report.status, [(verdict.script, verdict.name, verdict.verdict) for verdict in report]
+    ('all passed', [('-', 'counts', 'pass')])
+    """
+    kept: list[Any] = []
+    numbers = _Bytes(*_view(kept, _raw(suite))), _number(0 if states is None else states, 64, "states are"), 1 if script is None else 0
+    return _report_of(_call_watched(watch, "grade", b"" if script is None else script, b"", files, False, *numbers).json)
+
+
+def _call_watched(watch: Callable[[int], bool] | None, name: str, script: Bytes, input: Bytes, files: Files | None, append: bool, *numbers: Any) -> _Call:
+    """Makes a call, and a watched one where somebody watches it."""
+    if watch is None:
+        return _call(name, script, input, files, append, 0, *numbers)
     raised: list[BaseException] = []
 
     def goes_on(_context: Any, requests: int) -> int:
@@ -811,7 +875,7 @@ def _call_watched(watch: Callable[[int], bool], script: Bytes, input: Bytes, fil
 
     held = _Watch(_goes_on(goes_on), None)
     try:
-        return _call("explore_watched", script, input, files, append, 0, *numbers, held)
+        return _call(f"{name}_watched", script, input, files, append, 0, *numbers, held)
     except GivenUp:
         if raised:
             raise raised[0] from None

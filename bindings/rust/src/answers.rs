@@ -130,7 +130,7 @@ impl Told {
     }
 
     /// Of a check and an explanation whether there is nothing to tell; of an exploration whether all outcomes that were found have one output
-    /// and one set of files; of a look whether the run is finished.
+    /// and one set of files; of a look whether the run is finished; of a grading whether every test was passed.
     pub fn is_fine(&self) -> bool {
         self.0.fine != 0
     }

@@ -56,6 +56,7 @@ pub(crate) struct Watch {
 
 extern "C" {
     pub(crate) fn xvsh_explore_watched(task: *const Task, states: u64, thorough: u32, watch: *const Watch, answer: *mut Answer) -> u32;
+    pub(crate) fn xvsh_grade(task: *const Task, suite: Bytes, states: u64, alone: u32, answer: *mut Answer) -> u32;
     pub(crate) fn xvsh_version_number() -> u32;
     pub(crate) fn xvsh_fault_name(number: u32) -> Bytes;
     pub(crate) fn xvsh_fault_text(number: u32) -> Bytes;

@@ -26,12 +26,16 @@ pub enum Fault {
     BadOrder,
     BadStates,
     GivenUp,
+    BadSuite,
+    SuiteTooLong,
+    UnusedScript,
+    EveryWay,
     /// One that a newer library has, by its number.
     Other(u32),
 }
 
 // The faults by their numbers.
-const NUMBERS: [(u32, Fault); 19] = [
+const NUMBERS: [(u32, Fault); 23] = [
     (2, Fault::TooLong),
     (3, Fault::LineTooLong),
     (4, Fault::ByteZero),
@@ -51,6 +55,10 @@ const NUMBERS: [(u32, Fault); 19] = [
     (67, Fault::BadOrder),
     (68, Fault::BadStates),
     (70, Fault::GivenUp),
+    (71, Fault::BadSuite),
+    (72, Fault::SuiteTooLong),
+    (73, Fault::UnusedScript),
+    (74, Fault::EveryWay),
 ];
 
 impl Fault {
@@ -79,7 +87,8 @@ impl Fault {
     }
 }
 
-/// Why a call gave no answer: the fault, and what it is about: a line of the script or of a schedule, a file, or an event, from 1; or 0.
+/// Why a call gave no answer: the fault, and what it is about: a line of the script, of a schedule or of a suite, a file, an event or a
+/// test, from 1; or 0.
 #[derive(Clone, Copy, Debug, PartialEq, Eq, Hash)]
 pub struct Error {
     pub fault: Fault,
@@ -100,3 +109,22 @@ impl fmt::Display for Error {
 }
 
 impl error::Error for Error {}
+
+/// Why nothing was graded: the error, and of a suite that is wrong what `xvsh grade` says of it behind its line; else nothing.
+#[derive(Clone, Debug, PartialEq, Eq, Hash)]
+pub struct GradeError {
+    pub error: Error,
+    pub said: String,
+}
+
+impl fmt::Display for GradeError {
+    fn fmt(&self, f: &mut fmt::Formatter<'_>) -> fmt::Result {
+        self.error.fmt(f)?;
+        if !self.said.is_empty() {
+            write!(f, ": {}", self.said)?;
+        }
+        Ok(())
+    }
+}
+
+impl error::Error for GradeError {}

@@ -15,7 +15,7 @@ mod border;
 mod fault;
 
 pub use answers::{File, Full, Plain, Run, Told};
-pub use fault::{Error, Fault};
+pub use fault::{Error, Fault, GradeError};
 
 use border::view;
 use std::any::Any;
@@ -93,8 +93,8 @@ impl<'a> Task<'a> {
         self
     }
 
-    // Hands the task to a call, and returns what that left in an answer.
-    fn ask(&self, call: impl FnOnce(*const border::Task, *mut border::Answer) -> u32) -> Result<border::Answer, Error> {
+    // Hands the task to a call, and returns its status and what it left in an answer.
+    fn hand(&self, call: impl FnOnce(*const border::Task, *mut border::Answer) -> u32) -> (u32, border::Answer) {
         let rows: Vec<border::File> = self.files.iter().map(|it| border::File { name: view(it.0), bytes: view(it.1) }).collect();
         let task = border::Task {
             script: view(self.script),
@@ -105,9 +105,14 @@ impl<'a> Task<'a> {
             appends: self.appends.into(),
         };
         let mut answer = border::Answer::new();
-        match call(&task, &mut answer) {
-            0 => Ok(answer),
-            status => Err(Error { fault: Fault::of(status), place: answer.place }),
+        (call(&task, &mut answer), answer)
+    }
+
+    // Hands it so, and returns the answer, or the fault.
+    fn ask(&self, call: impl FnOnce(*const border::Task, *mut border::Answer) -> u32) -> Result<border::Answer, Error> {
+        match self.hand(call) {
+            (0, answer) => Ok(answer),
+            (status, answer) => Err(Error { fault: Fault::of(status), place: answer.place }),
         }
     }
 
@@ -180,6 +185,19 @@ impl<'a> Task<'a> {
             panic::resume_unwind(panicked);
         }
         told.map(Told)
+    }
+
+    /// Grades the script by the tests of a suite, a text of TOML that names the task's files by its paths, as `xvsh grade --json`. Each test
+    /// tries orders through at most so many states, where these are not 0. Alone, each test of the suite has a script of its own, and the
+    /// task's isn't looked at. Neither are its input and whether `>>` appends.
+    pub fn grade<S: AsRef<[u8]> + ?Sized>(&self, suite: &S, states: u64, is_alone: bool) -> Result<Told, GradeError> {
+        match self.hand(|task, answer| unsafe { border::xvsh_grade(task, view(suite.as_ref()), states, is_alone.into(), answer) }) {
+            (0, answer) => Ok(Told(answer)),
+            (status, answer) => Err(GradeError {
+                error: Error { fault: Fault::of(status), place: answer.place },
+                said: String::from_utf8_lossy(unsafe { answer.diag.bytes() }).into_owned(),
+            }),
+        }
     }
 
     /// Tells how a run stands after the events of a schedule, which need not be those of a whole run.

@@ -1,6 +1,6 @@
 //! Each call of the crate on the library that was built. What scripts give is worked out by hand from xv6's shell.
 use std::thread;
-use xvsh::{Error, Fault, File, Order, Task};
+use xvsh::{Error, Fault, File, GradeError, Order, Task};
 
 const SCRIPT: &str = "echo hello | tee g; cat f g | wc\n";
 
@@ -64,6 +64,29 @@ fn what_is_told_of_a_script() {
     assert!(holds(look.json(), "\"stands\":\"runnable\"") && !look.is_fine());
     let whole = task().run(100_000, Order::Kernel).unwrap();
     assert!(task().look(whole.events()).unwrap().is_fine());
+}
+
+// The exercise: print what is read.
+const SUITE: &str = "[[test]]\nname = \"copies\"\ninput_file = \"in\"\noutput = \"x\\n\"\n";
+
+#[test]
+fn a_suite_that_grades() {
+    let told = Task::new("cat").file("in", "x\n").grade(SUITE, 0, false).unwrap();
+    assert!(told.is_fine() && holds(told.json(), "\"script\":\"-\",\"points\":1,\"of\":1,"));
+    let wrong = Task::new("cat | wc").file("in", "x\n").grade(SUITE, 1000, false).unwrap();
+    assert!(!wrong.is_fine() && holds(wrong.json(), "\"verdict\":\"wrong\""));
+    let refused = |fault, place, said: &str, task: &Task<'_>, suite: &str, is_alone| {
+        let error = GradeError { error: Error { fault, place }, said: said.into() };
+        assert_eq!(task.grade(suite, 0, is_alone).map(drop), Err(error));
+    };
+    let task = Task::new("cat");
+    refused(Fault::BadSuite, 3, "cannot read in", &task, SUITE, false);
+    refused(Fault::BadSuite, 1, "the test has no script of its own, and none is given", &task.clone().file("in", ""), SUITE, true);
+    refused(Fault::UnusedScript, 0, "", &task.clone().file("in", ""), &format!("{SUITE}script = \"cat\"\n"), false);
+    refused(Fault::EveryWay, 1, "", &task.clone().file("in", ""), &format!("{SUITE}every_way = true\n"), false);
+    refused(Fault::SuiteTooLong, 0, "", &task, &"#".repeat(1_048_577), false);
+    let alone = task.file("in", "x\n").grade(&format!("{SUITE}script = \"cat\"\n"), 0, true).unwrap();
+    assert!(alone.is_fine() && holds(alone.json(), "\"script\":null"));
 }
 
 #[test]

@@ -2,6 +2,7 @@ pub mod Answers
 pub mod AskCalls
 pub mod DrawCalls
 pub mod ExploreCalls
+pub mod GradeCalls
 pub mod LookCalls
 pub mod PlainCalls
 pub mod RunCalls

@@ -10,7 +10,7 @@ use embed_task::{EmbedFault, FileSizes, StartFault};
 pub struct Answer {
     /// The standard output.
     pub out: &'static [u8],
-    /// The diagnostics.
+    /// The diagnostics; where a suite is wrong why.
     pub diag: &'static [u8],
     /// The events of a run, or the lines of a trace.
     pub events: &'static [u8],
@@ -20,14 +20,15 @@ pub struct Answer {
     pub block: &'static [u8],
     /// How long each name and each file is.
     pub sizes: &'static [FileSizes],
-    /// The line, the file or the event that a fault is about, counted from 1, or 0.
+    /// The line, the file, the event or the test that a fault is about, counted from 1, or 0.
     pub place: u64,
     /// 0, or the number of a fault.
     pub status: u32,
     /// What was full first, from 1 on, or 0.
     pub full: u32,
     /// Of a run by meaning 1 where the script is settled, of a check or an explanation where there is nothing to tell, of an
-    /// exploration where all outcomes have one output and one set of files, of a look where the run is finished; else 0.
+    /// exploration where all outcomes have one output and one set of files, of a look where the run is finished, of a grading where every
+    /// test was passed; else 0.
     pub fine: u32,
     /// Of an exploration 1 where every order was tried or is known without; else 0.
     pub whole: u32,

@@ -5,6 +5,7 @@ mod answer;
 mod asks;
 mod draws;
 mod explores;
+mod grades;
 mod handing;
 mod looks;
 mod plain;

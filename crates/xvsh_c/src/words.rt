@@ -35,6 +35,16 @@ fn words_of(number: u32) -> (&'static str, &'static str) {
         68 => ("BadStates", "the states are not 1 to 10,000,000"),
         69 => ("Null", "a pointer is null, and its length is not 0"),
         70 => ("GivenUp", "the call was given up"),
+        71 => ("BadSuite", "the suite is wrong"),
+        72 => ("SuiteTooLong", "the suite has more than 1,048,576 bytes"),
+        73 => (
+            "UnusedScript",
+            "each test of the suite has a script of its own",
+        ),
+        74 => (
+            "EveryWay",
+            "a test is to run in every way, which takes threads",
+        ),
         _ => ("", ""),
     }
 }

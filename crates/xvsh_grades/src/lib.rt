@@ -15,4 +15,5 @@ pub use ending::run_grade;
 pub use grade_tests::{GradeFault, Loaded};
 pub use grading::grade;
 pub use marks::{Mark, Piece};
+pub use reporting::report_of;
 pub use request::{Form, GradeRequest, Grading, Report};

@@ -82,8 +82,11 @@ fn text_of(
     }
 }
 
-/// The report of these marks.
-pub(crate) fn report_of(
+/// The report of these marks, in this form (own): their sums, whether there is one and each gives its test's points, and whether each is a verdict.
+/// A text for people may be in colour.
+///
+/// `AllocError` where memory is refused.
+pub fn report_of(
     alloc: Global,
     marks: &[Mark<'_, '_>],
     form: Form,

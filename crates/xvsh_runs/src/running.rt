@@ -71,6 +71,7 @@ fn run_on_threads<'a, R: Threads + Wait + Clock + Sync>(
 }
 
 // On how many harts a script is run, in at most how many turns, and in which order on one.
+#[derive(Clone, Copy)]
 struct Course {
     harts: u8,
     turns: u64,
