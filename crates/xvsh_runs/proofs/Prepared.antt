@@ -19,7 +19,7 @@ use Rattle.xvsh_runs.specs.Values.{HasValues, RanValues}
 use Rattle.xvsh_runs.specs.Why.{IsHartsFault, IsRefusedFrom, IsRunFault, no_run}
 
 module _ (input : Option Bytes) (file : Path → Option Bytes) (profile : Profile) (script : Path) (paths : List (Bor Path)) (start : Start) (starts : Starts input file false script paths (lines_of start.script.lines) start.files start.stdin.items) (same : start.script.profile ≡ profile) where
-  pub prepared_one : (request : RunRequest) (run : Run) → DidRunFrom start request run.full (out_text run.output) run.output.err.items →
+  abbrev pub prepared_one : (request : RunRequest) (run : Run) → DidRunFrom start request run.full (out_text run.output) run.output.err.items →
       RanRun input file profile script paths request.harts request.turns request.lists run.full (out_text run.output) run.output.err.items
   prepared_one request run ran = record {
     lines = lines_of start.script.lines;
