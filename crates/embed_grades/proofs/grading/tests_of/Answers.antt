@@ -14,3 +14,7 @@ returns-in-Some-clause-fault c =
     let first : position (λ (test : Loaded). test.every_way) tests ≡ Some c.in-Some.place =
     sym (ap (position (λ (test : Loaded). test.every_way)) c.as_slice.ensures.value) ∙ sym c.first_in_every_way.ensures.first ∙ c.in-Some.is in
     every_way tests c.in-Some.place told first
+
+pub returns-in-None-clause-tests : goal.returns-in-None-clause-tests
+returns-in-None-clause-tests c =
+    subst (λ (most : Option ℕ). AreTestsAt (file_in c.args.task.now.files.now) (codes "-") (Some c.args.suite.now) most c.in-Ok.tests.items) c.most_by.ensures c.in-Ok.ensures.tests
