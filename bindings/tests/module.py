@@ -77,7 +77,7 @@ def faults():
     refused(Fault.BadSuite, 1, lambda: xvsh.grade_script("", SCRIPT))
     refused(Fault.SuiteTooLong, 0, lambda: xvsh.grade_script("#" * 1_048_577, SCRIPT))
     refused(Fault.UnusedScript, 0, lambda: xvsh.grade_script(SUITE + 'script = "echo a"\n', SCRIPT))
-    refused(Fault.EveryWay, 1, lambda: xvsh.grade_script(SUITE + "every_way = true\n", SCRIPT))
+    refused(Fault.EveryWay, 1, lambda: xvsh.grade_script(SUITE + "every_way = true\n", SCRIPT, {"in": b""}))
     refused(Fault.TooManyFiles, 201, lambda: xvsh.grade_script(SUITE, SCRIPT, {str(n): b"" for n in range(201)}))
     assert issubclass(xvsh.Memory, MemoryError) and issubclass(xvsh.XvshError, ValueError)
     for number in (-1, 1 << 64):
@@ -179,7 +179,7 @@ def gradings():
     files = {"in": "x\n"}
     report = xvsh.grade_script(SUITE, "cat", files)
     assert (report.status, report.points, report.of) == ("all passed", 1, 1) and [(it.script, it.name, it.verdict) for it in report] == [("-", "t", "pass")]
-    race, = xvsh.grade_script(SUITE, "cat &\necho x", files)
+    race, = xvsh.grade_script(SUITE, "cat > f &\ncat f", files)
     assert (race.verdict, race.passed, race.difference.file) == ("race", False, None) and race.right != race.wrong
     unsure, = xvsh.grade_script(SUITE, "cat &", files, states=5)
     assert (unsure.verdict, unsure.found) == ("unsure", 1), unsure

@@ -848,10 +848,7 @@ def grade_script(suite: Bytes, script: Bytes | None = None, files: Files | None 
     script that is too long, or refused, is a verdict, and no error.
 
     >>> import xvsh
-    >>> report = xvsh.grade_script('[[test]]
-name = "counts"
-output = "1 1 3 \n"
-', "echo hi | wc")
+    >>> report = xvsh.grade_script('[[test]]\nname = "counts"\noutput = "1 1 3 \\n"\n', "echo hi | wc")
     >>> report.status, [(verdict.script, verdict.name, verdict.verdict) for verdict in report]
     ('all passed', [('-', 'counts', 'pass')])
     """
