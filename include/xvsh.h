@@ -24,7 +24,7 @@
  * Faults. A call returns 0, or the number of a fault: then the answer has that number as `status`, what it is about as `place`, and
  * nothing else, but for XVSH_BAD_SUITE, which has `diag`. xvsh_fault_name and xvsh_fault_text have the name and the text of a number. A
  * number is never given to another fault; new ones may come, so have a default. No call aborts, and each returns: xvsh_run, xvsh_trace and
- * xvsh_draw take at most `turns` events, xvsh_replay and xvsh_look those of the schedule, xvsh_explore finds at most `states` states, and so
+ * xvsh_draw take at most `turns` events, xvsh_replay, xvsh_draw_two and xvsh_look those of the schedules, xvsh_explore finds at most `states` states, and so
  * does xvsh_grade of each test, and xvsh_plain asks for at most the task's budget of memory, where it has one. The checks and xvsh_explain
  * run nothing; xvsh_explain_why runs the script by its meaning.
  *
@@ -132,7 +132,7 @@ typedef struct {
   xvsh_bytes out;      /* the standard output */
   xvsh_bytes diag;     /* the diagnostics of a run; of XVSH_BAD_SUITE what is wrong */
   xvsh_bytes events;   /* a line an event: `D HART PROCESS` or `T HART PROCESS`; of xvsh_trace the lines of the trace,
-                          of xvsh_draw the page */
+                          of xvsh_draw and xvsh_draw_two the page */
   xvsh_bytes json;     /* of xvsh_check, xvsh_explain, xvsh_explore, xvsh_look and xvsh_grade an object of JSON, and LF */
   xvsh_bytes block;    /* the files at the end, in byte order of their names: of each its name, and behind it its bytes */
   xvsh_table sizes;    /* how long these are: a row a file; xvsh_next_file walks them */
@@ -249,6 +249,11 @@ uint32_t xvsh_trace(const xvsh_task *task, uint64_t turns, uint32_t order, uint6
 /* Runs the script as xvsh_run does, and gives what that gives, but for events a page of HTML that draws the run, as `xvsh draw` writes it of
  * the run's trace: it needs nothing from elsewhere. */
 uint32_t xvsh_draw(const xvsh_task *task, uint64_t turns, uint32_t order, uint64_t number, xvsh_answer *answer);
+
+/* Runs the script by the events of two schedules, each as xvsh_replay does, and gives what that gives of the first, but for events a page of
+ * HTML that draws both runs, as `xvsh draw` writes it of their two traces: where they part, and once what both begin with. A fault is of the
+ * first schedule, or where that can be replayed of the other. */
+uint32_t xvsh_draw_two(const xvsh_task *task, xvsh_bytes schedule, xvsh_bytes other, xvsh_answer *answer);
 
 /* Tells how a run stands after the events of a schedule, which need not be those of a whole run: a session is such a schedule, which
  * grows. Gives as json an object of `stands`, which is "runnable", "finished", or "stuck" where the run isn't finished and nobody can

@@ -116,6 +116,42 @@ def shown(_room):
     check(table.rows[1][2].endswith(".. (200 files)"), table.rows[1][2][-40:])
 
 
+# a page of two strips, 10 and 20 wide, 6 and 9 high, and its picture: each strip 12 below the one before it, with no rule of HTML and no variable
+PAGE = (
+    "<style>\n:root{--ink:#111;" + "".join(f"--h{n}:#{n}{n}{n};--t{n}:#{n}f{n};" for n in range(8)) + "--paper:#fff}\n@media (dark){:root{--ink:#eee}}\npre,.mono,svg{color:var(--ink)}\n"
+    ".grid{stroke:var(--ink)}\n.body{fill:var(--t);stroke:var(--c)}\n.h0{--c:var(--h0);--t:var(--t0)}\n@media print{.grid{stroke:var(--paper)}}\n</style><svg><defs><pattern/></defs></svg>"
+    "%s" + "".join(
+        f'%s<div class="strip"><div class="side"><svg a="b" viewBox="0 0 10 {high}" width="10" height="{high}"><text/></svg></div>'
+        f'<div class="time"><svg viewBox="0 0 20 {high}" width="20" height="{high}"><title>Events 1 to 2; the table below has each of them</title></svg></div></div>\n'
+        for high in (6, 9)
+    )
+)
+BODIES = "\n".join(f".h{n} .body{{fill:#{n}f{n};stroke:#{n}{n}{n}}}" for n in range(8))
+
+
+def picture(high, tops, heads=()):
+    """The picture of the page."""
+    strips = [
+        f'<svg x="0" y="{top}" a="b" viewBox="0 0 10 {own}" width="10" height="{own}"><text/></svg><svg x="10" y="{top}" viewBox="0 0 20 {own}" width="20" height="{own}"><title>Events 1 to 2</title></svg>'
+        for top, own in zip(tops, (6, 9))
+    ]
+    heads = [f'<text class="head" x="0" y="{top - 12}">{head}</text>' for top, head in zip(tops, heads)] or ["", ""]
+    return (
+        f'<svg xmlns="http://www.w3.org/2000/svg" width="30" height="{high}" viewBox="0 0 30 {high}" font-family="\'DejaVu Sans Mono\', monospace">'
+        f"<style>.grid{{stroke:#111}}\n{BODIES}\ntext.head{{font-size:15px;font-weight:700}}</style><defs><pattern/></defs>"
+        f'<rect width="30" height="{high}" fill="#fff"/>{heads[0]}{strips[0]}{heads[1]}{strips[1]}</svg>\n'
+    )
+
+
+def pictured(_room):
+    """The picture of a drawing is that of its strips, and of a page of two runs with what stands above them."""
+    run = xvsh.Run(b"a", {}, b"", b"", None)
+    one = xvsh.Drawing(run, (PAGE % ("<h2>What happened</h2>", "", "")).encode())
+    same((one.svg, one._repr_svg_()), (picture(39, (0, 18)),) * 2, "the picture of a run")
+    both = xvsh.Drawing(run, (PAGE % ("<h2>What both begin with</h2>\n<p>", "", "<h2>Run 1</h2><h3>Events &amp;c</h3>")).encode())
+    same(both.svg, picture(99, (30, 78), ("What both begin with", "Events &amp;c")), "the picture of two runs")
+
+
 DIFFERENCE = {"file": None, "is_there": True, "line": 1, "byte": 2, "from": 0, "expected": "2 4\n", "found": None}
 OTHER = {"file": {"base64": "/w=="}, "is_there": False, "line": 3, "byte": 0, "from": 0, "expected": {"base64": "/wo="}, "found": "y"}
 OWN = {"script": None, "points": 2, "of": 2, "passed": 1, "tests": 1, "results": [{"name": "own é\x07", "verdict": "pass, every order tried", "points": 2, "of": 2}]}
@@ -320,4 +356,4 @@ def example(_room):
     return None
 
 
-TESTS = [shown, graded, finds, ended, example]
+TESTS = [shown, pictured, graded, finds, ended, example]

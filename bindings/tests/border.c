@@ -1,5 +1,6 @@
 /* Tests of include/xvsh.h at its border: nulls, lengths past every limit, budgets, faults, leaks, threads and stacks. What scripts give is
- * tested by drawn.py. usage: border COUNT */
+ * tested by drawn.py. usage: border COUNT [STACK [REQUESTS]]: as many calls by threads, a stack of so many bytes in place of 1 MiB, and the
+ * most requests for memory after which a long call is given up. */
 #include "xvsh.h"
 #include <pthread.h>
 #include <stdio.h>
@@ -42,6 +43,7 @@ static bool refused(const xvsh_task *task, uint32_t fault, uint64_t place) {
   right = xvsh_replay(task, xvsh_text(""), &answer) == fault && answer.place == place && is_nothing(&answer) && right;
   right = xvsh_trace(task, 1000000, XVSH_KERNEL, 0, &answer) == fault && answer.place == place && is_nothing(&answer) && right;
   right = xvsh_draw(task, 1000000, XVSH_KERNEL, 0, &answer) == fault && answer.place == place && is_nothing(&answer) && right;
+  right = xvsh_draw_two(task, xvsh_text(""), xvsh_text(""), &answer) == fault && answer.place == place && is_nothing(&answer) && right;
   right = xvsh_look(task, xvsh_text(""), &answer) == fault && answer.place == place && is_nothing(&answer) && right;
   right = xvsh_explore(task, 1000000, 1, &answer) == fault && answer.place == place && is_nothing(&answer) && right;
   right = xvsh_check_turns(task, 0, &answer) == fault && answer.place == place && is_nothing(&answer) && right;
@@ -494,27 +496,34 @@ static uint32_t is_below(void *context, uint64_t requests) {
   return 0;
 }
 
-/* A call that is given up ends soon, whatever it holds by then, and leaves nothing. `most`: the most processor seconds that takes, or 0. */
-static void watched(double most) {
+/* To free what a call holds when it is given up takes less than it took to build that. It is a thirtieth, about; a busy machine makes more
+   of so short a time, so half, and a tenth of a second beside it, are let pass. */
+static void ends_soon(double began, double stopped) {
+  double built = stopped - began, freed = seconds() - stopped;
+  if (freed > 0.1 + built / 2) fprintf(stderr, "given up after %.3f seconds, and freed in %.3f\n", built, freed);
+  TEST(freed <= 0.1 + built / 2);
+}
+
+/* A call that is given up ends soon, whatever it holds by then, and leaves nothing. `timed`: whether its times say anything. */
+static void watched(bool timed, uint64_t highest) {
   xvsh_answer answer = XVSH_ANSWER;
   xvsh_task task = task_of("(echo a; echo b; echo c)&; (echo d; echo e; echo f)&; (echo g; echo h; echo i)&\n", NULL, 0);
-  for (uint64_t requests = 1; requests <= 1 << 20; requests *= 16) {
+  for (uint64_t requests = 1; requests <= highest; requests *= 16) {
     limit until = { requests, 0 };
     xvsh_watch watch = { is_below, &until };
+    double began = seconds();
     TEST(xvsh_explore_watched(&task, XVSH_MAX_STATES, 1, &watch, &answer) == XVSH_GIVEN_UP && answer.status == XVSH_GIVEN_UP && answer.place == 0 && is_nothing(&answer));
-    double took = seconds() - until.stopped;
-    if (most > 0 && took > most) fprintf(stderr, "given up after %llu requests in %.3f seconds\n", (unsigned long long)requests, took);
-    TEST(most <= 0 || took <= most);
+    if (timed) ends_soon(began, until.stopped);
   }
   /* a grading of the same, whose runs are all right, so that every order is searched; it holds a suite besides */
   xvsh_bytes suite = xvsh_text("[[test]]\nname = \"t\"\noutput = \"\"\nstates = 10000000\n");
   xvsh_task wide = task_of("(echo a; echo b; echo c) > f &; (echo d; echo e; echo f) > g &; (echo g; echo h; echo i) > h &\n", NULL, 0);
-  for (uint64_t requests = 1; requests <= 1 << 20; requests *= 16) {
+  for (uint64_t requests = 1; requests <= highest; requests *= 16) {
     limit until = { requests, 0 };
     xvsh_watch watch = { is_below, &until };
+    double began = seconds();
     TEST(xvsh_grade_watched(&wide, suite, 0, 0, &watch, &answer) == XVSH_GIVEN_UP && answer.status == XVSH_GIVEN_UP && answer.place == 0 && is_nothing(&answer));
-    double took = seconds() - until.stopped;
-    TEST(most <= 0 || took <= most);
+    if (timed) ends_soon(began, until.stopped);
   }
   limit never = { UINT64_MAX, 0 };
   xvsh_watch watch = { is_below, &never };
@@ -538,7 +547,7 @@ int main(int count, char **arguments) {
   budgets();
   words();
   /* under valgrind and sanitizers, which get a larger stack, time says nothing */
-  watched(count > 2 ? 0 : 0.05);
+  watched(count <= 2, count > 3 ? strtoull(arguments[3], NULL, 10) : 1 << 20);
   threads(repeats_asked);
   stack(count > 2 ? (size_t)atol(arguments[2]) : 1 << 20);
   printf("%ld tested, %ld failed\n", tested, failed);

@@ -147,6 +147,7 @@ static void ask(const xvsh_task *task, xvsh_answer *answer, xvsh_answer *other, 
   xvsh_bytes schedule = any_schedule(ran ? answer->events : empty);
   told(xvsh_replay(task, schedule, other), other, "replay of a changed schedule", number);
   told(xvsh_look(task, schedule, other), other, "look", number);
+  if (told(xvsh_draw_two(task, ran ? answer->events : empty, schedule, other), other, "draw_two", number)) hold(same(answer->out, other->out) && other->events.length > 0, "draw_two", number);
   free((void *)schedule.at);
   xvsh_bytes suite = any_suite();
   told(xvsh_grade(task, suite, drawn(2) * 40, drawn(4) == 0, other), other, "grade", number);

@@ -98,9 +98,9 @@ class Program:
         """The object that a command prints."""
         return json.loads(self.prints(*words, "--json", given=given, schedule=schedule))
 
-    def draws(self, trace):
-        """The page that the program draws of a trace."""
-        return subprocess.run([self.path, "draw", "-"], input=trace, stdout=subprocess.PIPE, check=True).stdout
+    def draws(self, trace, *others):
+        """The page that the program draws of a trace, or of it and another at a path."""
+        return subprocess.run([self.path, "draw", "-", *others], input=trace, stdout=subprocess.PIPE, check=True).stdout
 
     def place(self, name, data):
         """The path of a file beside the script, which has these bytes now."""
@@ -155,6 +155,17 @@ def look_differs(program, text, stdin, given, append, turns):
     return None if session.json == whole else f"look: {session.json!r} beside {whole!r}"
 
 
+def pair_differs(program, text, stdin, given, append, run, trace, seed):
+    """Compares the page of this run and of one in another order with the program's page of both traces, and returns why they differ, or nothing."""
+    try:
+        other = xvsh.run(text, stdin, given, append=append, turns=1_000_000, order=xvsh.Order.DRAWN, seed=seed + 1, trace=True)
+    except xvsh.Spent:
+        return None if "&" in text.decode("latin-1") else "run: the turns are spent"
+    both = xvsh.draw_two(text, run.schedule, other.schedule, stdin, given, append=append)
+    page = program.draws(trace, program.place("other of it", other.trace))
+    return None if both.html == page and both.run == run else f"draw_two: {both} beside {page!r} and {run}"
+
+
 def same(program, text, stdin, given, append, draw):
     """Compares each call with its command, and returns why they differ, or nothing."""
     why = asks_differ(program, text, stdin, given, append, draw)
@@ -181,6 +192,9 @@ def same(program, text, stdin, given, append, draw):
     page = program.draws(printed)
     if drawn.html != page or (drawn.run.out, drawn.run.files, drawn.run.diag) != (run.out, run.files, run.diag):
         return f"draw: {drawn} beside {page!r} and {run}"
+    why = pair_differs(program, text, stdin, given, append, run, printed, seed)
+    if why:
+        return why
     turns = [event.pid for event in run if event.kind == "trap"]
     why = look_differs(program, text, stdin, given, append, turns[: draw.randrange(len(turns) + 1)])
     if why:

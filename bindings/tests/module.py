@@ -6,8 +6,12 @@ import json
 import os
 import re
 import resource
+import subprocess
 import sys
+import tempfile
 import threading
+import time
+from xml.etree import ElementTree
 
 import xvsh
 
@@ -61,6 +65,11 @@ def faults():
     refused(Fault.NotRunnable, 1, lambda: xvsh.replay(SCRIPT, "D 0 9\n"))
     refused(Fault.NotRunning, 1, lambda: xvsh.replay(SCRIPT, "T 0 0\n"))
     refused(Fault.Unfinished, 0, lambda: xvsh.replay(SCRIPT, ""))
+    whole = xvsh.run(SCRIPT).schedule
+    refused(Fault.NoEvent, 2, lambda: xvsh.draw_two(SCRIPT, "D 0 0\nX\n", "Y\n"))
+    refused(Fault.NoEvent, 1, lambda: xvsh.draw_two(SCRIPT, whole, "Y\n"))
+    refused(Fault.Unfinished, 0, lambda: xvsh.draw_two(SCRIPT, whole, ""))
+    refused(Fault.NotRunnable, 1, lambda: xvsh.draw_two(SCRIPT, "D 0 9\n", whole))
     refused(Fault.LineTooLong, 2, lambda: xvsh.check("echo\necho " + "a" * 600))
     refused(Fault.ByteZero, 1, lambda: xvsh.explain(b"echo \0"))
     refused(Fault.ScriptTooLong, 0, lambda: xvsh.check("\n" * 1_048_577))
@@ -195,6 +204,106 @@ def gradings():
     asked = []
     refused(xvsh.Fault.GivenUp, 0, lambda: xvsh.grade_script(SUITE + "states = 1000000\n", "(cat; cat; cat) &\n(cat; cat; cat) &\n", files, watch=lambda n: asked.append(n) or len(asked) < 3))
     assert asked == [1024, 2048, 3072], asked
+    begun = time.monotonic()
+    refused(xvsh.Fault.GivenUp, 0, lambda: xvsh.explore("(cat; cat; cat) &\n(cat; cat; cat) &\n(cat; cat; cat) &\n", states=xvsh.MAX_STATES, timeout=0.3))
+    assert 0.3 <= time.monotonic() - begun < 10, time.monotonic() - begun
+
+
+# scripts, and how many outcomes they have, worked out by hand: two echoes write two bytes each, in one write or in two
+COMING = [("echo a &; echo b", 4), ("echo a > f &; echo b", 1), ("cat f | wc", 1), ("echo a | cat | cat | cat; (echo b; echo c) &\necho d", None)]
+
+
+def comings():
+    """Results that come one by one are those that come at once: outcomes, whatever the number of states, and what scripts get."""
+    def left(outcome):
+        return outcome.out, tuple((name, file.bytes) for name, file in outcome.files.items()), outcome.diag, outcome.full
+
+    for script, count in COMING:
+        every = xvsh.explore(script, files={"f": "x"}, thorough=True)
+        came = xvsh.outcomes(script, files={"f": "x"}, thorough=True)
+        first = next(came)
+        assert xvsh.replay(script, first.schedule, files={"f": "x"}).out == first.out and came.exploration.states < 2000
+        found = [first, *came]
+        assert every.whole and came.exploration == every and {left(it) for it in found} == {left(it) for it in every} and len(found) == len(every.outcomes), script
+        assert count in (None, len(found)), (script, len(found))
+    assert every.states > 4000, every.states
+    refused(xvsh.Fault.BadStates, 0, lambda: next(xvsh.outcomes(SCRIPT, states=0)))
+    refused(xvsh.Fault.BadStates, 0, lambda: next(xvsh.outcomes(SCRIPT, states=xvsh.MAX_STATES + 1)))
+    refused(xvsh.Fault.BadName, 1, lambda: next(xvsh.outcomes(SCRIPT, files={"a/b": "x"})))
+
+    suite, files = SUITE + '[[test]]\nname = "own"\nscript = "cat"\noutput = ""\n', {"in": "x\n"}
+    scripts = [("anna", "cat"), ("ben", "cat > f &\ncat f"), ("cleo", b"\xff"), ("dan", "cat"), ("eve", "echo (")]
+    due = [xvsh.grade_script(suite, script, files).scripts for _, script in scripts]
+    for jobs in (1, 2, 5):
+        own, *came = xvsh.grade_scripts(suite, scripts, files, jobs=jobs)
+        assert own == due[0][0] and own.script is None and [it.script for it in came] == [name for name, _ in scripts]
+        for graded, (_, theirs) in zip(came, due):
+            assert (graded.points, graded.of, graded.passed, graded.tests) == (theirs.points, theirs.of, theirs.passed, theirs.tests)
+            assert [(it.script, it.verdict, it.message, it.difference) for it in graded.verdicts] == [(graded.script, it.verdict, it.message, it.difference) for it in theirs.verdicts]
+    # a long search is given up where the iterator is closed
+    long = xvsh.grade_scripts(SUITE + "states = 10000000\n", [("a", "cat"), ("b", "(cat; cat; cat) &\n" * 3)], files, jobs=2)
+    assert next(long).script == "a"
+    long.close()
+    refused(xvsh.Fault.BadSuite, 3, lambda: next(xvsh.grade_scripts(SUITE, {"a": "cat"})))
+
+
+def pictures():
+    """The picture of a drawing is XML that stands alone, as wide and as high as its strips, and has the title of each event of the run."""
+    name = "{http://www.w3.org/2000/svg}"
+    for script in ("echo hi | wc", b"echo <&\"'> \xff\x01\x7f\t | cat > f; lss", "(echo a; echo b) &\necho c | cat | cat | wc\n" * 3):
+        picture = ElementTree.fromstring(xvsh.draw(script, files={"g": b"\0\xff<b>\n"}).svg)
+        traps = [event for event in xvsh.run(script, files={"g": b"\0\xff<b>\n"}, trace=True) if event.kind == "trap"]
+        titles = [it.text for it in picture.iter(name + "title")]
+        assert [f"event {it.n}, hart {it.hart}, process {it.pid}: {it.record['call']['name']}" for it in traps] == [it for it in titles if it.startswith("event ")]
+        strips = picture.findall(name + "svg")
+        ends = [(int(it.get("x")) + int(it.get("width")), int(it.get("y")) + int(it.get("height"))) for it in strips]
+        assert len(strips) % 2 == 0 and (max(x for x, _ in ends), max(y for _, y in ends) + 12) == (int(picture.get("width")), int(picture.get("height")))
+        text = ElementTree.tostring(picture, encoding="unicode")
+        assert "var(" not in text and set(re.findall(r"url\((.)", text)) <= {"#"} and "@" not in picture.find(name + "style").text
+
+
+def pairs():
+    """A page of two runs is the program's page of the library's traces of these two, the first before the other; its picture has three parts."""
+    program = os.environ.get("XVSH") or os.path.join(HERE, "xvsh")
+    for script, files, append, orders in (
+        ("echo a > f &; echo b; cat f", {"f": "", "a=b": "x"}, False, (xvsh.Order.LOWEST, xvsh.Order.HIGHEST)), ("echo b | cat >> f; cat f", {"f": "a\n"}, True, (xvsh.Order.KERNEL, xvsh.Order.STARVING)),
+    ):
+        runs = [xvsh.run(script, b"x", files, append=append, order=order, seed=2, trace=True) for order in orders]
+        drawn = xvsh.draw_two(script, runs[0].schedule, runs[1].schedule, b"x", files, append=append)
+        with tempfile.TemporaryDirectory() as room:
+            for name, traced in zip("12", runs):
+                with open(os.path.join(room, name), "wb") as file:
+                    file.write(traced.trace)
+            due = subprocess.run([program, "draw", os.path.join(room, "1"), os.path.join(room, "2")], stdout=subprocess.PIPE, check=True).stdout
+        assert drawn.html == due and (drawn.run.out, drawn.run.files, drawn.run.schedule) == (runs[0].out, runs[0].files, runs[0].schedule)
+        heads = [it.text for it in ElementTree.fromstring(drawn.svg).findall("{http://www.w3.org/2000/svg}text")]
+        shared = len(os.path.commonprefix([run.schedule.splitlines() for run in runs]))
+        assert shared < len(list(runs[0])) and heads == ["What both begin with"] * (shared > 0) + [f"Run {n}, from event {shared + 1} on" for n in (1, 2)], heads
+    # a run on other harts is drawn on these
+    run = xvsh.run("echo a | cat")
+    assert b"harts: 6; events" in xvsh.draw_two("echo a | cat", run.schedule.replace(b" 0 ", b" 5 "), run.schedule).html
+
+
+def on_harts():
+    """A run on threads is one on these harts, of a settled script its meaning, of files of any names; a long one is by several harts."""
+    files = {**FILES, "a=b": "1", ".": "2", "-": "3", "-c": "4", "é": "5"}
+    due = xvsh.plain(SCRIPT, b"x", files)
+    for harts in (1, 2, 8):
+        run = xvsh.run_harts(SCRIPT, b"x", files, harts=harts)
+        assert (run.out, run.full, {name: file.bytes for name, file in run.files.items()}) == (due.out, None, {name: file.bytes for name, file in due.files.items()})
+        assert {event.hart for event in run} <= set(range(harts)) and xvsh.replay(SCRIPT, run.schedule, b"x", files) == run
+    assert xvsh.run_harts("echo b >> f", files={"f": "a\n"}, append=True).files["f"].bytes == b"a\nb\n"
+    refused(xvsh.Fault.LineTooLong, 2, lambda: xvsh.run_harts("echo\necho " + "a" * 600))
+    refused(xvsh.Fault.Spent, 0, lambda: xvsh.run_harts(SCRIPT, turns=5))
+    crowd = xvsh.run_harts("cat b" + "|cat" * 70, files={"b": "x"})  # each side of a pipe is forked by a process that then waits
+    assert crowd.full == "procs", crowd.full
+    # which harts take part the machine decides: so it may take more than one run
+    for _ in range(20):
+        long = xvsh.run_harts("cat b | cat | cat | cat | wc\n" * 60, files={"b": "x" * 250_000}, turns=100_000_000)
+        assert long.out == b"0 1 250000 \n" * 60
+        if len({line.split()[1] for line in long.schedule.splitlines()}) > 1:
+            return
+    raise AssertionError("20 runs on one hart")
 
 
 def traces():
@@ -284,6 +393,10 @@ def main():
     views()
     asks()
     gradings()
+    comings()
+    on_harts()
+    pairs()
+    pictures()
     traces()
     schemas()
     forms()

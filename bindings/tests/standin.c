@@ -105,6 +105,16 @@ void xvsh_draw_call(const xvsh_task *task, uint64_t turns, uint32_t order, uint6
   if (!answer->status) answer->events = copied(page, sizeof page - 1);
 }
 
+/* The page has the lengths of the two schedules. */
+void xvsh_draw_two_call(const xvsh_task *task, const uint8_t *one, size_t one_length, const uint8_t *other, size_t other_length, xvsh_answer *answer) {
+  char text[96];
+  (void)one;
+  (void)other;
+  snprintf(text, sizeof text, "<!doctype html>%llu %llu", (unsigned long long)one_length, (unsigned long long)other_length);
+  answered(task, "two", "", answer);
+  if (!answer->status) answer->events = copied(text, strlen(text));
+}
+
 void xvsh_replay_call(const xvsh_task *task, const uint8_t *schedule, size_t length, xvsh_answer *answer) {
   answered(task, "replay", "", answer);
   if (!answer->status) answer->events = copied(schedule, length);
@@ -157,14 +167,18 @@ void xvsh_explore_call(const xvsh_task *task, uint64_t states, uint32_t thorough
            "\"schedule\": [1, 2]}], \"thorough\": %u}\n", (unsigned long long)states, (unsigned)thorough);
   if (!asks(task)) { answer->status = XVSH_MEMORY; return; }
   answered(task, "explore", json, answer);
+  answer->whole = task->script.length != 3 || memcmp(task->script.at, "cut", 3) != 0;
 }
 
-/* The suite `wrong N WORDS` is wrong in line N, for these words; any other passes a script that has its text. */
+/* The suite `wrong N WORDS` is wrong in line N, for these words; any other passes a script that has its text. `own` has a script of its own. */
 void xvsh_grade_call(const xvsh_task *task, const uint8_t *suite, size_t length, uint64_t states, uint32_t alone, xvsh_answer *answer) {
   static const char wrong[] = "wrong ", form[] = "{\"format\": \"xvsh-result\", \"version\": 1, \"command\": \"grade\", \"status\": \"s\", \"points\": %llu, "
-    "\"of\": %u, \"passed\": 0, \"tests\": 0, \"scripts\": []}\n";
-  char json[256];
-  snprintf(json, sizeof json, form, (unsigned long long)states, (unsigned)alone);
+    "\"of\": %u, \"passed\": 0, \"tests\": 0, \"scripts\": [%s{\"script\": \"-\", \"points\": %llu, \"of\": 1, \"passed\": 0, \"tests\": 1, "
+    "\"results\": [{\"name\": \"t\", \"verdict\": \"wrong\", \"points\": 0, \"of\": 1}]}]}\n";
+  static const char own[] = "{\"script\": null, \"points\": 0, \"of\": 0, \"passed\": 0, \"tests\": 0, \"results\": []}, ";
+  char json[512];
+  unsigned long long most = states;
+  snprintf(json, sizeof json, form, most, (unsigned)alone, length == 3 && memcmp(suite, "own", 3) == 0 ? own : "", most);
   if (!asks(task)) { answer->status = XVSH_MEMORY; return; }
   if (length > sizeof wrong && memcmp(suite, wrong, sizeof wrong - 1) == 0) {
     answer->status = XVSH_BAD_SUITE;

@@ -15,6 +15,8 @@ import time
 HERE = os.path.dirname(os.path.abspath(__file__))
 # the bound on states that a test has which says none
 STATES = 10_000
+# the seconds that a script has where neither the call nor the suite says
+SECONDS = 10
 # with so many, what says most is the 64 runs that come before a search, and it is quick
 FEW = 500
 # each bound has so many times the states of the one before, so that all before the last take a third of its time
@@ -137,12 +139,20 @@ def stamp_of(path):
     return at.st_ino, at.st_size, at.st_mtime_ns
 
 
-class Suite:
-    """A suite: its path, what its tests begin with in the report, and the name, points and bound on states of each test, of those with a
-    script of their own and of the others. `most` is the user's bound on states, or None."""
+def seconds_of(given, table):
+    """Returns the seconds that a script has by a suite, or None where it has all: those that are given, else those that the suite's table says, if it is
+    one, else 10."""
+    said = (table or {}).get("seconds")
+    seconds = given if given is not None else said if isinstance(said, int) else SECONDS
+    return seconds or None
 
-    def __init__(self, path, prefix, table, most, stamp):
-        self.path, self.prefix, self.stamp = path, prefix, stamp
+
+class Suite:
+    """A suite: its path, what its tests begin with in the report, the seconds that a script has by it, or None, and the name, points and bound on states
+    of each test, of those with a script of their own and of the others. `most` is the user's bound on states, or None."""
+
+    def __init__(self, path, prefix, table, most, seconds, stamp):
+        self.path, self.prefix, self.seconds, self.stamp = path, prefix, seconds, stamp
         self.own, self.others = [], []
         for test in table["test"]:
             states = min(test.get("states", table.get("states", STATES)), most or 2**64)
@@ -174,15 +184,15 @@ def with_note(result, reason, bound):
     return {**result, "message": f"{result['message']}; {reason}: this is what {bound} states say"}
 
 
+def late(suite):
+    return f"its time was over ({suite.seconds:g} s)"
+
+
 class Judge:
-    """Judges scripts by suites, a call for each script and suite. `seconds` is the time that a script has, or None; `threads` are those of
-    one call."""
+    """Judges scripts by suites, a call for each script and suite. `threads` are those of one call."""
 
-    def __init__(self, calls, seconds, threads):
-        self.calls, self.seconds, self.threads = calls, seconds, threads
-
-    def late(self):
-        return f"its time was over ({self.seconds:g} s)"
+    def __init__(self, calls, threads):
+        self.calls, self.threads = calls, threads
 
     def words(self, suite, path, bound):
         script = path if path is not None else os.devnull if suite.others else None
@@ -201,22 +211,22 @@ class Judge:
             raise NoVerdict("the suite was changed while it was graded")
         return found
 
-    def check(self, path, scripts):
-        """WrongSuite where the program says that the suite at a path is wrong, or doesn't fit to these scripts."""
-        status, out, said = self.calls.run(["grade", "--json", f"--jobs={self.threads}", "--states=1", "--", path, *scripts], self.seconds)
+    def check(self, path, scripts, seconds):
+        """WrongSuite where the program says, within these seconds, that the suite at a path is wrong, or doesn't fit to these scripts."""
+        status, out, said = self.calls.run(["grade", "--json", f"--jobs={self.threads}", "--states=1", "--", path, *scripts], seconds)
         if status not in (0, 3, 4) or not out:
             raise WrongSuite(status, said)
 
     def first(self, suite, path, bound):
         """Returns what the first call says, and by which bound; where that comes to nothing, what one with few states says, and why."""
         try:
-            return self.results(suite, path, bound, self.seconds), bound, None
+            return self.results(suite, path, bound, suite.seconds), bound, None
         except NoVerdict as why:
-            reason = str(why) or self.late()
+            reason = str(why) or late(suite)
             if self.calls.stopped or bound <= FEW:
                 raise NoVerdict(reason) from None
         try:
-            return self.results(suite, path, FEW, self.seconds), FEW, reason
+            return self.results(suite, path, FEW, suite.seconds), FEW, reason
         except NoVerdict as why:
             raise NoVerdict(str(why) or f"{reason}, and again with {FEW} states") from None
 
@@ -235,7 +245,7 @@ class Judge:
         tests = suite.tests(path is None)
         if not tests:
             return []
-        end = None if self.seconds is None else time.monotonic() + self.seconds
+        end = None if suite.seconds is None else time.monotonic() + suite.seconds
         bounds = suite.bounds(path is None, end is not None)
         try:
             found, bound, reason = self.first(suite, path, bounds[0])
@@ -247,7 +257,7 @@ class Judge:
             try:
                 found, bound = self.deeper_results(suite, path, deeper, end), deeper
             except NoVerdict as why:
-                reason = str(why) or self.late()
+                reason = str(why) or late(suite)
         noted = [with_note(it, reason, bound) if reason and is_open(it, states, bound) else it for it, (_, _, states) in zip(found, tests)]
         return [{**it, "name": suite.prefix + it["name"]} for it in noted]
 

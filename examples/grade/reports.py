@@ -188,6 +188,13 @@ code { font: .85em/1.4 ui-monospace, monospace; overflow-wrap: anywhere; }
 .turns b { display: inline-block; width: 3.2rem; flex: none; font-weight: 600; }
 .turns i { display: inline-block; flex: none; min-width: 1.5rem; text-align: center; font-style: normal; border: 1px solid var(--line); border-radius: .2rem; }
 .turns i.part { background: var(--race-back); color: var(--race); border-color: var(--race); font-weight: 700; }
+button { margin: .5rem 0 0; padding: .25rem .6rem; border: 1px solid var(--line); border-radius: .35rem; background: var(--head); color: inherit; font: inherit; font-size: .9rem; cursor: pointer; }
+button:focus-visible, .drawn .time:focus-visible { outline: 3px solid var(--open); outline-offset: 2px; }
+[popover] { width: min(100vw - 1rem, 84rem); max-height: calc(100vh - 1rem); margin: auto; padding: 0 1rem 1rem; overflow: auto; border: 1px solid var(--line); border-radius: .5rem; background: var(--page); color: var(--text); text-align: left; white-space: normal; }
+[popover]::backdrop { background: #0008; }
+.bar { position: sticky; top: 0; display: flex; justify-content: space-between; align-items: start; gap: 1rem; margin: 0 -1rem; padding: .5rem 1rem; background: var(--page); border-bottom: 1px solid var(--line); z-index: 1; }
+.bar button { margin: 0; flex: none; }
+.drawn .two { margin-top: .5rem; }
 footer { color: var(--soft); font-size: .9rem; margin-top: 1.5rem; }
 @media (max-width: 46rem) {
   body { padding: .75rem; }
@@ -221,7 +228,42 @@ def parting(result):
     return f'<p>{told}</p><div class="turns" tabindex="0" role="group" aria-label="turns of two runs">{turns_of("right", right, part)}{turns_of("wrong", wrong, part)}</div>'
 
 
-def cell_of(result):
+def drawn(name, figure, number):
+    """Returns the figure of a race in a test of this name, as what a button opens; it has this number on the page."""
+    told = html.escape(f"{name}: run 1 leaves what is expected, and run 2 doesn't.", quote=True)
+    return (
+        f'<div popover id="race{number}" role="dialog" aria-label="{told}"><div class="bar"><b>{told}</b>'
+        f'<button type="button" popovertarget="race{number}" popovertargetaction="hide" autofocus>close</button></div><div class="drawn">{figure}</div></div>\n'
+    )
+
+
+class Races:
+    """The races of a page: each has its turns, or where `figures` draws it a button that opens its figure. Equal ones have one."""
+
+    def __init__(self, figures=None):
+        self.figures, self.numbers = figures, {}
+
+    def shown(self, script, result):
+        """Returns what is shown of the two runs of a race."""
+        figure = self.figures and self.figures.of(script, result)
+        if not figure:
+            return parting(result)
+        number = self.numbers.setdefault((result["name"], figure), len(self.numbers) + 1)
+        return f'<button type="button" popovertarget="race{number}">the two orders, drawn</button>'
+
+    def style(self):
+        """Returns the style that the page has for its figures, once all are drawn."""
+        return self.figures.style if self.numbers else ""
+
+    def all(self):
+        """Returns the figures, and what they refer to, once all are drawn."""
+        if not self.numbers:
+            return ""
+        each = "".join(drawn(name, figure, number) for (name, figure), number in self.numbers.items())
+        return f'<div class="drawn">{self.figures.patterns}</div>\n{each}'
+
+
+def cell_of(script, result, races):
     """Returns the cell of a test: the verdict, which opens why it is so."""
     verdict = html.escape(result["verdict"])
     kind = KIND.get(result["verdict"], "bad")
@@ -231,12 +273,12 @@ def cell_of(result):
     said = f"<p>{html.escape(HELP[result['verdict']])}</p>" if result["verdict"] in HELP else ""
     said += f"<p><code>{html.escape(result['message'])}</code></p>"
     if result["verdict"] == "race":
-        said += parting(result)
+        said += races.shown(script, result)
     return f'<td role="cell" data-test="{name}"><details><summary class="{kind}">{verdict}</summary>{said}</details></td>'
 
 
-def row_of(student, script):
-    cells = "".join(cell_of(result) for result in script["results"])
+def row_of(student, script, races):
+    cells = "".join(cell_of(script, result, races) for result in script["results"])
     points = f'<td role="cell" class="points" data-test="points">{script["points"]}/{script["of"]}</td>'
     return f'<tr role="row"><th role="rowheader" scope="row">{html.escape(student)}</th>{points}{cells}</tr>'
 
@@ -255,22 +297,24 @@ def counts_of(scripts):
     return "".join(f'<li class="{KIND.get(verdict, "bad")}">{all_of.count(verdict)} {html.escape(verdict)}</li>' for verdict in VERDICTS if verdict in all_of)
 
 
-def page_of(scripts, title):
-    """Returns the page."""
+def page_of(scripts, title, figures=None):
+    """Returns the page, in which `figures`, if there are any, draw its races."""
     report = summed(scripts)
     whole = sum(script["passed"] == script["tests"] for script in scripts if script["script"] is not None)
     count = sum(script["script"] is not None for script in scripts)
-    tables = []
+    tables, races = [], Races(figures)
     for is_own in (True, False):
         some = [(student, script) for student, script in zip(students_of(scripts), scripts) if (script["script"] is None) == is_own]
         if some:
-            tables.append(table_of([row_of(student, script) for student, script in some], tests_of(some[0][1])))
+            tables.append(table_of([row_of(student, script, races) for student, script in some], tests_of(some[0][1])))
     said = f"{count} students, {whole} of them with each test passed; {report['passed']} of {report['tests']} tests passed, {report['points']} of {report['of']} points."
     return (
-        f'<!DOCTYPE html>\n<html lang="en"><head><meta charset="utf-8"><meta name="viewport" content="width=device-width, initial-scale=1"><title>{html.escape(title)}</title><style>{STYLE}</style></head>\n'
+        f'<!DOCTYPE html>\n<html lang="en"><head><meta charset="utf-8"><meta name="viewport" content="width=device-width, initial-scale=1"><title>{html.escape(title)}</title><style>{races.style()}{STYLE}</style></head>\n'
         f'<body><h1>{html.escape(title)}</h1><p class="sum">{said}</p><ul class="counts">{counts_of(scripts)}</ul>\n'
         + "\n".join(tables)
-        + "\n<footer><p>Made from reports of <code>xvsh grade --json</code>. A verdict with a triangle opens: click it, or press Tab and Enter.</p></footer></body></html>\n"
+        + "\n<footer><p>Made from reports of <code>xvsh grade --json</code>. A verdict with a triangle opens, and so does what is drawn: click it, or press Tab and Enter. Esc closes what is drawn.</p></footer>\n"
+        + races.all()
+        + "</body></html>\n"
     )
 
 

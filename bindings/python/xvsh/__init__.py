@@ -7,7 +7,8 @@
 Over ctypes, with no dependency. The first call that needs the library loads libxvsh.so from the path in XVSH_LIBRARY, else from beside
 this file, where `pip install` puts it, else from lib/ of the checkout that this file stands in, where `bindings/build` puts it, which is
 called where lib/ has none and dist/ has it; else where the system looks. Where there is none it raises ImportError. `grade` runs the
-program, and needs no library; `grade_script` grades bytes in memory by the library.
+program, and needs no library; `grade_script` grades bytes in memory by the library; `run_harts` needs both. `outcomes` and `grade_scripts` are
+iterators, whose results come one by one.
 
 Each call raises the faults of what it is given: LineTooLong, ByteZero and ScriptTooLong of the script; where it takes them, TooLong,
 BadName and TooManyFiles of the files, and InputTooLong of the input; and Memory. Its own are told at each. What is no number where one is due
@@ -31,19 +32,21 @@ import json
 import operator
 import os
 import subprocess
+import time
 from collections.abc import Callable, Iterable, Iterator, Mapping
 from typing import Any, Union
 
 from ._show import Cell, Shown, code, counted, escaped, files as files_cell, table
-from .grading import AnyPath, Difference, Graded, GradeError, NoProgram, Report, TimedOut, Verdict, _report_of, grade
+from ._svg import svg_of
+from .grading import AnyPath, Difference, Graded, GradeError, NoProgram, ProgramError, Report, TimedOut, Verdict, _report_of, grade
 
 __all__ = [
     "Answer", "AnyPath", "BadName", "BadOrder", "BadStates", "BadSuite", "BadTurns", "ByteZero", "Bytes", "Check", "Difference", "Drawing", "Event", "EveryWay", "Explanation",
     "Exploration",
     "Fault", "File", "Files", "Finding", "GivenUp", "GradeError", "Graded", "InputTooLong", "Lack", "LineTooLong", "Memory", "MissingName", "Need", "NoEvent",
-    "NoProgram", "NotRunnable", "NotRunning", "Note", "Order", "Outcome", "Parting", "Pipe", "Plain", "Process", "Reason", "Report", "RoomCheck", "Run",
-    "ScriptTooLong", "Session", "Spent", "SuiteTooLong", "TakenName", "TimedOut", "TooLarge", "TooLong", "TooManyFiles", "TurnsCheck", "Unfinished", "UnusedScript",
-    "Verdict", "Whys", "XvshError", "check", "check_room", "check_turns", "draw", "explain", "explain_why", "explore", "grade", "grade_script", "plain", "replay", "run",
+    "NoProgram", "NotRunnable", "NotRunning", "Note", "Order", "Outcome", "Outcomes", "Parting", "Pipe", "Plain", "Process", "ProgramError", "Reason", "Report", "RoomCheck", "Run",
+    "ScriptTooLong", "Scripts", "Session", "Spent", "SuiteTooLong", "TakenName", "TimedOut", "TooLarge", "TooLong", "TooManyFiles", "TurnsCheck", "Unfinished", "UnusedScript",
+    "Verdict", "Whys", "XvshError", "check", "check_room", "check_turns", "draw", "draw_two", "explain", "explain_why", "explore", "grade", "grade_script", "grade_scripts", "outcomes", "plain", "replay", "run", "run_harts",
     "version",
 ]
 __version__ = "0.3.0"
@@ -291,7 +294,7 @@ _task, _answer = c.POINTER(_Task), c.POINTER(_Answer)
 _numbers: dict[str, list[Any]] = {
     "plain": [], "run": [c.c_uint64, c.c_uint32, c.c_uint64], "replay": [_Bytes], "check": [c.c_uint32], "explain": [],
     "check_turns": [c.c_uint32], "check_room": [c.c_uint32], "explain_why": [],
-    "draw": [c.c_uint64, c.c_uint32, c.c_uint64],
+    "draw": [c.c_uint64, c.c_uint32, c.c_uint64], "draw_two": [_Bytes, _Bytes],
     "explore": [c.c_uint64, c.c_uint32], "explore_watched": [c.c_uint64, c.c_uint32, c.POINTER(_Watch)], "trace": [c.c_uint64, c.c_uint32, c.c_uint64], "look": [_Bytes],
     "grade": [_Bytes, c.c_uint64, c.c_uint32], "grade_watched": [_Bytes, c.c_uint64, c.c_uint32, c.POINTER(_Watch)],
 }
@@ -423,10 +426,19 @@ class Run(Answer):
 
 @dataclasses.dataclass(frozen=True, repr=False)
 class Drawing(Shown):
-    """A finished run, which has no schedule here, and the page of HTML that draws it. A notebook shows the page in a frame of its own."""
+    """A finished run, which has no schedule here unless it was handed in, and the page of HTML that draws it, or it and another. A notebook shows the page in a frame of its own, and
+    where it is made into paper the picture alone."""
 
     run: Run
     html: bytes
+
+    @property
+    def svg(self) -> str:
+        """The picture of the page alone, in SVG, which needs nothing from elsewhere, in the colours of a light page."""
+        return svg_of(self.html.decode("utf-8", "replace"))
+
+    def _repr_svg_(self) -> str:
+        return self.svg
 
     def _repr_html_(self) -> str:
         page = html.escape(self.html.decode("utf-8", "replace"), quote=True)
@@ -592,7 +604,7 @@ class Outcome(Answer):
 class Exploration(Shown):
     """What every order of a script's processes leaves. It is `single` where all outcomes have one output and one set of files, and `whole`
     where every order was tried, or what it leaves is known without; `stuck` is a schedule after which every process sleeps for ever, or
-    None. `json` is the program's object."""
+    None. It iterates over the outcomes; `outcomes` below has each as soon as it is found. `json` is the program's object."""
 
     single: bool
     whole: bool
@@ -600,6 +612,9 @@ class Exploration(Shown):
     outcomes: tuple[Outcome, ...]
     stuck: bytes | None
     json: bytes
+
+    def __iter__(self) -> Iterator[Outcome]:
+        return iter(self.outcomes)
 
     def _repr_html_(self) -> str:
         tried = "known without trying orders" if not self.states else f"{counted(self.states, 'state')}, {'' if self.whole else 'not '}every order tried"
@@ -713,12 +728,28 @@ def draw(
     """Runs the script as `run` does, and draws the run, as `xvsh draw` draws its trace. The faults are those of `run`.
 
     >>> import xvsh
-    >>> xvsh.draw("echo hi").html[:15].lower()
-    b'<!doctype html>'
+    >>> drawing = xvsh.draw("echo hi")
+    >>> drawing.html[:15].lower(), drawing.svg[:5]
+    (b'<!doctype html>', '<svg ')
     """
     numbers = _number(turns, 64, "turns are"), _number(order, 32, "an order is"), _number(seed, 64, "a seed is")
     call = _call("draw", script, input, files, append, 0, *numbers)
     return Drawing(Run(call.out, call.files, call.diag, b"", call.full), call.events)
+
+
+def draw_two(script: Bytes, schedule: Bytes, other: Bytes, input: Bytes = b"", files: Files | None = None, *, append: bool = False) -> Drawing:
+    """Runs the script by two schedules, as `replay` does, and draws both runs on one page, as `xvsh draw` draws their two traces: where they
+    part, and once what both begin with. Its `run` is that of the first. The faults are those of `replay`, of the first schedule before the other.
+
+    >>> import xvsh
+    >>> one, other = xvsh.explore("echo a &; echo b").outcomes[:2]
+    >>> b"What both begin with" in xvsh.draw_two("echo a &; echo b", one.schedule, other.schedule).html
+    True
+    """
+    kept: list[Any] = []
+    first = _raw(schedule)
+    call = _call("draw_two", script, input, files, append, 0, _Bytes(*_view(kept, first)), _Bytes(*_view(kept, _raw(other))))
+    return Drawing(Run(call.out, call.files, call.diag, first, call.full), call.events)
 
 
 def replay(script: Bytes, schedule: Bytes, input: Bytes = b"", files: Files | None = None, *, append: bool = False) -> Run:
@@ -815,33 +846,37 @@ def explain_why(script: Bytes, input: Bytes = b"", files: Files | None = None, *
 
 def explore(
     script: Bytes, input: Bytes = b"", files: Files | None = None, *, append: bool = False, states: int = 200_000, thorough: bool = False,
-    watch: Callable[[int], bool] | None = None,
+    watch: Callable[[int], bool] | None = None, timeout: float | None = None,
 ) -> Exploration:
     """Tries every order of the script's processes, of at most `states` states of the kernel, from 1 to MAX_STATES, for each of which
     memory is kept. A settled script none of whose files is soft has one outcome, and is explored only if it is to be `thorough`.
     TooLarge where a run has more turns than can be counted; BadStates.
 
     `watch` is called meanwhile, every 1,024 requests for memory, with the number of these so far; where it returns what is false, the call is
-    given up, and is GivenUp; where it raises, as at Ctrl-C, the call is given up and the error raised again.
+    given up, and is GivenUp; where it raises, as at Ctrl-C, the call is given up and the error raised again. After `timeout` seconds it is
+    given up too.
 
     >>> import xvsh
     >>> [outcome.out for outcome in xvsh.explore("echo a &; echo b").outcomes]
     [b'a\\nb\\n', b'ab\\n\\n', b'b\\na\\n', b'ba\\n\\n']
     """
     numbers = _number(states, 64, "states are"), 1 if thorough else 0
-    call = _call_watched(watch, "explore", script, input, files, append, *numbers)
+    call = _call_watched(watch, timeout, "explore", script, input, files, append, *numbers)
     made = json.loads(call.json)
     stuck = None if made["stuck"] is None else _schedule(made["stuck"])
     return Exploration(call.fine, call.whole, made["states"], tuple(map(_outcome_of, made["outcomes"])), stuck, call.json)
 
 
-def grade_script(suite: Bytes, script: Bytes | None = None, files: Files | None = None, *, states: int | None = None, watch: Callable[[int], bool] | None = None) -> Report:
+def grade_script(
+    suite: Bytes, script: Bytes | None = None, files: Files | None = None, *, states: int | None = None, watch: Callable[[int], bool] | None = None,
+    timeout: float | None = None,
+) -> Report:
     r"""Grades a script by the tests of a suite, both in memory, as `xvsh grade --json` with one job, and returns that report, in which the script
     is at `-`. Without a script each test of the suite must have its own. docs/GRADING.md says what a suite is.
 
     `suite` is TOML of at most 1,048,576 bytes. `files` are those that it names by paths, at most 200: a path as it stands in the suite is
     the name of its bytes. `states` is an upper bound on the states through which each test tries orders, whatever the suite says; None, or
-    0: none. `watch` is as of `explore`.
+    0: none. `watch` and `timeout` are as of `explore`.
 
     BadSuite, with the line and what is `said` of it; SuiteTooLong; UnusedScript where no test is run on the script; EveryWay of a test with
     `every_way`, which takes threads: `grade` runs it; TooManyFiles; GivenUp; and Memory, also where it is refused to the judging of a test. A
@@ -854,18 +889,21 @@ def grade_script(suite: Bytes, script: Bytes | None = None, files: Files | None 
     """
     kept: list[Any] = []
     numbers = _Bytes(*_view(kept, _raw(suite))), _number(0 if states is None else states, 64, "states are"), 1 if script is None else 0
-    return _report_of(_call_watched(watch, "grade", b"" if script is None else script, b"", files, False, *numbers).json)
+    return _report_of(_call_watched(watch, timeout, "grade", b"" if script is None else script, b"", files, False, *numbers).json)
 
 
-def _call_watched(watch: Callable[[int], bool] | None, name: str, script: Bytes, input: Bytes, files: Files | None, append: bool, *numbers: Any) -> _Call:
-    """Makes a call, and a watched one where somebody watches it."""
-    if watch is None:
+def _call_watched(
+    watch: Callable[[int], bool] | None, timeout: float | None, name: str, script: Bytes, input: Bytes, files: Files | None, append: bool, *numbers: Any
+) -> _Call:
+    """Makes a call, and a watched one where somebody watches it, or a clock does."""
+    if watch is None and timeout is None:
         return _call(name, script, input, files, append, 0, *numbers)
     raised: list[BaseException] = []
+    asked, last = watch, None if timeout is None else time.monotonic() + timeout
 
     def goes_on(_context: Any, requests: int) -> int:
         try:
-            return 1 if watch(requests) else 0
+            return 1 if (last is None or time.monotonic() < last) and (asked is None or asked(requests)) else 0
         except BaseException as error:
             raised.append(error)
             return 0
@@ -1023,3 +1061,8 @@ class Session:
 
 def _schedule(turns: Iterable[int]) -> bytes:
     return b"".join(b"D 0 %d\nT 0 %d\n" % (pid, pid) for pid in turns)
+
+
+# they stand on what is above
+from .by_program import run_harts
+from .coming import Outcomes, Scripts, grade_scripts, outcomes

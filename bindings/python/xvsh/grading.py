@@ -19,7 +19,7 @@ from typing import Any, Union
 
 from ._show import Cell, Html, Shown, counted, marked, printable, table
 
-__all__ = ["AnyPath", "Difference", "GradeError", "Graded", "NoProgram", "Report", "TimedOut", "Verdict", "grade"]
+__all__ = ["AnyPath", "Difference", "GradeError", "Graded", "NoProgram", "ProgramError", "Report", "TimedOut", "Verdict", "grade"]
 
 AnyPath = Union[str, bytes, "os.PathLike[str]", "os.PathLike[bytes]"]
 
@@ -27,8 +27,8 @@ _PASSED = ("pass", "pass, every order tried")
 _COLOURS = {"pass": "#116329", "pass, every order tried": "#116329", "race": "#7d3c00", "unsure": "#3d4c7a", "wrong so far": "#3d4c7a", "not judged": "#3d4c7a"}
 
 
-class GradeError(Exception):
-    """Nothing was graded. `status` is that with which the program ended, or None where it didn't; `said` is what it told on standard error."""
+class ProgramError(Exception):
+    """The program gave no answer. `status` is that with which it ended, or None where it didn't; `said` is what it told on standard error."""
 
     status: int | None
     said: str
@@ -37,8 +37,12 @@ class GradeError(Exception):
         super().__init__(text)
         self.status, self.said = status, said
 
-    def __reduce__(self) -> tuple[type[GradeError], tuple[str, int | None, str]]:
+    def __reduce__(self) -> tuple[type[ProgramError], tuple[str, int | None, str]]:
         return type(self), (str(self), self.status, self.said)
+
+
+class GradeError(ProgramError):
+    """Nothing was graded."""
 
 
 class NoProgram(GradeError):
@@ -164,6 +168,11 @@ def _graded_of(made: dict[str, Any]) -> Graded:
     return Graded(made["script"], made["points"], made["of"], made["passed"], made["tests"], verdicts)
 
 
+def _renamed(graded: Graded, script: str) -> Graded:
+    """The same of a script of this name."""
+    return dataclasses.replace(graded, script=script, verdicts=tuple(dataclasses.replace(it, script=script) for it in graded.verdicts))
+
+
 def _report_of(text: bytes) -> Report:
     """The report that the program wrote. ValueError where it is none of version 1."""
     made = json.loads(text)
@@ -199,11 +208,12 @@ def _end(child: subprocess.Popen[bytes]) -> None:
     child.wait()
 
 
-def _run(words: list[str], timeout: float | None) -> tuple[int, bytes, str]:
-    """The status, the output and the diagnostics of the program; where that is interrupted, or the seconds are over, it is ended."""
+def _run(words: list[str], timeout: float | None, folder: str | None = None) -> tuple[int, bytes, str]:
+    """The status, the output and the diagnostics of the program, which runs in the folder; where that is interrupted, or the seconds are over,
+    it is ended."""
     pipe = subprocess.PIPE
     try:
-        child = subprocess.Popen(words, stdin=subprocess.DEVNULL, stdout=pipe, stderr=pipe, start_new_session=True)
+        child = subprocess.Popen(words, stdin=subprocess.DEVNULL, stdout=pipe, stderr=pipe, start_new_session=True, cwd=folder)
     except OSError as error:
         raise NoProgram(f"the program {words[0]} can't be run: {error.strerror}") from error
     with child:
@@ -211,7 +221,7 @@ def _run(words: list[str], timeout: float | None) -> tuple[int, bytes, str]:
             out, said = child.communicate(timeout=timeout)
         except subprocess.TimeoutExpired:
             _end(child)
-            raise TimedOut(f"xvsh grade took more than {timeout:g} seconds, and was ended") from None
+            raise TimedOut(f"xvsh {words[1]} took more than {timeout:g} seconds, and was ended") from None
         except BaseException:
             _end(child)
             raise

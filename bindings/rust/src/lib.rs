@@ -139,6 +139,11 @@ impl<'a> Task<'a> {
         self.ask(|task, answer| unsafe { border::xvsh_draw(task, turns, order, number, answer) }).map(Run)
     }
 
+    /// Runs it by the events of two schedules, and gives what the first run leaves, and for its events a page of HTML that draws both runs.
+    pub fn draw_two(&self, schedule: &[u8], other: &[u8]) -> Result<Run, Error> {
+        self.ask(|task, answer| unsafe { border::xvsh_draw_two(task, view(schedule), view(other), answer) }).map(Run)
+    }
+
     /// Runs it by the events of a schedule of one to eight harts: a run's, or any other.
     pub fn replay(&self, schedule: &[u8]) -> Result<Run, Error> {
         self.ask(|task, answer| unsafe { border::xvsh_replay(task, view(schedule), answer) }).map(Run)

@@ -43,6 +43,9 @@ fn runs_and_their_schedules() {
     let drawn = task().draw(100_000, Order::Kernel).unwrap();
     assert_eq!(drawn.out(), run.out());
     assert!(drawn.events().to_ascii_lowercase().starts_with(b"<!doctype html>"));
+    let both = task().draw_two(run.events(), run.events()).unwrap();
+    assert_eq!(both.out(), run.out());
+    assert!(both.events().to_ascii_lowercase().starts_with(b"<!doctype html>") && both.events() != drawn.events());
     assert!(traced.events().starts_with(b"{") && holds(traced.events(), "\"kind\":\"dispatch\""));
 }
 

@@ -1,50 +1,52 @@
 //! Runs, and the pages that draw them.
 ghost use Rattle.std.specs.Prelude.{IfErr, IfOk};
-ghost use Rattle.embed_runs.specs.Runs.{IsRunAnswer, IsRunFault};
+ghost use Rattle.embed_draws.specs.Pairs.{CanReplay, IsPairFault};
+ghost use Rattle.embed_runs.specs.Runs.{IsReplayAnswer, IsRunAnswer, IsRunFault};
 
-use embed_runs::{Order, RunAnswer, run_of, schedule_of};
-use embed_task::{Begun, EmbedFault, Task, begin};
-use kernel_model::Event;
-use std::alloc::{AllocError, Global};
-use xvsh_draws::draw_runs;
-use xvsh_read::Start;
+use crate::tracing::traced;
+use embed_runs::{Order, RunAnswer, replay_of, run_of};
+use embed_task::{EmbedFault, Task};
+use figure_page::{Bounds, pair_page, run_page};
+use std::alloc::Global;
 
-// The page of the run on hart 0 by these events, of what the task begins with.
-fn page_of(
-    alloc: Global,
-    begun: Begun,
-    stdin: &[u8],
-    events: &[Event],
-) -> Result<Vec<u8>, AllocError> {
-    let Begun { script, files } = begun;
-    let stdin = Vec::from_slice(alloc, stdin)?;
-    let start = Start {
-        script,
-        stdin,
-        files,
-    };
-    draw_runs(alloc, &start, events, None)
+// All events that one page draws.
+fn all() -> Bounds {
+    Bounds {
+        from: None,
+        to: None,
+    }
 }
 
 // The page of the run of the task by this schedule, which took place before: so only memory can be refused.
 fn page_by(alloc: Global, task: &Task<'_>, schedule: &[u8]) -> Option<Vec<u8>> {
-    let Ok(begun) = begin(alloc, task) else {
+    let Some(trace) = traced(alloc, task, schedule) else {
         return None;
     };
-    let Ok(events) = schedule_of(alloc, schedule) else {
-        return None;
-    };
-    match page_of(alloc, begun, task.stdin, events.as_slice()) {
+    match run_page(alloc, &trace, all()) {
         Ok(page) => Some(page),
         Err(_) => None,
     }
 }
 
-/// What a finished run leaves, and the page that draws it.
+// The page of two such runs.
+fn page_by_both(alloc: Global, task: &Task<'_>, one: &[u8], other: &[u8]) -> Option<Vec<u8>> {
+    let Some(first) = traced(alloc, task, one) else {
+        return None;
+    };
+    let Some(second) = traced(alloc, task, other) else {
+        return None;
+    };
+    match pair_page(alloc, &first, &second, all()) {
+        Ok(page) => Some(page),
+        Err(_) => None,
+    }
+}
+
+/// What a finished run leaves, and a page that draws it.
 #[derive(Drop)]
 pub struct DrawAnswer {
     pub run: RunAnswer,
-    /// The page of HTML, as `xvsh draw` writes it of the run's trace.
+    /// The page of HTML, as `xvsh draw` writes it of the run's trace, or of the traces of two runs.
     pub page: Vec<u8>,
 }
 
@@ -65,6 +67,34 @@ pub fn draw_of(
         Err(fault) => return Err(fault),
     };
     match page_by(alloc, task, run.schedule.as_slice()) {
+        Some(page) => Ok(DrawAnswer { run, page }),
+        None => Err(EmbedFault::Memory),
+    }
+}
+
+/// Runs the script of a task by the events of two schedules, as `replay_of`, and draws both runs on one page: the answer is what the first
+/// leaves.
+///
+/// The faults are those of `replay_of`, of the first schedule before the other.
+pub fn draw_two_of(
+    alloc: Global,
+    task: &Task<'_>,
+    one: &[u8],
+    other: &[u8],
+) -> Result<DrawAnswer, EmbedFault>
+    ensures ran { IfOk result (λ answer. IsReplayAnswer task.now one.now answer.run) }
+    ensures both { IfOk result (λ _. CanReplay task.now other.now) }
+    ensures fault { IfErr result (IsPairFault task.now one.now other.now) }
+{
+    let run = match replay_of(alloc, task, one) {
+        Ok(run) => run,
+        Err(fault) => return Err(fault),
+    };
+    let _second = match replay_of(alloc, task, other) {
+        Ok(second) => second,
+        Err(fault) => return Err(fault),
+    };
+    match page_by_both(alloc, task, one, other) {
         Some(page) => Ok(DrawAnswer { run, page }),
         None => Err(EmbedFault::Memory),
     }

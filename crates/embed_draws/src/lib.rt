@@ -2,5 +2,6 @@
 #![tactic(auto)]
 
 mod drawing;
+mod tracing;
 
-pub use drawing::{DrawAnswer, draw_of};
+pub use drawing::{DrawAnswer, draw_of, draw_two_of};

@@ -426,21 +426,6 @@ fn awake(status: Status) -> Status
     }
 }
 
-impl<M: Machine> Same for Held<M> {
-    fn same(&self, other: &Held<M>) -> bool {
-        self.status == other.status
-            && self.parent == other.parent
-            && self.put == other.put
-            && same_places(&self.places, &other.places)
-            && self.reply.same(&other.reply)
-            && self.machine.same(&other.machine)
-    }
-
-    fn digest(&self) -> u64 {
-        self.digest
-    }
-}
-
 impl<M: Machine> Held<M> {
     ghost use Rattle.std.specs.Prelude.{◌≡◌, ◌↔◌, IsTrue, true, Some};
     ghost use Rattle.order_model.specs.Woke.{woke_slot};
@@ -457,6 +442,18 @@ impl<M: Machine> Held<M> {
             && self.parent == other.parent
             && self.put == other.put
             && are_places_under(to, &self.places, &other.places)
+            && self.reply.same(&other.reply)
+            && self.machine.same(&other.machine)
+    }
+
+    // Whether the two are equal, but for who sleeps.
+    pub fn same_awake(&self, other: &Held<M>) -> bool
+        ensures { result ≡ true → woke_slot (Some self.now) ≡ woke_slot (Some other.now) }
+    {
+        self.put == other.put
+            && self.parent == other.parent
+            && awake(self.status) == awake(other.status)
+            && same_places(&self.places, &other.places)
             && self.reply.same(&other.reply)
             && self.machine.same(&other.machine)
     }

@@ -15,6 +15,7 @@ mod private;
 mod ranks;
 mod reading;
 mod renumbering;
+mod seen;
 mod standing;
 mod trail;
 mod turning;

@@ -3,6 +3,7 @@
 ghost use Rattle.std.specs.Prelude.{◌≡◌, ◌↔◌, IsTrue, IsSome, true, map};
 ghost use Rattle.proc_table.specs.Slots.{is_runnable};
 ghost use Rattle.order_model.specs.Anyhow.{bare_slot};
+ghost use Rattle.order_model.specs.Woke.{woke_slot};
 ghost use Rattle.order_search.specs.Shown.{slot_of, IsGivingSlot};
 
 use crate::kept::{AllFiles, Bytes, Entries, Held, Opened, Pipes};
@@ -74,8 +75,36 @@ fn same_slots<M: Machine>(slots: &[Option<Rc<Held<M>>>], others: &[Option<Rc<Hel
     true
 }
 
+fn is_slot_awake<M: Machine>(slot: &Option<Rc<Held<M>>>, other: &Option<Rc<Held<M>>>) -> bool
+    ensures { result ≡ true → woke_slot (slot_of slot.now) ≡ woke_slot (slot_of other.now) }
+{
+    match (slot, other) {
+        (None, None) => true,
+        (Some(held), Some(other)) => held.same_awake(other),
+        _ => false,
+    }
+}
+
+// Whether the slots are equal, but for who sleeps.
+fn are_slots_awake<M: Machine>(
+    slots: &[Option<Rc<Held<M>>>],
+    others: &[Option<Rc<Held<M>>>],
+) -> bool
+    ensures { result ≡ true → map woke_slot (map slot_of slots.now) ≡ map woke_slot (map slot_of others.now) }
+{
+    if slots.len() != others.len() {
+        return false;
+    }
+    for i in 0..slots.len() {
+        if !is_slot_awake(&slots[i], &others[i]) {
+            return false;
+        }
+    }
+    true
+}
+
 impl<M: Machine> Look<M> {
-    ghost use Rattle.std.specs.Prelude.{◌≡◌, ◌≢◌, ◌↔◌, IsTrue, IfSome};
+    ghost use Rattle.std.specs.Prelude.{◌≡◌, ◌≢◌, ◌↔◌, IsTrue, IfSome, true, map};
     ghost use Rattle.proc_table.specs.Slots.{at, is_runnable};
     ghost use Rattle.kernel_model.specs.Events.{IsFinished};
     ghost use Rattle.order_model.specs.Woke.{woke, woke_slot};
@@ -114,7 +143,20 @@ impl<M: Machine> Look<M> {
         if !self.same_rest(other) {
             return false;
         }
+        if self.has_same_numbers(other) {
+            return true;
+        }
         self.is_renumbered(other)
+    }
+
+    // Whether the slots are equal, but for who sleeps, and so are the entries.
+    fn has_same_numbers(&self, other: &Look<M>) -> bool
+        ensures slots { result ≡ true → map woke_slot self.now.table ≡ map woke_slot other.now.table }
+        ensures entries { result ≡ true → self.now.entries ≡ other.now.entries }
+    {
+        self.entries.digest() == other.entries.digest()
+            && are_slots_awake(&self.slots, &other.slots)
+            && self.entries.same(&other.entries)
     }
 
     // Whether all but the slots and the entries is equal.
@@ -230,7 +272,7 @@ fn add_slots<M: Machine>(slots: &[Option<Rc<Held<M>>>], ranks: &Ranks, digest: &
         match slot {
             None => digest.add(0),
             Some(held) => {
-                digest.add(held.digest());
+                digest.add(held.digest);
                 add_places(&held.places, ranks, digest);
             }
         }

@@ -5,8 +5,8 @@ use crate::kept::Held;
 use std::rc::Rc;
 use user_calls::Machine;
 
-// How many numbers there are: those of a byte.
-pub const NUMBERS: usize = 256;
+// How many numbers are told apart: those of all entries.
+pub const NUMBERS: usize = 100;
 
 // Numbers by their rank, which is the order in which they were noted.
 #[derive(Drop)]
@@ -46,7 +46,7 @@ impl Ranks {
     // Notes a number, unless it was.
     fn note(&mut self, number: u8) {
         let place = usize::from(number);
-        if self.count < NUMBERS && !self.noted[place] {
+        if place < NUMBERS && self.count < NUMBERS && !self.noted[place] {
             self.noted[place] = true;
             self.ranks[place] = self.count as u8;
             self.numbers[self.count] = number;
@@ -56,13 +56,18 @@ impl Ranks {
 
     // Notes all other numbers.
     pub fn note_rest(&mut self) {
-        for number in 0..=u8::MAX {
-            self.note(number);
+        for number in 0..NUMBERS {
+            self.note(number as u8);
         }
     }
 
     // The rank of a number that was noted.
     pub fn rank(&self, number: u8) -> u8 {
-        self.ranks[usize::from(number)]
+        let place = usize::from(number);
+        if place < NUMBERS {
+            self.ranks[place]
+        } else {
+            0
+        }
     }
 }

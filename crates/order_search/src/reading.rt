@@ -14,6 +14,7 @@ use crate::numbers::Numbers;
 use crate::parts::{read_entries, read_pipes, read_slot};
 use crate::places::names_of;
 use crate::pools::Pool;
+use crate::seen::{SeenEntries, SeenSlots, sketch_of, sketch_of_entries};
 use crate::unchanged::{are_entries, is_held};
 use fd_table::OpenFiles;
 use kernel_state::{State, Unread};
@@ -28,8 +29,8 @@ use user_calls::{CallSlot, Machine};
 pub struct Reader<M: Machine> {
     pub alloc: Global,
     numbers: Numbers,
-    slots: Pool<Held<M>>,
-    entries: Pool<Entries>,
+    slots: SeenSlots<M>,
+    entries: SeenEntries,
     pipes: Pool<Pipes>,
     files: Pool<AllFiles>,
     bytes: Pool<Bytes>,
@@ -50,8 +51,8 @@ impl<M: Machine> Reader<M> {
         Ok(Reader {
             alloc,
             numbers: Numbers::new(alloc)?,
-            slots: Pool::new(alloc),
-            entries: Pool::new(alloc),
+            slots: SeenSlots::new(alloc),
+            entries: SeenEntries::new(alloc),
             pipes: Pool::new(alloc),
             files: Pool::new(alloc),
             bytes: Pool::new(alloc),
@@ -120,15 +121,20 @@ impl<M: Machine> Reader<M> {
         if let Some(held) = unchanged(state, names, pid, before)? {
             return Ok(Some(held));
         }
-        self.read_anew(state, names, pid)
+        let sketch = sketch_of(state, pid);
+        if let Some(held) = self.slots.find(state, names, pid, sketch)? {
+            return Ok(Some(held));
+        }
+        self.read_anew(state, names, pid, sketch)
     }
 
-    // Reads a slot that isn't as it was. (Apart, since what is read is a large value, for which a function makes room when it begins.)
+    // Reads a slot of which nothing was kept. (Apart, since what is read is a large value, for which a function makes room when it begins.)
     fn read_anew<A: Allocator>(
         &mut self,
         state: &State<M, A>,
         names: &[u64],
         pid: Pid,
+        sketch: u64,
     ) -> Result<Option<Rc<Held<M>>>, ExploreFault>
         requires orderly { IsOrderly state.now }
         requires sound { IsSound state.now.table state.now.entries }
@@ -136,7 +142,7 @@ impl<M: Machine> Reader<M> {
     {
         match read_slot(self.alloc, state, names, pid, &mut self.call)? {
             None => Ok(None),
-            Some(held) => Ok(Some(self.slots.keep(self.alloc, held)?)),
+            Some(held) => Ok(Some(self.slots.keep(self.alloc, held, sketch)?)),
         }
     }
 
@@ -171,8 +177,13 @@ impl<M: Machine> Reader<M> {
         if are_entries(names, self.numbers.as_slice(), entries, before)? {
             return Ok(before.clone()?);
         }
+        let sketch = sketch_of_entries(self.numbers.as_slice(), entries);
+        let numbers = self.numbers.as_slice();
+        if let Some(kept) = self.entries.find(names, numbers, entries, sketch)? {
+            return Ok(kept);
+        }
         let entries = read_entries(self.alloc, names, self.numbers.as_slice(), entries)?;
-        Ok(self.entries.keep(self.alloc, entries)?)
+        Ok(self.entries.keep(self.alloc, entries, sketch)?)
     }
 
     // Reads a kernel between turns. What is as it was before, in another one, is kept as it was.

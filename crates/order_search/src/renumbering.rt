@@ -34,12 +34,19 @@ impl Renumbering {
             back: [0; NUMBERS],
         };
         for rank in 0..NUMBERS {
-            let number = first.numbers[rank];
-            let other = second.numbers[rank];
-            found.to[usize::from(number)] = other;
-            found.back[usize::from(other)] = number;
+            found.pair(first.numbers[rank], second.numbers[rank]);
         }
         found
+    }
+
+    // The number becomes the other one.
+    fn pair(&mut self, number: u8, other: u8) {
+        let from = usize::from(number);
+        let to = usize::from(other);
+        if from < NUMBERS && to < NUMBERS {
+            self.to[from] = other;
+            self.back[to] = number;
+        }
     }
 
     // Whether no two numbers become one, and each is what one becomes.

@@ -11,6 +11,7 @@ use closed_search::Node;
 use kernel_state::State;
 use proc_table::PROCS;
 use std::alloc::{AllocError, Allocator, Global};
+use std::collections::HashMap;
 use std::marker::Model;
 use std::snapshot::Snapshot;
 use user_calls::{CallSlot, Machine};
@@ -22,6 +23,7 @@ pub struct Tools<'t, M: Machine, C: Allocator> {
     reader: Reader<M>,
     trail: Trail<'t, M, C>,
     call: CallSlot,
+    moved: HashMap<u64, u8>,
 }
 
 impl<'t, M: Machine, C: Allocator> Tools<'t, M, C> {
@@ -31,7 +33,25 @@ impl<'t, M: Machine, C: Allocator> Tools<'t, M, C> {
             reader: Reader::new(alloc)?,
             trail: Trail::new(alloc),
             call: CallSlot::new(),
+            moved: HashMap::new(alloc),
         })
+    }
+
+    // Notes a process whose turn leads from the look to the next one, where the slots differ. It is tried first where such a
+    // process is looked for.
+    fn note_moved(&mut self, look: &Look<M>, pid: u8, next: &Look<M>) -> Result<(), AllocError> {
+        if self.moved.get(&look.digest).is_none() && !look.has_same_slots(next) {
+            self.moved.insert(look.digest, pid)?;
+        }
+        Ok(())
+    }
+
+    // The number of a process whose turn may lead from the look to other slots.
+    fn moved_at(&self, look: &Look<M>) -> usize {
+        match self.moved.get(&look.digest).copied() {
+            Some(pid) => usize::from(pid),
+            None => 0,
+        }
     }
 
     // Makes the stop where turns of these processes lead.
@@ -101,6 +121,10 @@ impl<'t, M: Machine, C: Allocator> Standing<'t, M, C> {
         ensures { result ≡ Ok false → IsFinishedOrBusy M.call_of M.next_of self.now.now }
     {
         if self.look.is_finished() {
+            return Ok(false);
+        }
+        let likely = tools.moved_at(&self.look);
+        if self.is_moved(tools, likely)? {
             return Ok(false);
         }
         for number in 0..PROCS {
@@ -202,7 +226,9 @@ impl<'t, M: Machine, C: Allocator> Node for Standing<'t, M, C> {
         let Ok(pid) = u8::try_from(step_number) else {
             return Err(ExploreFault::TooLong);
         };
-        Ok(Some(self.turned(tools, pid)?))
+        let node = self.turned(tools, pid)?;
+        tools.note_moved(&self.look, pid, &node.look)?;
+        Ok(Some(node))
     }
 
     fn private_move(&self) -> Option<usize> {

@@ -129,7 +129,8 @@ impl<'t, M: Machine, C: Allocator> Trail<'t, M, C> {
         }
     }
 
-    // Makes the stop where turns of these processes lead the last one.
+    // Makes the stop where turns of these processes lead the last one. Where they are one more than those of the last one, it goes on there:
+    // who asks for them has just come from it, and mostly won't come back.
     pub fn lead(
         &mut self,
         alloc: Global,
@@ -140,6 +141,9 @@ impl<'t, M: Machine, C: Allocator> Trail<'t, M, C> {
         if self.stops.is_empty() {
             let start = Stop::start(alloc, origin)?;
             self.push(start)?;
+        }
+        if self.is_one_turn_away(pids) {
+            return self.go_one_turn(pids, call);
         }
         self.turn_back(pids)?;
         for _stop in 0..MAX_STOPS {
@@ -165,6 +169,30 @@ impl<'t, M: Machine, C: Allocator> Trail<'t, M, C> {
             Some(stop) if stop.is_at(origin, pids) => Ok(stop),
             _ => Err(ExploreFault::TooLong),
         }
+    }
+
+    // Whether one more turn leads from the last stop, not the first, to where turns of these processes lead.
+    fn is_one_turn_away(&self, pids: &[u8]) -> bool {
+        match self.stops.last() {
+            Some(stop) => {
+                self.stops.len() > 1
+                    && pids.len() > stop.pids.len()
+                    && pids.len() - stop.pids.len() == 1
+                    && pids.starts_with(stop.pids.as_slice())
+            }
+            None => false,
+        }
+    }
+
+    // The last stop goes on by the last one of these turns.
+    fn go_one_turn(&mut self, pids: &[u8], call: &mut CallSlot) -> Result<(), ExploreFault> {
+        if let Some(pid) = pids.last() {
+            if let Some(mut stop) = self.stops.pop() {
+                stop.turn(*pid, call)?;
+                self.push(stop)?;
+            }
+        }
+        Ok(())
     }
 
     // How many turns lead to the last stop.

@@ -6,7 +6,7 @@ use room_bounds::{Behind, Lack, Room, Table};
 use sh_tree::ParseFault;
 use std::alloc::{AllocError, Global};
 use trace_lines::Line;
-use xvsh_checks::{Finding, Findings, RoomFound};
+use xvsh_checks::{Finding, Findings, Growth, RoomFound};
 
 // The number, the name and the place of a fault, as `check` reports them.
 fn parts_of(fault: ParseFault) -> (u64, &'static str, usize) {
@@ -151,13 +151,27 @@ fn write_room(object: &mut Line, room: &Room) -> Result<(), AllocError> {
     object.end_object()
 }
 
-// What a script with a clash or a `&` needs of processes, open files and descriptors; its room as a whole is `null`.
-fn write_part(object: &mut Line, behind: &Behind) -> Result<(), AllocError> {
+// How many files there may be, and by how many bytes each that is written grows at most.
+fn write_growth(object: &mut Line, growth: &Growth) -> Result<(), AllocError> {
+    write_table(object, Table::Files, growth.files)?;
+    object.count("growth", growth.bytes)
+}
+
+// What a script with a clash or a `&` needs of processes, open files and descriptors, and how its files grow, where that is known; its
+// room as a whole is `null`.
+fn write_part(
+    object: &mut Line,
+    behind: &Behind,
+    growth: &Option<Growth>,
+) -> Result<(), AllocError> {
     object.nothing("room")?;
     object.begin_object("room_part")?;
     write_table(object, Table::Processes, behind.processes)?;
     write_table(object, Table::Entries, behind.entries)?;
     write_table(object, Table::Descriptors, behind.descriptors)?;
+    if let Some(growth) = growth {
+        write_growth(object, growth)?;
+    }
     object.end_object()
 }
 
@@ -185,7 +199,8 @@ pub(crate) fn write_lack(object: &mut Line, lack: &Lack) -> Result<(), AllocErro
 /// `open_files`, `descriptors`, `files` and `size`: how much of it the script may `need` at most, `null` where that is more than
 /// 1,000,000, and how much there is at `most`; and where it may not have room `lack`, with the `line`, the `table`, the `need` up to
 /// that line and the `most`; `status` is then `without room`. Where a line has a clash or a `&`, `room` is `null`, and `room_part` has
-/// the members `processes`, `open_files` and `descriptors`; `status` stays `not harmless`.
+/// the members `processes`, `open_files` and `descriptors`, and where it is known how files grow `files`, too, and `growth`, by how many
+/// bytes each that the script writes grows at most; `status` stays `not harmless`.
 ///
 /// `AllocError` where memory for the text is refused.
 pub fn room_result(
@@ -200,8 +215,12 @@ pub fn room_result(
             write_room(&mut object, room)?;
             write_lack_if(&mut object, lack)?;
         }
-        RoomFound::Part { behind, lack } => {
-            write_part(&mut object, behind)?;
+        RoomFound::Part {
+            behind,
+            growth,
+            lack,
+        } => {
+            write_part(&mut object, behind, growth)?;
             write_lack_if(&mut object, lack)?;
         }
     }

@@ -28,6 +28,12 @@ IsNumber least most None other number = number ≡ other
 IsNumber least most (Some (integer (pos n))) other number = (number ≡ n) × (least ≤ n) × (n ≤ most)
 IsNumber least most (Some _) other number = ⊥
 
+-- it is a number from the least to the most, if it is there
+abbrev pub IsNumberIfThere : ℕ → ℕ → Option Data → Type 0
+IsNumberIfThere least most None = Unit {0}
+IsNumberIfThere least most (Some (integer (pos n))) = (least ≤ n) × (n ≤ most)
+IsNumberIfThere least most (Some _) = ⊥
+
 -- it is this truth; where it isn't there the truth is the other one
 abbrev pub IsTruth : Option Data → Bool → Bool → Type 0
 IsTruth None other truth = truth ≡ other

@@ -2,7 +2,7 @@
 use Rattle.std.specs.Prelude.{◌≡◌, ◌≢◌, ℕ, false, List, [], ◌∷◌, AllPairs, Some, IsUtf8, codes, string_bytes}
 use Rattle.toml.specs.Data.{string, array, table, Items, no_items, item, Members, get_member}
 use Rattle.toml.specs.Parse.{parse_document}
-use Rattle.suite_file.specs.Entries.{HasOnlyKeys, IsTextIfThere, IsTableIfThere, IsNumber, IsTruth, IsSource, IsSourceOrEmpty, AreFiles}
+use Rattle.suite_file.specs.Entries.{HasOnlyKeys, IsTextIfThere, IsTableIfThere, IsNumber, IsNumberIfThere, IsTruth, IsSource, IsSourceOrEmpty, AreFiles}
 use Rattle.suite_file.specs.declared.suite.Given.{Given}
 use Rattle.suite_file.specs.declared.suite.Limits.{Limits}
 use Rattle.suite_file.specs.declared.suite.SuiteTest.{SuiteTest}
@@ -10,7 +10,7 @@ use Rattle.suite_file.specs.declared.suite.Wanted.{Wanted}
 
 -- the keys of a suite, and those of a test
 abbrev pub suite_keys : List (List ℕ)
-suite_keys = codes "append" ∷ codes "bytes" ∷ codes "every_way" ∷ codes "metadata" ∷ codes "states" ∷ codes "test" ∷ codes "title" ∷ codes "turns" ∷ []
+suite_keys = codes "append" ∷ codes "bytes" ∷ codes "every_way" ∷ codes "metadata" ∷ codes "seconds" ∷ codes "states" ∷ codes "test" ∷ codes "title" ∷ codes "turns" ∷ []
 
 abbrev pub test_keys : List (List ℕ)
 test_keys = codes "append" ∷ codes "bytes" ∷ codes "every_way" ∷ codes "expect" ∷ codes "files" ∷ codes "input" ∷ codes "input_file" ∷ codes "metadata" ∷ codes "name" ∷ codes "output" ∷ codes "output_file" ∷ codes "points" ∷ codes "script" ∷ codes "script_file" ∷ codes "states" ∷ codes "turns" ∷ []
@@ -68,6 +68,7 @@ pub record AreTestsOf (said : Members) (tests : List SuiteTest) : Type 0 where
   pub keys : HasOnlyKeys suite_keys said
   pub title : IsTextIfThere (get_member (codes "title") said)
   pub metadata : IsTableIfThere (get_member (codes "metadata") said)
+  pub seconds : IsNumberIfThere 1 1000000 (get_member (codes "seconds") said)
   pub limits : Limits
   pub says : AreLimits said first_limits limits
   pub tables : Items

@@ -3,7 +3,7 @@
 ghost use Rattle.std.specs.Prelude.{◌≡◌, ◌≤◌, ℕ, Bool, IfErr, IfNone, IfOk, IfSome, OnOk, codes, map, option_copied, option_map, pos};
 ghost use Rattle.toml.specs.Data.{get_member, integer, string};
 ghost use Rattle.toml.specs.View.{table_view, view};
-ghost use Rattle.suite_file.specs.Entries.{HasOnlyKeys, IsNumber, IsTableIfThere, IsTextIfThere, IsTruth};
+ghost use Rattle.suite_file.specs.Entries.{HasOnlyKeys, IsNumber, IsNumberIfThere, IsTableIfThere, IsTextIfThere, IsTruth};
 ghost use Rattle.suite_file.specs.Faults.{IsAt};
 
 use crate::fault::SuiteFault;
@@ -61,6 +61,20 @@ impl<'t> Part<'t> {
         };
         match number_of(value, least, most) {
             Some(number) => Ok(number),
+            None => Err(self.number_fault(key, least, most)),
+        }
+    }
+
+    /// Refuses what isn't a number from the least to the most at a key, if something is there.
+    pub fn check_number(&self, key: &str, least: u64, most: u64) -> Result<(), SuiteFault>
+        ensures ok { OnOk result (IsNumberIfThere least most (get_member key.now (table_view self.now.table.now))) }
+        ensures refused { IfErr result (λ fault. IsAt fault → ¬ IsNumberIfThere least most (get_member key.now (table_view self.now.table.now))) }
+    {
+        let Some(value) = self.value_at(key) else {
+            return Ok(());
+        };
+        match number_of(value, least, most) {
+            Some(_number) => Ok(()),
             None => Err(self.number_fault(key, least, most)),
         }
     }

@@ -7,11 +7,12 @@ ghost use Rattle.suite_file.specs.Suites.{suite_keys, test_keys};
 
 use toml::Table;
 
-static OF_SUITE: [&str; 8] = [
+static OF_SUITE: [&str; 9] = [
     "append",
     "bytes",
     "every_way",
     "metadata",
+    "seconds",
     "states",
     "test",
     "title",

@@ -12,7 +12,7 @@ ghost use Rattle.suite_file.specs.Suites.{AreTests, AreTestsOf, HaveOwnNames, Is
 use crate::fault::SuiteFault;
 use crate::keys::of_suite;
 use crate::part::Part;
-use crate::suite::{Limits, MOST_BYTES, STATES, Suite, SuiteTest};
+use crate::suite::{Limits, MOST_BYTES, MOST_SECONDS, STATES, Suite, SuiteTest};
 use crate::test_tables::{limits_of, test_of};
 use std::alloc::Global;
 use toml::de::Error;
@@ -158,6 +158,7 @@ fn suite_of(suite: &Part<'_>) -> Result<Vec<SuiteTest>, SuiteFault>
 {
     suite.check_keys(of_suite())?;
     suite.text_at("title")?;
+    suite.check_number("seconds", 1, MOST_SECONDS)?;
     let first = Limits {
         appends: false,
         bytes: MOST_BYTES,

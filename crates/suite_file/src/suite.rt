@@ -12,6 +12,9 @@ pub const STATES: usize = 10_000;
 /// The most events that a test may allow a run (own).
 pub const MOST_TURNS: u64 = 1_000_000_000;
 
+/// The most seconds that a suite may give to a script (own). No proved code has a clock: they are for other readers of the suite.
+pub const MOST_SECONDS: u64 = 1_000_000;
+
 /// The most points of a test (own).
 pub const MOST_POINTS: u64 = 1_000_000;
 

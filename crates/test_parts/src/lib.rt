@@ -1,4 +1,4 @@
-//! Tests alone: the parts below the kernel: what no clause and no row says of lines, programs, files, pipes and the table of processes.
+//! Tests alone: the parts below the kernel: what no clause and no row says of lines, programs, files and their sizes, pipes and the table of processes.
 #![tactic(auto)]
 
 #[cfg(test)]
@@ -11,3 +11,5 @@ mod lines;
 mod memory;
 #[cfg(test)]
 mod procs;
+#[cfg(test)]
+mod sizes;

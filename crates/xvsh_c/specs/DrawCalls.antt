@@ -1,11 +1,13 @@
 -- What a call of a drawing leaves: what the library below tells of the task, or a fault that is due.
-use Rattle.std.specs.Prelude.{◌≡◌, ℕ, None}
+use Rattle.std.specs.Prelude.{◌≡◌, ◌⊎◌, ℕ, None}
+use Rattle.mem_files.specs.Name.{Bytes}
 use Rattle.embed_task.specs.declared.task.Task.{Task}
 use Rattle.embed_task.specs.declared.fault.EmbedFault.{EmbedFault}
 use Rattle.embed_task.specs.declared.fault.EmbedFault.TheVariants.{BadOrder}
 use Rattle.embed_runs.specs.Orders.{order_by}
-use Rattle.embed_runs.specs.Runs.{IsRunAnswer, IsRunFault}
+use Rattle.embed_runs.specs.Runs.{IsReplayAnswer, IsRunAnswer, IsRunFault}
 use Rattle.embed_draws.specs.declared.drawing.DrawAnswer.{DrawAnswer}
+use Rattle.embed_draws.specs.Pairs.{CanReplay, IsPairFault}
 use Rattle.xvsh_c.specs.declared.answer.Answer.{Answer}
 use Rattle.xvsh_c.specs.Answers.{TellsFault}
 use Rattle.xvsh_c.specs.RunCalls.{full_number}
@@ -25,3 +27,8 @@ pub data DrawCall (task : Task) (turns order number : ℕ) (answer : Answer) : T
   no_order : order_by order number ≡ None → TellsFault answer BadOrder → DrawCall task turns order number answer
   drawn : (told : DrawAnswer) → IsRunAnswer task told.run → TellsDrawn answer told → DrawCall task turns order number answer
   failed : (fault : EmbedFault) → IsRunFault task turns fault → TellsFault answer fault → DrawCall task turns order number answer
+
+-- a call of `xvsh_draw_two_call` left this answer: what the run by the first schedule leaves, and a page, where both can be replayed
+abbrev pub DrawTwoCall : Task → Bytes → Bytes → Answer → Type 0
+DrawTwoCall task one other answer =
+    ((told : DrawAnswer) × IsReplayAnswer task one told.run × CanReplay task other × TellsDrawn answer told) ⊎ ((fault : EmbedFault) × IsPairFault task one other fault × TellsFault answer fault)

@@ -1,10 +1,10 @@
 //! Pages of runs.
-ghost use Rattle.xvsh_c.specs.DrawCalls.{DrawCall, TellsDrawn};
+ghost use Rattle.xvsh_c.specs.DrawCalls.{DrawCall, DrawTwoCall, TellsDrawn};
 
 use crate::answer::{Answer, put_fault};
 use crate::handing::{given_out, table_out};
 use crate::runs::full_number;
-use embed_draws::{DrawAnswer, draw_of};
+use embed_draws::{DrawAnswer, draw_of, draw_two_of};
 use embed_runs::order_by;
 use embed_task::{EmbedFault, Task};
 use std::alloc::Global;
@@ -40,6 +40,23 @@ pub extern "C" fn xvsh_draw_call(
         return;
     };
     match draw_of(alloc, task, turns, order) {
+        Ok(told) => put_drawn(told, answer),
+        Err(fault) => put_fault(fault, answer),
+    }
+}
+
+/// `xvsh_draw_two_call`: runs a script by the lines of two schedules, and draws both runs on one page.
+#[unsafe(no_mangle)]
+pub extern "C" fn xvsh_draw_two_call(
+    alloc: Global,
+    task: &Task<'_>,
+    one: &[u8],
+    other: &[u8],
+    answer: &mut Answer,
+)
+    ensures { DrawTwoCall task.now one.now other.now answer.new }
+{
+    match draw_two_of(alloc, task, one, other) {
         Ok(told) => put_drawn(told, answer),
         Err(fault) => put_fault(fault, answer),
     }

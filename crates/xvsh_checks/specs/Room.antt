@@ -1,11 +1,14 @@
 -- What a check reports of the room that a script needs (own).
-use Rattle.std.specs.Prelude.{◌≡◌, ◌↔◌, ℕ, zero, suc, Bool, false, IsTrue, List, [], ◌++◌, Option, Some, None, codes}
+use Rattle.std.specs.Prelude.{◌≡◌, ◌<◌, ◌↔◌, ℕ, zero, suc, Bool, false, IsTrue, List, [], ◌++◌, Option, Some, None, codes}
 use Rattle.std.specs.Borrow.{Bor}
 use Rattle.std.specs.Fmt.{decimal}
 use Rattle.mem_files.specs.Name.{Name, Bytes}
 use Rattle.script_load.specs.Line.{ScriptLine}
 use Rattle.room_model.specs.Roomy.{IsRoomyScript}
-use Rattle.room_bounds.specs.Room.{IsRoom, IsFirstLack}
+use Rattle.mem_files.specs.Files.{files}
+use Rattle.room_bounds.specs.Room.{IsRoom, IsFirstLack, IsNeedOf}
+use Rattle.size_bounds.specs.Growth.{IsGrowth, IsLeastGrowth}
+use Rattle.size_bounds.specs.declared.capped.TheConstants.{MAX_GROWTH}
 use Rattle.room_bounds.specs.Behind.{FitsBehind, IsBehind, IsFirstBehind}
 use Rattle.room_bounds.specs.declared.behind.Behind.{Behind}
 use Rattle.room_bounds.specs.declared.room.Room.{Room}
@@ -17,6 +20,7 @@ use Rattle.xvsh_read.specs.declared.fault.Fault.TheVariants.{Memory}
 use Rattle.xvsh_read.specs.Path.{Path}
 use Rattle.xvsh_read.specs.Starting.{Starts, IsStartFault}
 use Rattle.xvsh_checks.specs.Check.{AreTold, AreHarmless}
+use Rattle.xvsh_checks.specs.declared.room_found.Growth.{Growth}
 use Rattle.xvsh_checks.specs.declared.room_found.RoomFound.{RoomFound}
 use Rattle.xvsh_checks.specs.declared.room_found.RoomFound.TheVariants.{Part, Known}
 
@@ -53,17 +57,26 @@ abbrev pub lack_text : Option Lack → Bytes
 lack_text None = []
 lack_text (Some lack) = with_need (place_text lack.line) lack.need (table_text lack.table)
 
--- `room: P of 64 processes, E of 100 open files, D of 16 descriptors; the rest is not known, since a line has a clash or a &` and LF
-abbrev pub part_text : Behind → Bytes
-part_text behind =
+-- `room: P of 64 processes, E of 100 open files, D of 16 descriptors`
+abbrev pub part_needs : Behind → Bytes
+part_needs behind =
     with_need
     (with_need (with_need (codes "room: ") behind.processes (codes " of 64 processes, ")) behind.entries (codes " of 100 open files, "))
     behind.descriptors
-    (codes " of 16 descriptors; the rest is not known, since a line has a clash or a &\n")
+    (codes " of 16 descriptors")
+
+-- and `, F of 199 files, and no file grows by more than G bytes` and LF, where that is known
+abbrev pub rest_text : Bytes → Option Growth → Bytes
+rest_text before None = before ++ codes "; the rest is not known, since a line has a clash or a &\n"
+rest_text before (Some growth) =
+    with_need (with_need (before ++ codes ", ") growth.files (codes " of 199 files, and no file grows by more than ")) (Some growth.bytes) (codes " bytes\n")
+
+abbrev pub part_text : Behind → Option Growth → Bytes
+part_text behind growth = rest_text (part_needs behind) growth
 
 -- the report of a room
 abbrev pub room_told : RoomFound → Bytes
-room_told (Part behind lack) = part_text behind ++ lack_text lack
+room_told (Part behind growth lack) = part_text behind growth ++ lack_text lack
 room_told (Known room lack) = room_text room ++ lack_text lack
 
 -- the first line with which the script may not have room, or none where it has
@@ -76,9 +89,17 @@ abbrev pub IsPartLack : List ScriptLine → Option Lack → Type 0
 IsPartLack lines None = FitsBehind lines
 IsPartLack lines (Some lack) = IsFirstBehind lines lack
 
--- what is known of a script's room: of one with a clash or a `&` how many processes, open files and descriptors it needs
+-- how many files there may be, and by how many bytes each that the script writes grows at most: no number is smaller, of which it is so;
+-- nothing, where it may grow by more than is reported, or nothing bounds it
+abbrev pub IsGrowthFound : List ScriptLine → Bytes → List (Name × Bytes) → Option Growth → Type 0
+IsGrowthFound lines input list None = (other : ℕ) → IsGrowth lines input (files list) other → MAX_GROWTH < other
+IsGrowthFound lines input list (Some growth) = IsLeastGrowth lines input (files list) growth.bytes × IsNeedOf Files lines input list growth.files
+
+-- what is known of a script's room: of one with a clash or a `&` how many processes, open files and descriptors it needs, and by how
+-- much its files grow, where that is known
 abbrev pub IsRoomFound : List ScriptLine → Bytes → List (Name × Bytes) → RoomFound → Type 0
-IsRoomFound lines input list (Part behind lack) = (AreHarmless false lines → ⊥) × IsBehind lines behind × IsPartLack lines lack
+IsRoomFound lines input list (Part behind growth lack) =
+    (AreHarmless false lines → ⊥) × IsBehind lines behind × IsGrowthFound lines input list growth × IsPartLack lines lack
 IsRoomFound lines input list (Known room lack) = AreHarmless false lines × IsRoom lines input list room × IsLackOf lines input list lack
 
 -- what follows is by what the host states of standard input and of the files at paths

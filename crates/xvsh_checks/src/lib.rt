@@ -22,7 +22,7 @@ pub use found::Finding;
 pub use lacks::lack_of;
 pub use noting::{Noted, run_note};
 pub use request::{CheckRequest, ExplainRequest};
-pub use room_found::RoomFound;
+pub use room_found::{Growth, RoomFound};
 pub use rooms::{RoomFindings, find_room, is_fine, run_find_room, run_room};
 pub use turns::run_turns;
 pub use whys::{NotedWhys, run_note_whys, run_whys};

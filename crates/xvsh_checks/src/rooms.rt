@@ -5,19 +5,20 @@ ghost use Rattle.script_load.specs.Line.{ScriptLine, line_of, lines_of};
 ghost use Rattle.room_model.specs.Roomy.{IsRoomyScript};
 ghost use Rattle.xvsh_read.specs.Starting.{Starts, IsStartFault};
 ghost use Rattle.xvsh_checks.specs.Check.{AreHarmless, AreTold, IsHarmless};
-ghost use Rattle.xvsh_checks.specs.Room.{IsRoomFault, IsRoomFound, RanRoom, lack_text, part_text, place_text, room_text, room_told, table_text, with_need};
+ghost use Rattle.xvsh_checks.specs.Room.{IsGrowthFound, IsRoomFault, IsRoomFound, RanRoom, lack_text, part_needs, part_text, place_text, rest_text, room_text, room_told, table_text, with_need};
 ghost use Rattle.xvsh_checks.specs.Values.{findings_text};
 
 use crate::checking::{Checked, check};
 use crate::finding::{Findings, find};
 use crate::request::CheckRequest;
-use crate::room_found::RoomFound;
+use crate::room_found::{Growth, RoomFound};
 use conflict_check::{clash, has_back};
 use mem_files::Files;
 use room_bounds::{
     Behind, Lack, Room, Table, behind_of, first_behind, first_without_room, is_roomy, room_of,
 };
 use script_load::{Line, Profile, Script};
+use size_bounds::growth_of;
 use std::alloc::{AllocError, Global};
 use xvsh_read::{Fault, Host, Source, Start, prepare};
 
@@ -43,6 +44,19 @@ pub(crate) fn is_clear(lines: &[Line<Global>]) -> bool
     true
 }
 
+// How many files a script makes there be at most, and by how much they grow, where that is known.
+fn find_growth(script: &Script<Global>, stdin: &[u8], given: &Files<Global>) -> Option<Growth>
+    ensures { IsGrowthFound (lines_of script.now.lines) stdin.now given.now result }
+{
+    match growth_of(script, stdin, given) {
+        Some(bytes) => Some(Growth {
+            files: room_of(script, stdin, given).files,
+            bytes,
+        }),
+        None => None,
+    }
+}
+
 /// What is known of the room that a script needs on this standard input and these files.
 pub fn find_room(script: &Script<Global>, stdin: &[u8], given: &Files<Global>) -> RoomFound
     ensures { IsRoomFound (lines_of script.now.lines) stdin.now given.now result }
@@ -55,6 +69,7 @@ pub fn find_room(script: &Script<Global>, stdin: &[u8], given: &Files<Global>) -
     } else {
         RoomFound::Part {
             behind: behind_of(script),
+            growth: find_growth(script, stdin, given),
             lack: first_behind(script),
         }
     }
@@ -133,8 +148,8 @@ fn room_line(alloc: Global, room: &Room) -> Result<Vec<u8>, AllocError>
 }
 
 // What a script with a clash or a `&` needs of processes, open files and descriptors.
-fn part_line(alloc: Global, behind: &Behind) -> Result<Vec<u8>, AllocError>
-    ensures { IfOk result (λ text. text.items ≡ part_text behind.now) }
+fn needs_line(alloc: Global, behind: &Behind) -> Result<Vec<u8>, AllocError>
+    ensures { IfOk result (λ text. text.items ≡ part_needs behind.now) }
 {
     let mut text = Vec::new(alloc);
     text.extend_from_slice(b"room: ".as_slice())?;
@@ -153,9 +168,39 @@ fn part_line(alloc: Global, behind: &Behind) -> Result<Vec<u8>, AllocError>
     add_need(
         alloc,
         behind.descriptors,
-        b" of 16 descriptors; the rest is not known, since a line has a clash or a &\n".as_slice(),
+        b" of 16 descriptors".as_slice(),
         &mut text,
     )?;
+    Ok(text)
+}
+
+// Adds how many files there may be, and by how much they grow, or that this isn't known.
+fn add_rest(alloc: Global, growth: &Option<Growth>, text: &mut Vec<u8>) -> Result<(), AllocError>
+    ensures { OnOk result (text.new.items ≡ rest_text text.old.items growth.now) }
+{
+    match growth {
+        Some(growth) => {
+            text.extend_from_slice(b", ".as_slice())?;
+            add_need(
+                alloc,
+                growth.files,
+                b" of 199 files, and no file grows by more than ".as_slice(),
+                text,
+            )?;
+            add_need(alloc, Some(growth.bytes), b" bytes\n".as_slice(), text)
+        }
+        None => text.extend_from_slice(
+            b"; the rest is not known, since a line has a clash or a &\n".as_slice(),
+        ),
+    }
+}
+
+// What is known of the room of a script with a clash or a `&`.
+fn part_line(alloc: Global, behind: &Behind, growth: &Option<Growth>) -> Result<Vec<u8>, AllocError>
+    ensures { IfOk result (λ text. text.items ≡ part_text behind.now growth.now) }
+{
+    let mut text = needs_line(alloc, behind)?;
+    add_rest(alloc, growth, &mut text)?;
     Ok(text)
 }
 
@@ -213,8 +258,12 @@ fn room_report(alloc: Global, found: &RoomFound) -> Result<Vec<u8>, AllocError>
             add_lack(alloc, lack, &mut text)?;
             Ok(text)
         }
-        RoomFound::Part { behind, lack } => {
-            let mut text = part_line(alloc, behind)?;
+        RoomFound::Part {
+            behind,
+            growth,
+            lack,
+        } => {
+            let mut text = part_line(alloc, behind, growth)?;
             add_lack(alloc, lack, &mut text)?;
             Ok(text)
         }
@@ -240,8 +289,7 @@ fn start_of<'a, H: Host>(
 
 /// `check --room`: reads the script, the files in order, and standard input unless that is the script, and returns what is reported
 /// of the script's lines, and then how much of xv6's tables it needs at most, whatever the order of its processes, and with which
-/// line first it may need more than there is (own), of a script with a clash or a `&` of processes, open files and descriptors alone, and
-/// with which line of processes and descriptors; and whether the lines are harmless and have room. Nothing is written.
+/// line first it may need more than there is (own), of a script with a clash or a `&` with which line of processes and descriptors alone; and whether the lines are harmless and have room. Nothing is written.
 pub fn run_room<'a, H: Host>(
     alloc: Global,
     request: &CheckRequest<'a>,

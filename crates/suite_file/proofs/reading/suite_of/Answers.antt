@@ -13,6 +13,7 @@ returns c = record {
     keys = rw (← c.of_suite.ensures) c.in_ok-check_keys.ensures.keys;
     title = text_there _ _ c.in_ok-text_at.ensures.ok;
     metadata = c.in_ok-check_keys.ensures.metadata;
+    seconds = c.in_ok-check_number.ensures.ok;
     limits = c.in_ok-limits.limits;
     says = c.in_ok-limits.ensures.ok;
     tables = _;

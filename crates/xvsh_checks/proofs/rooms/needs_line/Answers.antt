@@ -1,13 +1,13 @@
 use Rattle.std.proofs.Common.{◌++◌, codes, ap, ap₂, ◌∙◌}
 use Rattle.xvsh_checks.specs.Room.{with_need}
-use Rattle.xvsh_checks.proofs.rooms.part_line.Goals as goal
+use Rattle.xvsh_checks.proofs.rooms.needs_line.Goals as goal
 
 pub returns : goal.returns
 returns c =
     let behind = c.args.behind.now in
     c.in_ok-add_need-3.ensures
     ∙ ap (with_need c.add_need-2.new.text.items behind.descriptors) c.as_slice-4.ensures
-    ∙ ap (λ t. with_need t behind.descriptors (codes " of 16 descriptors; the rest is not known, since a line has a clash or a &\n"))
+    ∙ ap (λ t. with_need t behind.descriptors (codes " of 16 descriptors"))
     (c.in_ok-add_need-2.ensures
     ∙ ap (with_need c.add_need.new.text.items behind.entries) c.as_slice-3.ensures
     ∙ ap (λ t. with_need t behind.entries (codes " of 100 open files, "))

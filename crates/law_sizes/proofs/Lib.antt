@@ -1,0 +1,14 @@
+pub mod More
+pub mod Doings
+pub mod Later
+pub mod Giving
+pub mod Effects
+pub mod Running
+pub mod Programs
+pub mod Shells
+pub mod Keeps
+pub mod Runs
+pub mod Marked
+pub mod TooLarge
+pub mod FewFiles
+pub mod OnlyMemory

@@ -1,0 +1,5 @@
+use Rattle.closed_search.proofs.Growing.{left_of}
+use Rattle.order_search.proofs.seen.SeenSlots.find.Given as goal
+
+abbrev pub decreases-loop-found : goal.decreases-loop-found
+decreases-loop-found g l = left_of l.found

@@ -1,0 +1,5 @@
+mod Names
+mod Places
+mod Linear
+mod Parts
+mod Growths
