@@ -582,17 +582,20 @@ class Whys(Explanation):
 
 @dataclasses.dataclass(frozen=True)
 class Parting:
-    """The event, counted from 1, up to which a schedule of the first outcome and this one's are alike; what happens there, and here."""
+    """The event, counted from 1, up to which a schedule of another outcome and this one's are alike; what happens there, and here; and the
+    number of the other outcome, counted from 1: the first one, but of more than four outcomes the one whose difference from this is easiest
+    to see."""
 
     event: int
     there: str
     here: str
+    other: int = 1
 
 
 @dataclasses.dataclass(frozen=True, repr=False)
 class Outcome(Answer):
     """What runs of a script can leave; and of a script that was explored the diagnostics, what was full first, or None, a
-    schedule that leads there, and where it parts from that of the first outcome."""
+    schedule that leads there, and where it parts from that of another outcome, where that is told."""
 
     diag: bytes
     full: str | None
@@ -942,7 +945,7 @@ def _outcome_of(made: dict[str, Any]) -> Outcome:
         _bytes_of(made.get("diagnostics", "")),
         made.get("full"),
         _schedule(made["schedule"]) if "schedule" in made else None,
-        Parting(parting["event"], _text_of(parting["there"]), _text_of(parting["here"])) if parting else None,
+        Parting(parting["event"], _text_of(parting["there"]), _text_of(parting["here"]), parting["from"]) if parting else None,
     )
 
 

@@ -53,7 +53,7 @@ def outcomes(
 ) -> Outcomes:
     r"""Yields what runs of the script can leave, each outcome as soon as it is found: it explores through at most 1,000 states, and where these
     aren't enough through four times as many, and so on up to `states`. So all of it may take more than twice as long as `explore`, and the
-    first outcome comes long before; `timeout` is of each exploration. An outcome's `parting` is from the first outcome of the exploration that found it. The faults of
+    first outcome comes long before; `timeout` is of each exploration. An outcome's `parting` is from another outcome of the exploration that found it. The faults of
     `explore` come with the first outcome.
 
     >>> import xvsh

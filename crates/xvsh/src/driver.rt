@@ -175,8 +175,8 @@ fn ending_on<R: Threads + Wait + Clock + Sync, H: Host + Traces + Watch>(
 /// every order in which the script's processes can take their turns, through at most 200,000 states or N, and writes the outcomes,
 /// each with the events of a run to it, and where two of these runs part. A settled script has one output, which is written
 /// without trying, unless with `--all`, `--witness` or `--draw`. With `--witness` it writes first a schedule for each outcome to
-/// `DIR/1.schedule` and so on, which `replay` reads. With `--draw` it writes first the page of the runs to the first outcome and to
-/// the next one with another output to FILE, as `run --trace` writes a trace; no page where no outcome was found. With `--json` it
+/// `DIR/1.schedule` and so on, which `replay` reads. With `--draw` it writes first the page of the runs to the two
+/// outcomes whose difference is easiest to see to FILE, as `run --trace` writes a trace; no page where no outcome was found. With `--json` it
 /// writes one object instead, also of a fault.
 ///
 /// `draw [--from N] [--to N] TRACE [OTHER]` reads a trace that `run --trace` wrote, or two of one script, and writes a page of HTML

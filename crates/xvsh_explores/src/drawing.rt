@@ -3,19 +3,15 @@
 use crate::findings::Findings;
 use crate::request::ExploreRequest;
 use order_partings::{Scene, Way, align, events_of};
+use outcome_pairs::Pair;
 use script_outcomes::Outcome;
 use std::alloc::{AllocError, Global};
 use xvsh_draws::draw_runs;
 use xvsh_read::Start;
 
-// The place of the outcome that is drawn beside the first: the next one with another output, or else the second.
-fn other_place(outcomes: &[Outcome]) -> usize {
-    let Some(first) = outcomes.first() else {
-        return 1;
-    };
-    let out = first.out.as_slice();
-    let differs = |outcome: &Outcome| outcome.out.as_slice() != out;
-    outcomes.iter().position(differs).unwrap_or(1)
+// The places of the outcomes that are drawn: those of the pair, or of the only one.
+fn drawn_pair(findings: &Findings) -> Pair {
+    findings.pair.unwrap_or(Pair { first: 0, other: 1 })
 }
 
 // The way to the outcome at this place.
@@ -38,26 +34,28 @@ fn way_at<'o>(
     }))
 }
 
-// The ways to the first outcome, if one was found, and to the one with this place.
+// The ways to the outcomes of a pair, as far as they were found.
 fn two_ways<'o>(
     alloc: Global,
     outcomes: &'o [Outcome],
     findings: &Findings,
-    place: usize,
+    pair: Pair,
 ) -> Result<Vec<Way<'o>>, AllocError> {
     let mut ways = Vec::new(alloc);
-    if let Some(first) = way_at(alloc, outcomes, findings, 0)? {
-        ways.push(first)?;
-    }
-    if let Some(other) = way_at(alloc, outcomes, findings, place)? {
-        ways.push(other)?;
+    for place in [pair.first, pair.other] {
+        if let Some(way) = way_at(alloc, outcomes, findings, place)? {
+            ways.push(way)?;
+        }
     }
     Ok(ways)
 }
 
-// Whether it was told where the ways to the first outcome and to the one with this place part; then they were made alike.
-fn is_parted(findings: &Findings, place: usize) -> bool {
-    matches!(findings.partings.as_slice().get(place), Some(Some(_)))
+// Whether it was told where the ways of a pair part; then they were made alike.
+fn is_parted(findings: &Findings, pair: Pair) -> bool {
+    match findings.partings.as_slice().get(pair.other) {
+        Some(Some(told)) => told.from == pair.first,
+        _ => false,
+    }
 }
 
 // The page of the run by a way, or with another of both runs.
@@ -97,8 +95,8 @@ fn page_of_ways(
     Ok(Some(page))
 }
 
-/// The page of the runs to the first outcome and to the next one with another output, or with other files or diagnostics where
-/// all have one output, or of the run to the only one; `None` where no page is asked for, or no outcome was found.
+/// The page of the runs to the two outcomes whose difference is easiest to see, or of the run to the only one; `None` where no page is
+/// asked for, or no outcome was found.
 pub fn page_of(
     alloc: Global,
     start: &Start,
@@ -109,12 +107,7 @@ pub fn page_of(
     if request.draw.is_none() {
         return Ok(None);
     }
-    let place = other_place(outcomes);
-    let mut ways = two_ways(alloc, outcomes, findings, place)?;
-    page_of_ways(
-        alloc,
-        start,
-        is_parted(findings, place),
-        ways.as_mut_slice(),
-    )
+    let pair = drawn_pair(findings);
+    let mut ways = two_ways(alloc, outcomes, findings, pair)?;
+    page_of_ways(alloc, start, is_parted(findings, pair), ways.as_mut_slice())
 }

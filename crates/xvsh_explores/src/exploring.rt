@@ -25,7 +25,7 @@ pub struct Explored {
     pub text: Vec<u8>,
     /// Where a folder for schedules was given, one of each outcome, as text, in the order of their numbers; else none.
     pub schedules: Vec<Vec<u8>>,
-    /// Where a page is asked for and an outcome was found, the page of the first output and the next one.
+    /// Where a page is asked for and an outcome was found, the page of the two outcomes whose difference is easiest to see.
     pub page: Option<Vec<u8>>,
 }
 

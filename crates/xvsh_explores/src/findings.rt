@@ -2,20 +2,31 @@
 
 use crate::request::ExploreRequest;
 use order_partings::{Parting, Scene, Way, align, events_of, part};
+use outcome_pairs::{Pair, clearest_pair};
 use schedule_lines::schedule_text;
 use script_outcomes::Outcome;
 use std::alloc::{AllocError, Global};
+
+/// Where the schedules of two outcomes part.
+#[derive(Drop)]
+pub struct Told {
+    /// The place of the first of the two.
+    pub from: usize,
+    pub parting: Parting,
+}
 
 /// How the outcomes are reached, in their order.
 #[derive(Drop)]
 pub struct Findings {
     /// A schedule of each: the processes in the order of their turns.
     pub ways: Vec<Vec<u8>>,
-    /// Where the schedule of the first and that of each part, where that is told.
-    pub partings: Vec<Option<Parting>>,
+    /// Where the schedule of each and that of one before it part, where that is told.
+    pub partings: Vec<Option<Told>>,
+    /// The two whose difference is easiest to see, if there are two.
+    pub pair: Option<Pair>,
 }
 
-// Of how many outcomes each is told apart from the first; of more only the last is.
+// Of so many outcomes each is told apart from the first; of more only the two whose difference is easiest to see are.
 const MOST_PARTED: usize = 4;
 
 // The way to an outcome that was found.
@@ -38,32 +49,66 @@ fn ways_to<'o>(alloc: Global, outcomes: &'o [Outcome]) -> Result<Vec<Way<'o>>, A
     Ok(ways)
 }
 
-// Makes the ways that are told apart alike, and returns where each and the first part.
+// Where the ways to two outcomes part, of which the first has this place.
+fn told_of(
+    alloc: Global,
+    scene: &Scene<'_>,
+    (from, one): (usize, &Way<'_>),
+    other: &Way<'_>,
+) -> Result<Option<Told>, AllocError> {
+    let parting = part(alloc, scene, one.pids.as_slice(), other.pids.as_slice())?;
+    Ok(parting.map(|parting| Told { from, parting }))
+}
+
+// Makes all ways alike, and returns where each and the first part.
 fn part_all(
     alloc: Global,
     scene: &Scene<'_>,
     ways: &mut [Way<'_>],
-) -> Result<Vec<Option<Parting>>, AllocError> {
+) -> Result<Vec<Option<Told>>, AllocError> {
     let mut partings = Vec::new(alloc);
     let Some((first, others)) = ways.split_first_mut() else {
         return Ok(partings);
     };
-    let untold = if others.len() < MOST_PARTED {
-        0
-    } else {
-        others.len() - 1
-    };
-    align(alloc, scene, first, &mut others[untold..])?;
+    align(alloc, scene, first, &mut others[0..])?;
     partings.push(None)?;
-    for (i, other) in others.iter().enumerate() {
-        if i < untold {
-            partings.push(None)?;
-        } else {
-            let (one, other) = (first.pids.as_slice(), other.pids.as_slice());
-            partings.push(part(alloc, scene, one, other)?)?;
-        }
+    for other in others.iter() {
+        partings.push(told_of(alloc, scene, (0, first), other)?)?;
     }
     Ok(partings)
+}
+
+// Makes the ways of a pair alike, and returns where they part, with nothing of the others.
+fn part_pair(
+    alloc: Global,
+    scene: &Scene<'_>,
+    ways: &mut [Way<'_>],
+    pair: Pair,
+) -> Result<Vec<Option<Told>>, AllocError> {
+    let mut partings = Vec::new(alloc);
+    for _way in 0..ways.len().min(pair.other) {
+        partings.push(None)?;
+    }
+    let (before, from_other) = ways.split_at_mut(pair.other.min(ways.len()));
+    let (Some(one), Some(_)) = (before.get_mut(pair.first), from_other.first()) else {
+        return Ok(partings);
+    };
+    align(alloc, scene, one, &mut from_other[..1])?;
+    partings.push(told_of(alloc, scene, (pair.first, one), &from_other[0])?)?;
+    Ok(partings)
+}
+
+// Makes ways alike, and returns where they part: all and the first, or of many those of the pair.
+fn part_some(
+    alloc: Global,
+    scene: &Scene<'_>,
+    ways: &mut [Way<'_>],
+    pair: Option<Pair>,
+) -> Result<Vec<Option<Told>>, AllocError> {
+    match pair {
+        Some(pair) if ways.len() > MOST_PARTED => part_pair(alloc, scene, ways, pair),
+        _ => part_all(alloc, scene, ways),
+    }
 }
 
 /// A schedule of each outcome, and where these part.
@@ -73,12 +118,17 @@ pub fn findings_of(
     outcomes: &[Outcome],
 ) -> Result<Findings, AllocError> {
     let mut found = ways_to(alloc, outcomes)?;
-    let partings = part_all(alloc, scene, found.as_mut_slice())?;
+    let pair = clearest_pair(outcomes);
+    let partings = part_some(alloc, scene, found.as_mut_slice(), pair)?;
     let mut ways = Vec::new(alloc);
     for way in found {
         ways.push(way.pids)?;
     }
-    Ok(Findings { ways, partings })
+    Ok(Findings {
+        ways,
+        partings,
+        pair,
+    })
 }
 
 /// The schedule of each outcome as text, where the request asks for them; else none.

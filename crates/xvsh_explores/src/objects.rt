@@ -1,7 +1,6 @@
 //! What was found as one object of JSON.
 
-use crate::findings::Findings;
-use order_partings::Parting;
+use crate::findings::{Findings, Told};
 use plain_run::Plain;
 use result_json::{begin_result, full_word, write_files};
 use script_outcomes::{Conclusion, Outcome, Tried};
@@ -27,10 +26,11 @@ fn write_pids(line: &mut Line, key: &str, pids: &[u8]) -> Result<(), AllocError>
     line.end_list()
 }
 
-// Where the schedule of the first outcome and this one part.
-fn write_parting(line: &mut Line, parting: &Parting) -> Result<(), AllocError> {
+// Where the schedule of an outcome before this one and its own part.
+fn write_parting(line: &mut Line, told: &Told) -> Result<(), AllocError> {
+    let parting = &told.parting;
     line.begin_object("parting")?;
-    line.count("from", 1)?;
+    line.count("from", (told.from as u64).saturating_add(1))?;
     line.count("event", parting.event as u64)?;
     line.bytes("there", parting.one.as_slice())?;
     line.bytes("here", parting.other.as_slice())?;
@@ -42,7 +42,7 @@ fn write_outcome(
     number: usize,
     outcome: &Outcome,
     pids: &[u8],
-    parting: Option<&Parting>,
+    told: Option<&Told>,
 ) -> Result<(), AllocError> {
     line.begin_raw_object()?;
     line.count("number", number as u64)?;
@@ -54,8 +54,8 @@ fn write_outcome(
     }
     line.count("events", (pids.len() as u64).saturating_mul(2))?;
     write_pids(line, "schedule", pids)?;
-    if let Some(parting) = parting {
-        write_parting(line, parting)?;
+    if let Some(told) = told {
+        write_parting(line, told)?;
     }
     line.end_object()
 }
@@ -71,11 +71,11 @@ fn write_outcomes(
             Some(pids) => pids.as_slice(),
             None => &[],
         };
-        let parting = match findings.partings.as_slice().get(i) {
-            Some(Some(parting)) => Some(parting),
+        let told = match findings.partings.as_slice().get(i) {
+            Some(Some(told)) => Some(told),
             _ => None,
         };
-        write_outcome(line, i.saturating_add(1), outcome, pids, parting)?;
+        write_outcome(line, i.saturating_add(1), outcome, pids, told)?;
     }
     line.end_list()
 }

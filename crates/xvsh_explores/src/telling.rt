@@ -1,7 +1,7 @@
 //! What is printed of an exploration.
 
 use crate::escaping::{add_bytes, add_escaped};
-use crate::findings::Findings;
+use crate::findings::{Findings, Told};
 use crate::replays::add_replay;
 use crate::request::ExploreRequest;
 use result_json::full_word;
@@ -127,18 +127,28 @@ fn add_outcomes(
     Ok(())
 }
 
-// A line for each place at which the schedule of the first outcome and that of another part.
+// Where the schedules of two outcomes part, the second one with this number.
+fn add_parting(
+    alloc: Global,
+    text: &mut Vec<u8>,
+    number: usize,
+    told: &Told,
+) -> Result<(), AllocError> {
+    let from = told.from.saturating_add(1);
+    let event = told.parting.event;
+    let begin = format!(in alloc; "{from} and {number} part at event {event}: ")?;
+    text.extend_from_slice(begin.as_bytes())?;
+    add_escaped(text, told.parting.one.as_slice())?;
+    text.extend_from_slice(b", or ".as_slice())?;
+    add_escaped(text, told.parting.other.as_slice())?;
+    text.extend_from_slice(b" first\n".as_slice())
+}
+
+// A line for each place at which the schedules of two outcomes part.
 fn add_partings(alloc: Global, text: &mut Vec<u8>, findings: &Findings) -> Result<(), AllocError> {
     for (i, found) in findings.partings.iter().enumerate() {
-        if let Some(parting) = found {
-            let number = i.saturating_add(1);
-            let event = parting.event;
-            let begin = format!(in alloc; "1 and {number} part at event {event}: ")?;
-            text.extend_from_slice(begin.as_bytes())?;
-            add_escaped(text, parting.one.as_slice())?;
-            text.extend_from_slice(b", or ".as_slice())?;
-            add_escaped(text, parting.other.as_slice())?;
-            text.extend_from_slice(b" first\n".as_slice())?;
+        if let Some(told) = found {
+            add_parting(alloc, text, i.saturating_add(1), told)?;
         }
     }
     Ok(())
@@ -158,8 +168,8 @@ fn add_stuck(alloc: Global, text: &mut Vec<u8>, tried: &Tried) -> Result<(), All
 
 /// The text of an exploration: a line on how many outputs there are and whether every order was tried, and then a line an
 /// outcome, with the events of a run to it, and one for what was full in it. Where outcomes differ in more than the
-/// output, each has its files and its diagnostics below it. Then comes where the schedule of the first outcome
-/// and those of others part, and, where schedules are written, how to replay one. Bytes that aren't printable ASCII are shown by
+/// output, each has its files and its diagnostics below it. Then comes where the schedules of two outcomes part: of the first and of
+/// each other one, or of many outcomes those of the two whose difference is easiest to see; and, where schedules are written, how to replay one. Bytes that aren't printable ASCII are shown by
 /// their escapes.
 pub fn told(
     alloc: Global,

@@ -432,7 +432,7 @@ const WITNESS_HELP: &str =
     "Write a schedule for each outcome to DIR/1.schedule and so on, for `xvsh replay`";
 
 const DRAW_HELP: &str =
-    "Write a page of HTML that draws runs to the first two outputs to FILE; for `-` to standard output, and nothing else there";
+    "Write a page of HTML that draws runs to two outcomes to FILE; for `-` to standard output, and nothing else there";
 
 const EXPLORED_JSON_HELP: &str = "Write one object of JSON";
 

@@ -1,0 +1,2 @@
+pub mod Contrast
+pub mod Pairs
