@@ -161,6 +161,7 @@ fn help_ending(alloc: Global, text: String) -> Ending
         recording: None,
         left: None,
         hint: "",
+        bad: Vec::new(alloc),
     }
 }
 
