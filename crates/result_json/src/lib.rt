@@ -2,7 +2,6 @@
 #![tactic(auto)]
 
 mod check;
-mod dead;
 mod explain;
 mod faults;
 mod files;
@@ -18,5 +17,5 @@ pub use faults::{FaultPlace, FaultValues, fault_result, told_fault_result};
 pub use files::write_files;
 pub use head::begin_result;
 pub use plain::plain_result;
-pub use run::{RunValues, Verdict, run_result};
+pub use run::{RunValues, Verdict, run_result, write_dead};
 pub use words::full_word;

@@ -1,10 +1,10 @@
 //! The result of a run by processes.
 
-use crate::dead::is_dead;
 use crate::files::write_files;
 use crate::head::begin_result;
 use crate::reasons::write_reasons;
 use crate::words::full_word;
+use dead_lines::dead_lines;
 use kernel_model::{Event, Full};
 use mem_files::Files;
 use plain_run::Reason;
@@ -88,13 +88,11 @@ fn write_full(line: &mut Line, full: Option<Full>) -> Result<(), AllocError> {
     }
 }
 
-// The numbers of the lines that do nothing, counted from 1.
-fn write_dead(line: &mut Line, lines: &[ScriptLine<Global>]) -> Result<(), AllocError> {
+/// Adds the member `dead_lines`, the numbers of the lines that do nothing (own).
+pub fn write_dead(line: &mut Line, numbers: &[usize]) -> Result<(), AllocError> {
     line.begin_list("dead_lines")?;
-    for (place, script_line) in lines.iter().enumerate() {
-        if is_dead(script_line) {
-            line.raw_count((place as u64).saturating_add(1))?;
-        }
+    for number in numbers {
+        line.raw_count(*number as u64)?;
     }
     line.end_list()
 }
@@ -125,7 +123,8 @@ pub fn run_result(
     write_full(&mut line, values.full)?;
     line.count("events", values.schedule.len() as u64)?;
     line.count("harts", u64::from(values.harts))?;
-    write_dead(&mut line, values.lines)?;
+    let dead = dead_lines(alloc, values.lines)?;
+    write_dead(&mut line, dead.as_slice())?;
     if values.lists_events {
         write_schedule(&mut line, alloc, values.schedule)?;
     }

@@ -11,9 +11,43 @@ const MOST_WRONG: usize = 2;
 // The most bytes of a word that was meant as a name.
 const LONGEST: usize = 12;
 
-/// The name that the word was most likely meant as, if it is like one: the first of those to which the fewest changes of a letter
-/// lead, at most two, and fewer than the name has letters.
-pub fn nearest(alloc: Global, word: &[u8]) -> Result<Option<Name>, AllocError> {
+// Words for a command that others have, such as debuggers.
+const OTHERS: [(&str, Name); 7] = [
+    ("?", Name::Help),
+    ("undo", Name::Back),
+    ("exit", Name::Quit),
+    ("end", Name::Quit),
+    ("run", Name::Until),
+    ("continue", Name::Until),
+    ("ls", Name::Files),
+];
+
+// The name that others have this word for.
+fn other(word: &[u8]) -> Option<Name> {
+    for (known, name) in OTHERS {
+        if known.as_bytes() == word {
+            return Some(name);
+        }
+    }
+    None
+}
+
+// The one name that begins with the word, which isn't empty.
+fn begun(word: &[u8]) -> Option<Name> {
+    let mut found = None;
+    for name in NAMES {
+        if !word.is_empty() && name.word().as_bytes().starts_with(word) {
+            if found.is_some() {
+                return None;
+            }
+            found = Some(name);
+        }
+    }
+    found
+}
+
+// The first of the names to which the fewest changes of a letter lead, at most two, and fewer than the name has letters.
+fn like(alloc: Global, word: &[u8]) -> Result<Option<Name>, AllocError> {
     if word.len() > LONGEST {
         return Ok(None);
     }
@@ -30,4 +64,14 @@ pub fn nearest(alloc: Global, word: &[u8]) -> Result<Option<Name>, AllocError> {
         }
     }
     Ok(best)
+}
+
+/// The name that the word was most likely meant as, if it is like one (own): that of what others call so, such as `undo`; else the only one
+/// that begins so, as `back` with `b`; else the first of those to which the fewest changes of a letter lead, at most two, and fewer than
+/// the name has letters. The error is that memory was refused.
+pub fn nearest(alloc: Global, word: &[u8]) -> Result<Option<Name>, AllocError> {
+    match other(word).or(begun(word)) {
+        Some(name) => Ok(Some(name)),
+        None => like(alloc, word),
+    }
 }

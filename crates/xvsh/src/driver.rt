@@ -9,6 +9,7 @@ ghost use Rattle.xvsh_given.specs.Given.{Sight};
 use crate::parsing::parsed_words;
 use crate::request::{inputs_of, request_of};
 use clap::ArgMatches;
+use dead_lines::hints_of;
 use script_load::Profile;
 use std::alloc::{AllocError, Global};
 use std::io::Write;
@@ -140,6 +141,19 @@ fn ending_on<R: Threads + Wait + Clock + Sync, H: Host + Traces + Watch>(
     }
 }
 
+// Tells whoever sits at a terminal which lines of the script are no command, if what the ending says was written.
+fn hint_at_bad<H: Hints>(alloc: Global, ending: &Ending, status: u8, host: &mut H) {
+    if status != ending.status {
+        return;
+    }
+    let Ok(hints) = hints_of(alloc, ending.bad.as_slice()) else {
+        return;
+    };
+    for hint in &hints {
+        host.hint(hint.as_str());
+    }
+}
+
 /// Runs the program on these words, its own name not among them, and returns the status with which it ends. Own, except what
 /// a script's commands do, which is as xv6's `sh.c`, kernel and programs do it.
 ///
@@ -187,7 +201,7 @@ fn ending_on<R: Threads + Wait + Clock + Sync, H: Host + Traces + Watch>(
 /// `/dev/stdin`. A FILE that can't be read is a fault as above.
 ///
 /// A fault goes to standard error as one line, but with `--json`, and then nothing of the script was written. The host is told
-/// what helps then, which it may show on a terminal. The status is 1 for what can't be
+/// what helps then, which it may show on a terminal; and once a text on a run was written, which of the script's lines are no command. The status is 1 for what can't be
 /// read or is refused, and for a schedule that is not of a finished run; 2 for words that are no command line; 3 where `check`
 /// reported a clash or a `&`, or `explain` told of anything, or `explore` found more than one output or set of files, or as above; 4 for an
 /// exploration that didn't try every order, and for a run that is too large, is past its turns, is out of
@@ -209,5 +223,6 @@ pub fn drive<
     let ending = ending_on(rt, alloc, words, &mut console.host);
     let status = write_ending(&ending, &mut console.out, &mut console.err);
     console.host.hint(hint_of(&ending, status));
+    hint_at_bad(alloc, &ending, status, &mut console.host);
     status
 }

@@ -17,6 +17,7 @@ ghost use Rattle.xvsh.specs.Parsing.{IsParse, IsUnparsed, are_apart, are_given, 
 use clap::error::ErrorKind;
 use clap::parser::ValueSource;
 use clap::{ArgMatches, Command};
+use memchr::memmem;
 use sh_lexer::Bytes;
 use std::alloc::{AllocError, Global};
 use xvsh_ends::{
@@ -122,25 +123,51 @@ fn are_apart(matches: &ArgMatches<'_>) -> bool
     }
 }
 
-// What is reported of a word that is no command.
-const TIP: &str =
+// How `clap` begins what it says of a word that is like a command.
+const CLAP_TIP: &str = "\n  tip: ";
+
+// What is said last of such a word.
+const LIKE_TIP: &str =
     "\n`xvsh plain SCRIPT` runs the script at a path, and `xvsh run SCRIPT` by its processes.\n";
+
+// What is said first of the word `help`, which is no command.
+const HELP_TIP: &str =
+    "`xvsh --help` shows the help, and `xvsh COMMAND --help` that of a command\n\n";
 
 // What is reported of words that conflict, where nothing else is.
 const CONFLICT: &str = "error: some of these words can't stand beside each other\n";
 
-// The text of an error.
-fn text_of(alloc: Global, error: &clap::Error) -> Result<String, AllocError> {
-    let is_unknown = error.kind() == ErrorKind::InvalidSubcommand;
-    let tip = if is_unknown { TIP } else { "" };
-    format!(in alloc; "{error}{tip}")
+// What is said first of a word that is no command, nor like one, and may be the path of a script.
+fn tip_of(alloc: Global, word: &str) -> Result<String, AllocError> {
+    if word == "help" {
+        return String::from_str(alloc, HELP_TIP);
+    }
+    format!(in alloc;
+        "`xvsh plain {word}` runs the script at the path {word}, and `xvsh run {word}` by its processes\n\n"
+    )
+}
+
+// The text of an error of these words, of which the first may be no command.
+fn text_of(alloc: Global, words: &[String], error: &clap::Error) -> Result<String, AllocError> {
+    let text = format!(in alloc; "{error}")?;
+    let Some(word) = words.first() else {
+        return Ok(text);
+    };
+    if error.kind() != ErrorKind::InvalidSubcommand {
+        return Ok(text);
+    }
+    if memmem::find(text.as_bytes(), CLAP_TIP.as_bytes()).is_some() {
+        return format!(in alloc; "{text}{LIKE_TIP}");
+    }
+    let tip = tip_of(alloc, word.as_str())?;
+    format!(in alloc; "{tip}{text}")
 }
 
 // What is wrong with the words.
 fn told_of(alloc: Global, words: &[String]) -> Result<String, AllocError> {
     let command = own_command_line(alloc, true)?;
     match command.try_get_matches_from(words) {
-        Err(error) => text_of(alloc, &error),
+        Err(error) => text_of(alloc, words, &error),
         Ok(_matches) => String::from_str(alloc, CONFLICT),
     }
 }
@@ -161,6 +188,7 @@ fn help_ending(alloc: Global, text: String) -> Ending
         recording: None,
         left: None,
         hint: "",
+        bad: Vec::new(alloc),
     }
 }
 
@@ -182,7 +210,7 @@ fn error_ending(alloc: Global, words: &[String], error: &clap::Error) -> Ending
     match error.kind() {
         ErrorKind::OutOfMemory => report_no_memory(alloc),
         ErrorKind::DisplayHelp | ErrorKind::DisplayVersion => {
-            match text_of(alloc, error) {
+            match text_of(alloc, words, error) {
                 Ok(text) => help_ending(alloc, text),
                 Err(_) => report_no_memory(alloc),
             }

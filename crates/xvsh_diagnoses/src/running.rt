@@ -3,9 +3,12 @@ ghost use Rattle.std.specs.Prelude.{◌≡◌, [], IfOk, IfErr, map, true, false
 ghost use Rattle.mem_files.specs.Files.{files};
 ghost use Rattle.script_load.specs.Line.{lines_of};
 ghost use Rattle.reason_sentences.specs.Sentences.{first_text, reason_text};
+ghost use Rattle.dead_lines.specs.Dead.{bad_lines};
+ghost use Rattle.xvsh_plain.specs.Dead.{AreBadAt};
 ghost use Rattle.xvsh_plain.specs.Running.{IsMeaningFault, IsPlainRefusal};
 ghost use Rattle.xvsh_diagnoses.specs.Running.{DidDiagnose, IsDiagnosed};
 
+use dead_lines::bad_lines;
 use known_diagnostics::{Diagnostics, STATES, diagnostics_of};
 use plain_run::Reason;
 use reason_sentences::first_reason;
@@ -46,13 +49,15 @@ fn diagnose<'a>(
 ) -> Result<DiagnosedRun, Fault<'a>>
     ensures gives { IfOk result (IsDiagnosed start.now.script.profile (lines_of start.now.script.lines) start.now.stdin.items start.now.files lists_files is_strict) }
     ensures err { IfOk result (λ diagnosed. diagnosed.run.output.err.items ≡ []) }
+    ensures bad { IfOk result (λ diagnosed. diagnosed.run.bad.items ≡ bad_lines (lines_of start.now.script.lines)) }
     ensures fault { IfErr result (IsMeaningFault start.now.script.profile (lines_of start.now.script.lines) start.now.stdin.items (files start.now.files)) }
 {
     let stdin = start.stdin.as_slice();
     let reasoned = reason_script(alloc, &start.script, stdin, &start.files)?;
     let known = diagnostics_of(alloc, &start.script, stdin, &start.files, STATES)?;
     let why = why_if(alloc, reasoned.reasons.as_slice(), is_strict)?;
-    let run = printed(alloc, reasoned.plain, lists_files)?;
+    let bad = bad_lines(alloc, start.script.lines.as_slice())?;
+    let run = printed(alloc, reasoned.plain, bad, lists_files)?;
     Ok(DiagnosedRun { run, why, known })
 }
 
@@ -66,6 +71,7 @@ pub fn run_diagnosed<'a, H: Host>(
 ) -> Result<DiagnosedRun, Fault<'a>>
     ensures ran { IfOk result (DidDiagnose (H.input host.old) (H.file host.old) request.now) }
     ensures err { IfOk result (λ diagnosed. diagnosed.run.output.err.items ≡ []) }
+    ensures bad { IfOk result (λ diagnosed. AreBadAt (H.input host.old) (H.file host.old) request.now.source.script.now diagnosed.run.bad.items) }
     ensures fault { IfErr result (IsPlainRefusal (H.input host.old) (H.file host.old) request.now) }
 {
     let start = prepare(alloc, host, &request.source, false)?;

@@ -28,6 +28,7 @@ fn prints(alloc: Global, text: Vec<u8>, is_fine: bool) -> Ending
         recording: None,
         left: None,
         hint: "",
+        bad: Vec::new(alloc),
     }
 }
 

@@ -17,12 +17,14 @@ fn diagnosed(diagnosed: DiagnosedRun, is_strict: bool) -> Result<Ending, AllocEr
     ensures out { IfOk result (λ ending. out_text ending.output ≡ out_text diagnosed.run.output) }
     ensures told { IfOk result (λ ending. told_text ending ≡ diagnosed.run.output.err.items ++ (told diagnosed.known ++ (verdict_text diagnosed.run.is_settled ++ diagnosed.why.items))) }
     ensures status { IfOk result (λ ending. ending.status ≡ verdict_status is_strict diagnosed.run.is_settled) }
+    ensures bad { IfOk result (λ ending. ending.bad.items ≡ diagnosed.run.bad.items) }
 {
     let DiagnosedRun { run, why, known } = diagnosed;
     let PlainRun {
         output,
         files,
         is_settled,
+        bad,
     } = run;
     let mut output = output;
     output.err.extend_from_slice(told(&known))?;
@@ -37,6 +39,7 @@ fn diagnosed(diagnosed: DiagnosedRun, is_strict: bool) -> Result<Ending, AllocEr
         recording: None,
         left: Some(files),
         hint: "",
+        bad,
     })
 }
 

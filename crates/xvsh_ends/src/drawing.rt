@@ -25,6 +25,7 @@ fn prints(alloc: Global, page: Vec<u8>) -> Ending
         recording: None,
         left: None,
         hint: "",
+        bad: Vec::new(alloc),
     }
 }
 

@@ -35,8 +35,8 @@ impl Line {
 }
 
 /// How the program ends: what it prints, and after its diagnostics a report of its own on standard error, and the status; and
-/// what makes the run once more, where it was one by processes; the files that it leaves, where a script ran; and what helps
-/// whoever sits at a terminal, if anything does.
+/// what makes the run once more, where it was one by processes; the files that it leaves, where a script ran; and for whoever sits at
+/// a terminal what helps, if anything does, and the numbers of the script's lines that are no command, where a text tells of a run.
 #[derive(Drop)]
 pub struct Ending {
     pub output: Output,
@@ -45,6 +45,7 @@ pub struct Ending {
     pub recording: Option<Recording>,
     pub left: Option<Files<Global>>,
     pub hint: &'static str,
+    pub bad: Vec<usize>,
 }
 
 /// Nothing.
@@ -73,6 +74,7 @@ fn report_with(alloc: Global, line: Line, status: u8, hint: &'static str) -> End
         recording: None,
         left: None,
         hint,
+        bad: Vec::new(alloc),
     }
 }
 

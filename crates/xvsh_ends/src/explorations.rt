@@ -34,6 +34,7 @@ fn prints(alloc: Global, explored: Explored, conclusion: Conclusion) -> Ending
     ensures out { out_text result.output ≡ explored.text.items }
     ensures told { told_text result ≡ [] }
     ensures status { result.status ≡ explore_status conclusion }
+    ensures bad { result.bad.items ≡ explored.bad.items }
 {
     Ending {
         output: Output {
@@ -45,6 +46,7 @@ fn prints(alloc: Global, explored: Explored, conclusion: Conclusion) -> Ending
         recording: None,
         left: None,
         hint: "",
+        bad: explored.bad,
     }
 }
 

@@ -35,6 +35,7 @@ fn with_told(ending: Ending, told: Vec<u8>) -> Ending
     ensures out { out_text result.output ≡ out_text ending.output }
     ensures told { told_text result ≡ told.items }
     ensures status { result.status ≡ ending.status }
+    ensures bad { result.bad.items ≡ ending.bad.items }
 {
     let Ending {
         output,
@@ -43,6 +44,7 @@ fn with_told(ending: Ending, told: Vec<u8>) -> Ending
         recording,
         left,
         hint,
+        bad,
     } = ending;
     Ending {
         output: Output {
@@ -54,6 +56,7 @@ fn with_told(ending: Ending, told: Vec<u8>) -> Ending
         recording,
         left,
         hint,
+        bad,
     }
 }
 

@@ -59,6 +59,7 @@ fn prints(alloc: Global, object: Bytes<Global>, status: u8) -> Ending
         recording: None,
         left: None,
         hint: "",
+        bad: Vec::new(alloc),
     }
 }
 

@@ -35,6 +35,7 @@ fn settled(run: PlainRun) -> Ending
     ensures out { out_text result.output ≡ out_text run.output }
     ensures told { told_text result ≡ run.output.err.items ++ verdict_text run.is_settled }
     ensures status { result.status ≡ 0 }
+    ensures bad { result.bad.items ≡ run.bad.items }
 {
     Ending {
         output: run.output,
@@ -43,6 +44,7 @@ fn settled(run: PlainRun) -> Ending
         recording: None,
         left: Some(run.files),
         hint: "",
+        bad: run.bad,
     }
 }
 

@@ -35,6 +35,7 @@ pub(crate) fn ran(run: Run, status: u8) -> Ending
     ensures out { out_text result.output ≡ out_text run.output }
     ensures told { told_text result ≡ run.output.err.items ++ full_text run.full }
     ensures status { result.status ≡ full_status run.full status }
+    ensures bad { result.bad.items ≡ run.bad.items }
 {
     match run.full {
         Some(full) => Ending {
@@ -44,6 +45,7 @@ pub(crate) fn ran(run: Run, status: u8) -> Ending
             recording: Some(run.recording),
             left: Some(run.files),
             hint: "",
+            bad: run.bad,
         },
         None => Ending {
             output: run.output,
@@ -52,6 +54,7 @@ pub(crate) fn ran(run: Run, status: u8) -> Ending
             recording: Some(run.recording),
             left: Some(run.files),
             hint: "",
+            bad: run.bad,
         },
     }
 }

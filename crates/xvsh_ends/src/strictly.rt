@@ -16,12 +16,14 @@ fn told(told: ToldRun) -> Result<Ending, AllocError>
     ensures out { IfOk result (λ ending. out_text ending.output ≡ out_text told.run.output) }
     ensures told { IfOk result (λ ending. told_text ending ≡ told.run.output.err.items ++ (verdict_text told.run.is_settled ++ told.why.items)) }
     ensures status { IfOk result (λ ending. ending.status ≡ verdict_status true told.run.is_settled) }
+    ensures bad { IfOk result (λ ending. ending.bad.items ≡ told.run.bad.items) }
 {
     let ToldRun { run, why } = told;
     let PlainRun {
         output,
         files,
         is_settled,
+        bad,
     } = run;
     let mut output = output;
     output
@@ -35,6 +37,7 @@ fn told(told: ToldRun) -> Result<Ending, AllocError>
         recording: None,
         left: Some(files),
         hint: "",
+        bad,
     })
 }
 

@@ -17,6 +17,7 @@ pub(crate) fn beside(alloc: Global, ending: Ending, path: &str) -> Ending
     ensures out { out_text result.output ≡ beside_trace path.now (out_text ending.output) }
     ensures told { told_text result ≡ told_text ending }
     ensures status { result.status ≡ ending.status }
+    ensures bad { result.bad.items ≡ ending.bad.items }
 {
     if path != STDIN {
         return ending;
@@ -28,6 +29,7 @@ pub(crate) fn beside(alloc: Global, ending: Ending, path: &str) -> Ending
         recording,
         left,
         hint,
+        bad,
     } = ending;
     Ending {
         output: Output {
@@ -39,6 +41,7 @@ pub(crate) fn beside(alloc: Global, ending: Ending, path: &str) -> Ending
         recording,
         left,
         hint,
+        bad,
     }
 }
 

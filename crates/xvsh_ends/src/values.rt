@@ -28,6 +28,7 @@ fn print_alone(alloc: Global, text: Vec<u8>, status: u8) -> Ending
         recording: None,
         left: None,
         hint: "",
+        bad: Vec::new(alloc),
     }
 }
 
@@ -59,9 +60,10 @@ pub fn plain_json<H: Host>(alloc: Global, request: &PlainRequest<'_>, host: &mut
 {
     match run_reasoned(alloc, request, host) {
         Ok(run) => {
-            let status = verdict_status(request.is_strict, run.plain.settled);
-            let made = plain_result(alloc, &run, status);
-            leaving(print_made(alloc, made, status), run.plain.files)
+            let reasoned = run.reasoned;
+            let status = verdict_status(request.is_strict, reasoned.plain.settled);
+            let made = plain_result(alloc, &reasoned, run.dead.as_slice(), status);
+            leaving(print_made(alloc, made, status), reasoned.plain.files)
         }
         Err(fault) => {
             let made = fault_result(alloc, "plain", fault);

@@ -1,7 +1,9 @@
 //! What `explore` does: it reads a script, its files and its input, finds what the script can leave, and returns what is shown of it.
 ghost use Rattle.std.specs.Prelude.{◌≡◌, ◌⊎◌, IfOk, IfErr, false};
 ghost use Rattle.script_load.specs.Line.{lines_of};
+ghost use Rattle.dead_lines.specs.Dead.{bad_lines};
 ghost use Rattle.script_outcomes.specs.Found.{IsFound};
+ghost use Rattle.xvsh_plain.specs.Dead.{AreBadAt};
 ghost use Rattle.xvsh_explores.specs.Explores.{IsExploreFault, RanExplore};
 ghost use Rattle.xvsh_read.specs.declared.fault.Fault.TheVariants.{Memory, TooLarge};
 
@@ -10,6 +12,7 @@ use crate::findings::{Findings, findings_of, schedules_of};
 use crate::objects::{object_of, object_of_settled};
 use crate::request::ExploreRequest;
 use crate::telling::{told, told_settled};
+use dead_lines::{bad_lines, dead_lines};
 use order_partings::Scene;
 use plain_run::Plain;
 use script_outcomes::{ExploreFault, Found, Limits, Setting, Tried, Watch, concluded, outcomes_of};
@@ -27,6 +30,8 @@ pub struct Explored {
     pub schedules: Vec<Vec<u8>>,
     /// Where a page is asked for and an outcome was found, the page of the two outcomes whose difference is easiest to see.
     pub page: Option<Vec<u8>>,
+    /// The numbers, from 1, of the script's lines that are no command.
+    pub bad: Vec<usize>,
 }
 
 // What is shown of what was found.
@@ -40,26 +45,41 @@ struct Shown {
 // The text or the object of a settled script.
 fn text_of_settled(
     alloc: Global,
+    start: &Start,
     request: &ExploreRequest<'_>,
     value: &Plain<Global>,
 ) -> Result<Vec<u8>, AllocError> {
     if request.is_json {
-        object_of_settled(alloc, value)
+        let dead = dead_lines(alloc, start.script.lines.as_slice())?;
+        object_of_settled(alloc, value, dead.as_slice())
     } else {
         told_settled(alloc, value.out.as_slice())
     }
 }
 
+// What trying orders found: the whole, its outcomes, and how they are reached.
+#[derive(Clone, Copy)]
+struct Finds<'f> {
+    found: &'f Found,
+    tried: &'f Tried,
+    findings: &'f Findings,
+}
+
 // The text or the object of what trying orders found.
 fn text_of(
     alloc: Global,
+    start: &Start,
     request: &ExploreRequest<'_>,
-    found: &Found,
-    tried: &Tried,
-    findings: &Findings,
+    finds: Finds<'_>,
 ) -> Result<Vec<u8>, AllocError> {
+    let Finds {
+        found,
+        tried,
+        findings,
+    } = finds;
     if request.is_json {
-        object_of(alloc, tried, findings, concluded(found))
+        let dead = dead_lines(alloc, start.script.lines.as_slice())?;
+        object_of(alloc, tried, findings, concluded(found), dead.as_slice())
     } else {
         told(alloc, request, tried, findings)
     }
@@ -75,7 +95,7 @@ fn show(
     let tried = match found {
         Found::Settled(value) => {
             return Ok(Shown {
-                text: text_of_settled(alloc, request, value)?,
+                text: text_of_settled(alloc, start, request, value)?,
                 schedules: Vec::new(alloc),
                 page: None,
             });
@@ -89,8 +109,13 @@ fn show(
     };
     let outcomes = tried.found.outcomes.as_slice();
     let findings = findings_of(alloc, &scene, outcomes)?;
+    let finds = Finds {
+        found,
+        tried,
+        findings: &findings,
+    };
     Ok(Shown {
-        text: text_of(alloc, request, found, tried, &findings)?,
+        text: text_of(alloc, start, request, finds)?,
         schedules: schedules_of(alloc, request, &findings)?,
         page: page_of(alloc, start, request, outcomes, &findings)?,
     })
@@ -138,6 +163,7 @@ pub fn explore_start<'a, W: Watch>(
     watch: &mut W,
 ) -> Result<Explored, Fault<'a>>
     ensures found { IfOk result (λ explored. IsFound start.now.script.profile (lines_of start.now.script.lines) start.now.stdin.items start.now.files request.now.states request.now.is_thorough explored.found) }
+    ensures bad { IfOk result (λ explored. explored.bad.items ≡ bad_lines (lines_of start.now.script.lines)) }
     ensures fault { IfErr result (λ fault. (fault ≡ Memory) ⊎ (fault ≡ TooLarge)) }
 {
     let found = find(alloc, start, request, watch)?;
@@ -146,11 +172,13 @@ pub fn explore_start<'a, W: Watch>(
         schedules,
         page,
     } = show(alloc, start, request, &found)?;
+    let bad = bad_lines(alloc, start.script.lines.as_slice())?;
     Ok(Explored {
         found,
         text,
         schedules,
         page,
+        bad,
     })
 }
 
@@ -166,6 +194,7 @@ pub fn run_explore<'a, H: Host + Watch>(
     host: &mut H,
 ) -> Result<Explored, Fault<'a>>
     ensures ran { IfOk result (λ explored. RanExplore (H.input host.old) (H.file host.old) request.now.source.profile request.now.source.script.now request.now.source.files.now request.now.states request.now.is_thorough explored.found) }
+    ensures bad { IfOk result (λ explored. AreBadAt (H.input host.old) (H.file host.old) request.now.source.script.now explored.bad.items) }
     ensures fault { IfErr result (IsExploreFault (H.input host.old) (H.file host.old) request.now.source.script.now request.now.source.files.now) }
 {
     let start = prepare(alloc, host, &request.source, false)?;

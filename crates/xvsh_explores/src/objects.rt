@@ -2,7 +2,7 @@
 
 use crate::findings::{Findings, Told};
 use plain_run::Plain;
-use result_json::{begin_result, full_word, write_files};
+use result_json::{begin_result, full_word, write_dead, write_files};
 use script_outcomes::{Conclusion, Outcome, Tried};
 use std::alloc::{AllocError, Global};
 use trace_lines::Line;
@@ -80,12 +80,13 @@ fn write_outcomes(
     line.end_list()
 }
 
-/// The object of what trying orders found, with this conclusion, and LF.
+/// The object of what trying orders found, with this conclusion and the numbers of the script's lines that do nothing, and LF.
 pub fn object_of(
     alloc: Global,
     tried: &Tried,
     findings: &Findings,
     conclusion: Conclusion,
+    dead: &[usize],
 ) -> Result<Vec<u8>, AllocError> {
     let (status, code) = status_of(conclusion);
     let found = &tried.found;
@@ -98,11 +99,17 @@ pub fn object_of(
         None => line.nothing("stuck")?,
     }
     write_outcomes(&mut line, found.outcomes.as_slice(), findings)?;
+    write_dead(&mut line, dead)?;
     line.end()
 }
 
-/// The object of a settled script, whose output and files are the same in every order, and LF.
-pub fn object_of_settled(alloc: Global, value: &Plain<Global>) -> Result<Vec<u8>, AllocError> {
+/// The object of a settled script, whose output and files are the same in every order, with the numbers of its lines that do
+/// nothing, and LF.
+pub fn object_of_settled(
+    alloc: Global,
+    value: &Plain<Global>,
+    dead: &[usize],
+) -> Result<Vec<u8>, AllocError> {
     let mut line = begin_result(alloc, "explore", "settled", 0)?;
     line.count("states", 0)?;
     line.count("runs", 0)?;
@@ -115,5 +122,6 @@ pub fn object_of_settled(alloc: Global, value: &Plain<Global>) -> Result<Vec<u8>
     write_files(&mut line, &value.files, None)?;
     line.end_object()?;
     line.end_list()?;
+    write_dead(&mut line, dead)?;
     line.end()
 }

@@ -1,3 +1,4 @@
 pub mod Running
+pub mod Dead
 pub mod Reasoned
 pub mod Strict

@@ -7,7 +7,7 @@ mod running;
 mod strict;
 mod verdict;
 
-pub use reasoned::{reason_script, run_reasoned};
+pub use reasoned::{ReasonedRun, reason_script, run_reasoned};
 pub use request::PlainRequest;
 pub use running::{PlainRun, of_plain, run_plain};
 pub use strict::{ToldRun, printed, run_told};

@@ -4,10 +4,13 @@ ghost use Rattle.mem_files.specs.Files.{files};
 ghost use Rattle.script_load.specs.Line.{lines_of};
 ghost use Rattle.meaning_model.specs.Meaning.{script_meaning};
 ghost use Rattle.meaning_model.specs.Settled.{IsSettledScript};
+ghost use Rattle.dead_lines.specs.Dead.{bad_lines};
+ghost use Rattle.xvsh_plain.specs.Dead.{AreBadAt};
 ghost use Rattle.xvsh_plain.specs.Running.{of_plain, IsRunText, IsMeaningFault, DidPlain, IsPlainRefusal};
 ghost use Rattle.xvsh_read.specs.Writing.{out_text};
 
 use crate::request::PlainRequest;
+use dead_lines::bad_lines;
 use mem_files::Files;
 use mem_files::laws::are_files;
 use plain_run::{PlainFault, plain};
@@ -34,6 +37,8 @@ pub struct PlainRun {
     pub files: Files<Global>,
     /// Whether its script is settled.
     pub is_settled: bool,
+    /// The numbers, from 1, of the script's lines that are no command.
+    pub bad: Vec<usize>,
 }
 
 // Runs a script, and lists all files if that is requested.
@@ -47,6 +52,7 @@ fn run_script<'a>(
     ensures settled { IfOk result (λ run. IsTrue run.is_settled ↔ IsSettledScript script.now.profile (lines_of script.now.lines) stdin.now (files given.now)) }
     ensures meaning { IfOk result (λ run. IsRunText lists_files (script_meaning script.now.profile (lines_of script.now.lines) stdin.now (files given.now)) (out_text run.output)) }
     ensures err { IfOk result (λ run. run.output.err.items ≡ []) }
+    ensures bad { IfOk result (λ run. run.bad.items ≡ bad_lines (lines_of script.now.lines)) }
     ensures run { IfErr result (IsMeaningFault script.now.profile (lines_of script.now.lines) stdin.now (files given.now)) }
 {
     let outcome = match plain(alloc, script, stdin, given) {
@@ -59,6 +65,7 @@ fn run_script<'a>(
     } else {
         Vec::new(alloc)
     };
+    let bad = bad_lines(alloc, script.lines.as_slice())?;
     Ok(PlainRun {
         output: Output {
             out: outcome.out,
@@ -68,11 +75,12 @@ fn run_script<'a>(
         },
         files: outcome.files,
         is_settled: outcome.settled,
+        bad,
     })
 }
 
 /// `plain`: reads the script, the files in order, and standard input unless that is the script, and runs the script by its
-/// meaning. Returns its output with, if requested, the list of all files, and whether the script is settled. Nothing is written.
+/// meaning. Returns its output with, if requested, the list of all files, and whether the script is settled and which of its lines are no command. Nothing is written.
 pub fn run_plain<'a, H: Host>(
     alloc: Global,
     request: &PlainRequest<'a>,
@@ -80,6 +88,7 @@ pub fn run_plain<'a, H: Host>(
 ) -> Result<PlainRun, Fault<'a>>
     ensures ran { IfOk result (λ run. DidPlain (H.input host.old) (H.file host.old) request.now run.is_settled (out_text run.output)) }
     ensures err { IfOk result (λ run. run.output.err.items ≡ []) }
+    ensures bad { IfOk result (λ run. AreBadAt (H.input host.old) (H.file host.old) request.now.source.script.now run.bad.items) }
     ensures fault { IfErr result (IsPlainRefusal (H.input host.old) (H.file host.old) request.now) }
 {
     let start = prepare(alloc, host, &request.source, false)?;

@@ -5,6 +5,7 @@ use Rattle.std.specs.Borrow.{Bor}
 use Rattle.mem_files.specs.Name.{Bytes}
 use Rattle.script_load.specs.declared.profile.Profile.{Profile}
 use Rattle.script_load.specs.Line.{lines_of}
+use Rattle.dead_lines.specs.Dead.{bad_lines}
 use Rattle.run_model.specs.ScriptRun.{script_kernel}
 use Rattle.xvsh_read.specs.Path.{Path}
 use Rattle.xvsh_read.specs.Starting.{Starts}
@@ -36,14 +37,15 @@ module _ (input : Option Bytes) (file : Path → Option Bytes) (profile : Profil
   prepared_ran request (Err fault) ran = tt
   prepared_ran request (Ok run) ran = prepared_one request run ran
 
-  pub prepared_values : (result : Result Run ProcessFault) → IfOk result (HasValues (kernel_of start)) → IfOk result (RanValues input file false profile script paths)
-  prepared_values (Err fault) values = tt
-  prepared_values (Ok run) values = record {
+  pub prepared_values : (result : Result Run ProcessFault) → IfOk result (HasValues (kernel_of start)) → IfOk result (λ run. run.bad.items ≡ bad_lines (lines_of start.script.lines)) → IfOk result (RanValues input file false profile script paths)
+  prepared_values (Err fault) values bad = tt
+  prepared_values (Ok run) values bad = record {
     lines = lines_of start.script.lines;
     given = start.files;
     stdin = start.stdin.items;
     starts = starts;
     values = subst (λ p. HasValues (script_kernel p (lines_of start.script.lines) start.stdin.items start.files) run) same values;
+    bad = bad;
   }
 
   pub prepared_refused : (request : RunRequest) (fault : ProcessFault) → IsRefusedFrom start request fault → IsRunFault input file profile script paths request.harts request.turns fault

@@ -7,6 +7,7 @@ use Rattle.script_load.specs.declared.profile.Profile.{Profile}
 use Rattle.script_load.specs.Line.{ScriptLine}
 use Rattle.meaning_model.specs.Meaning.{script_meaning}
 use Rattle.meaning_model.specs.Settled.{IsSettledScript}
+use Rattle.dead_lines.specs.Dead.{bad_lines}
 use Rattle.plain_run.specs.declared.reason.Reason.{Reason}
 use Rattle.plain_run.specs.Reasons.{IsReason}
 use Rattle.sh_machine.specs.State.{User}
@@ -33,13 +34,14 @@ pub record HasValues (start : KernelState User) (ran : Run) : Type 0 where
 -- what follows is by what the host states of standard input, whether or not that was taken before, and of the files at paths, of the
 -- script at a path under a profile and on the files at these paths
 module _ (input : Option Bytes) (file : Path → Option Bytes) (is_taken : Bool) (profile : Profile) (script : Path) (paths : List (Bor Path)) where
-  -- the values are those of a run of this script
+  -- the values are those of a run of this script, and these of its lines are no command
   pub record RanValues (ran : Run) : Type 0 where
     pub lines : List ScriptLine
     pub given : List (Name × Bytes)
     pub stdin : Bytes
     pub starts : Starts input file is_taken script paths lines given stdin
     pub values : HasValues (script_kernel profile lines stdin given) ran
+    pub bad : ran.bad.items ≡ bad_lines lines
 
   -- and these are the names of the files that are soft by its meaning, and the reasons why it isn't settled
   pub record RanJudged {A : _} (ran : Run) (soft : List Name) (reasons : List (Reason A)) : Type 0 where

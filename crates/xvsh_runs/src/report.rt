@@ -1,8 +1,11 @@
 //! What is printed of a run.
 ghost use Rattle.std.specs.Prelude.{◌≡◌, IfOk};
+ghost use Rattle.script_load.specs.Line.{lines_of};
+ghost use Rattle.dead_lines.specs.Dead.{bad_lines};
 ghost use Rattle.xvsh_read.specs.Writing.{out_text};
 ghost use Rattle.xvsh_runs.specs.Lists.{files_text, events_text, run_text};
 
+use dead_lines::bad_lines;
 use kernel_core::Report;
 use kernel_events::Schedule;
 use kernel_model::{Event, Full};
@@ -60,12 +63,14 @@ pub struct Run {
     pub files: Files<Global>,
     /// What was full in it, if something was.
     pub full: Option<Full>,
+    /// The numbers, from 1, of the script's lines that are no command.
+    pub bad: Vec<usize>,
     /// What makes it once more.
     pub recording: Recording,
 }
 
 /// What is printed of a run: its output, the list of the files and that of the events where they are requested, and to standard
-/// error its diagnostics; and what makes it once more.
+/// error its diagnostics; which lines of its script are no command; and what makes it once more.
 pub fn run_of(
     alloc: Global,
     start: Start,
@@ -78,11 +83,13 @@ pub fn run_of(
     ensures written { IfOk result (λ run. run.output.out ≡ report.out.items) }
     ensures files { IfOk result (λ run. run.files ≡ report.files) }
     ensures full { IfOk result (λ run. run.full ≡ report.full) }
+    ensures bad { IfOk result (λ run. run.bad.items ≡ bad_lines (lines_of start.script.lines)) }
     ensures start { IfOk result (λ run. run.recording.start ≡ start) }
     ensures schedule { IfOk result (λ run. run.recording.schedule ≡ report.schedule) }
 {
     let files = list_files(alloc, lists.files, &report.files)?;
     let events = list_events(alloc, lists.events, report.schedule.as_slice())?;
+    let bad = bad_lines(alloc, start.script.lines.as_slice())?;
     Ok(Run {
         output: Output {
             out: Bytes::from_vec(report.out),
@@ -92,6 +99,7 @@ pub fn run_of(
         },
         files: report.files,
         full: report.full,
+        bad,
         recording: Recording {
             start,
             harts,

@@ -1,5 +1,7 @@
 //! `run`: a script by its processes on some harts.
 ghost use Rattle.std.specs.Prelude.{◌≡◌, ◌≤◌, IfOk, IfErr, length, false};
+ghost use Rattle.script_load.specs.Line.{lines_of};
+ghost use Rattle.dead_lines.specs.Dead.{bad_lines};
 ghost use Rattle.kernel_events.specs.Reports.{IsRunFrom};
 ghost use Rattle.kernel_threads.specs.Events.{AreOfHarts};
 ghost use Rattle.xvsh_read.specs.Writing.{out_text};
@@ -107,6 +109,7 @@ pub(crate) fn run_prepared<'a, R: Threads + Wait + Clock + Sync>(
 ) -> Result<Run, ProcessFault<'a>>
     ensures ran { IfOk result (λ run. DidRunFrom start request.now run.full (out_text run.output) run.output.err.items) }
     ensures values { IfOk result (HasValues (kernel_of start)) }
+    ensures bad { IfOk result (λ run. run.bad.items ≡ bad_lines (lines_of start.script.lines)) }
     ensures fault { IfErr result (IsRefusedFrom start request.now) }
 {
     let course = Course {

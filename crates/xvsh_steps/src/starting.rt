@@ -107,6 +107,7 @@ pub fn step<'a, H: Host + Keep, R: Read + Drop, W: Write>(
         lines: &mut lines,
         out,
         shows,
+        again: Vec::new(alloc),
     };
     step_started(alloc, request, &start, host, &mut asker)
 }

@@ -3,7 +3,7 @@
 use crate::fault::StepFault;
 use crate::lines::{Got, LineReader, MOST_BYTES};
 use crate::request::Keep;
-use std::alloc::Global;
+use std::alloc::{AllocError, Global};
 use std::io::{Read, Write};
 use std::str;
 use step_answers::Play;
@@ -17,12 +17,18 @@ const SHOWN_LINES: usize = 23;
 // What a terminal shows before each command.
 const PROMPT: &[u8] = b"> ";
 
-// Who asks: where the lines come from, where the answers go, and whether that is a terminal, which is shown more.
+// What a terminal shows first.
+const GREETING: &[u8] =
+    b"a number is a turn of that process, `help` lists the commands, and an empty line takes the last turns again\n";
+
+// Who asks: where the lines come from, where the answers go, whether that is a terminal, which is shown more, and the last line that took
+// turns, or took them back.
 #[derive(Drop)]
 pub(crate) struct Asker<'l, 'o, R: Drop, W> {
     pub(crate) lines: &'l mut LineReader<R>,
     pub(crate) out: &'o mut W,
     pub(crate) shows: bool,
+    pub(crate) again: Vec<u8>,
 }
 
 // Writes the text, and sees that whoever reads has it.
@@ -103,9 +109,28 @@ fn greet<'a, M: Machine, W: Write>(
     out: &mut W,
 ) -> Result<(), StepFault<'a>> {
     let text = play.add_view(SHOWN_LINES, Vec::new(alloc))?;
+    say(out, GREETING)?;
     say(out, text.as_slice())?;
     say(out, PROMPT)?;
     Ok(())
+}
+
+// Puts the last line that took turns in the place of an empty one, on a terminal, and keeps one that takes turns.
+fn repeat<R: Read + Drop, W: Write>(
+    asker: &mut Asker<'_, '_, R, W>,
+    line: &mut Vec<u8>,
+) -> Result<(), AllocError> {
+    match command_of(line.as_slice()) {
+        Ok(Command::Nothing) if asker.shows => {
+            line.clear();
+            line.extend_from_slice(asker.again.as_slice())
+        }
+        Ok(command) if is_turning(&command) => {
+            asker.again.clear();
+            asker.again.extend_from_slice(line.as_slice())
+        }
+        _ => Ok(()),
+    }
 }
 
 // Whether a line asks to end.
@@ -121,7 +146,9 @@ fn answer_next<'a, M: Machine, K: Keep, R: Read + Drop, W: Write>(
     asker: &mut Asker<'_, '_, R, W>,
     line: &mut Vec<u8>,
 ) -> Result<bool, StepFault<'a>> {
-    let text = match asker.lines.next_line(line)? {
+    let got = asker.lines.next_line(line)?;
+    repeat(asker, line)?;
+    let text = match got {
         Got::End => return Ok(false),
         Got::Unreadable => return Err(StepFault::Unreadable),
         Got::TooLong => too_long(alloc, play)?,

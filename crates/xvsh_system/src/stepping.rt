@@ -12,7 +12,7 @@ use std::sync::Wait;
 use std::time::Clock;
 use xvsh::parsed_words;
 use xvsh_given::{Given, NOTHING, TEXT_PATH, read_given};
-use xvsh_read::{Host, HostFault, STDIN, Source, Unwritten, profile_of, write};
+use xvsh_read::{Hints, Host, HostFault, STDIN, Source, Unwritten, profile_of, write};
 use xvsh_steps::{Keep, StepFault, StepRequest, step};
 
 // The system, with the standard input and the script that the words give; a schedule is kept in a file of it.
@@ -140,6 +140,7 @@ where
         Ok(()) => 0,
         Err(fault) => {
             let _ = writeln!(err, "xvsh: {fault}");
+            host.hint("");
             fault.status()
         }
     }

@@ -3,8 +3,8 @@ ghost use Rattle.std.specs.Prelude.{None};
 use crate::terminal::{Progress, Step, Terminal};
 use crate::ticking::Ticker;
 use std::alloc::Global;
-use std::fs::{File, create_dir_all};
-use std::io::{self, Write};
+use std::fs::{File, create_dir_all, metadata};
+use std::io::{self, ErrorKind, Write};
 use std::rt::Files;
 use std::sync::Wait;
 use std::time::Clock;
@@ -31,11 +31,31 @@ pub struct System<'t, R: Files, E> {
     progress: Progress,
     // What shows that a run goes on, if anything does.
     ticker: Option<&'t Ticker>,
+    // Why the path that was read last can't be read, in a sentence; empty where that isn't known.
+    unread: &'static str,
 }
 
 // What a terminal is told before standard input is read from it.
 const READING: &str =
     "xvsh: reads standard input from this terminal, until Ctrl-D on a line of its own\n";
+
+// Why a path can't be opened, where a sentence says it.
+fn unopened(kind: ErrorKind) -> &'static str {
+    match kind {
+        ErrorKind::NotFound => "there is no such file",
+        ErrorKind::PermissionDenied => "whoever runs this may not read it",
+        ErrorKind::NotADirectory => "a part of the path before its last `/` is no directory",
+        _ => "",
+    }
+}
+
+// Whether there is a folder at a path.
+fn is_folder(rt: &impl Files, path: &str) -> bool {
+    match metadata(rt, path) {
+        Ok(found) => found.is_dir(),
+        Err(_) => false,
+    }
+}
 
 impl<'t, R: Files, E: Write> System<'t, R, E> {
     pub fn new(rt: R, terminal: Terminal<E>, ticker: Option<&'t Ticker>) -> Self {
@@ -45,6 +65,7 @@ impl<'t, R: Files, E: Write> System<'t, R, E> {
             terminal,
             progress: Progress::new(),
             ticker,
+            unread: "",
         }
     }
 
@@ -92,8 +113,14 @@ impl<R: Input + Files + Wait + Clock + Eprint, E: Write> Host for System<'_, R, 
         }
         let bytes = match File::open(&self.rt, path) {
             Ok(file) => read_all(alloc, file, limit),
-            Err(_) => Err(HostFault::Unreadable),
+            Err(error) => {
+                self.unread = unopened(error.kind());
+                Err(HostFault::Unreadable)
+            }
         };
+        if bytes.is_err() && is_folder(&self.rt, path) {
+            self.unread = "it is a directory";
+        }
         self.end_reading();
         bytes
     }
@@ -163,8 +190,13 @@ impl<R: Input + Files + Wait + Clock + Eprint, E: Write> Grading for System<'_, 
 
 impl<R: Files, E: Write> Hints for System<'_, R, E> {
     fn hint(&mut self, sentence: &str) {
-        if self.terminal.shows && !sentence.is_empty() {
-            let _ = writeln!(self.terminal.err, "xvsh: {sentence}");
+        let told = if sentence.is_empty() {
+            self.unread
+        } else {
+            sentence
+        };
+        if self.terminal.shows && !told.is_empty() {
+            let _ = writeln!(self.terminal.err, "xvsh: {told}");
         }
     }
 }

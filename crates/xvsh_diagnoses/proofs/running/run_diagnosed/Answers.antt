@@ -1,8 +1,9 @@
-use Rattle.std.proofs.Common.{subst}
+use Rattle.std.proofs.Common.{◌≡◌, subst}
 use Rattle.std.specs.Prelude.{IfErr, IfOk}
 use Rattle.std.proofs.lemmas.Result.{IfErr-weaker, IfOk-weaker}
 use Rattle.mem_files.specs.Files.{files}
 use Rattle.script_load.specs.Line.{lines_of}
+use Rattle.dead_lines.specs.Dead.{bad_lines}
 use Rattle.xvsh_read.proofs.Faults.{at_fault}
 use Rattle.xvsh_plain.specs.Running.{no_start, no_run, IsMeaningFault}
 use Rattle.xvsh_diagnoses.specs.Running.{IsDiagnosed}
@@ -30,3 +31,8 @@ returns-clause-fault g c =
     let result = c.diagnose.result in
     IfErr-weaker result (IsMeaningFault c.args.request.now.source.profile lines start.stdin.items (files start.files)) _ (λ fault due. no_run lines start.files start.stdin.items c.in_ok-start.ensures.prepared due)
     (subst (λ profile. IfErr result (IsMeaningFault profile lines start.stdin.items (files start.files))) c.in_ok-start.ensures.profile c.diagnose.ensures.fault)
+
+pub returns-clause-bad : goal.returns-clause-bad
+returns-clause-bad g c =
+    let lines = lines_of c.in_ok-start.start.script.lines in
+    IfOk-weaker c.diagnose.result (λ diagnosed. diagnosed.run.bad.items ≡ bad_lines lines) _ (λ diagnosed same. (lines, c.in_ok-start.ensures.prepared.loaded, same)) c.diagnose.ensures.bad

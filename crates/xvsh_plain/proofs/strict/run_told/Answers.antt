@@ -10,26 +10,26 @@ use Rattle.xvsh_read.proofs.Faults.{at_fault}
 use Rattle.xvsh_plain.specs.Running.{no_run}
 use Rattle.xvsh_plain.proofs.strict.run_told.Goals as goal
 
-pub returns-in_err-reasoned-clause-fault : goal.returns-in_err-reasoned-clause-fault
-returns-in_err-reasoned-clause-fault g c =
-    at_fault c.from_residual.result _ _ c.from_residual.ensures.1 c.in_err-reasoned.ensures.fault
+pub returns-in_err-ran-clause-fault : goal.returns-in_err-ran-clause-fault
+returns-in_err-ran-clause-fault g c =
+    at_fault c.from_residual.result _ _ c.from_residual.ensures.1 c.in_err-ran.ensures.fault
 
 pub returns-in_err-why-clause-fault : goal.returns-in_err-why-clause-fault
 returns-in_err-why-clause-fault g c =
-    let ran = c.in_ok-reasoned.ensures.ran in
+    let ran = c.in_ok-ran.ensures.ran in
     at_fault c.from_residual-in_err-why.result _ _ c.from_residual-in_err-why.ensures.1 (no_run ran.lines ran.given ran.stdin ran.starts tt)
 
 pub returns-in_err-run-clause-fault : goal.returns-in_err-run-clause-fault
 returns-in_err-run-clause-fault g c =
-    let ran = c.in_ok-reasoned.ensures.ran in
+    let ran = c.in_ok-ran.ensures.ran in
     at_fault c.from_residual-in_err-run.result _ _ c.from_residual-in_err-run.ensures.1 (no_run ran.lines ran.given ran.stdin ran.starts tt)
 
 pub returns-clause-ran : goal.returns-clause-ran
 returns-clause-ran g c =
     let profile = c.args.request.now.source.profile in
-    let ran = c.in_ok-reasoned.ensures.ran in
+    let ran = c.in_ok-ran.ensures.ran in
     let gives = ran.gives in
-    let reasons = c.in_ok-reasoned.reasoned.reasons.items in
+    let reasons = c.in_ok-ran.ran.reasoned.reasons.items in
     let run = c.in_ok-run.run' in
     let settled = subst (λ is. IsTrue is ↔ IsSettledScript profile ran.lines ran.stdin (files ran.given)) (sym c.in_ok-run.ensures.settled) gives.settled in
     let texts = all_told profile ran.lines ran.stdin (files ran.given) reasons gives.each gives.none in (

@@ -79,4 +79,5 @@ returns-clause-values g c =
       stdin = start.stdin.items;
       starts = begins (g.H.Host.input c.args.host.now) (g.H.Host.input c.read.new.host) (g.H.Host.file c.args.host.now) (g.H.Host.file c.read.new.host) c.args.request.now.schedule.now c.args.request.now.source.script.now c.eq-is_taken.result c.eq-is_taken.ensures c.read.ensures.files_stay c.read.ensures.input_stays one c.args.request.now.source.files.now lines start.files start.stdin.items c.in_ok-start.ensures.prepared;
       values = values_report (script_kernel c.args.request.now.source.profile lines start.stdin.items start.files) report c.in_ok-run.run' (subst (λ profile. IsRunFrom (script_kernel profile lines start.stdin.items start.files) report) c.in_ok-start.ensures.profile c.in_ok-report.ensures.run) run.schedule run.written run.err run.files run.full;
+      bad = run.bad;
     }

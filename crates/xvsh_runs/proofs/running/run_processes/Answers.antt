@@ -24,4 +24,4 @@ returns-clause-fault g c =
 pub returns-clause-values : goal.returns-clause-values
 returns-clause-values g c =
     let start = c.in_ok-start.start in
-    prepared_values (g.H.Host.input c.args.host.now) (g.H.Host.file c.args.host.now) c.args.request.now.source.profile c.args.request.now.source.script.now c.args.request.now.source.files.now start c.in_ok-start.ensures.prepared c.in_ok-start.ensures.profile c.run_prepared.result c.run_prepared.ensures.values
+    prepared_values (g.H.Host.input c.args.host.now) (g.H.Host.file c.args.host.now) c.args.request.now.source.profile c.args.request.now.source.script.now c.args.request.now.source.files.now start c.in_ok-start.ensures.prepared c.in_ok-start.ensures.profile c.run_prepared.result c.run_prepared.ensures.values c.run_prepared.ensures.bad

@@ -63,6 +63,7 @@ returns-clause-values g c =
         stdin = stdin;
         starts = c.in_ok-start.ensures.prepared;
         values = subst (λ profile. HasValues (script_kernel profile lines stdin given) c.in_ok-run.run') same c.in_ok-run.ensures.values;
+        bad = c.in_ok-run.ensures.bad;
       };
       each = subst (λ profile. (name : Name) → Contains c.in_ok-verdict.verdict.soft name ↔ ((script_meaning profile lines stdin (files given)).soft name ≡ true)) same c.in_ok-verdict.ensures.soft;
       none = subst (λ profile. (c.in_ok-verdict.verdict.reasons.items ≡ []) ↔ IsSettledScript profile lines stdin (files given)) same c.in_ok-verdict.ensures.none;

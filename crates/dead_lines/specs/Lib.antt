@@ -1,0 +1,2 @@
+pub mod Dead
+pub mod Hints
