@@ -1,5 +1,5 @@
 -- Bytes as text on one line (own): printable ASCII is itself but for the backslash, and all else is a code that begins with one.
-use Rattle.std.specs.Prelude.{ℕ, ◌/◌, ◌%◌, ◌==◌, nat_le, nat_lt, Bool, ◌&&◌, if◌then◌else◌, List, [], ◌∷◌, get_or, codes, flat_map}
+use Rattle.std.specs.Prelude.{ℕ, ◌/◌, ◌%◌, ◌==◌, nat_le, nat_lt, Bool, ◌&&◌, ◌||◌, if◌then◌else◌, List, [], ◌∷◌, get_or, codes, flat_map}
 
 -- a digit to the base 16, of a number below that
 abbrev pub digit : ℕ → ℕ
@@ -30,3 +30,7 @@ shown_name_byte byte = if nat_lt byte 128 then shown_byte byte else byte ∷ []
 -- what a name in UTF-8 is shown as
 abbrev pub shown_name : List ℕ → List ℕ
 shown_name name = flat_map shown_name_byte name
+
+-- a byte that may stand in a shown name: printable ASCII, or above it
+abbrev pub is_name_text : ℕ → Bool
+is_name_text byte = is_printable byte || nat_le 128 byte

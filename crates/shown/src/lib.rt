@@ -3,6 +3,7 @@
 
 mod bytes;
 mod code;
+pub mod laws;
 
 pub use bytes::{add_name, add_shown};
 pub use code::{Code, code_of};
