@@ -1,11 +1,12 @@
 //! What is printed of an exploration.
 
-use crate::escaping::{add_bytes, add_escaped};
+use crate::cutting::add_bytes;
 use crate::findings::Findings;
 use crate::replays::add_replay;
 use crate::request::ExploreRequest;
 use result_json::full_word;
 use script_outcomes::{Outcome, Tried};
+use shown::add_shown;
 use std::alloc::{AllocError, Global};
 
 // `1 output`, `4 outputs`.
@@ -135,9 +136,9 @@ fn add_partings(alloc: Global, text: &mut Vec<u8>, findings: &Findings) -> Resul
             let event = parting.event;
             let begin = format!(in alloc; "1 and {number} part at event {event}: ")?;
             text.extend_from_slice(begin.as_bytes())?;
-            add_escaped(text, parting.one.as_slice())?;
+            add_shown(text, parting.one.as_slice())?;
             text.extend_from_slice(b", or ".as_slice())?;
-            add_escaped(text, parting.other.as_slice())?;
+            add_shown(text, parting.other.as_slice())?;
             text.extend_from_slice(b" first\n".as_slice())?;
         }
     }
