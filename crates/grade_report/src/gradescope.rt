@@ -1,8 +1,8 @@
 //! The report as Gradescope's `results.json`.
 
-use crate::escaping::add_name;
 use crate::rows::{Row, scripts_of};
 use crate::sentences::{sentence_of, word_of};
+use shown::add_name;
 use std::alloc::{AllocError, Global};
 use trace_lines::Line;
 

@@ -1,7 +1,6 @@
 //! Reports of what tests say of scripts: a text for people, and what other programs read.
 #![tactic(auto)]
 
-mod escaping;
 mod gradescope;
 mod objects;
 mod rows;

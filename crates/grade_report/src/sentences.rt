@@ -1,9 +1,9 @@
 //! Verdicts in words.
 
-use crate::escaping::add_escaped;
 use grade_verdicts::{Difference, Place, Race, Refusal, Verdict};
 use kernel_model::Full;
 use result_json::full_word;
+use shown::add_shown;
 use std::alloc::{AllocError, Global};
 
 /// The verdict in a word or a few (own).
@@ -35,7 +35,7 @@ fn add_place(text: &mut Vec<u8>, place: &Place) -> Result<(), AllocError> {
         Place::Output => add(text, "output"),
         Place::File(name) | Place::NoFile(name) => {
             add(text, "file ")?;
-            add_escaped(text, name.as_slice())
+            add_shown(text, name.as_slice())
         }
     }
 }
@@ -46,7 +46,7 @@ fn add_line(text: &mut Vec<u8>, from: usize, line: Option<&Vec<u8>>) -> Result<(
         None => add(text, "no more"),
         Some(line) => {
             add(text, if from == 0 { "`" } else { "..`" })?;
-            add_escaped(text, line.as_slice())?;
+            add_shown(text, line.as_slice())?;
             add(text, "`")
         }
     }

@@ -1,8 +1,8 @@
 //! The report for people.
 
-use crate::escaping::add_name;
 use crate::rows::{Row, Sum, script_end, scripts_of, sum_of};
 use crate::sentences::{sentence_of, word_of};
+use shown::add_name;
 use std::alloc::{AllocError, Global};
 
 const GREEN: &str = "\x1b[32m";

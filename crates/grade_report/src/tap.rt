@@ -1,8 +1,8 @@
 //! The report as TAP, the Test Anything Protocol, version 13.
 
-use crate::escaping::add_name;
 use crate::rows::Row;
 use crate::sentences::{sentence_of, word_of};
+use shown::add_name;
 use std::alloc::{AllocError, Global};
 
 fn add(text: &mut Vec<u8>, words: &str) -> Result<(), AllocError> {

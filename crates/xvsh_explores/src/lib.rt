@@ -1,8 +1,8 @@
 //! Explorations of scripts: what `explore` reads, tries and prints.
 #![tactic(auto)]
 
+mod cutting;
 mod drawing;
-mod escaping;
 mod exploring;
 mod findings;
 mod objects;

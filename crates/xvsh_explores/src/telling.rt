@@ -1,11 +1,12 @@
 //! What is printed of an exploration.
 
-use crate::escaping::{add_bytes, add_escaped};
+use crate::cutting::add_bytes;
 use crate::findings::{Findings, Told};
 use crate::replays::add_replay;
 use crate::request::ExploreRequest;
 use result_json::full_word;
 use script_outcomes::{Outcome, Tried};
+use shown::add_shown;
 use std::alloc::{AllocError, Global};
 
 // `1 output`, `4 outputs`.
@@ -138,9 +139,9 @@ fn add_parting(
     let event = told.parting.event;
     let begin = format!(in alloc; "{from} and {number} part at event {event}: ")?;
     text.extend_from_slice(begin.as_bytes())?;
-    add_escaped(text, told.parting.one.as_slice())?;
+    add_shown(text, told.parting.one.as_slice())?;
     text.extend_from_slice(b", or ".as_slice())?;
-    add_escaped(text, told.parting.other.as_slice())?;
+    add_shown(text, told.parting.other.as_slice())?;
     text.extend_from_slice(b" first\n".as_slice())
 }
 
