@@ -18,7 +18,7 @@ use Rattle.law_last_closes.proofs.Turned.{plain_either, close_stays}
 use Rattle.law_write_ends.specs.Writers.{FindsBytesNext, ReadsEmptyNext}
 use Rattle.law_write_ends.proofs.Finding.{finds_or_put_nothing}
 use Rattle.law_write_ends.proofs.Runs.{ends, fresh}
-use Rattle.law_write_ends.proofs.Turned.{empty_read, writer_either}
+use Rattle.law_write_ends.proofs.Writing.{empty_read, writer_either}
 
 module _ {S : Type 0} (call : S → Reply → Call) (next : S → Reply → S) where
   pub room_on : (k l : KernelState S) (q : ℕ) → HasRoomAhead call next k → after_turn call next k q ≡ Some l → HasRoomAhead call next l
