@@ -11,4 +11,3 @@ pub mod Writing
 pub mod Runs
 pub mod NextCalls
 pub mod Finding
-pub mod Safe

@@ -38,8 +38,8 @@ use Rattle.std.proofs.Common.{◌≢◌}
 use Rattle.std.specs.Prelude.{map, Ok, Bool}
 use Rattle.fd_table.specs.Entries.{last_object}
 use Rattle.kernel_model.specs.KernelState.{file_at}
-use Rattle.std.proofs.Common.{get_or-set_other, ◌⊎◌, inl, inr}
-use Rattle.std.proofs.lemmas.Bool.{cases_eq, leb-true, leb-false}
+use Rattle.std.proofs.Common.{get_or-set_other}
+use Rattle.std.proofs.lemmas.Bool.{leb-true, leb-false}
 use Rattle.law_entry_numbers.proofs.Entries.{changed_entry}
 use Rattle.fd_table.specs.Entries.{less_held}
 use Rattle.kernel_model.specs.Descriptors.{let_go_of}
@@ -302,7 +302,7 @@ module _ {S : Type 0} (end : PipeEnd) (call : S → Reply → Call) (next : S �
 
     -- what q is about to read of this pipe, if anything
     abbrev CanReadNext : Type 0
-    CanReadNext = (rd n i : ℕ) (f : Opened) → b ≡ Read rd n → entry_of y.fds rd ≡ Some i → entry_at k.entries i ≡ Some f → f.object ≡ PipeRead id → CanRead end id k.pipes
+    CanReadNext = (rd n i : ℕ) (f : Opened) → b ≡ Read rd n → entry_of y.fds rd ≡ Some i → i ≢ e → entry_at k.entries i ≡ Some f → f.object ≡ PipeRead id → CanRead end id k.pipes
 
     past : (n : ℕ) → k.events < n → id ≢ n
     past n later is = named id k.entries k.pipes agree end e file used on (ap (pipe_of k.pipes) is ∙ fresh n later)
@@ -312,20 +312,20 @@ module _ {S : Type 0} (end : PipeEnd) (call : S → Reply → Call) (next : S �
       y_fds : fds_at g q ≡ y.fds
       y_fds = q_fds ∙ ap fds_of (written (with_status (Running 0)) refl k.table q) ∙ ap (λ (z : Slot S). fds_of (with_status (Running 0) z)) there
 
+      still_used : (i : ℕ) (f : Opened) → entry_at (released k.entries e) i ≡ Some f → i ≢ e
+      still_used i f is same =
+          let none : None ≡ Some f = sym (changed_entry less_held refl k.entries e ∙ freed_with_last (entry_at k.entries e) its (last_here one)) ∙ ap (entry_at (released k.entries e)) (sym same) ∙ is in
+          let z : ⊥ = cc in z
+
       entry_before : (i : ℕ) (f : Opened) → entry_at (released k.entries e) i ≡ Some f → entry_at k.entries i ≡ Some f
-      entry_before i f is = by (cases_eq i e) where
-        by : (i ≡ e) ⊎ (i ≢ e) → entry_at k.entries i ≡ Some f
-        by (inl same) =
-            let none : None ≡ Some f = sym (changed_entry less_held refl k.entries e ∙ freed_with_last (entry_at k.entries e) its (last_here one)) ∙ ap (entry_at (released k.entries e)) (sym same) ∙ is in
-            absurd (let z : ⊥ = cc in z)
-        by (inr ne) = sym (get_or-set_other k.entries e i (less_held (entry_at k.entries e)) None ne) ∙ is
+      entry_before i f is = sym (get_or-set_other k.entries e i (less_held (entry_at k.entries e)) None (still_used i f is)) ∙ is
 
       reads_in : CanReadNext → (rd n : ℕ) → b ≡ Read rd n → (x : Option Opened) → file_at (released k.entries e) (entry_of y.fds rd) ≡ x → FindsBytes end id q after g x
       reads_in can rd n is None at_x = tt
       reads_in can rd n is (Some f) at_x = λ reads. by (entry_of y.fds rd) refl at_x reads where
         by : (o : Option ℕ) → entry_of y.fds rd ≡ o → file_at (released k.entries e) o ≡ Some f → f.object ≡ PipeRead id → CanRead end id k.pipes
         by None held at_o reads = absurd (let z : ⊥ = cc in z)
-        by (Some i) held at_o reads = can rd n i f is held (entry_before i f at_o) reads
+        by (Some i) held at_o reads = can rd n i f is held (still_used i f at_o) (entry_before i f at_o) reads
 
       reads_by : CanReadNext → (m : Call) → b ≡ m → ReadsBytes end id q after g m
       reads_by can Fork is = tt
@@ -480,7 +480,7 @@ module _ {S : Type 0} (end : PipeEnd) (call : S → Reply → Call) (next : S �
 
     -- if q reads of this pipe next, it can
     abbrev pub ReadsAny : Type 0
-    ReadsAny = (z : Process S) (rd n i : ℕ) (f : Opened) → at k.table q ≡ Some z → call z.machine z.reply ≡ Read rd n → entry_of z.fds rd ≡ Some i → entry_at k.entries i ≡ Some f → f.object ≡ PipeRead pipe → CanRead end pipe k.pipes
+    ReadsAny = (z : Process S) (rd n i : ℕ) (f : Opened) → at k.table q ≡ Some z → call z.machine z.reply ≡ Read rd n → entry_of z.fds rd ≡ Some i → i ≢ e.entry → entry_at k.entries i ≡ Some f → f.object ≡ PipeRead pipe → CanRead end pipe k.pipes
 
     -- the close of an end, and another process's turn
     pub end_either : FindsFreeNext call next k q → (e.file.count ≤ 1 → ReadsAny) → InEitherOrderAwake call next a l p q

@@ -125,7 +125,7 @@ module _ {S : Type 0} (call : S → Reply → Call) (next : S → Reply → S) (
 
   -- the close of a write end, and another process's turn
   pub writer_either : FindsFreeNext call next k q → (e.file.count ≤ 1 → FindsBytesNext call next k pipe q) → InEitherOrderAwake call next a l p q
-  writer_either free finds = end_either WriteEnd call next k a l p q pipe still agree fresh e other others first second free (λ one z rd n i f there is held at_i reads.
+  writer_either free finds = end_either WriteEnd call next k a l p q pipe still agree fresh e other others first second free (λ one z rd n i f there is held ne at_i reads.
       let r = reader_there pipe k.entries k.pipes agree i f at_i reads in
       let some = finds one z rd n f r.0 there is (ap (file_at k.entries) held ∙ at_i) reads r.1 in
       record { pipe = r.0; there = r.1; reader = r.2; some = holds_some r.0.bytes some })
