@@ -1,4 +1,4 @@
-use Rattle.std.proofs.Common.{◌≡◌, false, ap, subst, ◌∙◌}
+use Rattle.std.proofs.Common.{◌≡◌, ap, subst, ◌∙◌}
 use Rattle.fd_table.specs.declared.names.Object.{Object}
 use Rattle.fd_table.specs.declared.names.Object.TheVariants.{PipeRead}
 use Rattle.fd_table.specs.Entries.{Entries, entry_at}
