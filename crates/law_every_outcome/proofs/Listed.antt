@@ -19,7 +19,7 @@ use Rattle.order_model.specs.Explored.{AreEnough, Explored, AreAllOutcomes}
 use Rattle.law_orders.proofs.Matching.{quiet_matched}
 use Rattle.law_private_turns.proofs.Begun.{begun_on, begun_still}
 use Rattle.law_last_closes.proofs.Anyhow.{anyhow_back, key_anyhow, outcome_anyhow, following_anyhow}
-use Rattle.law_write_ends.proofs.Safe.{gives_way_safe}
+use Rattle.law_read_ends.proofs.Safe.{gives_way_safe}
 use Rattle.law_every_outcome.proofs.Moved.{of_all, any_more, every_ending}
 use Rattle.law_every_outcome.proofs.Runs.{folded, of_run}
 use Rattle.law_every_outcome.proofs.Giving.{giver}

@@ -1,4 +1,5 @@
--- The write end of a pipe is closed: a call of another process that doesn't hold it comes to the same before and after that.
+-- An end of a pipe is closed: a call of another process that holds no end with which it would see it comes to the same before and
+-- after that.
 use Rattle.std.proofs.Common.{◌≡◌, ℕ, zero, suc, ◌+◌, List, [], Bool, true, false, Option, Some, None, length, drop, take, refl, sym, ap, subst, ◌∙◌}
 use Rattle.std.specs.Prelude.{if◌then◌else◌, nat_lt, ◌==◌, Result, Ok, Err, min}
 use Rattle.user_calls.specs.Limits.{block_size}
@@ -45,7 +46,7 @@ use Rattle.std.specs.Prelude.{◌||◌}
 use Rattle.fd_table.specs.Entries.{less_held, last_object}
 use Rattle.byte_pipe.specs.PipeState.{after_close_read}
 use Rattle.law_entry_numbers.proofs.Entries.{changed_entry}
-use Rattle.law_last_closes.proofs.Closing.{let_go_entries}
+use Rattle.law_last_closes.proofs.Closing.{let_go_entries, held_before}
 use Rattle.std.specs.Prelude.{nat_le, nat_lt, is_none}
 use Rattle.kernel_model.specs.KernelState.{file_at}
 use Rattle.user_calls.specs.declared.calls.Mode.{Mode}
@@ -59,24 +60,42 @@ use Rattle.kernel_model.specs.Events.{acted}
 use Rattle.fd_table.specs.Entries.{free_count}
 use Rattle.user_calls.specs.declared.calls.Call.{Call}
 use Rattle.user_calls.specs.declared.calls.Call.TheVariants.{Fork, Exec, Exit, Wait, MakePipe, Read, Write, OpenFile, Close, Dup}
+use Rattle.law_write_ends.proofs.Ends.{PipeEnd, ReadEnd, WriteEnd, shut_end, MayHold, IsNoEnd, no_writer}
 use Rattle.law_write_ends.proofs.Pipes.{edited, shut_write, kept_open, writer_edited, reader_edited, taken_edited, put_edited, edits_commute, other_seen, new_edited, edited_twice, edited_so, seen_now, ends_commute}
 
-module _ (id : ℕ) where
-  -- the write end of the pipe is closed
+module _ (end : PipeEnd) (id : ℕ) where
+  -- the end of the pipe is closed
   abbrev pub cut_pipes : Pipes → Pipes
-  cut_pipes pipes = edited pipes id (shut_write id)
+  cut_pipes pipes = edited pipes id (shut_end end id)
 
   gone_other : (pipes : Pipes) (other : ℕ) → other ≢ id → writer_gone (cut_pipes pipes) other (pipe_of (cut_pipes pipes) other) ≡ cut_pipes (writer_gone pipes other (pipe_of pipes other))
   gone_other pipes other ne =
-      writer_edited (cut_pipes pipes) other ∙ edits_commute id other (λ q. ne (sym q)) (shut_write id) (λ p. kept_open (after_close_write p)) pipes ∙ ap cut_pipes (sym (writer_edited pipes other))
+      writer_edited (cut_pipes pipes) other ∙ edits_commute id other (λ q. ne (sym q)) (shut_end end id) (λ p. kept_open (after_close_write p)) pipes ∙ ap cut_pipes (sym (writer_edited pipes other))
 
-  read_gone : (pipes : Pipes) (other : ℕ) → AreApart pipes → reader_gone (cut_pipes pipes) other (pipe_of (cut_pipes pipes) other) ≡ cut_pipes (reader_gone pipes other (pipe_of pipes other))
-  read_gone pipes other apart = by (cases_eq other id) where
-    by : (other ≡ id) ⊎ (other ≢ id) → reader_gone (cut_pipes pipes) other (pipe_of (cut_pipes pipes) other) ≡ cut_pipes (reader_gone pipes other (pipe_of pipes other))
-    by (inl is) =
-        let P : ℕ → Type 0 = λ i. reader_gone (cut_pipes pipes) i (pipe_of (cut_pipes pipes) i) ≡ cut_pipes (reader_gone pipes i (pipe_of pipes i)) in
-        subst P (sym is) (reader_edited (cut_pipes pipes) id ∙ ends_commute id pipes apart ∙ ap cut_pipes (sym (reader_edited pipes id)))
-    by (inr ne) = reader_edited (cut_pipes pipes) other ∙ edits_commute id other (λ q. ne (sym q)) (shut_write id) (λ p. kept_open (after_close_read p)) pipes ∙ ap cut_pipes (sym (reader_edited pipes other))
+  reads_other : (pipes : Pipes) (other : ℕ) → other ≢ id → reader_gone (cut_pipes pipes) other (pipe_of (cut_pipes pipes) other) ≡ cut_pipes (reader_gone pipes other (pipe_of pipes other))
+  reads_other pipes other ne = reader_edited (cut_pipes pipes) other ∙ edits_commute id other (λ q. ne (sym q)) (shut_end end id) (λ p. kept_open (after_close_read p)) pipes ∙ ap cut_pipes (sym (reader_edited pipes other))
+
+  taken_other : (pipes : Pipes) (other m : ℕ) → other ≢ id → taken_from (cut_pipes pipes) other m (pipe_of (cut_pipes pipes) other) ≡ cut_pipes (taken_from pipes other m (pipe_of pipes other))
+  taken_other pipes other m ne = taken_edited (cut_pipes pipes) other m ∙ edits_commute id other (λ q. ne (sym q)) (shut_end end id) (λ p. Some (after_take p m)) pipes ∙ ap cut_pipes (sym (taken_edited pipes other m))
+
+  put_other : (pipes : Pipes) (other : ℕ) (xs : List ℕ) → other ≢ id → put_into (cut_pipes pipes) other xs (pipe_of (cut_pipes pipes) other) ≡ cut_pipes (put_into pipes other xs (pipe_of pipes other))
+  put_other pipes other xs ne = put_edited (cut_pipes pipes) other xs ∙ edits_commute id other (λ q. ne (sym q)) (shut_end end id) (λ p. Some (after_put p xs)) pipes ∙ ap cut_pipes (sym (put_edited pipes other xs))
+
+-- the other end of the same pipe, or another pipe's
+pub read_gone : (end : PipeEnd) (id : ℕ) (pipes : Pipes) (other : ℕ) → AreApart pipes → MayHold end id (PipeRead other) → reader_gone (cut_pipes end id pipes) other (pipe_of (cut_pipes end id pipes) other) ≡ cut_pipes end id (reader_gone pipes other (pipe_of pipes other))
+read_gone ReadEnd id pipes other apart may = reads_other ReadEnd id pipes other (λ is. may.0 (ap PipeRead is))
+read_gone WriteEnd id pipes other apart may = by (cases_eq other id) where
+  by : (other ≡ id) ⊎ (other ≢ id) → reader_gone (cut_pipes WriteEnd id pipes) other (pipe_of (cut_pipes WriteEnd id pipes) other) ≡ cut_pipes WriteEnd id (reader_gone pipes other (pipe_of pipes other))
+  by (inl is) =
+      let P : ℕ → Type 0 = λ i. reader_gone (cut_pipes WriteEnd id pipes) i (pipe_of (cut_pipes WriteEnd id pipes) i) ≡ cut_pipes WriteEnd id (reader_gone pipes i (pipe_of pipes i)) in
+      subst P (sym is) (reader_edited (cut_pipes WriteEnd id pipes) id ∙ ends_commute id pipes apart ∙ ap (λ (l : Pipes). cut_pipes WriteEnd id l) (sym (reader_edited pipes id)))
+  by (inr ne) = reads_other WriteEnd id pipes other ne
+
+-- ---- bytes of a pipe whose write end is closed
+
+module _ (id : ℕ) where
+  abbrev cut_write : Pipes → Pipes
+  cut_write pipes = cut_pipes WriteEnd id pipes
 
   -- bytes can be taken from the pipe: its reader is open, and it holds some
   pub record HasBytes (pipes : Pipes) : Type 0 where
@@ -85,60 +104,73 @@ module _ (id : ℕ) where
     pub reader : pipe.reader ≡ true
     pub some : (length pipe.bytes == 0) ≡ false
 
-  taken_other : (pipes : Pipes) (other m : ℕ) → other ≢ id → taken_from (cut_pipes pipes) other m (pipe_of (cut_pipes pipes) other) ≡ cut_pipes (taken_from pipes other m (pipe_of pipes other))
-  taken_other pipes other m ne = taken_edited (cut_pipes pipes) other m ∙ edits_commute id other (λ q. ne (sym q)) (shut_write id) (λ p. Some (after_take p m)) pipes ∙ ap cut_pipes (sym (taken_edited pipes other m))
-
-  put_other : (pipes : Pipes) (other : ℕ) (xs : List ℕ) → other ≢ id → put_into (cut_pipes pipes) other xs (pipe_of (cut_pipes pipes) other) ≡ cut_pipes (put_into pipes other xs (pipe_of pipes other))
-  put_other pipes other xs ne = put_edited (cut_pipes pipes) other xs ∙ edits_commute id other (λ q. ne (sym q)) (shut_write id) (λ p. Some (after_put p xs)) pipes ∙ ap cut_pipes (sym (put_edited pipes other xs))
-
   module _ (pipes : Pipes) (h : HasBytes pipes) where
     -- it is kept, since its reader is open
     kept_there : (p : PipeState) → p.reader ≡ true → shut_write id p ≡ Some (after_close_write p)
     kept_there p open_too = ap (λ (b : Bool). if b || false then Some (after_close_write p) else None) open_too
 
-    cut_is : cut_pipes pipes ≡ edited pipes id (λ p. Some (after_close_write p))
+    cut_is : cut_write pipes ≡ edited pipes id (λ p. Some (after_close_write p))
     cut_is = edited_so id (shut_write id) (λ p. Some (after_close_write p)) pipes h.pipe h.there (kept_there h.pipe h.reader)
 
-    seen_cut : pipe_of (cut_pipes pipes) id ≡ Some (after_close_write h.pipe)
+    seen_cut : pipe_of (cut_write pipes) id ≡ Some (after_close_write h.pipe)
     seen_cut = ap (λ (l : Pipes). pipe_of l id) cut_is ∙ seen_now id after_close_write pipes h.pipe h.there
 
-    taken_this : (m : ℕ) → taken_from (cut_pipes pipes) id m (Some (after_close_write h.pipe)) ≡ cut_pipes (taken_from pipes id m (Some h.pipe))
+    taken_this : (m : ℕ) → taken_from (cut_write pipes) id m (Some (after_close_write h.pipe)) ≡ cut_write (taken_from pipes id m (Some h.pipe))
     taken_this m =
-        ap (taken_from (cut_pipes pipes) id m) (sym seen_cut) ∙ taken_edited (cut_pipes pipes) id m ∙ ap (λ (l : Pipes). edited l id (λ p. Some (after_take p m))) cut_is ∙
+        ap (taken_from (cut_write pipes) id m) (sym seen_cut) ∙ taken_edited (cut_write pipes) id m ∙ ap (λ (l : Pipes). edited l id (λ p. Some (after_take p m))) cut_is ∙
         edited_twice id after_close_write (λ p. Some (after_take p m)) pipes ∙
         edited_so id (λ p. Some (after_take (after_close_write p) m)) (λ p. shut_write id (after_take p m)) pipes h.pipe h.there (sym (kept_there (after_take h.pipe m) h.reader)) ∙
-        sym (ap (λ (o : Option PipeState). cut_pipes (taken_from pipes id m o)) (sym h.there) ∙ ap cut_pipes (taken_edited pipes id m) ∙ edited_twice id (λ p. after_take p m) (shut_write id) pipes)
+        sym (ap (λ (o : Option PipeState). cut_write (taken_from pipes id m o)) (sym h.there) ∙ ap cut_write (taken_edited pipes id m) ∙ edited_twice id (λ p. after_take p m) (shut_write id) pipes)
 
     same_take : (m : ℕ) → take_answer (after_close_write h.pipe) m ≡ take_answer h.pipe m
     same_take m =
         ap (λ (b : Bool). if b then End else Got (min (length h.pipe.bytes) m)) h.some ∙ sym (ap (λ (b : Bool). if b then (if h.pipe.writer then Empty else End) else Got (min (length h.pipe.bytes) m)) h.some)
 
--- what an entry has open, if anything, isn't this write end
-abbrev pub IsNotWriter : ℕ → Option Opened → Type 0
-IsNotWriter id None = Unit {0}
-IsNotWriter id (Some f) = f.object ≢ PipeWrite id
+-- a read of the pipe whose end is closed: of none whose read end is
+abbrev pub CanRead : PipeEnd → ℕ → Pipes → Type 0
+CanRead ReadEnd id pipes = ⊥
+CanRead WriteEnd id pipes = HasBytes id pipes
 
-not_if : (id : ℕ) (b : Bool) (f : Opened) → f.object ≢ PipeWrite id → IsNotWriter id (if b then None else Some f)
-not_if id true f ne = tt
-not_if id false f ne = ne
+no_end_if : (end : PipeEnd) (id : ℕ) (b : Bool) (f : Opened) → MayHold end id f.object → IsNoEnd end id (if b then None else Some f)
+no_end_if end id true f may = tt
+no_end_if end id false f may = may
 
-not_less : (id : ℕ) (x : Option Opened) → IsNotWriter id x → IsNotWriter id (less_held x)
-not_less id None ne = tt
-not_less id (Some f) ne = not_if id (nat_le f.count 1) _ ne
+no_end_less : (end : PipeEnd) (id : ℕ) (x : Option Opened) → IsNoEnd end id x → IsNoEnd end id (less_held x)
+no_end_less end id None may = tt
+no_end_less end id (Some f) may = no_end_if end id (nat_le f.count 1) _ may
 
-pub not_released : (id : ℕ) (t : Entries) (o : Option ℕ) (d : ℕ) → IsNotWriter id (entry_at t d) → IsNotWriter id (entry_at (released_by_close t o) d)
-not_released id t None d none = none
-not_released id t (Some i) d none = by (cases_eq d i) where
-  by : (d ≡ i) ⊎ (d ≢ i) → IsNotWriter id (entry_at (released_by_close t (Some i)) d)
+pub no_end_released : (end : PipeEnd) (id : ℕ) (t : Entries) (o : Option ℕ) (d : ℕ) → IsNoEnd end id (entry_at t d) → IsNoEnd end id (entry_at (released_by_close t o) d)
+no_end_released end id t None d none = none
+no_end_released end id t (Some i) d none = by (cases_eq d i) where
+  by : (d ≡ i) ⊎ (d ≢ i) → IsNoEnd end id (entry_at (released_by_close t (Some i)) d)
   by (inl is) =
-      let P : ℕ → Type 0 = λ j. IsNotWriter id (entry_at (released_by_close t (Some j)) d) in
-      subst P is (subst (IsNotWriter id) (sym (changed_entry less_held refl t d)) (not_less id (entry_at t d) none))
-  by (inr ne) = subst (IsNotWriter id) (sym (get_or-set_other t i d (less_held (entry_at t i)) None ne)) none
+      let P : ℕ → Type 0 = λ j. IsNoEnd end id (entry_at (released_by_close t (Some j)) d) in
+      subst P is (subst (IsNoEnd end id) (sym (changed_entry less_held refl t d)) (no_end_less end id (entry_at t d) none))
+  by (inr ne) = subst (IsNoEnd end id) (sym (get_or-set_other t i d (less_held (entry_at t i)) None ne)) none
 
-module _ {S : Type 0} (id pid : ℕ) where
-  -- the write end is closed, and nobody is woken
+module _ {S : Type 0} (end : PipeEnd) (id pid : ℕ) (after : S) where
+  abbrev cut_here : KernelState S → KernelState S
+  cut_here k = record k { pipes = cut_pipes end id k.pipes }
+
+  read_by_cut : (k : KernelState S) (other : ℕ) (got : List ℕ) (r : Take) → read_by (cut_here k) pid after other got r ≡ cut_here (read_by k pid after other got r)
+  read_by_cut k other got (Got m) = refl
+  read_by_cut k other got Empty = refl
+  read_by_cut k other got End = refl
+
+-- a read of the pipe itself finds bytes there
+read_this : {S : Type 0} (end : PipeEnd) (id pid : ℕ) (after : S) (k : KernelState S) (m : ℕ) → CanRead end id k.pipes → read_pipe (record k { pipes = cut_pipes end id k.pipes }) pid after id m (pipe_of (cut_pipes end id k.pipes) id) ≡ (let j = read_pipe k pid after id m (pipe_of k.pipes id) in record j { pipes = cut_pipes end id j.pipes })
+read_this ReadEnd id pid after k m h = absurd h
+read_this WriteEnd id pid after k m h =
+    let cut_write : KernelState _ → KernelState _ = λ j. record j { pipes = cut_pipes WriteEnd id j.pipes } in
+    ap (read_pipe (cut_write k) pid after id m) (seen_cut id k.pipes h) ∙
+    (λ i. read_by (record k { pipes = taken_this id k.pipes h m i }) pid after id (take m h.pipe.bytes) (same_take id k.pipes h m i)) ∙
+    read_by_cut WriteEnd id pid after (record k { pipes = taken_from k.pipes id m (Some h.pipe) }) id (take m h.pipe.bytes) (take_answer h.pipe m) ∙
+    ap (λ (o : Option PipeState). cut_write (read_pipe k pid after id m o)) (sym h.there)
+
+module _ {S : Type 0} (end : PipeEnd) (id pid : ℕ) where
+  -- the end is closed, and nobody is woken
   abbrev pub cut : KernelState S → KernelState S
-  cut k = record k { pipes = cut_pipes id k.pipes }
+  cut k = record k { pipes = cut_pipes end id k.pipes }
 
   pick : (c : Bool) (x y u v : KernelState S) → x ≡ cut u → y ≡ cut v → (if c then x else y) ≡ cut (if c then u else v)
   pick true x y u v is or = is
@@ -146,30 +178,30 @@ module _ {S : Type 0} (id pid : ℕ) where
 
   -- ---- close
 
-  pub let_go_cut : (k : KernelState S) (object : Object) → AreApart k.pipes → object ≢ PipeWrite id → let_go (cut k) object ≡ cut (let_go k object)
+  pub let_go_cut : (k : KernelState S) (object : Object) → AreApart k.pipes → MayHold end id object → let_go (cut k) object ≡ cut (let_go k object)
   let_go_cut k Input apart ne = refl
   let_go_cut k Out apart ne = refl
   let_go_cut k Diag apart ne = refl
   let_go_cut k (File name mode) apart ne = refl
-  let_go_cut k (PipeRead other) apart ne = λ i. wakes (PipeRoom other) (record k { pipes = read_gone id k.pipes other apart i })
-  let_go_cut k (PipeWrite other) apart ne = λ i. wakes (PipeBytes other) (record k { pipes = gone_other id k.pipes other (λ is. ne (ap PipeWrite is)) i })
+  let_go_cut k (PipeRead other) apart ne = λ i. wakes (PipeRoom other) (record k { pipes = read_gone end id k.pipes other apart ne i })
+  let_go_cut k (PipeWrite other) apart ne = λ i. wakes (PipeBytes other) (record k { pipes = gone_other end id k.pipes other (λ is. no_writer end id (PipeWrite other) ne (ap PipeWrite is)) i })
 
-  let_go_if : (k : KernelState S) (b : Bool) (object : Object) → AreApart k.pipes → object ≢ PipeWrite id → let_go_of (cut k) (Ok (if b then Some object else None)) ≡ cut (let_go_of k (Ok (if b then Some object else None)))
+  let_go_if : (k : KernelState S) (b : Bool) (object : Object) → AreApart k.pipes → MayHold end id object → let_go_of (cut k) (Ok (if b then Some object else None)) ≡ cut (let_go_of k (Ok (if b then Some object else None)))
   let_go_if k true object apart ne = let_go_cut k object apart ne
   let_go_if k false object apart ne = refl
 
-  last_cut : (k : KernelState S) (x : Option Opened) → AreApart k.pipes → IsNotWriter id x → let_go_of (cut k) (Ok (last_object x)) ≡ cut (let_go_of k (Ok (last_object x)))
+  last_cut : (k : KernelState S) (x : Option Opened) → AreApart k.pipes → IsNoEnd end id x → let_go_of (cut k) (Ok (last_object x)) ≡ cut (let_go_of k (Ok (last_object x)))
   last_cut k None apart ne = refl
   last_cut k (Some f) apart ne = let_go_if k (nat_le f.count 1) f.object apart ne
 
-  -- no entry is this write end, and no two pipes have one name
+  -- the process holds no end with which it would see it, and no two pipes have one name
   pub record IsCut (k : KernelState S) : Type 0 where
-    pub none : (d : ℕ) → IsNotWriter id (entry_at k.entries d)
+    pub none : (fd d : ℕ) → entry_of (fds_at k pid) fd ≡ Some d → IsNoEnd end id (entry_at k.entries d)
     pub apart : AreApart k.pipes
 
-  pub closed_by_cut : (k : KernelState S) (fd : ℕ) (o : Option ℕ) → IsCut k → closed_by (cut k) pid fd o ≡ cut (closed_by k pid fd o)
-  closed_by_cut k fd None c = refl
-  closed_by_cut k fd (Some d) c = last_cut (taken_away k pid fd (Some d)) (entry_at k.entries d) c.apart (c.none d)
+  pub closed_by_cut : (k : KernelState S) (fd : ℕ) (o : Option ℕ) → entry_of (fds_at k pid) fd ≡ o → IsCut k → closed_by (cut k) pid fd o ≡ cut (closed_by k pid fd o)
+  closed_by_cut k fd None held c = refl
+  closed_by_cut k fd (Some d) held c = last_cut (taken_away k pid fd (Some d)) (entry_at k.entries d) c.apart (c.none fd d held)
 
   let_go_apart : (k : KernelState S) (object : Object) → AreApart k.pipes → AreApart (let_go k object).pipes
   let_go_apart k Input apart = apart
@@ -195,7 +227,7 @@ module _ {S : Type 0} (id pid : ℕ) where
       let o = entry_of (fds_at k pid) fd in
       let away : KernelState S = taken_away k pid fd o in
       record {
-        none = λ d. subst (λ (t : Entries). IsNotWriter id (entry_at t d)) (sym (let_go_entries 0 pid away (close_answer k.entries o))) (not_released id k.entries o d (c.none d));
+        none = λ gd d held. subst (λ (t : Entries). IsNoEnd end id (entry_at t d)) (sym (let_go_entries 0 pid away (close_answer k.entries o))) (no_end_released end id k.entries o d (c.none gd d (held_before d pid k fd gd held)));
         apart = let_go_of_apart away (close_answer k.entries o) c.apart;
       }
 
@@ -207,13 +239,13 @@ module _ {S : Type 0} (id pid : ℕ) where
   below_cut : (k : KernelState S) (m : ℕ) → IsCut k → closed_below (cut k) pid m ≡ cut (closed_below k pid m)
   unfolding closed_below
   below_cut k zero c = refl
-  below_cut k (suc i) c = ap (λ (j : KernelState S). closed j pid i) (below_cut k i c) ∙ closed_by_cut (closed_below k pid i) i (entry_of (fds_at (closed_below k pid i) pid) i) (below_is_cut k i c)
+  below_cut k (suc i) c = ap (λ (j : KernelState S). closed j pid i) (below_cut k i c) ∙ closed_by_cut (closed_below k pid i) i (entry_of (fds_at (closed_below k pid i) pid) i) refl (below_is_cut k i c)
 
   module _ (after : S) where
     close_cut : (k : KernelState S) (fd : ℕ) → IsCut k → close (cut k) pid after fd ≡ cut (close k pid after fd)
     close_cut k fd c =
         let o = entry_of (fds_at k pid) fd in
-        λ i. answered (closed_by_cut k fd o c i) pid after (close_reply (close_answer k.entries o))
+        λ i. answered (closed_by_cut k fd o refl c i) pid after (close_reply (close_answer k.entries o))
 
     exit_by : (k : KernelState S) (b : Bool) → IsCut k → (if b then answered (cut k) pid after Refused else ended pid (closed_below (cut k) pid DESCRIPTORS)) ≡ cut (if b then answered k pid after Refused else ended pid (closed_below k pid DESCRIPTORS))
     exit_by k true c = refl
@@ -255,45 +287,33 @@ module _ {S : Type 0} (id pid : ℕ) where
     read_mode_cut k d offset m o Over = refl
     read_mode_cut k d offset m o Append = refl
 
-    read_by_cut : (k : KernelState S) (other : ℕ) (got : List ℕ) (r : Take) → read_by (cut k) pid after other got r ≡ cut (read_by k pid after other got r)
-    read_by_cut k other got (Got m) = refl
-    read_by_cut k other got Empty = refl
-    read_by_cut k other got End = refl
-
-    read_other : (k : KernelState S) (other m : ℕ) → other ≢ id → read_pipe (cut k) pid after other m (pipe_of (cut_pipes id k.pipes) other) ≡ cut (read_pipe k pid after other m (pipe_of k.pipes other))
+    read_other : (k : KernelState S) (other m : ℕ) → other ≢ id → read_pipe (cut k) pid after other m (pipe_of (cut_pipes end id k.pipes) other) ≡ cut (read_pipe k pid after other m (pipe_of k.pipes other))
     read_other k other m ne = ap (read_pipe (cut k) pid after other m) seen ∙ by (pipe_of k.pipes other) refl where
-      seen : pipe_of (cut_pipes id k.pipes) other ≡ pipe_of k.pipes other
-      seen = other_seen id other ne (shut_write id) k.pipes
+      seen : pipe_of (cut_pipes end id k.pipes) other ≡ pipe_of k.pipes other
+      seen = other_seen id other ne (shut_end end id) k.pipes
 
       by : (o : Option PipeState) → pipe_of k.pipes other ≡ o → read_pipe (cut k) pid after other m o ≡ cut (read_pipe k pid after other m o)
       by None there = refl
       by (Some p) there =
-          let taken : taken_from (cut_pipes id k.pipes) other m (Some p) ≡ cut_pipes id (taken_from k.pipes other m (Some p)) =
-          ap (taken_from (cut_pipes id k.pipes) other m) (sym (seen ∙ there)) ∙ taken_other id k.pipes other m ne ∙ ap (λ (o : Option PipeState). cut_pipes id (taken_from k.pipes other m o)) there in
-          (λ i. read_by (record k { pipes = taken i }) pid after other (take m p.bytes) (take_answer p m)) ∙ read_by_cut (record k { pipes = taken_from k.pipes other m (Some p) }) other (take m p.bytes) (take_answer p m)
+          let taken : taken_from (cut_pipes end id k.pipes) other m (Some p) ≡ cut_pipes end id (taken_from k.pipes other m (Some p)) =
+          ap (taken_from (cut_pipes end id k.pipes) other m) (sym (seen ∙ there)) ∙ taken_other end id k.pipes other m ne ∙ ap (λ (o : Option PipeState). cut_pipes end id (taken_from k.pipes other m o)) there in
+          (λ i. read_by (record k { pipes = taken i }) pid after other (take m p.bytes) (take_answer p m)) ∙ read_by_cut end id pid after (record k { pipes = taken_from k.pipes other m (Some p) }) other (take m p.bytes) (take_answer p m)
 
-    read_this : (k : KernelState S) (m : ℕ) → HasBytes id k.pipes → read_pipe (cut k) pid after id m (pipe_of (cut_pipes id k.pipes) id) ≡ cut (read_pipe k pid after id m (pipe_of k.pipes id))
-    read_this k m h =
-        ap (read_pipe (cut k) pid after id m) (seen_cut id k.pipes h) ∙
-        (λ i. read_by (record k { pipes = taken_this id k.pipes h m i }) pid after id (take m h.pipe.bytes) (same_take id k.pipes h m i)) ∙
-        read_by_cut (record k { pipes = taken_from k.pipes id m (Some h.pipe) }) id (take m h.pipe.bytes) (take_answer h.pipe m) ∙
-        ap (λ (o : Option PipeState). cut (read_pipe k pid after id m o)) (sym h.there)
-
-    read_object_cut : (k : KernelState S) (d offset m : ℕ) (object : Object) → (object ≡ PipeRead id → HasBytes id k.pipes) → read_object (cut k) pid after d offset m object ≡ cut (read_object k pid after d offset m object)
+    read_object_cut : (k : KernelState S) (d offset m : ℕ) (object : Object) → (object ≡ PipeRead id → CanRead end id k.pipes) → read_object (cut k) pid after d offset m object ≡ cut (read_object k pid after d offset m object)
     read_object_cut k d offset m Input bytes = refl
     read_object_cut k d offset m Out bytes = refl
     read_object_cut k d offset m Diag bytes = refl
     read_object_cut k d offset m (File name mode) bytes = read_mode_cut k d offset m (files k.files name) mode
     read_object_cut k d offset m (PipeRead other) bytes = by (cases_eq other id) where
       by : (other ≡ id) ⊎ (other ≢ id) → read_object (cut k) pid after d offset m (PipeRead other) ≡ cut (read_object k pid after d offset m (PipeRead other))
-      by (inl is) = let P : ℕ → Type 0 = λ i. read_object (cut k) pid after d offset m (PipeRead i) ≡ cut (read_object k pid after d offset m (PipeRead i)) in subst P (sym is) (read_this k m (bytes (ap PipeRead is)))
+      by (inl is) = let P : ℕ → Type 0 = λ i. read_object (cut k) pid after d offset m (PipeRead i) ≡ cut (read_object k pid after d offset m (PipeRead i)) in subst P (sym is) (read_this end id pid after k m (bytes (ap PipeRead is)))
       by (inr ne) = read_other k other m ne
     read_object_cut k d offset m (PipeWrite other) bytes = refl
 
     -- a read of the pipe finds bytes
     abbrev pub FindsBytes : KernelState S → Option Opened → Type 0
     FindsBytes k None = Unit {0}
-    FindsBytes k (Some f) = f.object ≡ PipeRead id → HasBytes id k.pipes
+    FindsBytes k (Some f) = f.object ≡ PipeRead id → CanRead end id k.pipes
 
     read_entry_cut : (k : KernelState S) (d m : ℕ) (x : Option Opened) → FindsBytes k x → read_entry (cut k) pid after d m x ≡ cut (read_entry k pid after d m x)
     read_entry_cut k d m None bytes = refl
@@ -325,33 +345,33 @@ module _ {S : Type 0} (id pid : ℕ) where
     write_by_cut k other put left NoRoom = refl
     write_by_cut k other put left Closed = refl
 
-    write_other : (k : KernelState S) (other put : ℕ) (xs : List ℕ) → other ≢ id → write_pipe (cut k) pid after other put xs (pipe_of (cut_pipes id k.pipes) other) ≡ cut (write_pipe k pid after other put xs (pipe_of k.pipes other))
+    write_other : (k : KernelState S) (other put : ℕ) (xs : List ℕ) → other ≢ id → write_pipe (cut k) pid after other put xs (pipe_of (cut_pipes end id k.pipes) other) ≡ cut (write_pipe k pid after other put xs (pipe_of k.pipes other))
     write_other k other put xs ne = ap (write_pipe (cut k) pid after other put xs) seen ∙ by (pipe_of k.pipes other) refl where
-      seen : pipe_of (cut_pipes id k.pipes) other ≡ pipe_of k.pipes other
-      seen = other_seen id other ne (shut_write id) k.pipes
+      seen : pipe_of (cut_pipes end id k.pipes) other ≡ pipe_of k.pipes other
+      seen = other_seen id other ne (shut_end end id) k.pipes
 
       by : (o : Option PipeState) → pipe_of k.pipes other ≡ o → write_pipe (cut k) pid after other put xs o ≡ cut (write_pipe k pid after other put xs o)
       by None there = refl
       by (Some p) there =
-          let filled : put_into (cut_pipes id k.pipes) other xs (Some p) ≡ cut_pipes id (put_into k.pipes other xs (Some p)) =
-          ap (put_into (cut_pipes id k.pipes) other xs) (sym (seen ∙ there)) ∙ put_other id k.pipes other xs ne ∙ ap (λ (o : Option PipeState). cut_pipes id (put_into k.pipes other xs o)) there in
+          let filled : put_into (cut_pipes end id k.pipes) other xs (Some p) ≡ cut_pipes end id (put_into k.pipes other xs (Some p)) =
+          ap (put_into (cut_pipes end id k.pipes) other xs) (sym (seen ∙ there)) ∙ put_other end id k.pipes other xs ne ∙ ap (λ (o : Option PipeState). cut_pipes end id (put_into k.pipes other xs o)) there in
           (λ i. write_by (record k { pipes = filled i }) pid after other put (length xs) (put_answer p xs)) ∙ write_by_cut (record k { pipes = put_into k.pipes other xs (Some p) }) other put (length xs) (put_answer p xs)
 
-    write_object_cut : (k : KernelState S) (d offset : ℕ) (b : List ℕ) (refused : Bool) (object : Object) → object ≢ PipeWrite id → write_object (cut k) pid after d offset b refused object ≡ cut (write_object k pid after d offset b refused object)
+    write_object_cut : (k : KernelState S) (d offset : ℕ) (b : List ℕ) (refused : Bool) (object : Object) → MayHold end id object → write_object (cut k) pid after d offset b refused object ≡ cut (write_object k pid after d offset b refused object)
     write_object_cut k d offset b refused Input ne = refl
     write_object_cut k d offset b refused Out ne = pick (lacks_memory refused (length k.out) (length k.out + length b)) _ _ _ _ refl refl
     write_object_cut k d offset b refused Diag ne = pick (lacks_memory refused (length k.diag) (length k.diag + length b)) _ _ _ _ refl refl
     write_object_cut k d offset b refused (File name mode) ne = write_mode_cut k d name offset b refused mode
     write_object_cut k d offset b refused (PipeRead other) ne = refl
-    write_object_cut k d offset b refused (PipeWrite other) ne = write_other k other (put_of (at k.table pid)) (drop (put_of (at k.table pid)) b) (λ is. ne (ap PipeWrite is))
+    write_object_cut k d offset b refused (PipeWrite other) ne = write_other k other (put_of (at k.table pid)) (drop (put_of (at k.table pid)) b) (λ is. no_writer end id (PipeWrite other) ne (ap PipeWrite is))
 
-    write_entry_cut : (k : KernelState S) (d : ℕ) (b : List ℕ) (refused : Bool) (x : Option Opened) → IsNotWriter id x → write_entry (cut k) pid after d b refused x ≡ cut (write_entry k pid after d b refused x)
+    write_entry_cut : (k : KernelState S) (d : ℕ) (b : List ℕ) (refused : Bool) (x : Option Opened) → IsNoEnd end id x → write_entry (cut k) pid after d b refused x ≡ cut (write_entry k pid after d b refused x)
     write_entry_cut k d b refused None ne = refl
     write_entry_cut k d b refused (Some f) ne = write_object_cut k d f.offset b refused f.object ne
 
-    write_held_cut : (k : KernelState S) (b : List ℕ) (refused : Bool) (o : Option ℕ) → IsCut k → write_held (cut k) pid after b refused o ≡ cut (write_held k pid after b refused o)
+    write_held_cut : (k : KernelState S) (b : List ℕ) (refused : Bool) (o : Option ℕ) → ((d : ℕ) → o ≡ Some d → IsNoEnd end id (entry_at k.entries d)) → write_held (cut k) pid after b refused o ≡ cut (write_held k pid after b refused o)
     write_held_cut k b refused None c = refl
-    write_held_cut k b refused (Some d) c = write_entry_cut k d b refused (entry_at k.entries d) (c.none d)
+    write_held_cut k b refused (Some d) c = write_entry_cut k d b refused (entry_at k.entries d) (c d refl)
 
     -- ---- open and pipe
 
@@ -376,7 +396,7 @@ module _ {S : Type 0} (id pid : ℕ) where
         (pick (is_openable file) _ _ _ _ (pick (reads mode) _ _ _ _ (reading_cut k file mode (files k.files file)) (writing_cut k file mode refused (files k.files file))) refl))
 
     reader_cut : (k : KernelState S) (new : ℕ) → id ≢ new → with_reader (cut k) pid new ≡ cut (with_reader k pid new)
-    reader_cut k new ne = (λ i. with_open (record k { pipes = new_edited id new ne (shut_write id) k.pipes i }) pid (PipeRead new)) ∙ open_cut (record k { pipes = with_new k.pipes new }) (PipeRead new)
+    reader_cut k new ne = (λ i. with_open (record k { pipes = new_edited id new ne (shut_end end id) k.pipes i }) pid (PipeRead new)) ∙ open_cut (record k { pipes = with_new k.pipes new }) (PipeRead new)
 
     ends_cut : (k : KernelState S) (new : ℕ) → id ≢ new → with_ends (cut k) pid new ≡ cut (with_ends k pid new)
     ends_cut k new ne = ap (λ (j : KernelState S). with_open j pid (PipeWrite new)) (reader_cut k new ne) ∙ open_cut (with_reader k pid new) (PipeWrite new)
@@ -407,7 +427,7 @@ module _ {S : Type 0} (id pid : ℕ) where
     acted_cut k Wait refused c ne bytes = wait_cut k (wait_answer k.table pid)
     acted_cut k MakePipe refused c ne bytes = make_pipe_cut k refused ne
     acted_cut k (Read fd m) refused c ne bytes = read_held_cut k (min m block_size) (entry_of (fds_at k pid) fd) bytes
-    acted_cut k (Write fd b) refused c ne bytes = write_held_cut k b refused (entry_of (fds_at k pid) fd) c
+    acted_cut k (Write fd b) refused c ne bytes = write_held_cut k b refused (entry_of (fds_at k pid) fd) (c.none fd)
     acted_cut k (OpenFile name mode) refused c ne bytes = open_file_cut k name mode refused
     acted_cut k (Close fd) refused c ne bytes = close_cut k fd c
     acted_cut k (Dup fd) refused c ne bytes = dup_cut (copied k pid (entry_of (fds_at k pid) fd) (lowest_free (fds_at k pid))) (dup_answer (entry_of (fds_at k pid) fd) (lowest_free (fds_at k pid)))

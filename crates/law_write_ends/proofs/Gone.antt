@@ -1,5 +1,5 @@
--- One descriptor less holds the write end of a pipe, which is closed if no other one does: a close and an exit of another process come
--- to the same before and after that, but for who sleeps.
+-- One descriptor less holds an end of a pipe, which is closed if no other one does: a close and an exit of another process come to the
+-- same before and after that, but for who sleeps.
 use Rattle.std.proofs.Common.{◌≡◌, ◌≢◌, ◌⊎◌, ℕ, zero, suc, ◌+◌, ◌-◌, ◌<◌, ◌≤◌, Bool, true, false, Option, Some, None, inl, inr, refl, sym, ap, subst, ◌∙◌, arith, get_or-set_other}
 use Rattle.std.proofs.Math.ListN.{set}
 use Rattle.std.proofs.lemmas.Bool.{cases_eq, lt-leb, eq-eqb}
@@ -10,17 +10,14 @@ use Rattle.user_calls.specs.declared.calls.Call.TheVariants.{Fork, Exec, Exit, W
 use Rattle.user_calls.specs.declared.calls.Reply.{Reply}
 use Rattle.user_calls.specs.declared.calls.Reply.TheVariants.{Refused}
 use Rattle.fd_table.specs.declared.names.Object.{Object}
-use Rattle.fd_table.specs.declared.names.Object.TheVariants.{PipeWrite}
 use Rattle.fd_table.specs.declared.descriptors.TheConstants.{DESCRIPTORS}
 use Rattle.fd_table.specs.Entries.{OpenFile as Opened, Entries, entry_at, count_of, less_held, last_object, released}
 use Rattle.fd_table.specs.Descriptors.{Descriptors, entry_of, is_entry, holders_in, after_close, close_answer}
 use Rattle.fd_table.proofs.Lists.{within_list}
-use Rattle.proc_table.specs.declared.states.Channel.TheVariants.{PipeBytes}
 use Rattle.proc_table.specs.Slots.{Slot, at}
 use Rattle.proc_table.specs.Calls.{with_fds}
 use Rattle.proc_table.proofs.Changes.{written}
 use Rattle.kernel_model.specs.KernelState.{KernelState, fds_of, fds_at}
-use Rattle.kernel_model.specs.Pipes.{pipe_of, writer_gone}
 use Rattle.kernel_model.specs.Replies.{answered}
 use Rattle.kernel_model.specs.Descriptors.{let_go, let_go_of, taken_away, closed_by, closed, closed_below, close, close_reply}
 use Rattle.kernel_model.specs.Processes.{ended}
@@ -32,10 +29,10 @@ use Rattle.law_private_turns.proofs.Woken.{exited_told}
 use Rattle.law_private_turns.proofs.Wakes.{unseen, closed_told, answering}
 use Rattle.law_entry_numbers.proofs.Entries.{changed_entry}
 use Rattle.law_last_closes.proofs.Losing.{lost}
-use Rattle.law_last_closes.proofs.Closing.{away_lost, closed_other_lost, let_go_entries, let_go_fds, reply_lost}
+use Rattle.law_last_closes.proofs.Closing.{away_lost, closed_other_lost, let_go_entries, let_go_fds, held_before, reply_lost}
 use Rattle.law_last_closes.proofs.Objects.{IsOpenOn, closed_on}
-use Rattle.law_write_ends.proofs.Pipes.{writer_edited}
-use Rattle.law_write_ends.proofs.Cutting.{cut, IsCut, IsNotWriter, closed_by_cut, let_go_of_apart, not_released}
+use Rattle.law_write_ends.proofs.Ends.{PipeEnd, object_of, channel_of, IsNoEnd, let_go_end}
+use Rattle.law_write_ends.proofs.Cutting.{cut, IsCut, closed_by_cut, let_go_of_apart, no_end_released}
 
 -- the call closes something
 abbrev pub Closing : Call → Type 0
@@ -95,37 +92,37 @@ own_holder_less fds fd e held =
       ap (λ (x : Option ℕ). cond {A = ℕ} (is_entry e x) 1 0) held ∙ ap (λ (b : Bool). cond {A = ℕ} b 1 0) (eq-eqb e e refl),
     )
 
-module _ {S : Type 0} (id e pid : ℕ) where
+module _ {S : Type 0} (end : PipeEnd) (id e pid : ℕ) where
   abbrev L : KernelState S → KernelState S
   L k = lost e pid k
 
-  -- with this last object, if there is one, the write end is closed
+  -- with this last object, if there is one, the end is closed
   abbrev pub shut_by : KernelState S → Option Object → KernelState S
   shut_by k None = L k
-  shut_by k (Some object) = cut id pid (L k)
+  shut_by k (Some object) = cut end id pid (L k)
 
-  -- one descriptor less holds the entry, and with the last one the write end is closed; and then whoever waits for bytes is woken
+  -- one descriptor less holds the entry, and with the last one the end is closed; and then whoever sleeps there is woken
   abbrev pub shut : KernelState S → KernelState S
   shut k = shut_by k (last_object (entry_at k.entries e))
 
   abbrev pub gone : KernelState S → KernelState S
   gone k = let_go_of (L k) (Ok (last_object (entry_at k.entries e)))
 
-  pub let_go_shut : (j : KernelState S) (object : Object) → object ≡ PipeWrite id → woke (let_go j object) ≡ woke (cut id pid j)
+  pub let_go_shut : (j : KernelState S) (object : Object) → object ≡ object_of end id → woke (let_go j object) ≡ woke (cut end id pid j)
   let_go_shut j object is =
-      ap (λ (o : Object). woke (let_go j o)) is ∙ unseen pid (record j { pipes = writer_gone j.pipes id (pipe_of j.pipes id) }) (PipeBytes id) ∙ (λ i. record (woke j) { pipes = writer_edited j.pipes id i })
+      ap (λ (o : Object). woke (let_go j o)) is ∙ ap woke (let_go_end end id j) ∙ unseen pid (cut end id pid j) (channel_of end id)
 
-  pub gone_shut_by : (k : KernelState S) (o : Option Object) → IsLastOn (PipeWrite id) o → woke (let_go_of (L k) (Ok o)) ≡ woke (shut_by k o)
+  pub gone_shut_by : (k : KernelState S) (o : Option Object) → IsLastOn (object_of end id) o → woke (let_go_of (L k) (Ok o)) ≡ woke (shut_by k o)
   gone_shut_by k None is = refl
   gone_shut_by k (Some object) is = let_go_shut (L k) object is
 
-  pub gone_shut : (k : KernelState S) → IsOpenOn (PipeWrite id) (entry_at k.entries e) → woke (gone k) ≡ woke (shut k)
-  gone_shut k on = gone_shut_by k (last_object (entry_at k.entries e)) (last_on (PipeWrite id) (entry_at k.entries e) on)
+  pub gone_shut : (k : KernelState S) → IsOpenOn (object_of end id) (entry_at k.entries e) → woke (gone k) ≡ woke (shut k)
+  gone_shut k on = gone_shut_by k (last_object (entry_at k.entries e)) (last_on (object_of end id) (entry_at k.entries e) on)
 
-  -- the entry is the pipe's write end, the only one, and more than pid hold it
+  -- the entry is the pipe's end, pid holds no other end with which it would see the close, and more than pid hold it
   pub record IsHeld (k : KernelState S) : Type 0 where
-    pub on : IsOpenOn (PipeWrite id) (entry_at k.entries e)
-    pub others : (d : ℕ) → d ≢ e → IsNotWriter id (entry_at k.entries d)
+    pub on : IsOpenOn (object_of end id) (entry_at k.entries e)
+    pub others : (fd d : ℕ) → entry_of (fds_at k pid) fd ≡ Some d → d ≢ e → IsNoEnd end id (entry_at k.entries d)
     pub apart : AreApart k.pipes
     pub more : holders_in (fds_at k pid) e < count_of (entry_at k.entries e)
 
@@ -135,16 +132,17 @@ module _ {S : Type 0} (id e pid : ℕ) where
     abbrev last : Option Object
     last = last_object (entry_at k.entries e)
 
-    pub is_cut : (object : Object) → last ≡ Some object → IsCut id pid (L k)
-    is_cut object is = record { none = λ d. by d (cases_eq d e); apart = h.apart } where
-      by : (d : ℕ) → (d ≡ e) ⊎ (d ≢ e) → IsNotWriter id (entry_at (released k.entries e) d)
-      by d (inl same) = subst (λ (i : ℕ). IsNotWriter id (entry_at (released k.entries e) i)) (sym same) (subst (IsNotWriter id) (sym (changed_entry less_held refl k.entries e ∙ freed_with_last (entry_at k.entries e) object is)) tt)
-      by d (inr ne) = subst (IsNotWriter id) (sym (get_or-set_other k.entries e d (less_held (entry_at k.entries e)) None ne)) (h.others d ne)
+    pub is_cut : (object : Object) → last ≡ Some object → IsCut end id pid (L k)
+    is_cut object is = record { none = λ fd d held. by fd d held (cases_eq d e); apart = h.apart } where
+      by : (fd d : ℕ) → entry_of (fds_at k pid) fd ≡ Some d → (d ≡ e) ⊎ (d ≢ e) → IsNoEnd end id (entry_at (released k.entries e) d)
+      by fd d held (inl same) =
+          subst (λ (i : ℕ). IsNoEnd end id (entry_at (released k.entries e) i)) (sym same) (subst (IsNoEnd end id) (sym (changed_entry less_held refl k.entries e ∙ freed_with_last (entry_at k.entries e) object is)) tt)
+      by fd d held (inr ne) = subst (IsNoEnd end id) (sym (get_or-set_other k.entries e d (less_held (entry_at k.entries e)) None ne)) (h.others fd d held ne)
 
-    module _ (fd d : ℕ) (ne : d ≢ e) where
+    module _ (fd d : ℕ) (held : entry_of (fds_at k pid) fd ≡ Some d) (ne : d ≢ e) where
       other_by : (o : Option Object) → last ≡ o → closed_by (shut_by k o) pid fd (Some d) ≡ shut_by (closed_by k pid fd (Some d)) o
       other_by None is = closed_other_lost e pid k fd d ne
-      other_by (Some object) is = closed_by_cut id pid (L k) fd (Some d) (is_cut object is) ∙ ap (cut id pid) (closed_other_lost e pid k fd d ne)
+      other_by (Some object) is = closed_by_cut end id pid (L k) fd (Some d) held (is_cut object is) ∙ ap (cut end id pid) (closed_other_lost e pid k fd d ne)
 
       last_kept : last ≡ last_object (entry_at (closed_by k pid fd (Some d)).entries e)
       last_kept =
@@ -166,8 +164,8 @@ module _ {S : Type 0} (id e pid : ℕ) where
       less : entry_at (released k.entries e) e ≡ less_held (entry_at k.entries e)
       less = changed_entry less_held refl k.entries e
 
-      less_on : IsOpenOn (PipeWrite id) (less_held (entry_at k.entries e))
-      less_on = subst (IsOpenOn (PipeWrite id)) (less) (subst (λ (t : Entries). IsOpenOn (PipeWrite id) (entry_at t e)) (entries_closed) (closed_on (PipeWrite id) e pid k fd h.on)) where
+      less_on : IsOpenOn (object_of end id) (less_held (entry_at k.entries e))
+      less_on = subst (IsOpenOn (object_of end id)) (less) (subst (λ (t : Entries). IsOpenOn (object_of end id) (entry_at t e)) (entries_closed) (closed_on (object_of end id) e pid k fd h.on)) where
         entries_closed : (closed k pid fd).entries ≡ released k.entries e
         entries_closed = let_go_entries e pid (taken_away k pid fd (entry_of (fds_at k pid) fd)) (close_answer k.entries (entry_of (fds_at k pid) fd)) ∙ (λ i. (taken_away k pid fd (held i)).entries)
 
@@ -176,7 +174,7 @@ module _ {S : Type 0} (id e pid : ℕ) where
           ap (λ (o : Option Object). woke (closed_by (shut_by k o) pid fd (Some e))) not_last ∙
           ap (λ (x : Option Opened). woke (let_go_of (taken_away (L k) pid fd (Some e)) (Ok (last_object x)))) less ∙
           ap (λ (j : KernelState S). woke (let_go_of j (Ok (last_object (less_held (entry_at k.entries e)))))) (away_lost e pid k fd (Some e)) ∙
-          gone_shut_by away (last_object (less_held (entry_at k.entries e))) (last_on (PipeWrite id) (less_held (entry_at k.entries e)) less_on) ∙
+          gone_shut_by away (last_object (less_held (entry_at k.entries e))) (last_on (object_of end id) (less_held (entry_at k.entries e)) less_on) ∙
           sym (ap (λ (o : Option Object). woke (shut (let_go_of away (Ok o)))) not_last ∙ ap (λ (x : Option Opened). woke (shut_by away (last_object x))) less)
 
     fds_shut : (o : Option Object) → fds_at (shut_by k o) pid ≡ fds_at k pid
@@ -192,7 +190,7 @@ module _ {S : Type 0} (id e pid : ℕ) where
     closed_by_shut fd (Some d) held = by (cases_eq d e) where
       by : (d ≡ e) ⊎ (d ≢ e) → woke (closed_by (shut k) pid fd (Some d)) ≡ woke (shut (closed_by k pid fd (Some d)))
       by (inl is) = subst (λ (i : ℕ). woke (closed_by (shut k) pid fd (Some i)) ≡ woke (shut (closed_by k pid fd (Some i)))) (sym is) (own_closed fd (held ∙ ap Some is))
-      by (inr ne) = ap woke (other_closed fd d ne)
+      by (inr ne) = ap woke (other_closed fd d held ne)
 
     closed_shut : (fd : ℕ) → woke (closed (shut k) pid fd) ≡ woke (shut (closed k pid fd))
     closed_shut fd = ap (λ (f : Descriptors). woke (closed_by (shut k) pid fd (entry_of f fd))) (fds_shut last) ∙ closed_by_shut fd (entry_of (fds_at k pid) fd) refl
@@ -220,9 +218,9 @@ module _ {S : Type 0} (id e pid : ℕ) where
         let t : (closed k pid fd).entries ≡ away.entries = let_go_entries e pid away (close_answer k.entries o) in
         let f : fds_at (closed k pid fd) pid ≡ fds_of (with_fds (after_close (fds_at k pid) fd o) (at k.table pid)) = let_go_fds e pid away (close_answer k.entries o) ∙ ap fds_of (written (with_fds (after_close (fds_at k pid) fd o)) refl k.table pid) in
         record {
-          on = closed_on (PipeWrite id) e pid k fd h.on;
-          others = λ d ne. subst (λ (u : Entries). IsNotWriter id (entry_at u d)) (sym t) (not_released id k.entries o d (h.others d ne));
-          apart = let_go_of_apart id pid away (close_answer k.entries o) h.apart;
+          on = closed_on (object_of end id) e pid k fd h.on;
+          others = λ gd d held ne. subst (λ (u : Entries). IsNoEnd end id (entry_at u d)) (sym t) (no_end_released end id k.entries o d (h.others gd d (held_before d pid k fd gd held) ne));
+          apart = let_go_of_apart end id pid away (close_answer k.entries o) h.apart;
           more = omega (arith, left_by fd o refl, slot_holds (after_close (fds_at k pid) fd o) (at k.table pid), ap (λ (u : Entries). count_of (entry_at u e)) t, ap (λ (u : Descriptors). holders_in u e) f);
         }
 

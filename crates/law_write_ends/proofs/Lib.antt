@@ -1,4 +1,5 @@
 pub mod Pipes
+pub mod Ends
 pub mod Cutting
 pub mod Facts
 pub mod Stays
@@ -6,7 +7,7 @@ pub mod Many
 pub mod Gone
 pub mod Turned
 pub mod Empty
+pub mod Writing
 pub mod Runs
 pub mod NextCalls
 pub mod Finding
-pub mod Safe

@@ -8,9 +8,7 @@ ghost use Rattle.order_model.specs.Alike.{IsStill};
 ghost use Rattle.order_model.specs.Begun.{IsBegun};
 ghost use Rattle.order_model.specs.Turns.{after_turn};
 ghost use Rattle.law_kernel.specs.Ends.{EndsAgree};
-ghost use Rattle.order_model.specs.Anyhow.{DoesAnyhow};
-ghost use Rattle.order_model.specs.Closes.{ClosesNext, FindsFreeNext, GivesWayBegun};
-ghost use Rattle.order_model.specs.Reduced.{IsSafe};
+ghost use Rattle.order_model.specs.Closes.{ClosesNext, FindsFreeNext};
 ghost use Rattle.law_write_ends.specs.Writers.{FindsBytesNext, InEitherOrderAwake, IsDoneAlready, ReadsEmptyNext};
 
 use user_calls::Machine;
@@ -42,11 +40,4 @@ pub fn kernels_of_runs_have_right_ends<M: Machine>()
 pub fn a_reader_finds_bytes_or_has_put_nothing<M: Machine>()
     ensures { (k : KernelState M.State) → IsBegun M.call_of M.next_of k → (pipe q : ℕ)
         → FindsBytesNext M.call_of M.next_of k pipe q ⊎ ReadsEmptyNext M.call_of M.next_of k pipe q }
-{}
-
-/// So such a close gives way to nobody's turn in a kernel of a run where whatever is opened from then on finds free entries; nor does
-/// the close of a file, of the input, the output or the diagnostics, nor a turn that is private anyhow: it can be taken before any
-/// other process's turn or after it, and stays such a turn until it is taken. Only a pipe's read end is left out.
-pub fn such_closes_give_way_to_nobody<M: Machine>()
-    ensures { IsSafe (after_turn M.call_of M.next_of) (DoesAnyhow M.call_of M.next_of) (GivesWayBegun M.call_of M.next_of) }
 {}

@@ -1,4 +1,5 @@
--- Closes that give way to nobody's turn: of what is no pipe's read end, where whatever is opened later finds free entries.
+-- Closes that give way to nobody's turn: all but of the read end of a pipe to which somebody else can write, where whatever is opened
+-- later finds free entries.
 use Rattle.std.specs.Prelude.{◌≡◌, ◌≢◌, ◌⊎◌, ℕ, ◌<◌, ◌≤◌, List, Some}
 use Rattle.user_calls.specs.declared.calls.Call.{Call}
 use Rattle.user_calls.specs.declared.calls.Call.TheVariants.{Fork, Exec, Exit, Wait, MakePipe, Read, Write, OpenFile, Close, Dup}
@@ -9,7 +10,7 @@ use Rattle.fd_table.specs.Entries.{OpenFile as Opened, entry_at, free_count}
 use Rattle.fd_table.specs.Descriptors.{entry_of}
 use Rattle.proc_table.specs.declared.states.Status.TheVariants.{Runnable}
 use Rattle.proc_table.specs.Slots.{Process, at}
-use Rattle.kernel_model.specs.KernelState.{KernelState}
+use Rattle.kernel_model.specs.KernelState.{KernelState, fds_at, file_at}
 use Rattle.order_model.specs.Turns.{after_turns}
 use Rattle.order_model.specs.Privately.{Privately}
 use Rattle.order_model.specs.Begun.{IsBegun}
@@ -27,7 +28,7 @@ FindsFree k (OpenFile name mode) = 0 < free_count k.entries
 FindsFree k (Close fd) = Unit {0}
 FindsFree k (Dup fd) = Unit {0}
 
--- the object is no end of a pipe, or no read end
+-- the object is no end of a pipe
 abbrev pub IsPlain : Object → Type 0
 IsPlain Input = Unit {0}
 IsPlain Out = Unit {0}
@@ -36,13 +37,18 @@ IsPlain (File name mode) = Unit {0}
 IsPlain (PipeRead id) = ⊥
 IsPlain (PipeWrite id) = ⊥
 
-abbrev pub IsNoReadEnd : Object → Type 0
-IsNoReadEnd Input = Unit {0}
-IsNoReadEnd Out = Unit {0}
-IsNoReadEnd Diag = Unit {0}
-IsNoReadEnd (File name mode) = Unit {0}
-IsNoReadEnd (PipeRead id) = ⊥
-IsNoReadEnd (PipeWrite id) = Unit {0}
+-- no process but p has a descriptor of this pipe's write end
+abbrev pub NobodyElseWrites : {S : Type 0} → KernelState S → ℕ → ℕ → Type 0
+NobodyElseWrites k id p = (q fd : ℕ) (file : Opened) → q ≢ p → file_at k.entries (entry_of (fds_at k q) fd) ≡ Some file → file.object ≢ PipeWrite id
+
+-- p can close a descriptor of the object at once: it is no pipe's read end, or nobody else writes to that pipe
+abbrev pub IsClosedAtOnce : {S : Type 0} → KernelState S → ℕ → Object → Type 0
+IsClosedAtOnce k p Input = Unit {0}
+IsClosedAtOnce k p Out = Unit {0}
+IsClosedAtOnce k p Diag = Unit {0}
+IsClosedAtOnce k p (File name mode) = Unit {0}
+IsClosedAtOnce k p (PipeRead id) = NobodyElseWrites k id p
+IsClosedAtOnce k p (PipeWrite id) = Unit {0}
 
 module _ {S : Type 0} (call : S → Reply → Call) (next : S → Reply → S) where
   -- if the call that q makes next opens something, it finds free entries for it
@@ -66,10 +72,10 @@ module _ {S : Type 0} (call : S → Reply → Call) (next : S → Reply → S) w
     pub used : entry_at k.entries entry ≡ Some file
     pub of : kind file.object
 
-  -- the turn of the process p, not init, closes what is no pipe's read end, in a kernel that has room
+  -- the turn of the process p, not init, is such a close, in a kernel that has room
   pub record ClosesInRoom (k : KernelState S) (p : ℕ) : Type 0 where
     pub child : p ≢ 0
-    pub closes : ClosesNext IsNoReadEnd k p
+    pub closes : ClosesNext (IsClosedAtOnce k p) k p
     pub room : HasRoomAhead k
 
   -- it is such a close, or private

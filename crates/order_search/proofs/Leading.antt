@@ -3,7 +3,6 @@ use Rattle.std.proofs.Common.{◌≡◌, ◌≢◌, inl, inr, ℕ, zero, suc, Li
 use Rattle.std.specs.Prelude.{if◌then◌else◌, ◌&&◌, not, nat_lt, is_some, position, count_by, cond}
 use Rattle.std.proofs.lemmas.List.Sums.{sum_by-cons}
 use Rattle.user_calls.specs.declared.calls.Call.{Call}
-use Rattle.user_calls.specs.declared.calls.Call.TheVariants.{Close}
 use Rattle.user_calls.specs.declared.calls.Reply.{Reply}
 use Rattle.fd_table.specs.declared.names.Object.{Object}
 use Rattle.fd_table.specs.declared.names.Object.TheVariants.{Input, Out, Diag, File, PipeRead, PipeWrite}
@@ -16,7 +15,7 @@ use Rattle.proc_table.specs.declared.table.TheConstants.{HARTS}
 use Rattle.proc_table.specs.Slots.{Slot, Table, Process, at, is_runnable, is_runnable_status, is_running, is_running_status, is_running_on}
 use Rattle.proc_table.specs.Calls.{dispatched}
 use Rattle.kernel_model.specs.declared.events.Event.TheVariants.{Trap}
-use Rattle.kernel_model.specs.KernelState.{KernelState}
+use Rattle.kernel_model.specs.KernelState.{KernelState, fds_of, fds_at, file_at}
 use Rattle.kernel_model.specs.Boot.{boot_kernel}
 use Rattle.kernel_model.specs.Events.{counted, can_dispatch, then_happens, IsFinished}
 use Rattle.order_model.specs.Idle.{idle_slot, idle_status, idle_kernel, renamed_object, renamed_entry, renamed_pipe}
@@ -24,11 +23,11 @@ use Rattle.order_model.specs.Key.{key, place_in}
 use Rattle.order_model.specs.Woke.{woke_status, woke_slot, woke_table, woke}
 use Rattle.order_model.specs.Anyhow.{bare_status, bare_slot, bare_table}
 use Rattle.order_model.specs.Privately.{IsPrivateCall}
-use Rattle.order_model.specs.Closes.{HasRoomAhead, IsNoReadEnd, ClosesNext, GivesWay}
+use Rattle.order_model.specs.Closes.{HasRoomAhead, IsClosedAtOnce, NobodyElseWrites, ClosesNext, GivesWay}
 use Rattle.order_model.specs.Outcome.{outcome_of}
 use Rattle.order_model.specs.Turns.{by_turns, quiet_turns, after_turns, after_turn, turn_events, turn_notes}
 use Rattle.order_search.specs.Led.{start_kernel}
-use Rattle.order_search.specs.Shown.{IsClosedAtOnce, IsPrivateSlot, IsClosingSlot, IsGivingSlot}
+use Rattle.order_search.specs.Shown.{IsOpenAs, IsPrivateSlot, IsGiving}
 use Rattle.order_search.specs.Places.{IsOrderly, names_in, place_among}
 use Rattle.order_search.proofs.Placing.{place_is}
 use Rattle.law_kernel.proofs.EntriesLong.{every_run_has_entries}
@@ -143,23 +142,10 @@ private_slot call name (Some p) idle e =
       calls = subst (λ (q : Process _). IsPrivateCall q.fds (call q.machine q.reply)) (sym same) e.calls;
     }
 
--- a closing slot of the key is one of the kernel
-record Freed (x : Option OpenFile) : Type 0 where
-  file : OpenFile
-  is : x ≡ Some file
-  how : IsNoReadEnd file.object
-
-freed_object : (name : ℕ → ℕ) (o : Object) → IsNoReadEnd (renamed_object name o) → IsNoReadEnd o
-freed_object name Input free = tt
-freed_object name Out free = tt
-freed_object name Diag free = tt
-freed_object name (File file mode) free = tt
-freed_object name (PipeRead id) free = absurd free
-freed_object name (PipeWrite id) free = tt
-
-freed : (name : ℕ → ℕ) (x : Option OpenFile) → IsClosedAtOnce (renamed_entry name x) → Freed x
-freed name None free = absurd free
-freed name (Some f) free = record { file = f; is = refl; how = freed_object name f.object free }
+-- a process's descriptors are its own in the key too
+idle_fds : {S : Type 0} (name : ℕ → ℕ) (x : Slot S) → fds_of (idle_slot name x) ≡ fds_of x
+idle_fds name None = refl
+idle_fds name (Some p) = refl
 
 entry_named : (name : ℕ → ℕ) (E : Entries) (e : ℕ) → entry_at (map (renamed_entry name) E) e ≡ renamed_entry name (entry_at E e)
 entry_named name [] e = refl
@@ -167,37 +153,72 @@ entry_named name (x ∷ E) zero = refl
 entry_named name (x ∷ E) (suc e) = entry_named name E e
 
 module _ {S : Type 0} (call : S → Reply → Call) (next : S → Reply → S) where
-  closing_by : (k : KernelState S) (pid : ℕ) (p : Process S) → at k.table pid ≡ Some p → p.status ≡ Runnable → (fd : ℕ) → call p.machine p.reply ≡ Close fd → (entry : ℕ) → entry_of p.fds fd ≡ Some entry → Freed (entry_at k.entries entry) → ClosesNext call next IsNoReadEnd k pid
-  closing_by k pid p there ready fd calls entry holds f =
-      record { process = p; there = there; ready = ready; fd = fd; calls = calls; entry = entry; holds = holds; file = f.file; used = f.is; of = f.how }
+  module _ (k look : KernelState S) (pid : ℕ) (is : look ≡ key k) where
+    abbrev name : ℕ → ℕ
+    name = place_in k.pipes
 
-  closing_slot : (k : KernelState S) (pid : ℕ) (name : ℕ → ℕ) (E : Entries) (x : Slot S) → at k.table pid ≡ x → is_running x ≡ false → E ≡ map (renamed_entry name) k.entries → IsClosingSlot call E (idle_slot name x) → ClosesNext call next IsNoReadEnd k pid
-  closing_slot k pid name E None there idle entries e = absurd (let is = e.is in let z : ⊥ = cc in z)
-  closing_slot k pid name E (Some p) there idle entries e =
-      let is = e.is in
-      let same : record p { status = idle_status name p.status } ≡ e.process = cc in
-      closing_by k pid p there (ready_is name p.status (ap (λ (q : Process _). q.status) same ∙ e.ready) idle) e.fd (ap (λ (q : Process S). call q.machine q.reply) same ∙ e.calls) e.entry (ap (λ (q : Process S). entry_of q.fds e.fd) same ∙ e.holds)
-      (freed name (entry_at k.entries e.entry) (subst IsClosedAtOnce (ap (λ (F : Entries). entry_at F e.entry) entries ∙ entry_named name k.entries e.entry) e.at_once))
+    slot : (q : ℕ) → at look.table q ≡ idle_slot name (at k.table q)
+    slot q = ap (λ (j : KernelState S). at j.table q) is ∙ at_idle name k.table q
+
+    entry : (e : ℕ) → entry_at look.entries e ≡ renamed_entry name (entry_at k.entries e)
+    entry e = ap (λ (j : KernelState S). entry_at j.entries e) is ∙ entry_named name k.entries e
+
+    file : (o : Option ℕ) → file_at look.entries o ≡ renamed_entry name (file_at k.entries o)
+    file None = refl
+    file (Some e) = entry e
+
+    -- to which pipe nobody else writes in the key, nobody else does
+    nobody_else : (id : ℕ) → NobodyElseWrites look (name id) pid → NobodyElseWrites k id pid
+    nobody_else id nobody q fd f ne held writes =
+        let fds : fds_at look q ≡ fds_at k q = ap fds_of (slot q) ∙ idle_fds name (at k.table q) in
+        let there : file_at look.entries (entry_of (fds_at look q) fd) ≡ renamed_entry name (Some f) = (λ i. file_at look.entries (entry_of (fds i) fd)) ∙ file (entry_of (fds_at k q) fd) ∙ ap (renamed_entry name) held in
+        nobody q fd _ ne there (ap (renamed_object name) writes)
+
+    at_once : (object : Object) → IsClosedAtOnce look pid (renamed_object name object) → IsClosedAtOnce k pid object
+    at_once Input free = tt
+    at_once Out free = tt
+    at_once Diag free = tt
+    at_once (File file mode) free = tt
+    at_once (PipeRead id) nobody = nobody_else id nobody
+    at_once (PipeWrite id) free = tt
+
+    -- a close in the key is one of the kernel
+    closing : is_running (at k.table pid) ≡ false → ClosesNext call next (IsClosedAtOnce look pid) look pid → ClosesNext call next (IsClosedAtOnce k pid) k pid
+    closing idle c = by_slot (at k.table pid) refl where
+      by_file : (p : Process S) → at k.table pid ≡ Some p → record p { status = idle_status name p.status } ≡ c.process → (o : Option OpenFile) → entry_at k.entries c.entry ≡ o → ClosesNext call next (IsClosedAtOnce k pid) k pid
+      by_file p there same None used = let none : None ≡ Some c.file = sym (ap (renamed_entry name) used) ∙ sym (entry c.entry) ∙ c.used in absurd (let z : ⊥ = cc in z)
+      by_file p there same (Some f) used =
+          let both : renamed_entry name (Some f) ≡ Some c.file = sym (ap (renamed_entry name) used) ∙ sym (entry c.entry) ∙ c.used in
+          record {
+            process = p;
+            there = there;
+            ready = ready_is name p.status (ap (λ (q : Process S). q.status) same ∙ c.ready) (sym (ap is_running there) ∙ idle);
+            fd = c.fd;
+            calls = ap (λ (q : Process S). call q.machine q.reply) same ∙ c.calls;
+            entry = c.entry;
+            holds = ap (λ (q : Process S). entry_of q.fds c.fd) same ∙ c.holds;
+            file = f;
+            used = used;
+            of = at_once f.object (subst (IsOpenAs (IsClosedAtOnce look pid)) (sym both) c.of);
+          }
+
+      by_slot : (x : Slot S) → at k.table pid ≡ x → ClosesNext call next (IsClosedAtOnce k pid) k pid
+      by_slot None there = let none : None ≡ Some c.process = sym (ap (idle_slot name) there) ∙ sym (slot pid) ∙ c.there in absurd (let z : ⊥ = cc in z)
+      by_slot (Some p) there =
+          let both : idle_slot name (Some p) ≡ Some c.process = sym (ap (idle_slot name) there) ∙ sym (slot pid) ∙ c.there in
+          by_file p there (let same : record p { status = idle_status name p.status } ≡ c.process = cc in same) (entry_at k.entries c.entry) refl
 
   -- whose turn gives way in the key gives way, in a kernel that has room if that is said of it
-  pub key_gives : (k look : KernelState S) (room : Bool) (pid : ℕ) → look ≡ key k → count_by is_running k.table ≡ 0 → (room ≡ true → HasRoomAhead call next k) → (pid ≢ 0) × IsGivingSlot call room look.entries (at look.table pid) → GivesWay call next k pid
+  pub key_gives : (k look : KernelState S) (room : Bool) (pid : ℕ) → look ≡ key k → count_by is_running k.table ≡ 0 → (room ≡ true → HasRoomAhead call next k) → (pid ≢ 0) × IsGiving call next room look pid → GivesWay call next k pid
   key_gives k look room pid is none ahead e = by e.1 where
-    slot : at look.table pid ≡ idle_slot (place_in k.pipes) (at k.table pid)
-    slot = ap (λ (j : KernelState S). at j.table pid) is ∙ at_idle (place_in k.pipes) k.table pid
-
     idle : is_running (at k.table pid) ≡ false
     idle = none_of is_running k.table pid refl none
 
-    by : IsGivingSlot call room look.entries (at look.table pid) → GivesWay call next k pid
+    by : IsGiving call next room look pid → GivesWay call next k pid
     by (inl private) =
-        let x = private_slot call (place_in k.pipes) (at k.table pid) idle (subst (IsPrivateSlot call) slot private) in
+        let x = private_slot call (place_in k.pipes) (at k.table pid) idle (subst (IsPrivateSlot call) (slot k look pid is pid) private) in
         inl (record { child = e.0; process = x.process; there = x.is; ready = x.ready; calls = x.calls })
-    by (inr closing) =
-        inr (record {
-          child = e.0;
-          closes = closing_slot k pid (place_in k.pipes) look.entries (at k.table pid) refl idle (ap (λ (j : KernelState S). j.entries) is) (subst (IsClosingSlot call look.entries) slot closing.1);
-          room = ahead closing.0;
-        })
+    by (inr closes) = inr (record { child = e.0; closes = closing k look pid is idle closes.1; room = ahead closes.0 })
 
   -- turns after turns
   more : (pids later : List ℕ) (o : Option (KernelState S)) → by_turns call next o (quiet_turns (pids ++ later)) ≡ by_turns call next (by_turns call next o (quiet_turns pids)) (quiet_turns later)

@@ -1,16 +1,25 @@
 -- Slots that are kept.
 use Rattle.std.proofs.Common.{◌≡◌, ◌≢◌, ◌⊎◌, inl, inr, take, ℕ, zero, suc, ◌+◌, ◌<◌, ◌≤◌, List, [], ◌∷◌, Bool, true, false, Some, None, length, get_or, refl, sym, ap, subst, ◌∙◌, arith, map}
 use Rattle.std.specs.declared.rc.Rc.{Rc}
-use Rattle.std.specs.Prelude.{Option, Result, Ok, not, IfSome, IsSome, is_some, nat_eq}
+use Rattle.std.specs.Prelude.{Option, Result, Ok, not, IfSome, IsSome, is_some, nat_eq, nat_lt, replicate}
 use Rattle.std.specs.Option.{is_some as some_in}
-use Rattle.std.proofs.lemmas.Bool.{cases_eq, eqb-true}
+use Rattle.std.proofs.lemmas.Bool.{cases_eq, eqb-true, ltb-true, ltb-false}
 use Rattle.user_calls.specs.declared.calls.Call.{Call}
 use Rattle.user_calls.specs.declared.calls.Reply.{Reply}
 use Rattle.fd_table.specs.Descriptors.{Descriptors}
-use Rattle.proc_table.specs.Slots.{Process, Table, at}
+use Rattle.proc_table.specs.Slots.{Process, Slot, Table, at}
 use Rattle.order_model.specs.Anyhow.{bare_slot}
 use Rattle.order_search.specs.declared.private.NextCall.{NextCall}
-use Rattle.order_search.specs.Shown.{slot_of, IsNextCall}
+use Rattle.order_search.specs.declared.private.NextCall.TheVariants.{Private, Closes, Unknown}
+use Rattle.order_search.specs.Shown.{slot_of, IsNextCall, IsReadyCall, IsClosingSlot, IsOpenAs, IsNoReadEnd, HasNoWriteEnd}
+use Rattle.fd_table.specs.declared.names.Object.{Object}
+use Rattle.fd_table.specs.declared.names.Object.TheVariants.{Input, Out, Diag, File, PipeRead, PipeWrite}
+use Rattle.fd_table.specs.Entries.{Entries, OpenFile, entry_at}
+use Rattle.fd_table.specs.Descriptors.{entry_of}
+use Rattle.fd_table.specs.declared.descriptors.TheConstants.{DESCRIPTORS}
+use Rattle.proc_table.specs.declared.states.Status.TheVariants.{Runnable}
+use Rattle.kernel_model.specs.KernelState.{KernelState, fds_of, fds_at, file_at}
+use Rattle.order_model.specs.Closes.{ClosesNext, IsClosedAtOnce, NobodyElseWrites}
 
 module _ {S Z : Type 0} where
   pub at_kept : (xs : List (Option (Rc (Process S) Z))) (i : ℕ) (d : Option (Rc (Process S) Z)) → i < length xs → at (map slot_of xs) i ≡ slot_of (get_or xs i d)
@@ -84,3 +93,62 @@ same_number m n is = eqb-true m n is
 pub calls_so : {S : Type 0} (of : S → Reply → Call) (fds places : Descriptors) (s t : S) (r q : Reply) (known : NextCall) → fds ≡ places → t ≡ s → q ≡ r → IsNextCall fds (of s r) known → IsNextCall places (of t q) known
 calls_so {S} of fds places s t r q known held machine reply is =
     subst (λ (d : Call). IsNextCall places d known) (ap (λ (m : S). of m r) (sym machine) ∙ ap (of t) (sym reply)) (subst (λ (f : Descriptors). IsNextCall f (of s r) known) held is)
+
+module _ {S : Type 0} (call : S → Reply → Call) where
+  -- what is known of the next call of a Runnable process
+  pub ready_known : (p : Process S) (known : NextCall) → p.status ≡ Runnable → IsNextCall p.fds (call p.machine p.reply) known → IsReadyCall call (Some p) known
+  ready_known p Private ready is = record { process = p; is = refl; ready = ready; calls = is }
+  ready_known p (Closes entry) ready is = record { process = p; is = refl; ready = ready; fd = is.0; calls = is.1; holds = is.2 }
+  ready_known p Unknown ready is = tt
+
+  -- a close of an object that is known is a close that can be made at once
+  pub closes_known : (next : S → Reply → S) (k : KernelState S) (pid entry : ℕ) (kind : Object → Type 0) → IsClosingSlot call entry (at k.table pid) → IsOpenAs kind (entry_at k.entries entry) → ClosesNext call next kind k pid
+  closes_known next k pid entry kind c has = by (entry_at k.entries entry) refl has where
+    by : (o : Option OpenFile) → entry_at k.entries entry ≡ o → IsOpenAs kind o → ClosesNext call next kind k pid
+    by None used of = absurd of
+    by (Some f) used of = record { process = c.process; there = c.is; ready = c.ready; fd = c.fd; calls = c.calls; entry = entry; holds = c.holds; file = f; used = used; of = of }
+
+-- ---- who writes to a pipe
+
+pub unsaid : (b : Bool) → not b ≡ true → b ≡ false
+unsaid true is = absurd (let z : ⊥ = cc in z)
+unsaid false is = refl
+
+-- what a close ends says whether it can be made at once
+pub other_at_once : {S : Type 0} (k : KernelState S) (pid : ℕ) (object : Object) → IsNoReadEnd object → IsClosedAtOnce k pid object
+other_at_once k pid Input other = tt
+other_at_once k pid Out other = tt
+other_at_once k pid Diag other = tt
+other_at_once k pid (File name mode) other = tt
+other_at_once k pid (PipeRead id) other = absurd other
+other_at_once k pid (PipeWrite id) other = tt
+
+pub open_more : (P Q : Object → Type 0) (x : Option OpenFile) → ((o : Object) → P o → Q o) → IsOpenAs P x → IsOpenAs Q x
+open_more P Q None more is = is
+open_more P Q (Some f) more is = more f.object is
+
+pub reads_at_once : {S : Type 0} (k : KernelState S) (pid pipe : ℕ) → NobodyElseWrites k pipe pid → (object : Object) → object ≡ PipeRead pipe → IsClosedAtOnce k pid object
+reads_at_once k pid pipe nobody object is = subst (IsClosedAtOnce k pid) (sym is) nobody
+
+-- whoever has no descriptor has none of a write end
+free_place : (n fd : ℕ) → entry_of (replicate n None) fd ≡ None
+free_place zero fd = refl
+free_place (suc n) zero = refl
+free_place (suc n) (suc fd) = free_place n fd
+
+pub free_writes_nowhere : (E : Entries) (pipe : ℕ) → HasNoWriteEnd E pipe (replicate DESCRIPTORS None)
+free_writes_nowhere E pipe fd f held = let none : None ≡ Some f = sym (ap (file_at E) (free_place DESCRIPTORS fd)) ∙ held in absurd (let z : ⊥ = cc in z)
+
+-- one slot more
+pub no_writer_next : {S : Type 0} (k : KernelState S) (pipe pid n : ℕ) → ((q : ℕ) → q < n → q ≢ pid → HasNoWriteEnd k.entries pipe (fds_at k q)) → (n ≢ pid → HasNoWriteEnd k.entries pipe (fds_at k n)) → (q : ℕ) → q < n + 1 → q ≢ pid → HasNoWriteEnd k.entries pipe (fds_at k q)
+no_writer_next k pipe pid n before here q less other = by (cases_eq q n) where
+  by : (q ≡ n) ⊎ (q ≢ n) → HasNoWriteEnd k.entries pipe (fds_at k q)
+  by (inl is) = subst (λ (i : ℕ). HasNoWriteEnd k.entries pipe (fds_at k i)) (sym is) (here (λ same. other (is ∙ same)))
+  by (inr ne) = before q (omega (arith, less, ne)) other
+
+-- and past the last one nobody is
+pub no_writer_past : {S : Type 0} (k : KernelState S) (pipe pid n : ℕ) → ((q : ℕ) → q < n → q ≢ pid → HasNoWriteEnd k.entries pipe (fds_at k q)) → ((q : ℕ) → n ≤ q → at k.table q ≡ None) → NobodyElseWrites k pipe pid
+no_writer_past k pipe pid n before free q fd f other held = by (nat_lt q n) refl where
+  by : (b : Bool) → nat_lt q n ≡ b → f.object ≢ PipeWrite pipe
+  by true is = before q (ltb-true q n is) other fd f held
+  by false is = subst (λ (x : Slot _). HasNoWriteEnd k.entries pipe (fds_of x)) (sym (free q (ltb-false q n is))) (free_writes_nowhere k.entries pipe) fd f held

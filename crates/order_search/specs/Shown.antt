@@ -1,18 +1,23 @@
 -- What is shown of the kept parts of a kernel. No public clause cites this module.
-use Rattle.std.specs.Prelude.{◌≡◌, ◌⊎◌, ℕ, Bool, true, Option, Some, None}
+use Rattle.std.specs.Prelude.{◌≡◌, ◌≢◌, ◌⊎◌, ℕ, Bool, true, Option, Some, None}
 use Rattle.std.specs.Rc.{rc_value}
 use Rattle.std.specs.declared.rc.Rc.{Rc}
 use Rattle.user_calls.specs.declared.calls.Call.{Call}
 use Rattle.user_calls.specs.declared.calls.Call.TheVariants.{Close}
 use Rattle.user_calls.specs.declared.calls.Reply.{Reply}
-use Rattle.fd_table.specs.Entries.{Entries, OpenFile, entry_at}
+use Rattle.fd_table.specs.declared.names.Object.{Object}
+use Rattle.fd_table.specs.declared.names.Object.TheVariants.{Input, Out, Diag, File, PipeRead, PipeWrite}
+use Rattle.fd_table.specs.Entries.{Entries, OpenFile}
 use Rattle.fd_table.specs.Descriptors.{Descriptors, entry_of}
 use Rattle.proc_table.specs.declared.states.Status.TheVariants.{Runnable}
-use Rattle.proc_table.specs.Slots.{Slot, Process}
+use Rattle.proc_table.specs.Slots.{Slot, Process, at}
+use Rattle.kernel_model.specs.KernelState.{KernelState, file_at}
 use Rattle.order_model.specs.Privately.{IsPrivateCall}
-use Rattle.order_model.specs.Closes.{IsNoReadEnd}
+use Rattle.order_model.specs.Closes.{ClosesNext, IsClosedAtOnce}
 use Rattle.order_search.specs.declared.private.NextCall.{NextCall}
 use Rattle.order_search.specs.declared.private.NextCall.TheVariants.{Private, Closes, Unknown}
+use Rattle.order_search.specs.declared.private.CloseOf.{CloseOf}
+use Rattle.order_search.specs.declared.private.CloseOf.TheVariants.{ReadEnd, Other, Nothing}
 
 -- the slot of a process that is kept
 abbrev pub slot_of : {S Z : Type 0} → Option (Rc (Process S) Z) → Slot S
@@ -32,22 +37,44 @@ IsNextCall fds call Private = IsPrivateCall fds call
 IsNextCall fds call (Closes entry) = (fd : ℕ) × (call ≡ Close fd) × (entry_of fds fd ≡ Some entry)
 IsNextCall fds call Unknown = Unit {0}
 
--- a descriptor of the entry can be closed at once: it is in use, and no pipe's read end
-abbrev pub IsClosedAtOnce : Option OpenFile → Type 0
-IsClosedAtOnce None = ⊥
-IsClosedAtOnce (Some f) = IsNoReadEnd f.object
-
--- the slot's process is Runnable, and its next call is such a close
-pub record IsClosingSlot {S : Type 0} (call : S → Reply → Call) (E : Entries) (x : Slot S) : Type 0 where
+-- the slot's process is Runnable, and its next call closes a descriptor that holds this entry
+pub record IsClosingSlot {S : Type 0} (call : S → Reply → Call) (entry : ℕ) (x : Slot S) : Type 0 where
   pub process : Process S
   pub is : x ≡ Some process
   pub ready : process.status ≡ Runnable
   pub fd : ℕ
   pub calls : call process.machine process.reply ≡ Close fd
-  pub entry : ℕ
   pub holds : entry_of process.fds fd ≡ Some entry
-  pub at_once : IsClosedAtOnce (entry_at E entry)
 
--- its next call is private, or such a close where there is room
-abbrev pub IsGivingSlot : {S : Type 0} → (S → Reply → Call) → Bool → Entries → Slot S → Type 0
-IsGivingSlot call room E x = IsPrivateSlot call x ⊎ ((room ≡ true) × IsClosingSlot call E x)
+-- this is known of the next call of the slot's process: nothing, where it isn't Runnable
+abbrev pub IsReadyCall : {S : Type 0} → (S → Reply → Call) → Slot S → NextCall → Type 0
+IsReadyCall call x Private = IsPrivateSlot call x
+IsReadyCall call x (Closes entry) = IsClosingSlot call entry x
+IsReadyCall call x Unknown = Unit {0}
+
+-- an entry is in use, and has an object of this kind open
+abbrev pub IsOpenAs : (Object → Type 0) → Option OpenFile → Type 0
+IsOpenAs kind None = ⊥
+IsOpenAs kind (Some f) = kind f.object
+
+abbrev pub IsNoReadEnd : Object → Type 0
+IsNoReadEnd Input = Unit {0}
+IsNoReadEnd Out = Unit {0}
+IsNoReadEnd Diag = Unit {0}
+IsNoReadEnd (File name mode) = Unit {0}
+IsNoReadEnd (PipeRead pipe) = ⊥
+IsNoReadEnd (PipeWrite pipe) = Unit {0}
+
+-- a descriptor of the entry is one of this
+abbrev pub IsCloseOf : Option OpenFile → CloseOf → Type 0
+IsCloseOf x (ReadEnd pipe) = IsOpenAs (λ o. o ≡ PipeRead pipe) x
+IsCloseOf x Other = IsOpenAs IsNoReadEnd x
+IsCloseOf x Nothing = x ≡ None
+
+-- none of the descriptors is one of this pipe's write end
+abbrev pub HasNoWriteEnd : Entries → ℕ → Descriptors → Type 0
+HasNoWriteEnd E pipe fds = (fd : ℕ) (file : OpenFile) → file_at E (entry_of fds fd) ≡ Some file → file.object ≢ PipeWrite pipe
+
+-- the next call of the process pid is private, or, where there is room, a close that can be made at once
+abbrev pub IsGiving : {S : Type 0} → (S → Reply → Call) → (S → Reply → S) → Bool → KernelState S → ℕ → Type 0
+IsGiving call next room k pid = IsPrivateSlot call (at k.table pid) ⊎ ((room ≡ true) × ClosesNext call next (IsClosedAtOnce k pid) k pid)

@@ -6,7 +6,7 @@ ghost use Rattle.order_model.specs.Woke.{woke_status};
 ghost use Rattle.order_model.specs.Anyhow.{bare_status};
 
 use crate::pools::{Digest, Same};
-use crate::private::NextCall;
+use crate::private::{CloseOf, NextCall};
 use crate::renumbering::are_places_under;
 use fd_table::{Mode, Object};
 use mem_files::Files;
@@ -258,7 +258,8 @@ fn same_object(object: &Object, other: &Object) -> bool
 
 impl Opened {
     ghost use Rattle.std.specs.Prelude.{◌≡◌, ◌↔◌, IsTrue, true, Some};
-    ghost use Rattle.order_search.specs.Shown.{IsClosedAtOnce};
+    ghost use Rattle.fd_table.specs.declared.names.Object.TheVariants.{PipeWrite};
+    ghost use Rattle.order_search.specs.Shown.{IsCloseOf, IsOpenAs};
 
     fn same(&self, other: &Opened) -> bool
         ensures { IsTrue result ↔ (self.now ≡ other.now) }
@@ -268,11 +269,24 @@ impl Opened {
             && self.offset == other.offset
     }
 
-    // Whether a descriptor of it can be closed at once.
-    fn is_closed_at_once(&self) -> bool
-        ensures { IsTrue result ↔ IsClosedAtOnce (Some self.now) }
+    // What a close of its descriptor closes.
+    fn close_of(&self) -> CloseOf
+        ensures { IsCloseOf (Some self.now) result }
     {
-        !matches!(self.object, Object::PipeRead(_))
+        match &self.object {
+            Object::PipeRead(pipe) => CloseOf::ReadEnd(*pipe),
+            _ => CloseOf::Other,
+        }
+    }
+
+    // Whether it is the write end of this pipe.
+    fn is_write_end(&self, pipe: u64) -> bool
+        ensures { IsTrue result ↔ IsOpenAs (λ o. o ≡ PipeWrite pipe) (Some self.now) }
+    {
+        match &self.object {
+            Object::PipeWrite(other) => *other == pipe,
+            _ => false,
+        }
     }
 
     pub fn add_to(&self, digest: &mut Digest) {
@@ -335,18 +349,33 @@ impl Same for Entries {
 impl Entries {
     ghost use Rattle.std.specs.Prelude.{◌≡◌, ◌↔◌, IsTrue};
     ghost use Rattle.fd_table.specs.Entries.{entry_at};
-    ghost use Rattle.order_search.specs.Shown.{IsClosedAtOnce};
+    ghost use Rattle.fd_table.specs.declared.names.Object.TheVariants.{PipeWrite};
+    ghost use Rattle.order_search.specs.Shown.{IsCloseOf, IsOpenAs};
 
-    // Whether a descriptor of the entry of this number can be closed at once.
-    pub fn is_closed_at_once(&self, number: u8) -> bool
-        ensures { IsTrue result ↔ IsClosedAtOnce (entry_at self.now number) }
+    // What a close of a descriptor of the entry of this number closes.
+    pub fn close_of(&self, number: u8) -> CloseOf
+        ensures { IsCloseOf (entry_at self.now number) result }
+    {
+        let place = usize::from(number);
+        if place >= self.slots.len() {
+            return CloseOf::Nothing;
+        }
+        match &self.slots[place] {
+            Some(opened) => opened.close_of(),
+            None => CloseOf::Nothing,
+        }
+    }
+
+    // Whether the entry of this number is the write end of this pipe.
+    fn is_write_end(&self, number: u8, pipe: u64) -> bool
+        ensures { IsTrue result ↔ IsOpenAs (λ o. o ≡ PipeWrite pipe) (entry_at self.now number) }
     {
         let place = usize::from(number);
         if place >= self.slots.len() {
             return false;
         }
         match &self.slots[place] {
-            Some(opened) => opened.is_closed_at_once(),
+            Some(opened) => opened.is_write_end(pipe),
             None => false,
         }
     }
@@ -427,11 +456,11 @@ fn awake(status: Status) -> Status
 }
 
 impl<M: Machine> Held<M> {
-    ghost use Rattle.std.specs.Prelude.{◌≡◌, ◌↔◌, IsTrue, true, Some};
+    ghost use Rattle.std.specs.Prelude.{◌≡◌, ◌↔◌, IsTrue, true, false, Some};
     ghost use Rattle.order_model.specs.Woke.{woke_slot};
     ghost use Rattle.order_model.specs.Numbers.{renumbered_slot};
     ghost use Rattle.order_model.specs.Anyhow.{bare_slot};
-    ghost use Rattle.order_search.specs.Shown.{IsGivingSlot};
+    ghost use Rattle.order_search.specs.Shown.{HasNoWriteEnd, IsReadyCall};
     ghost use Rattle.order_search.specs.Under.{number_under};
 
     // Whether the other one is this one under these numbers of entries, but for who sleeps.
@@ -469,18 +498,29 @@ impl<M: Machine> Held<M> {
             && self.machine.same(&other.machine)
     }
 
-    // Whether it is Runnable and its next call is private, or, where there is room, can be closed at once.
-    pub fn gives_way(&self, entries: &Entries, room: bool) -> bool
-        ensures { result ≡ true → IsGivingSlot M.call_of room entries.now (Some self.now) }
+    // What is known of its next call, if it is Runnable.
+    pub fn ready_call(&self) -> NextCall
+        ensures { IsReadyCall M.call_of (Some self.now) result }
     {
-        if self.status != Status::Runnable {
-            return false;
+        if self.status == Status::Runnable {
+            self.next
+        } else {
+            NextCall::Unknown
         }
-        match self.next {
-            NextCall::Private => true,
-            NextCall::Closes(entry) => room && entries.is_closed_at_once(entry),
-            NextCall::Unknown => false,
+    }
+
+    // Whether it has a descriptor of the write end of this pipe.
+    pub fn writes_to(&self, entries: &Entries, pipe: u64) -> bool
+        ensures { result ≡ false → HasNoWriteEnd entries.now pipe self.now.fds }
+    {
+        for fd in 0..self.places.len() {
+            if let Some(number) = self.places[fd] {
+                if entries.is_write_end(number, pipe) {
+                    return true;
+                }
+            }
         }
+        false
     }
 
     // What the digest is to be: it is the same for two that are equal but for who sleeps and for numbers of entries.

@@ -1,13 +1,15 @@
 //! What of a kernel is kept and compared.
 
-ghost use Rattle.std.specs.Prelude.{◌≡◌, ◌↔◌, IsTrue, IsSome, true, map};
+ghost use Rattle.std.specs.Prelude.{◌≡◌, ◌↔◌, IsTrue, IsSome, true, false, map};
 ghost use Rattle.proc_table.specs.Slots.{is_runnable};
 ghost use Rattle.order_model.specs.Anyhow.{bare_slot};
 ghost use Rattle.order_model.specs.Woke.{woke_slot};
-ghost use Rattle.order_search.specs.Shown.{slot_of, IsGivingSlot};
+ghost use Rattle.kernel_model.specs.KernelState.{fds_of};
+ghost use Rattle.order_search.specs.Shown.{slot_of, HasNoWriteEnd, IsReadyCall};
 
 use crate::kept::{AllFiles, Bytes, Entries, Held, Opened, Pipes};
 use crate::pools::{Digest, Same};
+use crate::private::{CloseOf, NextCall};
 use crate::ranks::{NUMBERS, Ranks};
 use crate::renumbering::{Renumbering, are_entries_under, are_slots_under, free_entries};
 use kernel_model::Full;
@@ -104,14 +106,16 @@ fn are_slots_awake<M: Machine>(
 }
 
 impl<M: Machine> Look<M> {
-    ghost use Rattle.std.specs.Prelude.{◌≡◌, ◌≢◌, ◌↔◌, IsTrue, IfSome, true, map};
+    ghost use Rattle.std.specs.Prelude.{◌≡◌, ◌≢◌, ◌↔◌, IsTrue, IfSome, true, false, map};
     ghost use Rattle.proc_table.specs.Slots.{at, is_runnable};
     ghost use Rattle.kernel_model.specs.Events.{IsFinished};
     ghost use Rattle.order_model.specs.Woke.{woke, woke_slot};
     ghost use Rattle.order_model.specs.Numbers.{SameButNumbers};
     ghost use Rattle.order_model.specs.Anyhow.{bare_table};
     ghost use Rattle.order_search.specs.Under.{AreRenumberedParts};
-    ghost use Rattle.order_search.specs.Shown.{IsGivingSlot};
+    ghost use Rattle.order_model.specs.Closes.{IsClosedAtOnce, NobodyElseWrites};
+    ghost use Rattle.fd_table.specs.Entries.{entry_at};
+    ghost use Rattle.order_search.specs.Shown.{IsGiving, IsOpenAs};
 
     // A look at nothing.
     pub fn blank(alloc: Global) -> Result<Look<M>, AllocError> {
@@ -230,14 +234,51 @@ impl<M: Machine> Look<M> {
 
     // A process, not init, that is Runnable and whose next call is private, or, where there is room, a close that can be made at once.
     pub fn giving_pid(&self, room: bool) -> Option<usize>
-        ensures { IfSome result (λ pid. (pid ≢ 0) × IsGivingSlot M.call_of room self.now.entries (at self.now.table pid)) }
+        ensures { IfSome result (λ pid. (pid ≢ 0) × IsGiving M.call_of M.next_of room self.now pid) }
     {
         for pid in 1..self.slots.len() {
-            if gives_way(&self.slots[pid], &self.entries, room) {
+            if self.gives_way(pid, room) {
                 return Some(pid);
             }
         }
         None
+    }
+
+    // Whether that process is one.
+    fn gives_way(&self, pid: usize, room: bool) -> bool
+        ensures { result ≡ true → IsGiving M.call_of M.next_of room self.now pid }
+    {
+        if pid >= self.slots.len() {
+            return false;
+        }
+        match ready_call(&self.slots[pid]) {
+            NextCall::Private => true,
+            NextCall::Closes(entry) => room && self.is_closed_at_once(pid, entry),
+            NextCall::Unknown => false,
+        }
+    }
+
+    // Whether that process can close a descriptor of the entry of this number at once.
+    fn is_closed_at_once(&self, pid: usize, number: u8) -> bool
+        ensures { result ≡ true → IsOpenAs (IsClosedAtOnce self.now pid) (entry_at self.now.entries number) }
+    {
+        match self.entries.close_of(number) {
+            CloseOf::ReadEnd(pipe) => !self.others_write(pid, pipe),
+            CloseOf::Other => true,
+            CloseOf::Nothing => false,
+        }
+    }
+
+    // Whether a process but that one has a descriptor of the write end of this pipe.
+    fn others_write(&self, pid: usize, pipe: u64) -> bool
+        ensures { result ≡ false → NobodyElseWrites self.now pipe pid }
+    {
+        for other in 0..self.slots.len() {
+            if other != pid && writes_to(&self.slots[other], &self.entries, pipe) {
+                return true;
+            }
+        }
+        false
     }
 }
 
@@ -256,12 +297,22 @@ fn is_ready<M: Machine>(slot: &Option<Rc<Held<M>>>) -> bool
     }
 }
 
-// Whether the slot's process is Runnable and its next call is private, or, where there is room, a close that can be made at once.
-fn gives_way<M: Machine>(slot: &Option<Rc<Held<M>>>, entries: &Entries, room: bool) -> bool
-    ensures { result ≡ true → IsGivingSlot M.call_of room entries.now (slot_of slot.now) }
+// What is known of the next call of the slot's process, if it is Runnable.
+fn ready_call<M: Machine>(slot: &Option<Rc<Held<M>>>) -> NextCall
+    ensures { IsReadyCall M.call_of (slot_of slot.now) result }
 {
     match slot {
-        Some(held) => held.gives_way(entries, room),
+        Some(held) => held.ready_call(),
+        None => NextCall::Unknown,
+    }
+}
+
+// Whether the slot's process has a descriptor of the write end of this pipe.
+fn writes_to<M: Machine>(slot: &Option<Rc<Held<M>>>, entries: &Entries, pipe: u64) -> bool
+    ensures { result ≡ false → HasNoWriteEnd entries.now pipe (fds_of (slot_of slot.now)) }
+{
+    match slot {
+        Some(held) => held.writes_to(entries, pipe),
         None => false,
     }
 }

@@ -16,6 +16,17 @@ pub enum NextCall {
     Unknown,
 }
 
+// What a close of a descriptor closes.
+#[derive(Clone, Copy, Debug, PartialEq, Eq)]
+pub enum CloseOf {
+    // The read end of this pipe.
+    ReadEnd(u64),
+    // Anything else.
+    Other,
+    // It isn't open.
+    Nothing,
+}
+
 // The call that the machine makes of the reply, of a process whose descriptors hold these entries. It is written to `call`.
 pub fn next_call<M: Machine>(
     machine: &M,

@@ -1,4 +1,4 @@
-use Rattle.law_write_ends.proofs.Turned.{empty_read, writer_either}
+use Rattle.law_write_ends.proofs.Writing.{empty_read, writer_either}
 use Rattle.law_write_ends.proofs.laws.the_close_of_a_write_end_can_be_made_in_either_order.Goals as goal
 
 pub returns-clause-either : goal.returns-clause-either

@@ -1,8 +1,7 @@
 use Rattle.std.proofs.Common.{◌≢◌, subst}
-use Rattle.proc_table.specs.Slots.{at}
 use Rattle.order_model.specs.Closes.{GivesWay}
 use Rattle.order_search.specs.Led.{Led}
-use Rattle.order_search.specs.Shown.{IsGivingSlot}
+use Rattle.order_search.specs.Shown.{IsGiving}
 use Rattle.order_search.proofs.Leading.{key_gives, room_led}
 use Rattle.order_search.proofs.Looking.{if_some_more}
 use Rattle.order_search.proofs.standing.StandingNode.private_move.Goals as goal
@@ -15,6 +14,6 @@ returns g c =
     let k = c.self.inside.kernel.value in
     let look = c.self.inside.look in
     let room = c.self.inside.origin.now.has_room in
-    if_some_more c.giving_pid.result (λ pid. (pid ≢ 0) × IsGivingSlot of room look.entries (at look.table pid)) (GivesWay of on c.args.self.now.now)
+    if_some_more c.giving_pid.result (λ pid. (pid ≢ 0) × IsGiving of on room look pid) (GivesWay of on c.args.self.now.now)
     (λ pid e. subst (λ (n : Led S). GivesWay of on n.now pid) c.self.view_is
     (key_gives of on k look room pid c.self.invariant.look c.self.invariant.idle (λ said. room_led of on _ k c.self.inside.pids.items (c.self.invariant.room said) c.self.invariant.turns) e)) c.giving_pid.ensures

@@ -1,4 +1,5 @@
--- Private turns and closes of what is no pipe's read end give way to nobody's turn, where whatever is opened later finds free entries.
+-- Private turns and closes give way to nobody's turn, but for the close of the read end of a pipe to which somebody else can write, where
+-- whatever is opened later finds free entries.
 use Rattle.std.proofs.Common.{◌≡◌, ◌≢◌, ◌⊎◌, ℕ, [], ◌∷◌, Option, Some, inl, inr, refl, sym, ap, subst, ◌∙◌}
 use Rattle.user_calls.specs.declared.calls.Call.{Call}
 use Rattle.user_calls.specs.declared.calls.Reply.{Reply}
@@ -10,7 +11,7 @@ use Rattle.order_model.specs.Turns.{by_turns, after_turn, quiet_turns}
 use Rattle.order_model.specs.Reduced.{IsSafe, Joins}
 use Rattle.order_model.specs.Begun.{IsBegun}
 use Rattle.order_model.specs.Anyhow.{AlikeAnyhow, DoesAnyhow, itself, likened}
-use Rattle.order_model.specs.Closes.{HasRoomAhead, IsPlain, IsNoReadEnd, ClosesNext, GivesWay, GivesWayBegun}
+use Rattle.order_model.specs.Closes.{HasRoomAhead, IsPlain, IsClosedAtOnce, NobodyElseWrites, ClosesNext, GivesWay, GivesWayBegun}
 use Rattle.law_private_turns.proofs.Begun.{begun_on, begun_still}
 use Rattle.law_last_closes.proofs.Anyhow.{awake_anyhow, joined, numbers_anyhow}
 use Rattle.law_last_closes.proofs.Safe.{privates_safe_anyhow}
@@ -18,7 +19,8 @@ use Rattle.law_last_closes.proofs.Turned.{plain_either, close_stays}
 use Rattle.law_write_ends.specs.Writers.{FindsBytesNext, ReadsEmptyNext}
 use Rattle.law_write_ends.proofs.Finding.{finds_or_put_nothing}
 use Rattle.law_write_ends.proofs.Runs.{ends, fresh}
-use Rattle.law_write_ends.proofs.Turned.{empty_read, writer_either}
+use Rattle.law_write_ends.proofs.Writing.{empty_read, writer_either}
+use Rattle.law_read_ends.proofs.Turned.{nobody_stays, reader_either}
 
 module _ {S : Type 0} (call : S → Reply → Call) (next : S → Reply → S) where
   pub room_on : (k l : KernelState S) (q : ℕ) → HasRoomAhead call next k → after_turn call next k q ≡ Some l → HasRoomAhead call next l
@@ -37,20 +39,42 @@ module _ {S : Type 0} (call : S → Reply → Call) (next : S → Reply → S) w
     begun_l : IsBegun call next l
     begun_l = begun_on call next k l (q ∷ []) begun second
 
-    on_l : ClosesNext call next IsNoReadEnd l p → GivesWayBegun call next l p
+    on_l : ClosesNext call next (IsClosedAtOnce l p) l p → GivesWayBegun call next l p
     on_l closes = record { gives = inr (record { child = child; closes = closes; room = room_on k l q room second }); begun = begun_l }
 
     -- both orders come to kernels that are alike
     in_order : (after both : KernelState S) → after_turn call next a q ≡ Some after → after_turn call next l p ≡ Some both → AlikeAnyhow after both → DoesAnyhow call next after both
     in_order after both here there alike = likened after both both (begun_on call next a after (q ∷ []) begun_a here) (begun_on call next l both (p ∷ []) begun_l there) alike (itself both)
 
-    module _ (e : ClosesNext call next IsNoReadEnd k p) where
-      stays : GivesWayBegun call next l p
-      stays = on_l (close_stays call next IsNoReadEnd k l p q still e ne second)
-
-      -- the same close, of an object of which more is known
+    module _ (e : ClosesNext call next (IsClosedAtOnce k p) k p) where
+      -- the same close, of an object of which something else is known
       of_kind : (kind : Object → Type 0) → kind e.file.object → ClosesNext call next kind k p
       of_kind kind of = record { process = e.process; there = e.there; ready = e.ready; fd = e.fd; calls = e.calls; entry = e.entry; holds = e.holds; file = e.file; used = e.used; of = of }
+
+      -- it can still be made at once after q's turn
+      at_once : (object : Object) → e.file.object ≡ object → IsClosedAtOnce k p object → IsClosedAtOnce l p object
+      at_once Input is none = tt
+      at_once Out is none = tt
+      at_once Diag is none = tt
+      at_once (File name mode) is none = tt
+      at_once (PipeRead pipe) is nobody = nobody_stays call next k p q pipe still (ends call next k begun) (fresh call next k begun) (of_kind (λ o. o ≡ PipeRead pipe) is) nobody ne l second
+      at_once (PipeWrite pipe) is none = tt
+
+      stays : GivesWayBegun call next l p
+      stays =
+          let kept = close_stays call next (λ o. o ≡ e.file.object) k l p q still (of_kind (λ o. o ≡ e.file.object) refl) ne second in
+          on_l (record {
+            process = kept.process;
+            there = kept.there;
+            ready = kept.ready;
+            fd = kept.fd;
+            calls = kept.calls;
+            entry = kept.entry;
+            holds = kept.holds;
+            file = kept.file;
+            used = kept.used;
+            of = subst (IsClosedAtOnce l p) (sym kept.of) (at_once e.file.object refl e.of);
+          })
 
       plain_joins : IsPlain e.file.object → JoinsHere
       plain_joins plain =
@@ -85,12 +109,22 @@ module _ {S : Type 0} (call : S → Reply → Call) (next : S → Reply → S) w
               joins = inl (likened a b.both b.both begun_a (begun_on call next l b.both (p ∷ []) begun_l b.taken) (awake_anyhow a b.both b.alike) (itself b.both));
             }
 
-      closes_join : (object : Object) → e.file.object ≡ object → IsNoReadEnd object → JoinsHere
+      reader_joins : (pipe : ℕ) → e.file.object ≡ PipeRead pipe → NobodyElseWrites k pipe p → JoinsHere
+      reader_joins pipe reads nobody =
+          let b = reader_either call next k p q pipe still (ends call next k begun) (fresh call next k begun) (of_kind (λ o. o ≡ PipeRead pipe) reads) nobody ne l second a first (room [] k q refl) in
+          record {
+            both = b.both;
+            taken = b.taken;
+            still = stays;
+            joins = inr (b.after, b.second, in_order b.after b.both b.second b.taken (joined b.after b.between b.both b.alike b.same));
+          }
+
+      closes_join : (object : Object) → e.file.object ≡ object → IsClosedAtOnce k p object → JoinsHere
       closes_join Input is none = plain_joins (subst IsPlain (sym is) tt)
       closes_join Out is none = plain_joins (subst IsPlain (sym is) tt)
       closes_join Diag is none = plain_joins (subst IsPlain (sym is) tt)
       closes_join (File name mode) is none = plain_joins (subst IsPlain (sym is) tt)
-      closes_join (PipeRead pipe) is none = absurd none
+      closes_join (PipeRead pipe) is nobody = reader_joins pipe is nobody
       closes_join (PipeWrite pipe) is none = writer_joins pipe is
 
   pub gives_way_safe : IsSafe (after_turn call next) (DoesAnyhow call next) (GivesWayBegun call next)
