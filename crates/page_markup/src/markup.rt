@@ -4,6 +4,7 @@ ghost use Rattle.std.specs.Prelude.{◌≡◌, true, false, IfOk, IfErr};
 
 use bstr::decode_utf8;
 use itoa::Buffer;
+use shown::code_of;
 use std::alloc::{AllocError, Allocator};
 use std::marker::Model;
 use unicode::properties::GeneralCategory;
@@ -73,15 +74,10 @@ struct Glyph {
 
 // What a byte of ASCII is shown as.
 fn ascii_glyph(byte: u8) -> Glyph {
-    let columns = match byte {
-        b'\n' | b'\r' | b'\t' | b'\\' => 2,
-        b' '..=b'~' => 1,
-        _ => 4,
-    };
     Glyph {
         is_shown: false,
         bytes: 1,
-        columns,
+        columns: code_of(byte).as_slice().len(),
     }
 }
 
@@ -131,15 +127,6 @@ pub fn bits_width(bits: u64) -> usize {
         }
     }
     total.saturating_sub(1)
-}
-
-// A digit of a number to the base 16.
-fn digit(value: u8) -> u8 {
-    match value {
-        0..=9 => value + b'0',
-        10..=15 => value - 10 + b'a',
-        _ => b'?',
-    }
 }
 
 impl<A: Allocator> Page<A> {
@@ -234,7 +221,7 @@ impl<A: Allocator> Page<A> {
         self.mark(if number == 1 { " byte" } else { " bytes" });
     }
 
-    // A byte as text: what HTML gives a meaning is its entity, and what isn't printable ASCII an escape.
+    // A byte as text: what HTML gives a meaning is its entity, and any other byte what it is shown as.
     fn add_byte(&mut self, byte: u8)
         ensures kept { self.old ≡ true → self.new ≡ true }
     {
@@ -244,15 +231,7 @@ impl<A: Allocator> Page<A> {
             b'>' => self.mark("&gt;"),
             b'"' => self.mark("&quot;"),
             b'\'' => self.mark("&#39;"),
-            b'\\' => self.mark("\\\\"),
-            b'\n' => self.mark("\\n"),
-            b'\r' => self.mark("\\r"),
-            b'\t' => self.mark("\\t"),
-            b' '..=b'~' => self.put(&[byte]),
-            _ => {
-                self.mark("\\x");
-                self.put(&[digit(byte / 16), digit(byte % 16)]);
-            }
+            _ => self.put(code_of(byte).as_slice()),
         }
     }
 
