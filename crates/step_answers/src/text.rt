@@ -1,6 +1,7 @@
 //! Text that is being written.
 
 use itoa::Buffer;
+use shown::add_shown;
 use std::alloc::{AllocError, Global};
 
 /// Text to which pieces are added, one after the other. That memory was refused to one is kept, and told at the end: so no piece needs a
@@ -51,6 +52,13 @@ impl Text {
 
     pub(crate) fn byte(&mut self, byte: u8) {
         self.bytes(&[byte]);
+    }
+
+    // Bytes on one line, as they are shown.
+    pub(crate) fn shown(&mut self, bytes: &[u8]) {
+        if add_shown(&mut self.bytes, bytes).is_err() {
+            self.refuse();
+        }
     }
 
     // A number in decimal.

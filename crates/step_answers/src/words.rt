@@ -21,13 +21,7 @@ pub(crate) fn add_column(text: &mut Text, begin: usize, column: usize) {
 
 // Adds the bytes on one line, of more than 60 the first 60 and `..`.
 pub(crate) fn add_short(text: &mut Text, bytes: &[u8]) {
-    for byte in &bytes[..bytes.len().min(SHOWN)] {
-        if *byte == b'"' {
-            text.byte(*byte);
-        } else {
-            add_byte(text, *byte);
-        }
-    }
+    text.shown(&bytes[..bytes.len().min(SHOWN)]);
     if SHOWN < bytes.len() {
         text.add("..");
     }
@@ -42,30 +36,14 @@ pub(crate) fn add_name(text: &mut Text, name: &[u8]) {
     }
 }
 
-// The digit of a number below 16.
-fn digit(number: u8) -> u8 {
-    match number {
-        0..=9 => b'0'.saturating_add(number),
-        _ => b'a'.saturating_add(number.saturating_sub(10)),
-    }
-}
-
-fn add_byte(text: &mut Text, byte: u8) {
-    match byte {
-        b'\n' => text.add("\\n"),
-        b'\t' => text.add("\\t"),
-        b'\\' => text.add("\\\\"),
-        b'"' => text.add("\\\""),
-        b' '..=b'~' => text.byte(byte),
-        _ => text.bytes(&[b'\\', b'x', digit(byte >> 4), digit(byte & 15)]),
-    }
-}
-
-// The bytes between quotes on one line, of more than `most` the first and `..`.
+// The bytes between quotes on one line, with a backslash before a quote, of more than `most` the first and `..`.
 pub(crate) fn add_quoted(text: &mut Text, bytes: &[u8], most: usize) {
     text.byte(b'"');
     for byte in &bytes[..bytes.len().min(most)] {
-        add_byte(text, *byte);
+        if *byte == b'"' {
+            text.byte(b'\\');
+        }
+        text.shown(&[*byte]);
     }
     text.byte(b'"');
     if most < bytes.len() {
