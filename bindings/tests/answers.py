@@ -70,8 +70,8 @@ TABLES = [
     (
         xvsh.Exploration(False, True, 132, (FIRST, SECOND), None, b""), "2 outcomes (132 states, every order tried)",
         [
-            ["", "output", "files", "diagnostics", "first full", "parts from 1 at event", "there", "here"], ["1", "b\\n", "", "", "", "", "", ""],
-            ["2", "<i>", f"f: x\\n\ny\\xff<b>: {SHOWN}", "odd\\n", "size", "3", "a `b\\\\`", "c \\xff"],
+            ["", "output", "files", "diagnostics", "first full", "parts from", "at event", "there", "here"], ["1", "b\\n", "", "", "", "", "", "", ""],
+            ["2", "<i>", f"f: x\\n\ny\\xff<b>: {SHOWN}", "odd\\n", "size", "1", "3", "a `b\\\\`", "c \\xff"],
         ],
     ),
     (xvsh.Exploration(True, True, 0, (FIRST,), None, b""), "1 outcome (known without trying orders)", [["", "output"], ["1", "b\\n"]]),

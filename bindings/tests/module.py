@@ -173,6 +173,7 @@ def asks():
         run = xvsh.replay("echo a > f &; echo b > f; wc < f", outcome.schedule, append=True)
         assert (run.out, run.files, run.diag, run.full) == (outcome.out, outcome.files, outcome.diag, outcome.full)
     assert race.outcomes[0].parting is None and all(outcome.parting.event <= len(outcome.schedule.splitlines()) for outcome in race.outcomes[1:])
+    assert race.dead_lines == () and xvsh.explore("echo a\necho b & echo c\nlss\n").dead_lines == (2, 3)
     settled, tried = xvsh.explore("cat f | wc", files={"f": "x"}), xvsh.explore("cat f | wc", files={"f": "x"}, thorough=True)
     assert settled.whole and settled.single and settled.states == 0 and settled.outcomes[0].schedule is None
     assert tried.whole and tried.single and tried.states > 10 and [it.out for it in tried.outcomes] == [it.out for it in settled.outcomes] == [b"0 1 1 \n"]

@@ -607,7 +607,8 @@ class Outcome(Answer):
 class Exploration(Shown):
     """What every order of a script's processes leaves. It is `single` where all outcomes have one output and one set of files, and `whole`
     where every order was tried, or what it leaves is known without; `stuck` is a schedule after which every process sleeps for ever, or
-    None. It iterates over the outcomes; `outcomes` below has each as soon as it is found. `json` is the program's object."""
+    None. `dead_lines` are the numbers, from 1, of the script's lines that do nothing, since they are no command or name no program. It
+    iterates over the outcomes; `outcomes` below has each as soon as it is found. `json` is the program's object."""
 
     single: bool
     whole: bool
@@ -615,6 +616,7 @@ class Exploration(Shown):
     outcomes: tuple[Outcome, ...]
     stuck: bytes | None
     json: bytes
+    dead_lines: tuple[int, ...] = ()
 
     def __iter__(self) -> Iterator[Outcome]:
         return iter(self.outcomes)
@@ -622,15 +624,15 @@ class Exploration(Shown):
     def _repr_html_(self) -> str:
         tried = "known without trying orders" if not self.states else f"{counted(self.states, 'state')}, {'' if self.whole else 'not '}every order tried"
         stuck = "" if self.stuck is None else "; some order never ends"
-        head = ("", "output", "files", "diagnostics", "first full", "parts from 1 at event", "there", "here")
+        head = ("", "output", "files", "diagnostics", "first full", "parts from", "at event", "there", "here")
         return table(f"{counted(len(self.outcomes), 'outcome')} ({tried}){stuck}", head, [_row_of(n, it) for n, it in enumerate(self.outcomes, 1)])
 
 
 def _row_of(number: int, outcome: Outcome) -> tuple[Cell, ...]:
     files = files_cell({name: file.bytes for name, file in outcome.files.items()})
-    parting: tuple[Cell, ...] = (None, None, None)
+    parting: tuple[Cell, ...] = (None, None, None, None)
     if outcome.parting:
-        parting = (outcome.parting.event, escaped(_encoded(outcome.parting.there)), escaped(_encoded(outcome.parting.here)))
+        parting = (outcome.parting.other, outcome.parting.event, escaped(_encoded(outcome.parting.there)), escaped(_encoded(outcome.parting.here)))
     return number, code(outcome.out), files, code(outcome.diag) if outcome.diag else None, outcome.full, *parting
 
 
@@ -867,7 +869,7 @@ def explore(
     call = _call_watched(watch, timeout, "explore", script, input, files, append, *numbers)
     made = json.loads(call.json)
     stuck = None if made["stuck"] is None else _schedule(made["stuck"])
-    return Exploration(call.fine, call.whole, made["states"], tuple(map(_outcome_of, made["outcomes"])), stuck, call.json)
+    return Exploration(call.fine, call.whole, made["states"], tuple(map(_outcome_of, made["outcomes"])), stuck, call.json, tuple(made["dead_lines"]))
 
 
 def grade_script(
