@@ -869,7 +869,7 @@ def explore(
     call = _call_watched(watch, timeout, "explore", script, input, files, append, *numbers)
     made = json.loads(call.json)
     stuck = None if made["stuck"] is None else _schedule(made["stuck"])
-    return Exploration(call.fine, call.whole, made["states"], tuple(map(_outcome_of, made["outcomes"])), stuck, call.json, tuple(made["dead_lines"]))
+    return Exploration(call.fine, call.whole, made["states"], tuple(map(_outcome_of, made["outcomes"])), stuck, call.json, tuple(made.get("dead_lines", ())))
 
 
 def grade_script(
@@ -947,7 +947,7 @@ def _outcome_of(made: dict[str, Any]) -> Outcome:
         _bytes_of(made.get("diagnostics", "")),
         made.get("full"),
         _schedule(made["schedule"]) if "schedule" in made else None,
-        Parting(parting["event"], _text_of(parting["there"]), _text_of(parting["here"]), parting["from"]) if parting else None,
+        Parting(parting["event"], _text_of(parting["there"]), _text_of(parting["here"]), parting.get("from", 1)) if parting else None,
     )
 
 
