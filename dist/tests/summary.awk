@@ -12,7 +12,11 @@ function part(count, what) { if (count) said = said (said ? ", " : "") count " "
 /^(gradescope|slurm|github|table|class|examples\/[a-z]+)[\/:]/ { graders++ }
 /^(dist|bindings)\/tests\/[a-z]+: [0-9]+ (tests|commands)/ { installs += number($2) }
 /^bindings\/test: / && !/left out/ { library++ }
-match($0, /left out, since there is no [^:]+: /) { without = without (without ? ", " : "") substr($0, RSTART + 28, RLENGTH - 30) }
+match($0, /left out, since [^:]+: /) {
+    reason = substr($0, RSTART + 16, RLENGTH - 18)
+    sub(/^there is no /, "", reason)
+    without = without (without ? ", " : "") reason
+}
 match($0, /^[a-z\/]+: left out: /) { without = without (without ? "; " : "") substr($0, RLENGTH + 1) }
 END {
     part(scripts, "scripts and " rows " rows (" runs " runs)")
