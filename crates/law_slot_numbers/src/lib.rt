@@ -1,0 +1,4 @@
+//! The numbers of processes' slots aren't seen: laws, no code.
+#![tactic(auto)]
+
+pub mod laws;
