@@ -1,4 +1,5 @@
--- The calls that neither take nor free a slot, made in two kernels that differ only in the numbers of slots: the numbers stay as they are.
+-- The calls that neither take nor free a slot, made in two kernels whose tables are in a relation that the changes of one slot keep: the
+-- kernels are so again, and else the same.
 use Rattle.std.proofs.Common.{◌≡◌, ℕ, zero, suc, ◌+◌, List, [], ◌++◌, Bool, true, false, Option, Some, None, length, drop, take, refl, sym, ap, subst, ◌∙◌}
 use Rattle.std.specs.Prelude.{if◌then◌else◌, nat_lt, nat_le, ◌==◌, is_none, Result, Ok, Err, min}
 use Rattle.user_calls.specs.Limits.{block_size}
@@ -29,7 +30,7 @@ use Rattle.proc_table.specs.Slots.{Table, at, put_of}
 use Rattle.proc_table.specs.Calls.{fds_set, readied, slept, all_woken, exited}
 use Rattle.kernel_model.specs.declared.events.Full.{Full}
 use Rattle.kernel_model.specs.declared.events.Full.TheVariants.{Open, Fds, Files, Size, Memory}
-use Rattle.kernel_model.specs.KernelState.{KernelState, fds_at}
+use Rattle.kernel_model.specs.KernelState.{KernelState, fds_of, fds_at}
 use Rattle.kernel_model.specs.Modes.{empties, entry_mode, reads}
 use Rattle.kernel_model.specs.Pipes.{pipe_of, put_into, taken_from, reader_gone, writer_gone, with_new}
 use Rattle.kernel_model.specs.Replies.{answered, refused_for, marked, sleeps, wakes}
@@ -38,28 +39,37 @@ use Rattle.kernel_model.specs.Opening.{emptied_if, with_bytes, open_here, open_r
 use Rattle.kernel_model.specs.Processes.{ended, exit}
 use Rattle.kernel_model.specs.Reading.{read, read_file, read_mode, read_by, read_pipe, read_object, read_entry, read_held}
 use Rattle.kernel_model.specs.Writing.{lacks_memory, write, write_file, append_file, write_mode, write_by, write_pipe, write_object, write_entry, write_held}
-use Rattle.order_model.specs.Numbers.{Numbering}
-use Rattle.law_orders.proofs.Tables.{same_eq}
-use Rattle.law_slot_numbers.specs.Slots.{moved_channel}
-use Rattle.law_slot_numbers.proofs.Slots.{one_to_one}
-use Rattle.law_slot_numbers.proofs.Tables.{Moves, fds_moved, put_moved, ready_moved, sleep_moved, set_fds_moved, woken_moved, exited_moved}
 
-module _ {S : Type 0} (n : Numbering) (pid me : ℕ) where
+-- a relation of tables under which the slot `me` of the one stands for the slot `pid` of the other, and which the changes of that slot, wake-ups
+-- and an exit keep; channels get other names
+pub record Keeps {S : Type 0} (pid me : ℕ) (to : Channel → Channel) (R : Table S → Table S → Type 0) : Type 0 where
+  pub bytes : (id : ℕ) → to (PipeBytes id) ≡ PipeBytes id
+  pub room : (id : ℕ) → to (PipeRoom id) ≡ PipeRoom id
+  pub init : (me == 0) ≡ (pid == 0)
+  pub fds : (t u : Table S) → R t u → fds_of (at u me) ≡ fds_of (at t pid)
+  pub put : (t u : Table S) → R t u → put_of (at u me) ≡ put_of (at t pid)
+  pub ready : (t u : Table S) (m : S) (reply : Reply) → R t u → R (readied t pid m reply) (readied u me m reply)
+  pub sleep : (t u : Table S) (c : Channel) (many : ℕ) → R t u → R (slept t pid c many) (slept u me (to c) many)
+  pub set_fds : (t u : Table S) (d : Descriptors) → R t u → R (fds_set t pid d) (fds_set u me d)
+  pub wake : (t u : Table S) (c : Channel) → R t u → R (all_woken c t) (all_woken (to c) u)
+  pub exit : (t u : Table S) → R t u → R (exited t pid) (exited u me)
+
+module _ {S : Type 0} (pid me : ℕ) (to : Channel → Channel) (R : Table S → Table S → Type 0) (keeps : Keeps pid me to R) where
   -- the kernel k with this table
   abbrev pub under : Table S → KernelState S → KernelState S
   under u k = record k { table = u }
 
-  -- l is k with a table that has k's slots so
+  -- l is k with a table that is so
   pub record Same (k l : KernelState S) : Type 0 where
-    pub moves : Moves n pid me k.table l.table
+    pub related : R k.table l.table
     pub rest : under l.table k ≡ l
 
   -- what holds of each kernel of that form
-  pub holds_of : (k l : KernelState S) (Q : KernelState S → Type 0) → ((u : Table S) → Moves n pid me k.table u → Q (under u k)) → Same k l → Q l
-  holds_of k l Q each r = subst Q r.rest (each l.table r.moves)
+  pub holds_of : (k l : KernelState S) (Q : KernelState S → Type 0) → ((u : Table S) → R k.table u → Q (under u k)) → Same k l → Q l
+  holds_of k l Q each r = subst Q r.rest (each l.table r.related)
 
-  pub here : (k : KernelState S) (u : Table S) → Moves n pid me k.table u → Same k (under u k)
-  here k u m = record { moves = m; rest = refl }
+  pub here : (k : KernelState S) (u : Table S) → R k.table u → Same k (under u k)
+  here k u m = record { related = m; rest = refl }
 
   pick : (c : Bool) (x y v w : KernelState S) → Same x v → Same y w → Same (if c then x else y) (if c then v else w)
   pick true x y v w is or = is
@@ -69,47 +79,59 @@ module _ {S : Type 0} (n : Numbering) (pid me : ℕ) where
   branch b c x y v w same is or = subst (λ (r : Bool). Same (if b then x else y) (if r then v else w)) (sym same) (pick b x y v w is or)
 
   -- both tables change so
-  pub retabled : (k l : KernelState S) (f g : Table S → Table S) → ((t u : Table S) → Moves n pid me t u → Moves n pid me (f t) (g u)) → Same k l → Same (record k { table = f k.table }) (record l { table = g l.table })
-  retabled k l f g each r = record { moves = each k.table l.table r.moves; rest = ap (under (g l.table)) r.rest }
+  pub retabled : (k l : KernelState S) (f g : Table S → Table S) → ((t u : Table S) → R t u → R (f t) (g u)) → Same k l → Same (record k { table = f k.table }) (record l { table = g l.table })
+  retabled k l f g each r = record { related = each k.table l.table r.related; rest = ap (under (g l.table)) r.rest }
 
-  pub sleeping : (k l : KernelState S) (c : Channel) (put : ℕ) → Same k l → Same (sleeps k pid c put) (sleeps l me (moved_channel n.to c) put)
-  sleeping k l c put r = retabled k l (λ t. slept t pid c put) (λ u. slept u me (moved_channel n.to c) put) (λ t u m. sleep_moved n pid me t u c put m) r
+  pub sleeping : (k l : KernelState S) (c : Channel) (put : ℕ) → Same k l → Same (sleeps k pid c put) (sleeps l me (to c) put)
+  sleeping k l c put r = retabled k l (λ t. slept t pid c put) (λ u. slept u me (to c) put) (λ t u m. keeps.sleep t u c put m) r
 
-  waking : (k l : KernelState S) (c : Channel) → Same k l → Same (wakes c k) (wakes (moved_channel n.to c) l)
-  waking k l c r = retabled k l (all_woken c) (all_woken (moved_channel n.to c)) (λ t u m. woken_moved n pid me t u c m) r
+  waking : (k l : KernelState S) (c : Channel) → Same k l → Same (wakes c k) (wakes (to c) l)
+  waking k l c r = retabled k l (all_woken c) (all_woken (to c)) (λ t u m. keeps.wake t u c m) r
 
-  pub fds : (k : KernelState S) (u : Table S) → Moves n pid me k.table u → fds_at (under u k) me ≡ fds_at k pid
-  fds k u m = fds_moved n pid me k.table u m
+  waking_bytes : (k l : KernelState S) (id : ℕ) → Same k l → Same (wakes (PipeBytes id) k) (wakes (PipeBytes id) l)
+  waking_bytes k l id r = subst (λ (c : Channel). Same (wakes (PipeBytes id) k) (wakes c l)) (keeps.bytes id) (waking k l (PipeBytes id) r)
 
-  held : (k : KernelState S) (u : Table S) → Moves n pid me k.table u → (fd : ℕ) → entry_of (fds_at (under u k) me) fd ≡ entry_of (fds_at k pid) fd
+  waking_room : (k l : KernelState S) (id : ℕ) → Same k l → Same (wakes (PipeRoom id) k) (wakes (PipeRoom id) l)
+  waking_room k l id r = subst (λ (c : Channel). Same (wakes (PipeRoom id) k) (wakes c l)) (keeps.room id) (waking k l (PipeRoom id) r)
+
+  sleeping_bytes : (k l : KernelState S) (id put : ℕ) → Same k l → Same (sleeps k pid (PipeBytes id) put) (sleeps l me (PipeBytes id) put)
+  sleeping_bytes k l id put r = subst (λ (c : Channel). Same (sleeps k pid (PipeBytes id) put) (sleeps l me c put)) (keeps.bytes id) (sleeping k l (PipeBytes id) put r)
+
+  sleeping_room : (k l : KernelState S) (id put : ℕ) → Same k l → Same (sleeps k pid (PipeRoom id) put) (sleeps l me (PipeRoom id) put)
+  sleeping_room k l id put r = subst (λ (c : Channel). Same (sleeps k pid (PipeRoom id) put) (sleeps l me c put)) (keeps.room id) (sleeping k l (PipeRoom id) put r)
+
+  pub fds : (k : KernelState S) (u : Table S) → R k.table u → fds_at (under u k) me ≡ fds_at k pid
+  fds k u m = keeps.fds k.table u m
+
+  held : (k : KernelState S) (u : Table S) → R k.table u → (fd : ℕ) → entry_of (fds_at (under u k) me) fd ≡ entry_of (fds_at k pid) fd
   held k u m fd = ap (λ (d : Descriptors). entry_of d fd) (fds k u m)
 
   -- the process gets descriptors that its own become
   descriptors : (k l : KernelState S) (f : Descriptors → Descriptors) → Same k l → Same (record k { table = fds_set k.table pid (f (fds_at k pid)) }) (record l { table = fds_set l.table me (f (fds_at l me)) })
   descriptors k l f r =
-      subst (λ (d : Descriptors). Same (record k { table = fds_set k.table pid (f (fds_at k pid)) }) (record l { table = fds_set l.table me (f d) })) (sym (fds_moved n pid me k.table l.table r.moves))
-      (retabled k l (λ t. fds_set t pid (f (fds_at k pid))) (λ u. fds_set u me (f (fds_at k pid))) (λ t u m. set_fds_moved n pid me t u (f (fds_at k pid)) m) r)
+      subst (λ (d : Descriptors). Same (record k { table = fds_set k.table pid (f (fds_at k pid)) }) (record l { table = fds_set l.table me (f d) })) (sym (keeps.fds k.table l.table r.related))
+      (retabled k l (λ t. fds_set t pid (f (fds_at k pid))) (λ u. fds_set u me (f (fds_at k pid))) (λ t u m. keeps.set_fds t u (f (fds_at k pid)) m) r)
 
   -- ---- close
 
-  let_go_so : (k : KernelState S) (object : Object) (u : Table S) → Moves n pid me k.table u → Same (let_go k object) (let_go (under u k) object)
+  let_go_so : (k : KernelState S) (object : Object) (u : Table S) → R k.table u → Same (let_go k object) (let_go (under u k) object)
   let_go_so k Input u m = here k u m
   let_go_so k Out u m = here k u m
   let_go_so k Diag u m = here k u m
   let_go_so k (File name mode) u m = here k u m
   let_go_so k (PipeRead id) u m =
       let gone = reader_gone k.pipes id (pipe_of k.pipes id) in
-      waking (record k { pipes = gone }) (record (under u k) { pipes = gone }) (PipeRoom id) (here (record k { pipes = gone }) u m)
+      waking_room (record k { pipes = gone }) (record (under u k) { pipes = gone }) id (here (record k { pipes = gone }) u m)
   let_go_so k (PipeWrite id) u m =
       let gone = writer_gone k.pipes id (pipe_of k.pipes id) in
-      waking (record k { pipes = gone }) (record (under u k) { pipes = gone }) (PipeBytes id) (here (record k { pipes = gone }) u m)
+      waking_bytes (record k { pipes = gone }) (record (under u k) { pipes = gone }) id (here (record k { pipes = gone }) u m)
 
   let_go_of_so : (k l : KernelState S) (r : Result (Option Object) FdFault) → Same k l → Same (let_go_of k r) (let_go_of l r)
   let_go_of_so k l (Err fault) s = s
   let_go_of_so k l (Ok None) s = s
   let_go_of_so k l (Ok (Some object)) s = holds_of k l (λ j. Same (let_go k object) (let_go j object)) (let_go_so k object) s
 
-  closed_by_so : (k : KernelState S) (fd : ℕ) (o : Option ℕ) (u : Table S) → Moves n pid me k.table u → Same (closed_by k pid fd o) (closed_by (under u k) me fd o)
+  closed_by_so : (k : KernelState S) (fd : ℕ) (o : Option ℕ) (u : Table S) → R k.table u → Same (closed_by k pid fd o) (closed_by (under u k) me fd o)
   closed_by_so k fd o u m =
       let l : KernelState S = record k { entries = released_by_close k.entries o } in
       let_go_of_so (taken_away k pid fd o) (taken_away (under u k) me fd o) (close_answer k.entries o) (descriptors l (under u l) (λ d. after_close d fd o) (here l u m))
@@ -126,17 +148,17 @@ module _ {S : Type 0} (n : Numbering) (pid me : ℕ) where
 
   module _ (after : S) where
     pub answering : (k l : KernelState S) (reply : Reply) → Same k l → Same (answered k pid after reply) (answered l me after reply)
-    answering k l reply r = retabled k l (λ t. readied t pid after reply) (λ u. readied u me after reply) (λ t u m. ready_moved n pid me t u after reply m) r
+    answering k l reply r = retabled k l (λ t. readied t pid after reply) (λ u. readied u me after reply) (λ t u m. keeps.ready t u after reply m) r
 
     pub refusing : (k l : KernelState S) (full : Full) → Same k l → Same (refused_for k pid after full) (refused_for l me after full)
     refusing k l full r =
         let a = answering k l Refused r in
-        record { moves = a.moves; rest = ap (λ (j : KernelState S). record j { table = readied l.table me after Refused; full = marked j.full full }) r.rest }
+        record { related = a.related; rest = ap (λ (j : KernelState S). record j { table = readied l.table me after Refused; full = marked j.full full }) r.rest }
 
-    refuses : (k : KernelState S) (u : Table S) → Moves n pid me k.table u → Same (answered k pid after Refused) (answered (under u k) me after Refused)
+    refuses : (k : KernelState S) (u : Table S) → R k.table u → Same (answered k pid after Refused) (answered (under u k) me after Refused)
     refuses k u m = answering k (under u k) Refused (here k u m)
 
-    full_so : (k : KernelState S) (u : Table S) (full : Full) → Moves n pid me k.table u → Same (refused_for k pid after full) (refused_for (under u k) me after full)
+    full_so : (k : KernelState S) (u : Table S) (full : Full) → R k.table u → Same (refused_for k pid after full) (refused_for (under u k) me after full)
     full_so k u full m = refusing k (under u k) full (here k u m)
 
     pub close_so : (k l : KernelState S) (fd : ℕ) → Same k l → Same (close k pid after fd) (close l me after fd)
@@ -149,9 +171,8 @@ module _ {S : Type 0} (n : Numbering) (pid me : ℕ) where
 
     pub exit_so : (k l : KernelState S) → Same k l → Same (exit k pid after) (exit l me after)
     exit_so k l r =
-        let init : (me == 0) ≡ (pid == 0) = (λ i. sym r.moves.number i == sym r.moves.moved.init i) ∙ same_eq n.to (one_to_one n) pid 0 in
-        branch (pid == 0) (me == 0) (answered k pid after Refused) (ended pid (closed_below k pid DESCRIPTORS)) (answered l me after Refused) (ended me (closed_below l me DESCRIPTORS)) init (answering k l Refused r)
-        (retabled (closed_below k pid DESCRIPTORS) (closed_below l me DESCRIPTORS) (λ t. exited t pid) (λ u. exited u me) (λ t u m. exited_moved n pid me t u m) (below_so k l DESCRIPTORS r))
+        branch (pid == 0) (me == 0) (answered k pid after Refused) (ended pid (closed_below k pid DESCRIPTORS)) (answered l me after Refused) (ended me (closed_below l me DESCRIPTORS)) keeps.init (answering k l Refused r)
+        (retabled (closed_below k pid DESCRIPTORS) (closed_below l me DESCRIPTORS) (λ t. exited t pid) (λ u. exited u me) (λ t u m. keeps.exit t u m) (below_so k l DESCRIPTORS r))
 
     dup_by_so : (k l : KernelState S) (r : Result ℕ FdFault) → Same k l → Same (dup_by k pid after r) (dup_by l me after r)
     dup_by_so k l (Ok fd) s = answering k l (Fd fd) s
@@ -159,14 +180,14 @@ module _ {S : Type 0} (n : Numbering) (pid me : ℕ) where
     dup_by_so k l (Err FullFds) s = refusing k l Fds s
     dup_by_so k l (Err FullOpen) s = refusing k l Open s
 
-    pub dup_call_so : (k : KernelState S) (fd : ℕ) (u : Table S) → Moves n pid me k.table u → Same (dup k pid after fd) (dup (under u k) me after fd)
+    pub dup_call_so : (k : KernelState S) (fd : ℕ) (u : Table S) → R k.table u → Same (dup k pid after fd) (dup (under u k) me after fd)
     dup_call_so k fd u m =
         let o = entry_of (fds_at k pid) fd in
         let free = lowest_free (fds_at k pid) in
         let shared : KernelState S = record k { entries = held_by_dup k.entries o free } in
         subst (λ (d : Descriptors). Same (dup k pid after fd) (dup_by (record (under u k) { table = fds_set u me (after_dup d (entry_of d fd) (lowest_free d)); entries = held_by_dup k.entries (entry_of d fd) (lowest_free d) }) me after (dup_answer (entry_of d fd) (lowest_free d)))) (sym (fds k u m))
         (dup_by_so (copied k pid o free) (record (under u k) { table = fds_set u me (after_dup (fds_at k pid) o free); entries = held_by_dup k.entries o free }) (dup_answer o free)
-        (retabled shared (under u shared) (λ t. fds_set t pid (after_dup (fds_at k pid) o free)) (λ v. fds_set v me (after_dup (fds_at k pid) o free)) (λ t v b. set_fds_moved n pid me t v (after_dup (fds_at k pid) o free) b) (here shared u m)))
+        (retabled shared (under u shared) (λ t. fds_set t pid (after_dup (fds_at k pid) o free)) (λ v. fds_set v me (after_dup (fds_at k pid) o free)) (λ t v b. keeps.set_fds t v (after_dup (fds_at k pid) o free) b) (here shared u m)))
 
     -- ---- open and pipe
 
@@ -174,18 +195,18 @@ module _ {S : Type 0} (n : Numbering) (pid me : ℕ) where
     opened_so k l object None r = r
     opened_so k l object (Some e) r =
         let a = descriptors k l (λ d. installed d e) r in
-        record { moves = a.moves; rest = ap (λ (j : KernelState S). record j { table = fds_set l.table me (installed (fds_at l me) e); entries = added j.entries object }) r.rest }
+        record { related = a.related; rest = ap (λ (j : KernelState S). record j { table = fds_set l.table me (installed (fds_at l me) e); entries = added j.entries object }) r.rest }
 
     with_open_so : (k l : KernelState S) (object : Object) → Same k l → Same (with_open k pid object) (with_open l me object)
     with_open_so k l object r = holds_of k l (λ j. Same (with_open k pid object) (with_open j me object)) (λ u m. opened_so k (under u k) object (lowest_free_entry k.entries) (here k u m)) r
 
-    open_here_so : (k : KernelState S) (u : Table S) → Moves n pid me k.table u → (file : List ℕ) (mode : Mode) → Same (open_here k pid after file mode) (open_here (under u k) me after file mode)
+    open_here_so : (k : KernelState S) (u : Table S) → R k.table u → (file : List ℕ) (mode : Mode) → Same (open_here k pid after file mode) (open_here (under u k) me after file mode)
     open_here_so k u m file mode =
         let object = File file (entry_mode mode) in
         subst (λ (d : Descriptors). Same (open_here k pid after file mode) (answered (with_open (under u k) me object) me after (open_reply (lowest_free d)))) (sym (fds k u m))
         (answering (with_open k pid object) (with_open (under u k) me object) (open_reply (lowest_free (fds_at k pid))) (with_open_so k (under u k) object (here k u m)))
 
-    module _ (k : KernelState S) (u : Table S) (m : Moves n pid me k.table u) (file : List ℕ) (mode : Mode) (refused : Bool) where
+    module _ (k : KernelState S) (u : Table S) (m : R k.table u) (file : List ℕ) (mode : Mode) (refused : Bool) where
       emptied_so : (b : Bool) → Same (open_here (emptied_if b k file) pid after file mode) (open_here (emptied_if b (under u k) file) me after file mode)
       emptied_so true = open_here_so (with_bytes k file []) u m file mode
       emptied_so false = open_here_so k u m file mode
@@ -208,10 +229,10 @@ module _ {S : Type 0} (n : Numbering) (pid me : ℕ) where
     reader_so : (k l : KernelState S) (id : ℕ) → Same k l → Same (with_reader k pid id) (with_reader l me id)
     reader_so k l id r =
         with_open_so (record k { pipes = with_new k.pipes id }) (record l { pipes = with_new l.pipes id }) (PipeRead id)
-        (record { moves = r.moves; rest = ap (λ (j : KernelState S). record j { pipes = with_new j.pipes id }) r.rest })
+        (record { related = r.related; rest = ap (λ (j : KernelState S). record j { pipes = with_new j.pipes id }) r.rest })
 
     same_place : (k l : KernelState S) → Same k l → lowest_free (fds_at l me) ≡ lowest_free (fds_at k pid)
-    same_place k l r = ap lowest_free (fds_moved n pid me k.table l.table r.moves)
+    same_place k l r = ap lowest_free (keeps.fds k.table l.table r.related)
 
     made_so : (k l : KernelState S) (id : ℕ) → Same k l → Same (answered (with_ends k pid id) pid after (ends_reply (lowest_free (fds_at k pid)) (lowest_free (fds_at (with_reader k pid id) pid))))
         (answered (with_ends l me id) me after (ends_reply (lowest_free (fds_at l me)) (lowest_free (fds_at (with_reader l me id) me))))
@@ -222,7 +243,7 @@ module _ {S : Type 0} (n : Numbering) (pid me : ℕ) where
         (sym (λ i. ends_reply (same_place k l r i) (same_place (with_reader k pid id) (with_reader l me id) one i)))
         (answering (with_ends k pid id) (with_ends l me id) reply (with_open_so (with_reader k pid id) (with_reader l me id) (PipeWrite id) one))
 
-    pub pipe_so : (k : KernelState S) (u : Table S) → Moves n pid me k.table u → (refused : Bool) → Same (make_pipe k pid after refused) (make_pipe (under u k) me after refused)
+    pub pipe_so : (k : KernelState S) (u : Table S) → R k.table u → (refused : Bool) → Same (make_pipe k pid after refused) (make_pipe (under u k) me after refused)
     pipe_so k u m refused =
         pick (nat_lt (free_count k.entries) 2) _ _ _ _ (full_so k u Open m)
         (branch (nat_lt (free_count (fds_at k pid)) 2) (nat_lt (free_count (fds_at (under u k) me)) 2) _ _ _ _ (ap (λ (d : Descriptors). nat_lt (free_count d) 2) (fds k u m)) (full_so k u Fds m)
@@ -230,30 +251,30 @@ module _ {S : Type 0} (n : Numbering) (pid me : ℕ) where
 
     -- ---- read
 
-    read_file_so : (k : KernelState S) (e offset long : ℕ) (o : Option (List ℕ)) (u : Table S) → Moves n pid me k.table u → Same (read_file k pid after e offset long o) (read_file (under u k) me after e offset long o)
+    read_file_so : (k : KernelState S) (e offset long : ℕ) (o : Option (List ℕ)) (u : Table S) → R k.table u → Same (read_file k pid after e offset long o) (read_file (under u k) me after e offset long o)
     read_file_so k e offset long None u m = refuses k u m
     read_file_so k e offset long (Some bytes) u m =
         let l : KernelState S = record k { entries = advanced k.entries e (length (take long (drop offset bytes))) } in
         answering l (under u l) (Bytes (take long (drop offset bytes))) (here l u m)
 
-    read_mode_so : (k : KernelState S) (e offset long : ℕ) (o : Option (List ℕ)) (mode : EntryMode) (u : Table S) → Moves n pid me k.table u → Same (read_mode k pid after e offset long o mode) (read_mode (under u k) me after e offset long o mode)
+    read_mode_so : (k : KernelState S) (e offset long : ℕ) (o : Option (List ℕ)) (mode : EntryMode) (u : Table S) → R k.table u → Same (read_mode k pid after e offset long o mode) (read_mode (under u k) me after e offset long o mode)
     read_mode_so k e offset long o ForReading u m = read_file_so k e offset long o u m
     read_mode_so k e offset long o Fresh u m = refuses k u m
     read_mode_so k e offset long o Over u m = refuses k u m
     read_mode_so k e offset long o Append u m = refuses k u m
 
     read_by_so : (k l : KernelState S) (id : ℕ) (got : List ℕ) (r : Take) → Same k l → Same (read_by k pid after id got r) (read_by l me after id got r)
-    read_by_so k l id got (Got long) s = waking (answered k pid after (Bytes got)) (answered l me after (Bytes got)) (PipeRoom id) (answering k l (Bytes got) s)
-    read_by_so k l id got Empty s = sleeping k l (PipeBytes id) 0 s
+    read_by_so k l id got (Got long) s = waking_room (answered k pid after (Bytes got)) (answered l me after (Bytes got)) id (answering k l (Bytes got) s)
+    read_by_so k l id got Empty s = sleeping_bytes k l id 0 s
     read_by_so k l id got End s = answering k l (Bytes []) s
 
-    read_pipe_so : (k : KernelState S) (id long : ℕ) (o : Option PipeState) (u : Table S) → Moves n pid me k.table u → Same (read_pipe k pid after id long o) (read_pipe (under u k) me after id long o)
+    read_pipe_so : (k : KernelState S) (id long : ℕ) (o : Option PipeState) (u : Table S) → R k.table u → Same (read_pipe k pid after id long o) (read_pipe (under u k) me after id long o)
     read_pipe_so k id long None u m = refuses k u m
     read_pipe_so k id long (Some p) u m =
         let l : KernelState S = record k { pipes = taken_from k.pipes id long (Some p) } in
         read_by_so l (under u l) id (take long p.bytes) (take_answer p long) (here l u m)
 
-    read_object_so : (k : KernelState S) (e offset long : ℕ) (object : Object) (u : Table S) → Moves n pid me k.table u → Same (read_object k pid after e offset long object) (read_object (under u k) me after e offset long object)
+    read_object_so : (k : KernelState S) (e offset long : ℕ) (object : Object) (u : Table S) → R k.table u → Same (read_object k pid after e offset long object) (read_object (under u k) me after e offset long object)
     read_object_so k e offset long Input u m =
         let l : KernelState S = record k { input = drop long k.input } in
         answering l (under u l) (Bytes (take long k.input)) (here l u m)
@@ -263,21 +284,21 @@ module _ {S : Type 0} (n : Numbering) (pid me : ℕ) where
     read_object_so k e offset long (PipeRead id) u m = read_pipe_so k id long (pipe_of k.pipes id) u m
     read_object_so k e offset long (PipeWrite id) u m = refuses k u m
 
-    read_entry_so : (k : KernelState S) (e long : ℕ) (o : Option Opened) (u : Table S) → Moves n pid me k.table u → Same (read_entry k pid after e long o) (read_entry (under u k) me after e long o)
+    read_entry_so : (k : KernelState S) (e long : ℕ) (o : Option Opened) (u : Table S) → R k.table u → Same (read_entry k pid after e long o) (read_entry (under u k) me after e long o)
     read_entry_so k e long None u m = refuses k u m
     read_entry_so k e long (Some f) u m = read_object_so k e f.offset long f.object u m
 
-    read_held_so : (k : KernelState S) (long : ℕ) (o : Option ℕ) (u : Table S) → Moves n pid me k.table u → Same (read_held k pid after long o) (read_held (under u k) me after long o)
+    read_held_so : (k : KernelState S) (long : ℕ) (o : Option ℕ) (u : Table S) → R k.table u → Same (read_held k pid after long o) (read_held (under u k) me after long o)
     read_held_so k long None u m = refuses k u m
     read_held_so k long (Some e) u m = read_entry_so k e long (entry_at k.entries e) u m
 
-    pub read_so : (k : KernelState S) (fd long : ℕ) (u : Table S) → Moves n pid me k.table u → Same (read k pid after fd long) (read (under u k) me after fd long)
+    pub read_so : (k : KernelState S) (fd long : ℕ) (u : Table S) → R k.table u → Same (read k pid after fd long) (read (under u k) me after fd long)
     read_so k fd long u m =
         subst (λ (o : Option ℕ). Same (read k pid after fd long) (read_held (under u k) me after (min long block_size) o)) (sym (held k u m fd)) (read_held_so k (min long block_size) (entry_of (fds_at k pid) fd) u m)
 
     -- ---- write
 
-    write_file_so : (k : KernelState S) (e : ℕ) (file : List ℕ) (offset : ℕ) (b : List ℕ) (refused : Bool) (o : Option (List ℕ)) (u : Table S) → Moves n pid me k.table u
+    write_file_so : (k : KernelState S) (e : ℕ) (file : List ℕ) (offset : ℕ) (b : List ℕ) (refused : Bool) (o : Option (List ℕ)) (u : Table S) → R k.table u
         → Same (write_file k pid after e file offset b refused o) (write_file (under u k) me after e file offset b refused o)
     write_file_so k e file offset b refused None u m = refuses k u m
     write_file_so k e file offset b refused (Some bytes) u m =
@@ -286,7 +307,7 @@ module _ {S : Type 0} (n : Numbering) (pid me : ℕ) where
         (pick (nat_lt max_size (offset + length b)) _ _ _ _ (full_so k u Size m)
         (pick (lacks_memory refused (length bytes) (offset + length b)) _ _ _ _ (full_so k u Memory m) (answering l (under u l) Done (here l u m))))
 
-    append_file_so : (k : KernelState S) (e : ℕ) (file b : List ℕ) (refused : Bool) (o : Option (List ℕ)) (u : Table S) → Moves n pid me k.table u
+    append_file_so : (k : KernelState S) (e : ℕ) (file b : List ℕ) (refused : Bool) (o : Option (List ℕ)) (u : Table S) → R k.table u
         → Same (append_file k pid after e file b refused o) (append_file (under u k) me after e file b refused o)
     append_file_so k e file b refused None u m = refuses k u m
     append_file_so k e file b refused (Some bytes) u m =
@@ -294,7 +315,7 @@ module _ {S : Type 0} (n : Numbering) (pid me : ℕ) where
         pick (nat_lt max_size (length bytes + length b)) _ _ _ _ (full_so k u Size m)
         (pick (lacks_memory refused (length bytes) (length bytes + length b)) _ _ _ _ (full_so k u Memory m) (answering l (under u l) Done (here l u m)))
 
-    write_mode_so : (k : KernelState S) (e : ℕ) (file : List ℕ) (offset : ℕ) (b : List ℕ) (refused : Bool) (mode : EntryMode) (u : Table S) → Moves n pid me k.table u
+    write_mode_so : (k : KernelState S) (e : ℕ) (file : List ℕ) (offset : ℕ) (b : List ℕ) (refused : Bool) (mode : EntryMode) (u : Table S) → R k.table u
         → Same (write_mode k pid after e file offset b refused mode) (write_mode (under u k) me after e file offset b refused mode)
     write_mode_so k e file offset b refused ForReading u m = refuses k u m
     write_mode_so k e file offset b refused Fresh u m = write_file_so k e file offset b refused (files k.files file) u m
@@ -303,18 +324,18 @@ module _ {S : Type 0} (n : Numbering) (pid me : ℕ) where
 
     write_by_so : (k l : KernelState S) (id put left : ℕ) (r : Put) → Same k l → Same (write_by k pid after id put left r) (write_by l me after id put left r)
     write_by_so k l id put left (Took long) s =
-        pick (long == left) _ _ _ _ (waking (answered k pid after Done) (answered l me after Done) (PipeBytes id) (answering k l Done s))
-        (waking (sleeps k pid (PipeRoom id) (put + long)) (sleeps l me (PipeRoom id) (put + long)) (PipeBytes id) (sleeping k l (PipeRoom id) (put + long) s))
-    write_by_so k l id put left NoRoom s = waking (sleeps k pid (PipeRoom id) put) (sleeps l me (PipeRoom id) put) (PipeBytes id) (sleeping k l (PipeRoom id) put s)
+        pick (long == left) _ _ _ _ (waking_bytes (answered k pid after Done) (answered l me after Done) id (answering k l Done s))
+        (waking_bytes (sleeps k pid (PipeRoom id) (put + long)) (sleeps l me (PipeRoom id) (put + long)) id (sleeping_room k l id (put + long) s))
+    write_by_so k l id put left NoRoom s = waking_bytes (sleeps k pid (PipeRoom id) put) (sleeps l me (PipeRoom id) put) id (sleeping_room k l id put s)
     write_by_so k l id put left Closed s = answering k l Refused s
 
-    write_pipe_so : (k : KernelState S) (id put : ℕ) (xs : List ℕ) (o : Option PipeState) (u : Table S) → Moves n pid me k.table u → Same (write_pipe k pid after id put xs o) (write_pipe (under u k) me after id put xs o)
+    write_pipe_so : (k : KernelState S) (id put : ℕ) (xs : List ℕ) (o : Option PipeState) (u : Table S) → R k.table u → Same (write_pipe k pid after id put xs o) (write_pipe (under u k) me after id put xs o)
     write_pipe_so k id put xs None u m = refuses k u m
     write_pipe_so k id put xs (Some p) u m =
         let l : KernelState S = record k { pipes = put_into k.pipes id xs (Some p) } in
         write_by_so l (under u l) id put (length xs) (put_answer p xs) (here l u m)
 
-    write_object_so : (k : KernelState S) (e offset : ℕ) (b : List ℕ) (refused : Bool) (object : Object) (u : Table S) → Moves n pid me k.table u
+    write_object_so : (k : KernelState S) (e offset : ℕ) (b : List ℕ) (refused : Bool) (object : Object) (u : Table S) → R k.table u
         → Same (write_object k pid after e offset b refused object) (write_object (under u k) me after e offset b refused object)
     write_object_so k e offset b refused Input u m = refuses k u m
     write_object_so k e offset b refused Out u m =
@@ -327,17 +348,17 @@ module _ {S : Type 0} (n : Numbering) (pid me : ℕ) where
     write_object_so k e offset b refused (PipeRead id) u m = refuses k u m
     write_object_so k e offset b refused (PipeWrite id) u m =
         let put = put_of (at k.table pid) in
-        subst (λ (p : ℕ). Same (write_object k pid after e offset b refused (PipeWrite id)) (write_pipe (under u k) me after id p (drop p b) (pipe_of k.pipes id))) (sym (put_moved n pid me k.table u m))
+        subst (λ (p : ℕ). Same (write_object k pid after e offset b refused (PipeWrite id)) (write_pipe (under u k) me after id p (drop p b) (pipe_of k.pipes id))) (sym (keeps.put k.table u m))
         (write_pipe_so k id put (drop put b) (pipe_of k.pipes id) u m)
 
-    write_entry_so : (k : KernelState S) (e : ℕ) (b : List ℕ) (refused : Bool) (o : Option Opened) (u : Table S) → Moves n pid me k.table u → Same (write_entry k pid after e b refused o) (write_entry (under u k) me after e b refused o)
+    write_entry_so : (k : KernelState S) (e : ℕ) (b : List ℕ) (refused : Bool) (o : Option Opened) (u : Table S) → R k.table u → Same (write_entry k pid after e b refused o) (write_entry (under u k) me after e b refused o)
     write_entry_so k e b refused None u m = refuses k u m
     write_entry_so k e b refused (Some f) u m = write_object_so k e f.offset b refused f.object u m
 
-    write_held_so : (k : KernelState S) (b : List ℕ) (refused : Bool) (o : Option ℕ) (u : Table S) → Moves n pid me k.table u → Same (write_held k pid after b refused o) (write_held (under u k) me after b refused o)
+    write_held_so : (k : KernelState S) (b : List ℕ) (refused : Bool) (o : Option ℕ) (u : Table S) → R k.table u → Same (write_held k pid after b refused o) (write_held (under u k) me after b refused o)
     write_held_so k b refused None u m = refuses k u m
     write_held_so k b refused (Some e) u m = write_entry_so k e b refused (entry_at k.entries e) u m
 
-    pub write_so : (k : KernelState S) (fd : ℕ) (b : List ℕ) (refused : Bool) (u : Table S) → Moves n pid me k.table u → Same (write k pid after fd b refused) (write (under u k) me after fd b refused)
+    pub write_so : (k : KernelState S) (fd : ℕ) (b : List ℕ) (refused : Bool) (u : Table S) → R k.table u → Same (write k pid after fd b refused) (write (under u k) me after fd b refused)
     write_so k fd b refused u m =
         subst (λ (o : Option ℕ). Same (write k pid after fd b refused) (write_held (under u k) me after b refused o)) (sym (held k u m fd)) (write_held_so k b refused (entry_of (fds_at k pid) fd) u m)
