@@ -1,6 +1,5 @@
 -- Each of the ten calls, made in two kernels that differ only in the numbers of slots: they differ only in these again.
-use Rattle.std.proofs.Common.{◌≡◌, ◌≢◌, ◌⊎◌, ℕ, zero, suc, ◌+◌, ◌<◌, [], ◌∷◌, Bool, true, false, Option, Some, None, length, inl, inr, refl, sym, ap, subst, ◌∙◌, arith}
-use Rattle.std.proofs.lemmas.Bool.{and_parts, eqb-true}
+use Rattle.std.proofs.Common.{◌≡◌, ℕ, zero, suc, ◌<◌, [], ◌∷◌, Bool, true, Option, Some, None, length, inl, inr, refl, sym, ap, subst, ◌∙◌, arith}
 use Rattle.std.proofs.lemmas.List.Sums.{sum_by-cons}
 use Rattle.std.specs.Prelude.{cond, count_by, IsSome, is_some, ◌==◌}
 use Rattle.user_calls.specs.declared.calls.Call.{Call}
@@ -12,11 +11,8 @@ use Rattle.fd_table.proofs.Free.{found}
 use Rattle.fd_table.proofs.Lists.{position_found}
 use Rattle.proc_table.specs.declared.pid.TheConstants.{PROCS}
 use Rattle.proc_table.specs.declared.states.Channel.TheVariants.{Children}
-use Rattle.proc_table.specs.declared.states.Status.{Status}
-use Rattle.proc_table.specs.declared.states.Status.TheVariants.{Runnable, Running, Asleep, Zombie}
-use Rattle.proc_table.specs.declared.table.Waited.TheVariants.{Reaped, NoChildren, MustSleep}
-use Rattle.proc_table.specs.Slots.{Slot, Table, Process, at, is_free, is_number, is_child_of, is_zombie, is_zombie_status, is_zombie_child_of}
-use Rattle.proc_table.specs.Calls.{lowest_free, newborn, forked, zombie_child, some_child, freed, wait_answer, wait_by as waited}
+use Rattle.proc_table.specs.Slots.{Slot, Table, at, is_free, is_zombie_child_of}
+use Rattle.proc_table.specs.Calls.{lowest_free, newborn, forked, zombie_child, some_child, freed, wait_by as waited}
 use Rattle.proc_table.proofs.Changes.{was_free as lowest_was_free, child_within}
 use Rattle.kernel_model.specs.declared.events.Full.TheVariants.{Procs}
 use Rattle.kernel_model.specs.KernelState.{KernelState, fds_at}
@@ -27,7 +23,7 @@ use Rattle.law_kernel.specs.Sleeping.{Lives}
 use Rattle.order_model.specs.Numbers.{Numbering}
 use Rattle.law_orders.proofs.Tables.{same_eq}
 use Rattle.law_slot_numbers.specs.Slots.{moved_channel, moved_slot, IsZombieOf, IsMoved, same, zombies, SameButSlots}
-use Rattle.law_slot_numbers.proofs.Slots.{one_to_one, stays_free, was_free, same_zombie_child}
+use Rattle.law_slot_numbers.proofs.Slots.{dead, zombie_is, one_to_one, stays_free, was_free, same_zombie_child}
 use Rattle.law_slot_numbers.proofs.Swaps.{exchanged}
 use Rattle.law_slot_numbers.proofs.Tables.{Moves, fds_moved, put_moved, ready_moved, sleep_moved, set_fds_moved, woken_moved, exited_moved, zombie_child_so, some_child_so}
 use Rattle.law_slot_numbers.proofs.Calls.{Keeps, Same, here, sleeping, answering, refusing, close_so, exit_so, dup_call_so, open_so, pipe_so, read_so, write_so}
@@ -42,30 +38,11 @@ some_free (x ∷ t) zero within none =
 some_free (x ∷ t) (suc i) within none = omega (arith, sum_by-cons (λ (y : Slot _). cond {A = ℕ} (is_free y) 1 0) x t, some_free t i (omega arith) none)
 
 -- where a slot is free one is found
-finds_free : {S : Type 0} (t : Table S) (i : ℕ) → i < length t → at t i ≡ None → lowest_free t ≡ None → ⊥
+pub finds_free : {S : Type 0} (t : Table S) (i : ℕ) → i < length t → at t i ≡ None → lowest_free t ≡ None → ⊥
 finds_free t i within none full =
     let some : IsSome (lowest_free t) = (found is_free t).1 (some_free t i within none) in
     let z : ⊥ = cc in
     z
-
-parent_is : (pid : ℕ) (o : Option ℕ) → is_number pid o ≡ true → o ≡ Some pid
-parent_is pid None is = absurd (let z : ⊥ = cc in z)
-parent_is pid (Some parent) is = ap Some (sym (eqb-true pid parent is))
-
-status_is : (s : Status) → is_zombie_status s ≡ true → s ≡ Zombie
-status_is Runnable is = absurd (let z : ⊥ = cc in z)
-status_is (Running h) is = absurd (let z : ⊥ = cc in z)
-status_is (Asleep c) is = absurd (let z : ⊥ = cc in z)
-status_is Zombie is = refl
-
-zombie_is : {S : Type 0} (pid : ℕ) (x : Slot S) → is_zombie_child_of pid x ≡ true → IsZombieOf (Some pid) x
-zombie_is pid None is = absurd (let z : ⊥ = cc in z)
-zombie_is pid (Some p) is =
-    let parts = and_parts (is_number pid p.parent) (is_zombie_status p.status) is in
-    record { process = p; there = refl; dead = status_is p.status parts.1; child = parent_is pid p.parent parts.0 }
-
-dead_is : {S : Type 0} (parent : Option ℕ) (x : Slot S) → IsZombieOf parent x → is_zombie x ≡ true
-dead_is parent x z = ap is_zombie z.there ∙ ap is_zombie_status z.dead
 
 -- ---- a kernel in the middle of a call of pid
 
@@ -154,15 +131,15 @@ module _ {S : Type 0} (n : Numbering) (pid me : ℕ) (after : S) (k : KernelStat
   -- whatever zombies of its children are freed
   pub reaps : (a new : ℕ) → a < PROCS → new < PROCS → is_zombie_child_of pid (at k.table a) ≡ true → is_zombie_child_of me (at u new) ≡ true
       → After pid me (answered (record k { table = freed k.table (Some a) }) pid after Done) (answered (record l { table = freed u (Some new) }) me after Done)
-  reaps a new within new_within dead dead_u =
+  reaps a new within new_within one other =
       let there : IsMoved n.to (at k.table (n.back new)) (at u new) = subst (λ (i : ℕ). IsMoved n.to (at k.table (n.back new)) (at u i)) (n.here new) (m.moved.slots (n.back new)) in
-      let child_a : IsZombieOf (Some pid) (at k.table a) = zombie_is pid (at k.table a) dead in
+      let child_a : IsZombieOf (Some pid) (at k.table a) = zombie_is pid (at k.table a) one in
       let child_d : IsZombieOf (Some pid) (at k.table (n.back new)) =
-      zombie_is pid (at k.table (n.back new)) (sym (same_zombie_child n pid (at k.table (n.back new)) (at u new) there) ∙ ap (λ (i : ℕ). is_zombie_child_of i (at u new)) m.number ∙ dead_u) in
+      zombie_is pid (at k.table (n.back new)) (sym (same_zombie_child n pid (at k.table (n.back new)) (at u new) there) ∙ ap (λ (i : ℕ). is_zombie_child_of i (at u new)) m.number ∙ other) in
       let child_e : IsZombieOf (Some me) (at u (n.to a)) =
-      zombie_is me (at u (n.to a)) (ap (λ (i : ℕ). is_zombie_child_of i (at u (n.to a))) (sym m.number) ∙ same_zombie_child n pid (at k.table a) (at u (n.to a)) (m.moved.slots a) ∙ dead) in
-      let gone_a : IsGone (at k.table a) = inr (dead_is (Some pid) (at k.table a) child_a) in
-      let gone_d : IsGone (at k.table (n.back new)) = inr (dead_is (Some pid) (at k.table (n.back new)) child_d) in
+      zombie_is me (at u (n.to a)) (ap (λ (i : ℕ). is_zombie_child_of i (at u (n.to a))) (sym m.number) ∙ same_zombie_child n pid (at k.table a) (at u (n.to a)) (m.moved.slots a) ∙ one) in
+      let gone_a : IsGone (at k.table a) = inr (dead (Some pid) (at k.table a) child_a) in
+      let gone_d : IsGone (at k.table (n.back new)) = inr (dead (Some pid) (at k.table (n.back new)) child_d) in
       let to = (exchanged n a new).to in
       let number : to.to pid ≡ me = number_so n pid me k.table u m mid.names mid.alive a new within new_within mid.long long gone_a gone_d in
       let both : Moves to pid me (freed k.table (Some a)) (freed u (Some new)) =

@@ -1,26 +1,19 @@
 -- A fork and a wait, made in two kernels that differ only in the numbers of slots: what is taken or freed may have another number in each,
 -- so that the numbers change.
-use Rattle.std.proofs.Common.{◌≡◌, ◌≢◌, ◌⊎◌, ℕ, zero, suc, ◌+◌, ◌<◌, [], ◌∷◌, Bool, true, false, Option, Some, None, length, inl, inr, refl, sym, ap, subst, ◌∙◌, arith, get_or-set_same}
+use Rattle.std.proofs.Common.{◌≡◌, ◌≢◌, ◌⊎◌, ℕ, ◌<◌, true, false, Option, Some, None, length, inl, inr, refl, sym, ap, subst, ◌∙◌, get_or-set_same}
 use Rattle.std.proofs.Math.ListN.{set}
-use Rattle.std.proofs.lemmas.Bool.{cases_eq, eq-eqb, and_parts}
-use Rattle.std.proofs.lemmas.List.Sums.{sum_by-cons}
-use Rattle.std.specs.Prelude.{cond, count_by, IsSome, is_some, position, ◌&&◌}
-use Rattle.fd_table.specs.Descriptors.{Descriptors}
-use Rattle.fd_table.proofs.Free.{found}
-use Rattle.fd_table.proofs.Lists.{position_found}
+use Rattle.std.proofs.lemmas.Bool.{cases_eq, eq-eqb}
 use Rattle.proc_table.specs.declared.pid.TheConstants.{PROCS}
 use Rattle.proc_table.specs.declared.states.Channel.{Channel}
 use Rattle.proc_table.specs.declared.states.Channel.TheVariants.{PipeBytes, PipeRoom, Children}
 use Rattle.proc_table.specs.declared.states.Status.{Status}
 use Rattle.proc_table.specs.declared.states.Status.TheVariants.{Runnable, Running, Asleep, Zombie}
-use Rattle.proc_table.specs.Slots.{Slot, Table, Process, at, is_free, is_number, is_child_of, is_zombie, is_zombie_status, is_zombie_child_of}
-use Rattle.proc_table.specs.Calls.{lowest_free, newborn, forked, zombie_child, freed}
-use Rattle.proc_table.proofs.Changes.{kept, was_free as lowest_was_free, child_within, child_is}
+use Rattle.proc_table.specs.Slots.{Slot, Table, at, is_free, is_number, is_child_of, is_zombie, is_zombie_status}
+use Rattle.proc_table.proofs.Changes.{kept}
 use Rattle.law_kernel.specs.Sleeping.{Lives, SleepsOn}
 use Rattle.order_model.specs.Numbers.{Numbering, renumbered_place}
-use Rattle.law_slot_numbers.specs.Slots.{moved_channel, moved_status, moved_process, moved_slot, IsZombieOf, IsMoved, same, zombies, AreMoved}
+use Rattle.law_slot_numbers.specs.Slots.{moved_channel, moved_status, moved_slot, IsZombieOf, IsMoved, same, zombies}
 use Rattle.law_slot_numbers.proofs.Swaps.{Exchanged, exchanged}
-use Rattle.law_slot_numbers.proofs.Slots.{apart, stays_free, was_free, same_zombie_child}
 use Rattle.law_slot_numbers.proofs.Tables.{Moves}
 
 -- ---- whom slots name

@@ -11,7 +11,8 @@ use Rattle.order_model.specs.Numbers.{Numbering, renumbered_place}
 use Rattle.order_model.specs.Outcome.{SameOutcome, outcome_of}
 use Rattle.law_entry_numbers.proofs.Numberings.{unchanged, opposite, followed_by}
 use Rattle.law_slot_numbers.specs.Slots.{moved_channel, moved_status, moved_process, moved_slot, IsZombieOf, IsMoved, same, zombies, AreMoved, SameButSlots}
-use Rattle.law_slot_numbers.proofs.Slots.{stays_free, was_free}
+use Rattle.law_slot_numbers.proofs.Slots.{stays_free}
+use Rattle.law_slot_numbers.proofs.Tables.{Moves}
 
 -- ---- one number after the other
 
@@ -93,13 +94,14 @@ moved_on n m x y z (zombies parent v w) (zombies other s t) =
 -- ---- kernels
 
 module _ {S : Type 0} where
+  moved_itself : (t : Table S) → AreMoved unchanged t t
+  moved_itself t = record { init = refl; there = λ i lt. lt; here = λ i lt. lt; slots = λ i. same (sym (slot_none (at t i))) }
+
+  pub moves_itself : (t : Table S) (pid : ℕ) → Moves unchanged pid pid t t
+  moves_itself t pid = record { moved = moved_itself t; number = refl; mine = sym (slot_none (at t pid)) }
+
   pub same_itself : (k : KernelState S) → SameButSlots k k
-  same_itself k =
-      record {
-        numbering = unchanged;
-        moved = record { init = refl; there = λ i lt. lt; here = λ i lt. lt; slots = λ i. same (sym (slot_none (at k.table i))) };
-        rest = refl;
-      }
+  same_itself k = record { numbering = unchanged; moved = moved_itself k.table; rest = refl }
 
   pub same_back : (k l : KernelState S) → SameButSlots k l → SameButSlots l k
   same_back k l a =

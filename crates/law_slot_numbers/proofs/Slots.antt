@@ -1,14 +1,14 @@
 -- One slot after slots got other numbers: each change of a slot commutes with that, and no test of a slot sees it.
 use Rattle.std.proofs.Common.{◌≡◌, ◌≢◌, ℕ, Bool, true, false, Option, Some, None, refl, sym, ap, subst, ◌∙◌}
-use Rattle.std.proofs.lemmas.Bool.{eq-eqb, eqb-true}
-use Rattle.std.specs.Prelude.{◌==◌, ◌&&◌, if◌then◌else◌}
+use Rattle.std.proofs.lemmas.Bool.{and_parts, eqb-true}
+use Rattle.std.specs.Prelude.{◌&&◌, if◌then◌else◌}
 use Rattle.user_calls.specs.declared.calls.Reply.{Reply}
 use Rattle.fd_table.specs.Descriptors.{Descriptors}
 use Rattle.proc_table.specs.declared.states.Channel.{Channel}
 use Rattle.proc_table.specs.declared.states.Channel.TheVariants.{PipeBytes, PipeRoom, Children}
 use Rattle.proc_table.specs.declared.states.Status.{Status}
 use Rattle.proc_table.specs.declared.states.Status.TheVariants.{Runnable, Running, Asleep, Zombie}
-use Rattle.proc_table.specs.Slots.{Slot, Process, same_channel, is_free, is_number, is_child_of, is_zombie, is_zombie_status, is_zombie_child_of, parent_of, parent_or_init, put_of}
+use Rattle.proc_table.specs.Slots.{Slot, same_channel, is_number, is_child_of, is_zombie, is_zombie_status, is_zombie_child_of, parent_of, parent_or_init, put_of}
 use Rattle.proc_table.specs.Calls.{with_status, made_ready, put_to_sleep, with_fds, woken_status, woken, parent_after, given}
 use Rattle.kernel_model.specs.KernelState.{fds_of}
 use Rattle.order_model.specs.Alike.{IsOneToOne}
@@ -41,6 +41,40 @@ with_fds_so to fds (Some p) = refl
 pub status_so : {S : Type 0} (to : ℕ → ℕ) (s : Status) (x : Slot S) → with_status (moved_status to s) (moved_slot to x) ≡ moved_slot to (with_status s x)
 status_so to s None = refl
 status_so to s (Some p) = refl
+
+-- ---- zombies
+
+pub zombie_given : {S : Type 0} (pid : ℕ) (parent : Option ℕ) (x : Slot S) → IsZombieOf parent x → IsZombieOf (parent_after pid parent) (given pid x)
+zombie_given pid parent x z =
+    record { process = record z.process { parent = parent_after pid z.process.parent }; there = ap (given pid) z.there; dead = z.dead; child = ap (parent_after pid) z.child }
+
+pub zombie_woken : {S : Type 0} (c : Channel) (parent : Option ℕ) (x : Slot S) → IsZombieOf parent x → IsZombieOf parent (woken c x)
+zombie_woken c parent x z =
+    record { process = record z.process { status = woken_status c z.process.status }; there = ap (woken c) z.there; dead = ap (woken_status c) z.dead; child = z.child }
+
+pub child_of : {S : Type 0} (pid : ℕ) (parent : Option ℕ) (x : Slot S) → IsZombieOf parent x → is_child_of pid x ≡ is_number pid parent
+child_of pid parent x z = ap (is_child_of pid) z.there ∙ ap (is_number pid) z.child
+
+pub dead : {S : Type 0} (parent : Option ℕ) (x : Slot S) → IsZombieOf parent x → is_zombie x ≡ true
+dead parent x z = ap is_zombie z.there ∙ ap is_zombie_status z.dead
+
+parent_is : (pid : ℕ) (o : Option ℕ) → is_number pid o ≡ true → o ≡ Some pid
+parent_is pid None is = absurd (let z : ⊥ = cc in z)
+parent_is pid (Some parent) is = ap Some (sym (eqb-true pid parent is))
+
+status_is : (s : Status) → is_zombie_status s ≡ true → s ≡ Zombie
+status_is Runnable is = absurd (let z : ⊥ = cc in z)
+status_is (Running h) is = absurd (let z : ⊥ = cc in z)
+status_is (Asleep c) is = absurd (let z : ⊥ = cc in z)
+status_is Zombie is = refl
+
+pub zombie_is : {S : Type 0} (pid : ℕ) (x : Slot S) → is_zombie_child_of pid x ≡ true → IsZombieOf (Some pid) x
+zombie_is pid None is = absurd (let z : ⊥ = cc in z)
+zombie_is pid (Some p) is =
+    let parts = and_parts (is_number pid p.parent) (is_zombie_status p.status) is in
+    record { process = p; there = refl; dead = status_is p.status parts.1; child = parent_is pid p.parent parts.0 }
+
+-- ---- other numbers
 
 module _ (n : Numbering) where
   pub one_to_one : IsOneToOne n.to
@@ -102,10 +136,6 @@ module _ (n : Numbering) where
     parent_so None = sym init
     parent_so (Some p) = init_so p.parent
 
-    zombie_given : {S : Type 0} (pid : ℕ) (parent : Option ℕ) (x : Slot S) → IsZombieOf parent x → IsZombieOf (parent_after pid parent) (given pid x)
-    zombie_given pid parent x z =
-        record { process = record z.process { parent = parent_after pid z.process.parent }; there = ap (given pid) z.there; dead = z.dead; child = ap (parent_after pid) z.child }
-
     pub is_given : {S : Type 0} (pid : ℕ) (x y : Slot S) → IsMoved n.to x y → IsMoved n.to (given pid x) (given (n.to pid) y)
     is_given pid x y (same is) = same (ap (given (n.to pid)) is ∙ given_so pid x)
     is_given pid x y (zombies parent z w) =
@@ -113,10 +143,6 @@ module _ (n : Numbering) where
         (subst (λ (o : Option ℕ). IsZombieOf o (given (n.to pid) y)) (after_so pid parent) (zombie_given (n.to pid) (renumbered_place n.to parent) y w))
 
   -- ---- a wake-up
-
-  zombie_woken : {S : Type 0} (c : Channel) (parent : Option ℕ) (x : Slot S) → IsZombieOf parent x → IsZombieOf parent (woken c x)
-  zombie_woken c parent x z =
-      record { process = record z.process { status = woken_status c z.process.status }; there = ap (woken c) z.there; dead = ap (woken_status c) z.dead; child = z.child }
 
   pub is_woken : {S : Type 0} (c : Channel) (x y : Slot S) → IsMoved n.to x y → IsMoved n.to (woken c x) (woken (moved_channel n.to c) y)
   is_woken c x y (same is) = same (ap (woken (moved_channel n.to c)) is ∙ woken_so c x)
@@ -137,12 +163,6 @@ module _ (n : Numbering) where
   zombie_so : {S : Type 0} (x : Slot S) → is_zombie (moved_slot n.to x) ≡ is_zombie x
   zombie_so None = refl
   zombie_so (Some p) = zombie_status_so p.status
-
-  child_of : {S : Type 0} (pid : ℕ) (parent : Option ℕ) (x : Slot S) → IsZombieOf parent x → is_child_of pid x ≡ is_number pid parent
-  child_of pid parent x z = ap (is_child_of pid) z.there ∙ ap (is_number pid) z.child
-
-  dead : {S : Type 0} (parent : Option ℕ) (x : Slot S) → IsZombieOf parent x → is_zombie x ≡ true
-  dead parent x z = ap is_zombie z.there ∙ ap is_zombie_status z.dead
 
   pub same_child : {S : Type 0} (pid : ℕ) (x y : Slot S) → IsMoved n.to x y → is_child_of (n.to pid) y ≡ is_child_of pid x
   same_child pid x y (same is) = ap (is_child_of (n.to pid)) is ∙ child_so pid x

@@ -8,8 +8,6 @@ use Rattle.fd_table.specs.Descriptors.{Descriptors}
 use Rattle.proc_table.specs.declared.states.Channel.{Channel}
 use Rattle.proc_table.specs.declared.states.Channel.TheVariants.{Children}
 use Rattle.proc_table.specs.declared.states.Status.TheVariants.{Running, Zombie}
-use Rattle.proc_table.specs.declared.table.Waited.{Waited}
-use Rattle.proc_table.specs.declared.table.Waited.TheVariants.{Reaped, NoChildren, MustSleep}
 use Rattle.proc_table.specs.Slots.{Slot, Table, at, is_child_of, is_zombie_child_of, parent_of, put_of}
 use Rattle.proc_table.specs.Calls.{with_status, dispatched, made_ready, readied, put_to_sleep, slept, with_fds, fds_set, woken, all_woken, given, buried, exited, zombie_child, some_child}
 use Rattle.proc_table.proofs.Changes.{written, kept, mapped}

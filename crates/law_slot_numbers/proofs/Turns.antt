@@ -1,6 +1,6 @@
 -- A turn that a kernel of a run can take can be taken in one that differs only in the numbers of slots.
-use Rattle.std.proofs.Common.{◌≡◌, ◌≢◌, ◌⊎◌, ℕ, ◌+◌, ◌<◌, List, [], ◌∷◌, Bool, true, false, Option, Some, None, length, inl, inr, refl, sym, ap, subst, ◌∙◌, arith}
-use Rattle.std.proofs.Math.ListN.{set, length-set}
+use Rattle.std.proofs.Common.{◌≡◌, ◌≢◌, ◌⊎◌, ℕ, ◌+◌, List, [], ◌∷◌, true, false, Option, Some, None, length, inl, inr, refl, sym, ap, subst, ◌∙◌, arith}
+use Rattle.std.proofs.Math.ListN.{length-set}
 use Rattle.std.proofs.lemmas.Bool.{cases_eq}
 use Rattle.user_calls.specs.declared.calls.Call.{Call}
 use Rattle.user_calls.specs.declared.calls.Reply.{Reply}
@@ -12,12 +12,10 @@ use Rattle.proc_table.specs.Slots.{Slot, Table, Process, at, is_free, is_child_o
 use Rattle.proc_table.specs.Calls.{dispatched, with_status}
 use Rattle.proc_table.proofs.Changes.{written, kept}
 use Rattle.kernel_model.specs.KernelState.{KernelState}
-use Rattle.kernel_model.specs.Boot.{boot_kernel}
 use Rattle.kernel_model.specs.Events.{acted, counted}
 use Rattle.kernel_model.proofs.Lasting.{no_run}
 use Rattle.law_kernel.specs.Sleeping.{Lives, SleepsOn, IsFamily}
 use Rattle.law_kernel.proofs.Runs.{every_run_rests}
-use Rattle.order_model.specs.Alike.{IsStill}
 use Rattle.order_model.specs.Turns.{by_turns, after_turn, after_turns, quiet_turns, turn_events, turn_notes}
 use Rattle.order_model.specs.Begun.{IsBegun}
 use Rattle.order_model.specs.Numbers.{Numbering}
@@ -29,8 +27,7 @@ use Rattle.law_slot_numbers.specs.Slots.{moved_status, moved_process, moved_slot
 use Rattle.law_slot_numbers.specs.Matched.{IsTurnTakenToo, AreTurnsTakenToo}
 use Rattle.law_slot_numbers.proofs.Slots.{exactly}
 use Rattle.law_slot_numbers.proofs.Tables.{Moves, dispatched_moved}
-use Rattle.law_slot_numbers.proofs.Freeing.{Names}
-use Rattle.law_slot_numbers.proofs.Acted.{Mid, After, but_slots, acted_under}
+use Rattle.law_slot_numbers.proofs.Acted.{Mid, but_slots, acted_under}
 
 -- ---- a dispatch
 
@@ -90,6 +87,12 @@ module _ {S : Type 0} (call : S → Reply → Call) (next : S → Reply → S) w
   begun_family : (k : KernelState S) → IsBegun call next k → IsFamily k.table
   begun_family k b = (every_run_rests call next b.init b.shell b.input b.files (turn_events (quiet_turns b.pids)) (turn_notes (quiet_turns b.pids)) k b.turns).family
 
+  -- a kernel of a run in the middle of a turn
+  pub begun_mid : (k : KernelState S) (pid : ℕ) (x : Process S) → IsBegun call next k → at k.table pid ≡ Some x → is_runnable_status x.status ≡ true → Mid (counted (given_0 k pid)).table pid
+  begun_mid k pid x b there ready =
+      mid_of k.table pid (length-set k.table pid (with_status (Running 0) (at k.table pid)) ∙ (begun_still call next k b).sound.slots) (begun_family k b) (λ i q s. (begun_waits call next k b i (Children q) s).0)
+      (record { used = ap is_free there; alive = ap is_zombie there ∙ alive_status x.status ready })
+
   module _ (k l : KernelState S) (b : IsBegun call next k) (d : IsBegun call next l) (a : SameButSlots k l) (pid : ℕ) (x : Process S) (there : at k.table pid ≡ Some x) (ready : is_runnable_status x.status ≡ true) where
     n : Numbering
     n = a.numbering
@@ -109,9 +112,6 @@ module _ {S : Type 0} (call : S → Reply → Call) (next : S → Reply → S) w
     dispatched_both : Moves a.numbering pid (a.numbering.to pid) (counted (given_0 k pid)).table (counted (given_0 l (a.numbering.to pid))).table
     dispatched_both = dispatched_moved a.numbering pid (a.numbering.to pid) k.table l.table both
 
-    mid : Mid (counted (given_0 k pid)).table pid
-    mid = mid_of k.table pid (length-set k.table pid (with_status (Running 0) (at k.table pid)) ∙ (begun_still call next k b).sound.slots) (begun_family k b) (λ i q s. (begun_waits call next k b i (Children q) s).0) lives
-
     there_l : at l.table (a.numbering.to pid) ≡ Some (moved_process a.numbering.to x)
     there_l = mine ∙ ap (moved_slot a.numbering.to) there
 
@@ -119,7 +119,7 @@ module _ {S : Type 0} (call : S → Reply → Call) (next : S → Reply → S) w
     left =
         let dk : KernelState S = counted (given_0 k pid) in
         let u : Table S = (counted (given_0 l (a.numbering.to pid))).table in
-        let it = acted_under a.numbering pid (a.numbering.to pid) (next x.machine x.reply) dk u dispatched_both mid
+        let it = acted_under a.numbering pid (a.numbering.to pid) (next x.machine x.reply) dk u dispatched_both (begun_mid k pid x b there ready)
         (length-set l.table (a.numbering.to pid) (with_status (Running 0) (at l.table (a.numbering.to pid))) ∙ (begun_still call next l d).sound.slots) (call x.machine x.reply) false in
         let same_l : record dk { table = u } ≡ counted (given_0 l (a.numbering.to pid)) = ap (λ (j : KernelState S). record (counted (counted j)) { table = u }) a.rest in
         subst (λ (j : KernelState S). SameButSlots (turned call next k pid x false) (acted j (a.numbering.to pid) (next x.machine x.reply) (call x.machine x.reply) false)) same_l
