@@ -56,8 +56,8 @@ module _ (f g : ℕ → ℕ) where
   agree : {S : Type 0} (t : Table S) → Names t → (i : ℕ) (x y : Slot S) → at t i ≡ x → f i ≡ g i → ((q : ℕ) → Lives (at t q) → f q ≡ g q) → IsMoved f x y → IsMoved g x y
   agree t names i x y here is lives (zombies parent z w) =
       zombies parent z (subst (λ (o : Option ℕ). IsZombieOf o y) (parent_agree parent (λ q named. lives q (names.parents i q (child q named)))) w) where
-    child : (q : ℕ) → parent ≡ Some q → is_child_of q (at t i) ≡ true
-    child q named = ap (is_child_of q) (here ∙ z.there) ∙ ap (is_number q) (z.child ∙ named) ∙ is_own q
+        child : (q : ℕ) → parent ≡ Some q → is_child_of q (at t i) ≡ true
+        child q named = ap (is_child_of q) (here ∙ z.there) ∙ ap (is_number q) (z.child ∙ named) ∙ is_own q
   agree t names i None y here is lives (same it) = same it
   agree t names i (Some p) y here is lives (same it) =
       let parent : renumbered_place f p.parent ≡ renumbered_place g p.parent =
@@ -135,7 +135,7 @@ module _ {S : Type 0} (n : Numbering) (pid me : ℕ) (t u : Table S) (b : Moves 
         own =
             let it : IsMoved n.to (at t pid) (at u me) = same b.mine in
             kept u new me y me_not_new ∙ by (agree n.to ex.to.to t names pid (at t pid) (at u me) refl (lives_so pid alive) lives_so it) ∙ ap (moved_slot ex.to.to) (sym (kept t a pid x pid_not_a)) where
-          by : IsMoved ex.to.to (at t pid) (at u me) → at u me ≡ moved_slot ex.to.to (at t pid)
-          by (same is) = is
-          by (zombies parent z w) =
-              absurd (gone_lives (at t pid) (inr (ap is_zombie z.there ∙ ap is_zombie_status z.dead)) alive)
+              by : IsMoved ex.to.to (at t pid) (at u me) → at u me ≡ moved_slot ex.to.to (at t pid)
+              by (same is) = is
+              by (zombies parent z w) =
+                  absurd (gone_lives (at t pid) (inr (ap is_zombie z.there ∙ ap is_zombie_status z.dead)) alive)
