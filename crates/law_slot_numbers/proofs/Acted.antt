@@ -26,7 +26,7 @@ use Rattle.law_slot_numbers.specs.Slots.{moved_channel, moved_slot, IsZombieOf, 
 use Rattle.law_slot_numbers.proofs.Slots.{dead, zombie_is, one_to_one, stays_free, was_free, same_zombie_child}
 use Rattle.law_slot_numbers.proofs.Swaps.{exchanged}
 use Rattle.law_slot_numbers.proofs.Tables.{Moves, fds_moved, put_moved, ready_moved, sleep_moved, set_fds_moved, woken_moved, exited_moved, zombie_child_so, some_child_so}
-use Rattle.law_slot_numbers.proofs.Calls.{Keeps, Same, here, sleeping, answering, refusing, close_so, exit_so, dup_call_so, open_so, pipe_so, read_so, write_so}
+use Rattle.law_slot_numbers.proofs.Calls.{Keeps, KeepsTables, SameEntries, with_entries, Same, here, sleeping, answering, refusing, close_so, exit_so, dup_call_so, open_so, pipe_so, read_so, write_so}
 use Rattle.law_slot_numbers.proofs.Freeing.{Names, IsGone, number_so, changed}
 
 -- ---- free slots and zombies
@@ -63,7 +63,7 @@ pub but_slots : {S : Type 0} (pid me : ℕ) (k l : KernelState S) → After pid 
 but_slots pid me k l a = record { numbering = a.numbering; moved = a.moves.moved; rest = a.rest }
 
 -- other numbers of slots are kept
-slots_keep : {S : Type 0} (n : Numbering) (pid me : ℕ) → n.to 0 ≡ 0 → n.to pid ≡ me → Keeps {S = S} pid me (moved_channel n.to) (Moves n pid me)
+slots_keep : {S : Type 0} (n : Numbering) (pid me : ℕ) → n.to 0 ≡ 0 → n.to pid ≡ me → KeepsTables {S = S} pid me (moved_channel n.to) (Moves n pid me)
 slots_keep n pid me init number =
     record {
       bytes = λ id. refl;
@@ -86,11 +86,11 @@ module _ {S : Type 0} (n : Numbering) (pid me : ℕ) (after : S) (k : KernelStat
   abbrev l : KernelState S
   l = record k { table = u }
 
-  keeps : Keeps {S = S} pid me (moved_channel n.to) (Moves n pid me)
-  keeps = slots_keep n pid me m.moved.init m.number
+  keeps : Keeps {S = S} pid me (moved_channel n.to) (SameEntries (Moves n pid me))
+  keeps = with_entries pid me (moved_channel n.to) (Moves n pid me) (slots_keep n pid me m.moved.init m.number)
 
-  kept_so : (x y : KernelState S) → Same pid me (moved_channel n.to) (Moves n pid me) keeps x y → After pid me x y
-  kept_so x y s = record { numbering = n; moves = s.related; rest = s.rest }
+  kept_so : (x y : KernelState S) → Same pid me (moved_channel n.to) (SameEntries (Moves n pid me)) keeps x y → After pid me x y
+  kept_so x y s = record { numbering = n; moves = s.related.0; rest = (λ i. record x { table = y.table; entries = sym s.related.1 i }) ∙ s.rest }
 
   -- ---- fork
 
@@ -114,7 +114,7 @@ module _ {S : Type 0} (n : Numbering) (pid me : ℕ) (after : S) (k : KernelStat
   fork_by : (o q : Option ℕ) → lowest_free k.table ≡ o → lowest_free u ≡ q → After pid me (fork k pid after) (fork l me after)
   fork_by None None is is_u =
       subst (λ (o : Option ℕ). After pid me (fork_into k pid after o) (fork l me after)) (sym is)
-      (subst (λ (q : Option ℕ). After pid me (fork_into k pid after None) (fork_into l me after q)) (sym is_u) (kept_so _ _ (refusing pid me (moved_channel n.to) (Moves n pid me) keeps after k l Procs (here pid me (moved_channel n.to) (Moves n pid me) keeps k u m))))
+      (subst (λ (q : Option ℕ). After pid me (fork_into k pid after None) (fork_into l me after q)) (sym is_u) (kept_so _ _ (refusing pid me (moved_channel n.to) (SameEntries (Moves n pid me)) keeps after k l Procs (here pid me (moved_channel n.to) (SameEntries (Moves n pid me)) keeps k u k.entries (m, refl)))))
   fork_by (Some a) (Some new) is is_u =
       subst (λ (o : Option ℕ). After pid me (fork_into k pid after o) (fork l me after)) (sym is)
       (subst (λ (q : Option ℕ). After pid me (fork_into k pid after (Some a)) (fork_into l me after q)) (sym is_u) (forks_into a new (subst (λ (i : ℕ). a < i) mid.long (child_within k.table a is)) (subst (λ (i : ℕ). new < i) long (child_within u new is_u)) (lowest_was_free k.table a is) (lowest_was_free u new is_u)))
@@ -149,13 +149,13 @@ module _ {S : Type 0} (n : Numbering) (pid me : ℕ) (after : S) (k : KernelStat
       answers_so to pid me after now (freed u (Some new)) Done both
 
   sleeps_so : After pid me (sleeps k pid (Children pid) 0) (sleeps l me (Children me) 0)
-  sleeps_so = subst (λ (i : ℕ). After pid me (sleeps k pid (Children pid) 0) (sleeps l me (Children i) 0)) m.number (kept_so _ _ (sleeping pid me (moved_channel n.to) (Moves n pid me) keeps k l (Children pid) 0 (here pid me (moved_channel n.to) (Moves n pid me) keeps k u m)))
+  sleeps_so = subst (λ (i : ℕ). After pid me (sleeps k pid (Children pid) 0) (sleeps l me (Children i) 0)) m.number (kept_so _ _ (sleeping pid me (moved_channel n.to) (SameEntries (Moves n pid me)) keeps k l (Children pid) 0 (here pid me (moved_channel n.to) (SameEntries (Moves n pid me)) keeps k u k.entries (m, refl))))
 
   abbrev Waits : Option ℕ → Option ℕ → Option ℕ → Option ℕ → Type 0
   Waits o q c e = After pid me (wait_by (record k { table = k.table }) pid after (waited o c)) (wait_by l me after (waited q e))
 
   children_by : (c e : Option ℕ) → is_some e ≡ is_some c → Waits None None c e
-  children_by None None is = kept_so _ _ (answering pid me (moved_channel n.to) (Moves n pid me) keeps after k l Refused (here pid me (moved_channel n.to) (Moves n pid me) keeps k u m))
+  children_by None None is = kept_so _ _ (answering pid me (moved_channel n.to) (SameEntries (Moves n pid me)) keeps after k l Refused (here pid me (moved_channel n.to) (SameEntries (Moves n pid me)) keeps k u k.entries (m, refl)))
   children_by (Some c) (Some e) is = sleeps_so
   children_by None (Some e) is = absurd (let z : ⊥ = cc in z)
   children_by (Some c) None is = absurd (let z : ⊥ = cc in z)
@@ -181,12 +181,12 @@ module _ {S : Type 0} (n : Numbering) (pid me : ℕ) (after : S) (k : KernelStat
 
   pub acted_under : (call : Call) (refused : Bool) → After pid me (acted k pid after call refused) (acted l me after call refused)
   acted_under Fork refused = fork_by (lowest_free k.table) (lowest_free u) refl refl
-  acted_under (Exec found) refused = kept_so _ _ (answering pid me (moved_channel n.to) (Moves n pid me) keeps after k l _ (here pid me (moved_channel n.to) (Moves n pid me) keeps k u m))
-  acted_under Exit refused = kept_so _ _ (exit_so pid me (moved_channel n.to) (Moves n pid me) keeps after k l (here pid me (moved_channel n.to) (Moves n pid me) keeps k u m))
+  acted_under (Exec found) refused = kept_so _ _ (answering pid me (moved_channel n.to) (SameEntries (Moves n pid me)) keeps after k l _ (here pid me (moved_channel n.to) (SameEntries (Moves n pid me)) keeps k u k.entries (m, refl)))
+  acted_under Exit refused = kept_so _ _ (exit_so pid me (moved_channel n.to) (SameEntries (Moves n pid me)) keeps after k l (here pid me (moved_channel n.to) (SameEntries (Moves n pid me)) keeps k u k.entries (m, refl)))
   acted_under Wait refused = wait_so (zombie_child k.table pid) (zombie_child u me) refl refl (zombie_child_so n pid me k.table u m)
-  acted_under MakePipe refused = kept_so _ _ (pipe_so pid me (moved_channel n.to) (Moves n pid me) keeps after k u m refused)
-  acted_under (Read fd long) refused = kept_so _ _ (read_so pid me (moved_channel n.to) (Moves n pid me) keeps after k fd long u m)
-  acted_under (Write fd b) refused = kept_so _ _ (write_so pid me (moved_channel n.to) (Moves n pid me) keeps after k fd b refused u m)
-  acted_under (OpenFile file mode) refused = kept_so _ _ (open_so pid me (moved_channel n.to) (Moves n pid me) keeps after k u m file mode refused)
-  acted_under (Close fd) refused = kept_so _ _ (close_so pid me (moved_channel n.to) (Moves n pid me) keeps after k l fd (here pid me (moved_channel n.to) (Moves n pid me) keeps k u m))
-  acted_under (Dup fd) refused = kept_so _ _ (dup_call_so pid me (moved_channel n.to) (Moves n pid me) keeps after k fd u m)
+  acted_under MakePipe refused = kept_so _ _ (pipe_so pid me (moved_channel n.to) (SameEntries (Moves n pid me)) keeps after k u k.entries (m, refl) refused)
+  acted_under (Read fd long) refused = kept_so _ _ (read_so pid me (moved_channel n.to) (SameEntries (Moves n pid me)) keeps after k fd long u k.entries (m, refl))
+  acted_under (Write fd b) refused = kept_so _ _ (write_so pid me (moved_channel n.to) (SameEntries (Moves n pid me)) keeps after k fd b refused u k.entries (m, refl))
+  acted_under (OpenFile file mode) refused = kept_so _ _ (open_so pid me (moved_channel n.to) (SameEntries (Moves n pid me)) keeps after k u k.entries (m, refl) file mode refused)
+  acted_under (Close fd) refused = kept_so _ _ (close_so pid me (moved_channel n.to) (SameEntries (Moves n pid me)) keeps after k l fd (here pid me (moved_channel n.to) (SameEntries (Moves n pid me)) keeps k u k.entries (m, refl)))
+  acted_under (Dup fd) refused = kept_so _ _ (dup_call_so pid me (moved_channel n.to) (SameEntries (Moves n pid me)) keeps after k fd u k.entries (m, refl))

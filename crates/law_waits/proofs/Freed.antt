@@ -24,7 +24,7 @@ use Rattle.kernel_model.specs.Events.{acted}
 use Rattle.law_private_turns.proofs.Unseen.{position_same}
 use Rattle.law_slot_numbers.specs.Slots.{IsZombieOf}
 use Rattle.law_slot_numbers.proofs.Slots.{zombie_given, zombie_woken, child_of, zombie_is}
-use Rattle.law_slot_numbers.proofs.Calls.{Keeps, Same, here, sleeping, answering, close_so, exit_so, dup_call_so, open_so, pipe_so, read_so, write_so}
+use Rattle.law_slot_numbers.proofs.Calls.{Keeps, KeepsTables, SameEntries, with_entries, Same, here, sleeping, answering, close_so, exit_so, dup_call_so, open_so, pipe_so, read_so, write_so}
 
 no_parent : (p q : ℕ) → q ≢ p → is_number q (Some p) ≡ false
 no_parent p q apart = ne_eqb q p apart
@@ -91,8 +91,8 @@ module _ {S : Type 0} (p q z : ℕ) (apart : q ≢ p) (other : q ≢ z) where
       (woken_freed (Children (parent_of (at t q))) (buried t q) (buried u q) buried_both) in
       exited_by (zombie_child t q) (zombie_child u q) _ _ (zombie_so t u r) gone
 
-  pub keeps : Keeps q q (λ c. c) Freed
-  keeps =
+  keeps_tables : KeepsTables q q (λ c. c) Freed
+  keeps_tables =
       record {
         bytes = λ id. refl;
         room = λ id. refl;
@@ -106,6 +106,9 @@ module _ {S : Type 0} (p q z : ℕ) (apart : q ≢ p) (other : q ≢ z) where
         exit = exited_freed;
       }
 
+  pub keeps : Keeps q q (λ c. c) (SameEntries Freed)
+  keeps = with_entries q q (λ c. c) Freed keeps_tables
+
   -- ---- calls
 
   module _ (after : S) (k : KernelState S) (u : Table S) (r : Freed k.table u) where
@@ -113,10 +116,10 @@ module _ {S : Type 0} (p q z : ℕ) (apart : q ≢ p) (other : q ≢ z) where
     l = record k { table = u }
 
     abbrev Both : KernelState S → KernelState S → Type 0
-    Both x y = Same q q (λ c. c) Freed keeps x y
+    Both x y = Same q q (λ c. c) (SameEntries Freed) keeps x y
 
     start : Both k l
-    start = here q q (λ c. c) Freed keeps k u r
+    start = here q q (λ c. c) (SameEntries Freed) keeps k u k.entries (r, refl)
 
     -- another zombie is freed, of q
     reaps_too : (b : ℕ) → is_zombie_child_of q (at k.table b) ≡ true → Both (answered (record k { table = freed k.table (Some b) }) q after Done) (answered (record l { table = freed u (Some b) }) q after Done)
@@ -130,14 +133,14 @@ module _ {S : Type 0} (p q z : ℕ) (apart : q ≢ p) (other : q ≢ z) where
           is = ap (λ (t : Table S). set t b None) r.is ∙ set_comm k.table z b None None (λ same. ne (sym same));
           zombie = subst (IsZombieOf (Some p)) (sym (kept k.table b z None (λ same. ne (sym same)))) r.zombie;
         } in
-        answering q q (λ c. c) Freed keeps after (record k { table = set k.table b None }) (record k { table = set u b None }) Done (here q q (λ c. c) Freed keeps (record k { table = set k.table b None }) (set u b None) both)
+        answering q q (λ c. c) (SameEntries Freed) keeps after (record k { table = set k.table b None }) (record k { table = set u b None }) Done (here q q (λ c. c) (SameEntries Freed) keeps (record k { table = set k.table b None }) (set u b None) k.entries (both, refl))
       where
         own_number : is_number q (Some q) ≡ true
         own_number = eq-eqb q q refl
 
     waits_by : (o c : Option ℕ) → zombie_child k.table q ≡ o → zombie_child u q ≡ o → Both (wait_by k q after (waited o c)) (wait_by l q after (waited o c))
-    waits_by None None is is_u = answering q q (λ c. c) Freed keeps after k l Refused start
-    waits_by None (Some c) is is_u = sleeping q q (λ c. c) Freed keeps k l (Children q) 0 start
+    waits_by None None is is_u = answering q q (λ c. c) (SameEntries Freed) keeps after k l Refused start
+    waits_by None (Some c) is is_u = sleeping q q (λ c. c) (SameEntries Freed) keeps k l (Children q) 0 start
     waits_by (Some b) c is is_u =
         let left : answered (record k { table = freed k.table (Some b) }) q after Done ≡ wait_by k q after (Reaped b) = ap (λ (o : Option ℕ). answered (record k { table = freed k.table o }) q after Done) (sym is) in
         let right : answered (record l { table = freed u (Some b) }) q after Done ≡ wait_by l q after (Reaped b) = ap (λ (o : Option ℕ). answered (record l { table = freed u o }) q after Done) (sym is_u) in
@@ -160,17 +163,17 @@ module _ {S : Type 0} (p q z : ℕ) (apart : q ≢ p) (other : q ≢ z) where
           zombie = subst (IsZombieOf (Some p)) (sym (kept k.table a z (Some (newborn q after d)) (λ same. ne (sym same)))) r.zombie;
         } in
         subst (λ (e : Descriptors). Both (fork_into k q after (Some a)) (answered (record l { table = forked u a q after e; entries = all_held k.entries e }) q after Done)) (sym (ap fds_of (own_at k.table u r)))
-        (answering q q (λ c. c) Freed keeps after now (record now { table = forked u a q after d }) Done (here q q (λ c. c) Freed keeps now (forked u a q after d) both))
+        (answering q q (λ c. c) (SameEntries Freed) keeps after now (record now { table = forked u a q after d }) Done (here q q (λ c. c) (SameEntries Freed) keeps now (forked u a q after d) now.entries (both, refl)))
 
     -- any other call
     pub acted_so : (c : Call) (refused : Bool) → c ≢ Fork → Both (acted k q after c refused) (acted l q after c refused)
     acted_so Fork refused ne = absurd (ne refl)
-    acted_so (Exec found) refused ne = answering q q (λ c. c) Freed keeps after k l _ start
-    acted_so Exit refused ne = exit_so q q (λ c. c) Freed keeps after k l start
+    acted_so (Exec found) refused ne = answering q q (λ c. c) (SameEntries Freed) keeps after k l _ start
+    acted_so Exit refused ne = exit_so q q (λ c. c) (SameEntries Freed) keeps after k l start
     acted_so Wait refused ne = wait_so
-    acted_so MakePipe refused ne = pipe_so q q (λ c. c) Freed keeps after k u r refused
-    acted_so (Read fd long) refused ne = read_so q q (λ c. c) Freed keeps after k fd long u r
-    acted_so (Write fd b) refused ne = write_so q q (λ c. c) Freed keeps after k fd b refused u r
-    acted_so (OpenFile file mode) refused ne = open_so q q (λ c. c) Freed keeps after k u r file mode refused
-    acted_so (Close fd) refused ne = close_so q q (λ c. c) Freed keeps after k l fd start
-    acted_so (Dup fd) refused ne = dup_call_so q q (λ c. c) Freed keeps after k fd u r
+    acted_so MakePipe refused ne = pipe_so q q (λ c. c) (SameEntries Freed) keeps after k u k.entries (r, refl) refused
+    acted_so (Read fd long) refused ne = read_so q q (λ c. c) (SameEntries Freed) keeps after k fd long u k.entries (r, refl)
+    acted_so (Write fd b) refused ne = write_so q q (λ c. c) (SameEntries Freed) keeps after k fd b refused u k.entries (r, refl)
+    acted_so (OpenFile file mode) refused ne = open_so q q (λ c. c) (SameEntries Freed) keeps after k u k.entries (r, refl) file mode refused
+    acted_so (Close fd) refused ne = close_so q q (λ c. c) (SameEntries Freed) keeps after k l fd start
+    acted_so (Dup fd) refused ne = dup_call_so q q (λ c. c) (SameEntries Freed) keeps after k fd u k.entries (r, refl)

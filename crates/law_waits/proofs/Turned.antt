@@ -39,7 +39,7 @@ use Rattle.law_entry_numbers.proofs.Numberings.{unchanged}
 use Rattle.law_slot_numbers.specs.Slots.{IsZombieOf, SameButSlots}
 use Rattle.law_slot_numbers.proofs.Slots.{dead, child_of, zombie_is}
 use Rattle.law_slot_numbers.proofs.Acted.{Mid, but_slots, finds_free, forks_into, reaps}
-use Rattle.law_slot_numbers.proofs.Calls.{Same}
+use Rattle.law_slot_numbers.proofs.Calls.{SameEntries, Same}
 use Rattle.law_slot_numbers.proofs.Same.{moves_itself, same_itself, same_on}
 use Rattle.law_slot_numbers.proofs.Turns.{begun_mid}
 use Rattle.law_waits.specs.Waits.{ReapsNext, FindsSlotNext, InEitherOrderButSlots}
@@ -182,15 +182,15 @@ module _ {S : Type 0} (call : S → Reply → Call) (next : S → Reply → S) (
       pub same : SameButSlots (acted (change z d) q after_q (call y.machine y.reply) false) (change z l)
       pub zombie : IsZombieOf (Some p) (at l.table z)
 
-    by_same : (m : KernelState S) → Same q q (λ c. c) (Freed p q z ne q_not_z) (keeps p q z ne q_not_z) (retold p left l) m → (m ≡ change z l) × IsZombieOf (Some p) (at l.table z)
+    by_same : (m : KernelState S) → Same q q (λ c. c) (SameEntries (Freed p q z ne q_not_z)) (keeps p q z ne q_not_z) (retold p left l) m → (m ≡ change z l) × IsZombieOf (Some p) (at l.table z)
     by_same m s =
-        (sym s.rest ∙ (λ i. record l { table = s.related.is i }), subst (IsZombieOf (Some p)) (told_at l.table) s.related.zombie)
+        (sym s.rest ∙ (λ i. record l { table = s.related.0.is i; entries = s.related.1 i }), subst (IsZombieOf (Some p)) (told_at l.table) s.related.0.zombie)
 
     no_fork : call y.machine y.reply ≢ Fork → Comes
     no_fork other =
         let s = acted_so p q z ne q_not_z after_q (retold p left d) (set (retold_table p left d.table) z None) start (call y.machine y.reply) false other in
         let it = by_same (acted (change z d) q after_q (call y.machine y.reply) false)
-        (subst (λ (j : KernelState S). Same q q (λ c. c) (Freed p q z ne q_not_z) (keeps p q z ne q_not_z) j (acted (change z d) q after_q (call y.machine y.reply) false)) told_is s) in
+        (subst (λ (j : KernelState S). Same q q (λ c. c) (SameEntries (Freed p q z ne q_not_z)) (keeps p q z ne q_not_z) j (acted (change z d) q after_q (call y.machine y.reply) false)) told_is s) in
         record { same = subst (λ (j : KernelState S). SameButSlots (acted (change z d) q after_q (call y.machine y.reply) false) j) it.0 (same_itself (acted (change z d) q after_q (call y.machine y.reply) false)); zombie = it.1 }
 
     -- the kernel between the two turns, with q dispatched, is in the middle of q's call
@@ -224,7 +224,7 @@ module _ {S : Type 0} (call : S → Reply → Call) (next : S → Reply → S) (
         let left_is : fork_into (retold p left d) q after_q (Some c) ≡ retold p left l =
         ap (fork_into (retold p left d) q after_q) (sym lowest) ∙ ap (λ (e : Call). acted (retold p left d) q after_q e false) (sym is) ∙ told_is in
         let it = by_same (fork_into (change z d) q after_q (Some c))
-        (subst (λ (j : KernelState S). Same q q (λ e. e) (Freed p q z ne q_not_z) (keeps p q z ne q_not_z) j (fork_into (change z d) q after_q (Some c))) left_is s) in
+        (subst (λ (j : KernelState S). Same q q (λ e. e) (SameEntries (Freed p q z ne q_not_z)) (keeps p q z ne q_not_z) j (fork_into (change z d) q after_q (Some c))) left_is s) in
         by (lowest_free t) refl none_t within it
       where
         told_free : (v : Slot S) → is_free (retold_slot left v) ≡ is_free v
