@@ -1,10 +1,10 @@
 -- Calls of a process commute with another process's fork into a slot that is free: a child in that slot, and one holder more of each
 -- entry for each of its descriptors.
-use Rattle.std.proofs.Common.{◌≡◌, ◌≢◌, ℕ, ◌+◌, ◌<◌, ◌≤◌, Bool, true, false, Option, Some, None, refl, sym, ap, subst, ◌∙◌, arith}
+use Rattle.std.proofs.Common.{◌≡◌, ◌≢◌, ℕ, ◌≤◌, Bool, true, false, Option, Some, None, refl, sym, ap, subst, ◌∙◌, arith}
 use Rattle.std.proofs.Math.ListN.{set}
 use Rattle.std.proofs.lemmas.Bool.{ne_eqb}
 use Rattle.std.proofs.lemmas.List.{map-set, set_comm}
-use Rattle.std.specs.Prelude.{map, is_some, position, ◌==◌, ◌&&◌, if◌then◌else◌}
+use Rattle.std.specs.Prelude.{map, is_some, ◌&&◌, if◌then◌else◌}
 use Rattle.user_calls.specs.declared.calls.Call.{Call}
 use Rattle.user_calls.specs.declared.calls.Call.TheVariants.{Fork, Exec, Exit, Wait, MakePipe, Read, Write, OpenFile, Close, Dup}
 use Rattle.user_calls.specs.declared.calls.Reply.{Reply}
@@ -16,12 +16,12 @@ use Rattle.proc_table.specs.declared.states.Channel.{Channel}
 use Rattle.proc_table.specs.declared.states.Channel.TheVariants.{Children}
 use Rattle.proc_table.specs.declared.states.Status.TheVariants.{Zombie}
 use Rattle.proc_table.specs.declared.table.Waited.{Waited}
-use Rattle.proc_table.specs.declared.table.Waited.TheVariants.{Reaped, NoChildren, MustSleep}
-use Rattle.proc_table.specs.Slots.{Slot, Table, Process, at, is_number, is_child_of, is_zombie, is_zombie_child_of, parent_of, put_of}
-use Rattle.proc_table.specs.Calls.{with_status, made_ready, readied, put_to_sleep, slept, with_fds, fds_set, woken, all_woken, parent_after, given, buried, exited, zombie_child, some_child, wait_answer, wait_by as waited, freed, newborn, forked}
+use Rattle.proc_table.specs.declared.table.Waited.TheVariants.{Reaped}
+use Rattle.proc_table.specs.Slots.{Slot, Table, at, is_number, is_child_of, is_zombie, is_zombie_child_of, parent_of, put_of}
+use Rattle.proc_table.specs.Calls.{with_status, made_ready, put_to_sleep, with_fds, fds_set, woken, all_woken, given, buried, exited, zombie_child, some_child, wait_answer, wait_by as waited, freed, newborn, forked}
 use Rattle.proc_table.proofs.Changes.{written, kept, mapped}
 use Rattle.kernel_model.specs.KernelState.{KernelState, fds_of, fds_at}
-use Rattle.kernel_model.specs.Replies.{answered, sleeps}
+use Rattle.kernel_model.specs.Replies.{answered}
 use Rattle.kernel_model.specs.Processes.{fork_into, wait, wait_by}
 use Rattle.kernel_model.specs.Events.{acted}
 use Rattle.law_private_turns.proofs.Unseen.{position_same}
@@ -113,9 +113,9 @@ module _ {S : Type 0} (p q c : ℕ) (m : S) (fds : Descriptors) (apart : q ≢ p
   exited_by : (o e : Option ℕ) (t u : Table S) (E F : Entries) → e ≡ o → Filled t E u F → Filled (if is_some o then all_woken (Children 0) t else t) E (if is_some e then all_woken (Children 0) u else u) F
   exited_by o e t u E F same r =
       subst (λ (x : Option ℕ). Filled (if is_some o then all_woken (Children 0) t else t) E (if is_some x then all_woken (Children 0) u else u) F) (sym same) (by o) where
-    by : (o : Option ℕ) → Filled (if is_some o then all_woken (Children 0) t else t) E (if is_some o then all_woken (Children 0) u else u) F
-    by None = r
-    by (Some i) = woken_filled (Children 0) t u E F r
+        by : (o : Option ℕ) → Filled (if is_some o then all_woken (Children 0) t else t) E (if is_some o then all_woken (Children 0) u else u) F
+        by None = r
+        by (Some i) = woken_filled (Children 0) t u E F r
 
   exited_filled : (t u : Table S) (E F : Entries) → Filled t E u F → Filled (exited t q) E (exited u q) F
   exited_filled t u E F r =

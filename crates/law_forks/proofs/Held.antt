@@ -1,15 +1,16 @@
 -- Entries of which some descriptors are held once more, as after a fork: what another process does to an entry comes to the same.
-use Rattle.std.proofs.Common.{◌≡◌, ◌≢◌, ◌⊎◌, ℕ, zero, suc, ◌+◌, ◌-◌, ◌<◌, ◌≤◌, List, [], ◌∷◌, Bool, true, false, Option, Some, None, length, inl, inr, refl, sym, ap, subst, ◌∙◌, arith, get_or-set_other, get_or-set_same}
+use Rattle.std.proofs.Common.{◌≡◌, ◌≢◌, ◌⊎◌, ℕ, zero, suc, ◌+◌, ◌-◌, ◌<◌, ◌≤◌, [], ◌∷◌, Bool, true, false, Option, Some, None, length, inl, inr, refl, sym, ap, subst, ◌∙◌, arith, get_or-set_other, get_or-set_same}
 use Rattle.std.proofs.Math.ListN.{set}
 use Rattle.std.proofs.lemmas.Bool.{cases_eq, eq-eqb, ne_eqb, lt-leb}
 use Rattle.std.proofs.lemmas.List.{set-get_or}
 use Rattle.std.proofs.lemmas.List.Sums.{sum_by-set}
-use Rattle.std.specs.Prelude.{map, cond, count_by, position, nat_le, if◌then◌else◌, ◌==◌, Ok}
+use Rattle.std.specs.Prelude.{map, cond, count_by, position, nat_le, if◌then◌else◌, Ok}
 use Rattle.fd_table.specs.declared.names.Object.{Object}
 use Rattle.fd_table.specs.Entries.{OpenFile, Entries, entry_at, count_of, is_free, lowest_free_entry, free_count, added, added_at, opened, more_held, less_held, last_object, moved_on, advanced, going_on_at, moved_to}
 use Rattle.fd_table.specs.Descriptors.{Descriptors, entry_of, is_entry, holders_in, lowest_free, installed, installed_at, close_answer, after_close, released_by_close, after_dup, held_by_dup, all_held_from, all_held}
 use Rattle.fd_table.proofs.Holding.{entry_at-all_held, length-all_held}
 use Rattle.fd_table.proofs.Lists.{position_found, same_items, within_list}
+use Rattle.order_model.specs.Idle.{renamed_entry}
 use Rattle.law_orders.proofs.Tables.{position_map, count_map}
 use Rattle.law_slot_numbers.proofs.Calls.{seen}
 
@@ -73,6 +74,21 @@ held_set t i y fds = held_from_set 0 t i y fds ∙ ap (λ (k : ℕ). set (all_he
 free_from : (m : ℕ) (t : Entries) (fds : Descriptors) → map is_free (all_held_from m t fds) ≡ map is_free t
 free_from m [] fds = refl
 free_from m (x ∷ t) fds = λ i. free_more (holders_in fds m) x i ∷ free_from (m + 1) t fds i
+
+-- ---- names of pipes
+
+renamed_more : (f : ℕ → ℕ) (n : ℕ) (x : Option OpenFile) → renamed_entry f (more_held n x) ≡ more_held n (renamed_entry f x)
+renamed_more f n None = refl
+renamed_more f n (Some g) = refl
+
+renamed_from : (f : ℕ → ℕ) (m : ℕ) (t : Entries) (fds : Descriptors) → map (renamed_entry f) (all_held_from m t fds) ≡ all_held_from m (map (renamed_entry f) t) fds
+renamed_from f m [] fds = refl
+renamed_from f m (x ∷ t) fds = λ i. renamed_more f (holders_in fds m) x i ∷ renamed_from f (m + 1) t fds i
+
+pub all_renamed : (f : ℕ → ℕ) (t : Entries) (fds : Descriptors) → map (renamed_entry f) (all_held t fds) ≡ all_held (map (renamed_entry f) t) fds
+all_renamed f t fds = renamed_from f 0 t fds
+
+-- ---- held once more
 
 module _ (fds : Descriptors) where
   abbrev H : Entries → Entries
@@ -215,9 +231,9 @@ module _ (fds : Descriptors) where
     more_one place e is i =
         let f = position_found is_free d None place is in
         omega (arith, sum_by-set (λ (x : Option ℕ). cond {A = ℕ} (is_entry i x) 1 0) d place (Some e) None f.0, ap (λ (x : Option ℕ). cond {A = ℕ} (is_entry i x) 1 0) (none_is (entry_of d place) f.1)) where
-      none_is : (x : Option ℕ) → is_free x ≡ true → x ≡ None
-      none_is None free = refl
-      none_is (Some e) free = absurd (let z : ⊥ = cc in z)
+          none_is : (x : Option ℕ) → is_free x ≡ true → x ≡ None
+          none_is None free = refl
+          none_is (Some e) free = absurd (let z : ⊥ = cc in z)
 
     more_other : (place e i : ℕ) → lowest_free d ≡ Some place → i ≢ e → holders_in (set d place (Some e)) i ≤ holders_in d i
     more_other place e i is ne = omega (arith, more_one place e is i, ap (λ (b : Bool). cond {A = ℕ} b 1 0) (ne_eqb i e ne))
@@ -237,9 +253,9 @@ module _ (fds : Descriptors) where
       by None none =
           let same : set t e (more_held 1 (entry_at t e)) ≡ t = ap (set t e) (ap (more_held 1) none ∙ sym none) ∙ set-get_or t e None in
           subst (λ (u : Entries). AreCounted u (set d place (Some e))) (sym same) (record { enough = λ i some. one i (cases_eq i e) some }) where
-        one : (i : ℕ) → (i ≡ e) ⊎ (i ≢ e) → 0 < holders_in fds i → holders_in (set d place (Some e)) i + 1 ≤ count_of (entry_at t i)
-        one i (inl same) some = absurd (omega (arith, subst (λ (j : ℕ). 0 < holders_in fds j) same some, free_nobody t d e c none))
-        one i (inr ne) some = omega (arith, c.enough i some, more_other place e i free ne)
+            one : (i : ℕ) → (i ≡ e) ⊎ (i ≢ e) → 0 < holders_in fds i → holders_in (set d place (Some e)) i + 1 ≤ count_of (entry_at t i)
+            one i (inl same) some = absurd (omega (arith, subst (λ (j : ℕ). 0 < holders_in fds j) same some, free_nobody t d e c none))
+            one i (inr ne) some = omega (arith, c.enough i some, more_other place e i free ne)
       by (Some f) used = written t d c (more_held 1) (set d place (Some e)) e (λ some. omega (arith, c.enough e some, more_same place e free, more_count (entry_at t e) f used)) (λ i ne. more_other place e i free ne) (within_list t e f used)
 
     installed_less : (e i : ℕ) (o : Option ℕ) → lowest_free d ≡ o → i ≢ e → holders_in (installed_at d o e) i ≤ holders_in d i
@@ -250,10 +266,10 @@ module _ (fds : Descriptors) where
     counted_open object e is =
         let same : added t object ≡ set t e (Some (opened object)) = ap (λ (o : Option ℕ). added_at t o object) is in
         subst (λ (u : Entries). AreCounted u (installed d e)) (sym same) (record { enough = λ i some. by i (cases_eq i e) some }) where
-      by : (i : ℕ) → (i ≡ e) ⊎ (i ≢ e) → 0 < holders_in fds i → holders_in (installed d e) i + 1 ≤ count_of (entry_at (set t e (Some (opened object))) i)
-      by i (inl same) some = absurd (omega (arith, subst (λ (j : ℕ). 0 < holders_in fds j) same some, free_nobody t d e c (lowest_none t e is)))
-      by i (inr ne) some =
-          subst (λ (x : Option OpenFile). holders_in (installed d e) i + 1 ≤ count_of x) (sym (get_or-set_other t e i (Some (opened object)) None ne)) (omega (arith, c.enough i some, installed_less e i (lowest_free d) refl ne))
+          by : (i : ℕ) → (i ≡ e) ⊎ (i ≢ e) → 0 < holders_in fds i → holders_in (installed d e) i + 1 ≤ count_of (entry_at (set t e (Some (opened object))) i)
+          by i (inl same) some = absurd (omega (arith, subst (λ (j : ℕ). 0 < holders_in fds j) same some, free_nobody t d e c (lowest_none t e is)))
+          by i (inr ne) some =
+              subst (λ (x : Option OpenFile). holders_in (installed d e) i + 1 ≤ count_of x) (sym (get_or-set_other t e i (Some (opened object)) None ne)) (omega (arith, c.enough i some, installed_less e i (lowest_free d) refl ne))
 
     more_or_same : (n : ℕ) (x : Option OpenFile) → count_of x ≤ count_of (more_held n x)
     more_or_same n None = omega arith

@@ -1,37 +1,21 @@
--- A wait that frees a zombie's slot, and another process's turn, in either order.
-use Rattle.std.specs.Prelude.{◌≡◌, ◌≢◌, ℕ, true, Some, None}
+-- A fork that finds a free slot, and another process's turn, in either order.
+use Rattle.std.specs.Prelude.{◌≡◌, ◌≢◌, ℕ, Some, None}
 use Rattle.user_calls.specs.declared.calls.Call.{Call}
-use Rattle.user_calls.specs.declared.calls.Call.TheVariants.{Fork, Wait}
+use Rattle.user_calls.specs.declared.calls.Call.TheVariants.{Fork}
 use Rattle.user_calls.specs.declared.calls.Reply.{Reply}
 use Rattle.proc_table.specs.declared.states.Status.TheVariants.{Runnable}
-use Rattle.proc_table.specs.Slots.{Process, at, is_zombie_child_of}
+use Rattle.proc_table.specs.Slots.{Process, at}
 use Rattle.proc_table.specs.Calls.{lowest_free}
 use Rattle.kernel_model.specs.KernelState.{KernelState}
-use Rattle.order_model.specs.Alike.{Alike}
-use Rattle.order_model.specs.Turns.{after_turn}
-use Rattle.law_slot_numbers.specs.Slots.{SameButSlots}
 
-module _ {S : Type 0} (call : S → Reply → Call) (next : S → Reply → S) where
-  -- the process p is Runnable, next waits for a child, and has one that is a zombie
-  pub record ReapsNext (k : KernelState S) (p : ℕ) : Type 0 where
+module _ {S : Type 0} (call : S → Reply → Call) where
+  -- the process p is Runnable and next forks
+  pub record ForksNext (k : KernelState S) (p : ℕ) : Type 0 where
     pub process : Process S
     pub there : at k.table p ≡ Some process
     pub ready : process.status ≡ Runnable
-    pub calls : call process.machine process.reply ≡ Wait
-    pub zombie : ℕ
-    pub dead : is_zombie_child_of p (at k.table zombie) ≡ true
+    pub calls : call process.machine process.reply ≡ Fork
 
-  -- if q forks next, a slot is free
-  abbrev pub FindsSlotNext : KernelState S → ℕ → Type 0
-  FindsSlotNext k q = (y : Process S) → at k.table q ≡ Some y → call y.machine y.reply ≡ Fork → lowest_free k.table ≢ None
-
-  -- p's turn leads to a, and q's turn to l: each can take its turn then, and what both orders come to differs only in the numbers of
-  -- slots, in what is left of zombies, in what pipes are called and in how many events there were
-  pub record InEitherOrderButSlots (a l : KernelState S) (p q : ℕ) : Type 0 where
-    pub after : KernelState S
-    pub second : after_turn call next a q ≡ Some after
-    pub both : KernelState S
-    pub taken : after_turn call next l p ≡ Some both
-    pub between : KernelState S
-    pub alike : Alike after between
-    pub same : SameButSlots between both
+-- some slot is free
+abbrev pub HasSlot : {S : Type 0} → KernelState S → Type 0
+HasSlot k = lowest_free k.table ≢ None

@@ -27,7 +27,7 @@ use Rattle.law_slot_numbers.proofs.Slots.{dead, zombie_is, one_to_one, stays_fre
 use Rattle.law_slot_numbers.proofs.Swaps.{exchanged}
 use Rattle.law_slot_numbers.proofs.Tables.{Moves, fds_moved, put_moved, ready_moved, sleep_moved, set_fds_moved, woken_moved, exited_moved, zombie_child_so, some_child_so}
 use Rattle.law_slot_numbers.proofs.Calls.{Keeps, KeepsTables, SameEntries, with_entries, Same, here, sleeping, answering, refusing, close_so, exit_so, dup_call_so, open_so, pipe_so, read_so, write_so}
-use Rattle.law_slot_numbers.proofs.Freeing.{Names, IsGone, number_so, changed}
+use Rattle.law_slot_numbers.proofs.Freeing.{Names, IsGone, lives_so, number_so, changed}
 
 -- ---- free slots and zombies
 
@@ -94,22 +94,31 @@ module _ {S : Type 0} (n : Numbering) (pid me : ℕ) (after : S) (k : KernelStat
 
   -- ---- fork
 
-  -- whatever free slots are taken
-  pub forks_into : (a new : ℕ) → a < PROCS → new < PROCS → at k.table a ≡ None → at u new ≡ None → After pid me (fork_into k pid after (Some a)) (fork_into l me after (Some new))
-  forks_into a new within new_within none none_u =
-      let there : IsMoved n.to (at k.table (n.back new)) (at u new) = subst (λ (i : ℕ). IsMoved n.to (at k.table (n.back new)) (at u i)) (n.here new) (m.moved.slots (n.back new)) in
-      let none_d : at k.table (n.back new) ≡ None = was_free n (at k.table (n.back new)) (at u new) there none_u in
-      let none_e : at u (n.to a) ≡ None = stays_free n (at k.table a) (at u (n.to a)) (m.moved.slots a) none in
-      let to = (exchanged n a new).to in
-      let number : to.to pid ≡ me = number_so n pid me k.table u m mid.names mid.alive a new within new_within mid.long long (inl none) (inl none_d) in
-      let d : Descriptors = fds_at k pid in
-      let born : IsMoved to.to (Some (newborn pid after d)) (Some (newborn me after d)) = same (λ i. Some (newborn (sym number i) after d)) in
-      let both : Moves to pid me (forked k.table a pid after d) (forked u new me after d) =
-      changed n pid me k.table u m mid.names mid.alive a new within new_within mid.long long (inl none) (inl none_d) (Some (newborn pid after d)) (Some (newborn me after d)) mid.init born
-      (λ ne. same (none_e ∙ sym (ap (moved_slot to.to) none_d))) in
-      let now : KernelState S = record k { table = forked k.table a pid after d; entries = all_held k.entries d } in
-      subst (λ (e : Descriptors). After pid me (fork_into k pid after (Some a)) (answered (record l { table = forked u new me after e; entries = all_held k.entries e }) me after Done)) (sym (fds_moved n pid me k.table u m))
-      (answers_so to pid me after now (forked u new me after d) Done both)
+  -- whatever free slots are taken: their numbers are exchanged, and those of the living stay
+  module _ (a new : ℕ) (within : a < PROCS) (new_within : new < PROCS) (none : at k.table a ≡ None) (none_u : at u new ≡ None) where
+    abbrev pub swapped : Numbering
+    swapped = (exchanged n a new).to
+
+    none_d : at k.table (n.back new) ≡ None
+    none_d = was_free n (at k.table (n.back new)) (at u new) (subst (λ (i : ℕ). IsMoved n.to (at k.table (n.back new)) (at u i)) (n.here new) (m.moved.slots (n.back new))) none_u
+
+    pub living : (r : ℕ) → Lives (at k.table r) → n.to r ≡ swapped.to r
+    living r l = lives_so n pid me k.table u m mid.names mid.alive a new within new_within mid.long long (inl none) (inl none_d) r l
+
+    pub forks_moves : Moves swapped pid me (forked k.table a pid after (fds_at k pid)) (forked u new me after (fds_at k pid))
+    forks_moves =
+        let none_e : at u (n.to a) ≡ None = stays_free n (at k.table a) (at u (n.to a)) (m.moved.slots a) none in
+        let number : swapped.to pid ≡ me = number_so n pid me k.table u m mid.names mid.alive a new within new_within mid.long long (inl none) (inl none_d) in
+        let d : Descriptors = fds_at k pid in
+        let born : IsMoved swapped.to (Some (newborn pid after d)) (Some (newborn me after d)) = same (λ i. Some (newborn (sym number i) after d)) in
+        changed n pid me k.table u m mid.names mid.alive a new within new_within mid.long long (inl none) (inl none_d) (Some (newborn pid after d)) (Some (newborn me after d)) mid.init born
+        (λ ne. same (none_e ∙ sym (ap (moved_slot swapped.to) none_d)))
+
+    pub forks_into : After pid me (fork_into k pid after (Some a)) (fork_into l me after (Some new))
+    forks_into =
+        let now : KernelState S = record k { table = forked k.table a pid after (fds_at k pid); entries = all_held k.entries (fds_at k pid) } in
+        subst (λ (e : Descriptors). After pid me (fork_into k pid after (Some a)) (answered (record l { table = forked u new me after e; entries = all_held k.entries e }) me after Done)) (sym (fds_moved n pid me k.table u m))
+        (answers_so swapped pid me after now (forked u new me after (fds_at k pid)) Done forks_moves)
 
   fork_by : (o q : Option ℕ) → lowest_free k.table ≡ o → lowest_free u ≡ q → After pid me (fork k pid after) (fork l me after)
   fork_by None None is is_u =

@@ -34,7 +34,7 @@ use Rattle.kernel_model.specs.KernelState.{KernelState, fds_of, fds_at}
 use Rattle.kernel_model.specs.Modes.{empties, entry_mode, reads}
 use Rattle.kernel_model.specs.Pipes.{pipe_of, put_into, taken_from, reader_gone, writer_gone, with_new}
 use Rattle.kernel_model.specs.Replies.{answered, refused_for, marked, sleeps, wakes}
-use Rattle.kernel_model.specs.Descriptors.{let_go, let_go_of, taken_away, closed_by, closed, closed_below, close, close_reply, dup, dup_by, copied, opened_at, with_open, with_reader, with_ends, ends_reply, make_pipe}
+use Rattle.kernel_model.specs.Descriptors.{let_go, let_go_of, taken_away, closed, closed_below, close, close_reply, dup, dup_by, copied, opened_at, with_open, with_reader, with_ends, ends_reply, make_pipe}
 use Rattle.kernel_model.specs.Opening.{emptied_if, with_bytes, open_here, open_reply, open_for_reading, open_for_writing, open_file}
 use Rattle.kernel_model.specs.Processes.{ended, exit}
 use Rattle.kernel_model.specs.Reading.{read, read_file, read_mode, read_by, read_pipe, read_object, read_entry, read_held}
@@ -63,10 +63,10 @@ pub record Keeps {S : Type 0} (pid me : ℕ) (to : Channel → Channel) (R : Tab
   pub answer : (t u : Table S) (E F : Entries) (fd : ℕ) → R t E u F → close_answer F (entry_of (fds_of (at t pid)) fd) ≡ close_answer E (entry_of (fds_of (at t pid)) fd)
   pub close : (t u : Table S) (E F : Entries) (fd : ℕ) → R t E u F
       → R (fds_set t pid (after_close (fds_of (at t pid)) fd (entry_of (fds_of (at t pid)) fd))) (released_by_close E (entry_of (fds_of (at t pid)) fd))
-          (fds_set u me (after_close (fds_of (at t pid)) fd (entry_of (fds_of (at t pid)) fd))) (released_by_close F (entry_of (fds_of (at t pid)) fd))
+      (fds_set u me (after_close (fds_of (at t pid)) fd (entry_of (fds_of (at t pid)) fd))) (released_by_close F (entry_of (fds_of (at t pid)) fd))
   pub copy : (t u : Table S) (E F : Entries) (fd : ℕ) → R t E u F
       → R (fds_set t pid (after_dup (fds_of (at t pid)) (entry_of (fds_of (at t pid)) fd) (lowest_free (fds_of (at t pid))))) (held_by_dup E (entry_of (fds_of (at t pid)) fd) (lowest_free (fds_of (at t pid))))
-          (fds_set u me (after_dup (fds_of (at t pid)) (entry_of (fds_of (at t pid)) fd) (lowest_free (fds_of (at t pid))))) (held_by_dup F (entry_of (fds_of (at t pid)) fd) (lowest_free (fds_of (at t pid))))
+      (fds_set u me (after_dup (fds_of (at t pid)) (entry_of (fds_of (at t pid)) fd) (lowest_free (fds_of (at t pid))))) (held_by_dup F (entry_of (fds_of (at t pid)) fd) (lowest_free (fds_of (at t pid))))
   pub opening : (t u : Table S) (E F : Entries) (object : Object) (e : ℕ) → lowest_free_entry E ≡ Some e → R t E u F
       → R (fds_set t pid (installed (fds_of (at t pid)) e)) (added E object) (fds_set u me (installed (fds_of (at t pid)) e)) (added F object)
   pub advance : (t u : Table S) (E F : Entries) (e m : ℕ) → R t E u F → R t (advanced E e m) u (advanced F e m)

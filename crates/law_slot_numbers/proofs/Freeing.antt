@@ -83,7 +83,7 @@ module _ {S : Type 0} (n : Numbering) (pid me : ℕ) (t u : Table S) (b : Moves 
   here_so j (inr ne) (inr far) lt = subst (λ (i : ℕ). i < PROCS) (sym (ex.back_others j ne far)) (b.moved.here j lt)
 
   module _ (gone_a : IsGone (at t a)) (gone_d : IsGone (at t (n.back new))) where
-    lives_so : (q : ℕ) → Lives (at t q) → n.to q ≡ ex.to.to q
+    pub lives_so : (q : ℕ) → Lives (at t q) → n.to q ≡ ex.to.to q
     lives_so q l =
         sym (ex.others q (λ is. gone_lives (at t a) gone_a (subst (λ (i : ℕ). Lives (at t i)) is l)) (λ is. gone_lives (at t (n.back new)) gone_d (subst (λ (i : ℕ). Lives (at t i)) is l)))
 

@@ -85,36 +85,41 @@ other_slot t p z parent x zombie there ready is =
 events_so : {S : Type 0} (k l : KernelState S) → SameButSlots k l → SameButSlots (record k { events = k.events + 1 + 1 }) (record l { events = l.events + 1 + 1 })
 events_so k l a = record { numbering = a.numbering; moved = a.moved; rest = ap (λ (j : KernelState _). record j { events = j.events + 1 + 1 }) a.rest }
 
-module _ {S : Type 0} (call : S → Reply → Call) (next : S → Reply → S) (p : ℕ) (x : Process S) (waits : call x.machine x.reply ≡ Wait) where
-  abbrev left : Left S
+-- ---- what a call of p that is carried out leaves in its slot
+
+module _ {S : Type 0} (next : S → Reply → S) (p : ℕ) (x : Process S) where
+  abbrev pub left : Left S
   left = record { machine = next x.machine x.reply; reply = Done; fds = x.fds; put = 0 }
-
-  -- what p's turn changes where it frees the slot z
-  abbrev pub change : ℕ → KernelState S → KernelState S
-  change z k = record k { table = set (retold_table p left k.table) z None }
-
-  abbrev pub changes : ℕ → KernelState S → KernelState S
-  changes z k = record (change z k) { events = k.events + 1 + 1 }
 
   slot_left : (y : Slot S) → Holds x y → made_ready (next x.machine x.reply) Done (with_status (Running 0) y) ≡ retold_slot left y
   slot_left y h =
       ap (λ (v : Slot S). made_ready (next x.machine x.reply) Done (with_status (Running 0) v)) h.there ∙
       (λ i. Some (record h.now { status = sym h.ready i; machine = next x.machine x.reply; reply = Done; fds = h.fds i; put = 0 })) ∙ sym (ap (retold_slot left) h.there)
 
-  table_left : (t : Table S) → Holds x (at t p) → readied (dispatched t p 0) p (next x.machine x.reply) Done ≡ retold_table p left t
+  pub table_left : (t : Table S) → Holds x (at t p) → readied (dispatched t p 0) p (next x.machine x.reply) Done ≡ retold_table p left t
   table_left t h =
       ap (λ (y : Slot S). set (dispatched t p 0) p (made_ready (next x.machine x.reply) Done y)) (written (with_status (Running 0)) refl t p) ∙
       set_twice t p (with_status (Running 0) (at t p)) (made_ready (next x.machine x.reply) Done (with_status (Running 0) (at t p))) ∙ ap (λ (y : Slot S). set t p y) (slot_left (at t p) h)
 
-  table_freed : (t : Table S) (z : ℕ) → p ≢ z → Holds x (at t p) → readied (freed (dispatched t p 0) (Some z)) p (next x.machine x.reply) Done ≡ set (retold_table p left t) z None
-  table_freed t z ne h =
+  -- where another slot was written before
+  pub table_beside : (t : Table S) (z : ℕ) (v : Slot S) → p ≢ z → Holds x (at t p) → readied (set (dispatched t p 0) z v) p (next x.machine x.reply) Done ≡ set (retold_table p left t) z v
+  table_beside t z v ne h =
       let d : Table S = dispatched t p 0 in
-      ap (λ (y : Slot S). set (set d z None) p (made_ready (next x.machine x.reply) Done y)) (kept d z p None ne) ∙ set_comm d z p None (made_ready (next x.machine x.reply) Done (at d p)) (λ is. ne (sym is)) ∙
-      ap (λ (v : Table S). set v z None) (table_left t h)
+      ap (λ (y : Slot S). set (set d z v) p (made_ready (next x.machine x.reply) Done y)) (kept d z p v ne) ∙ set_comm d z p v (made_ready (next x.machine x.reply) Done (at d p)) (λ is. ne (sym is)) ∙ ap (λ (u : Table S). set u z v) (table_left t h)
+
+-- ---- a wait of p
+
+module _ {S : Type 0} (call : S → Reply → Call) (next : S → Reply → S) (p : ℕ) (x : Process S) (waits : call x.machine x.reply ≡ Wait) where
+  -- what p's turn changes where it frees the slot z
+  abbrev pub change : ℕ → KernelState S → KernelState S
+  change z k = record k { table = set (retold_table p (left next p x) k.table) z None }
+
+  abbrev pub changes : ℕ → KernelState S → KernelState S
+  changes z k = record (change z k) { events = k.events + 1 + 1 }
 
   -- p's turn, where it frees z
   reap_is : (k : KernelState S) (z : ℕ) → p ≢ z → Holds x (at k.table p) → answered (record (counted (given_0 k p)) { table = freed (dispatched k.table p 0) (Some z) }) p (next x.machine x.reply) Done ≡ changes z k
-  reap_is k z ne h = λ i. record (changes z k) { table = table_freed k.table z ne h i }
+  reap_is k z ne h = λ i. record (changes z k) { table = table_beside next p x k.table z None ne h i }
 
   zombie_dispatched : (k : KernelState S) → Holds x (at k.table p) → zombie_child (dispatched k.table p 0) p ≡ zombie_child k.table p
   zombie_dispatched k h =
@@ -135,8 +140,8 @@ module _ {S : Type 0} (call : S → Reply → Call) (next : S → Reply → S) (
   change_names z n k names f g one two agree =
       (λ i. record (idle_kernel f 0 k) { table = idle f i }) ∙ ap (change z) (names f g one two agree) ∙ sym (λ i. record (idle_kernel g 0 k) { table = idle g i })
     where
-      idle : (f : ℕ → ℕ) → map (idle_slot f) (set (retold_table p left k.table) z None) ≡ set (retold_table p left (map (idle_slot f) k.table)) z None
-      idle f = map-set (idle_slot f) (retold_table p left k.table) z None ∙ ap (λ (t : Table S). set t z None) (idle_told p left f k.table)
+      idle : (f : ℕ → ℕ) → map (idle_slot f) (set (retold_table p (left next p x) k.table) z None) ≡ set (retold_table p (left next p x) (map (idle_slot f) k.table)) z None
+      idle f = map-set (idle_slot f) (retold_table p (left next p x) k.table) z None ∙ ap (λ (t : Table S). set t z None) (idle_told p (left next p x) f k.table)
 
   module _ (k : KernelState S) (b : IsBegun call next k) (q : ℕ) (y : Process S) (ne : q ≢ p) (h : Holds x (at k.table p)) (z : ℕ) (found : zombie_child k.table p ≡ Some z)
       (there : at k.table q ≡ Some y) (ready : y.status ≡ Runnable) where
@@ -159,36 +164,36 @@ module _ {S : Type 0} (call : S → Reply → Call) (next : S → Reply → S) (
     q_not_z = other_slot k.table q z (Some p) y zombie there ready
 
     told : KernelState S
-    told = retold p left d
+    told = retold p (left next p x) d
 
     zombie_d : IsZombieOf (Some p) (at d.table z)
     zombie_d = subst (IsZombieOf (Some p)) (sym (kept k.table q z (with_status (Running 0) (at k.table q)) (λ is. q_not_z (sym is)))) zombie
 
-    told_at : (t : Table S) → at (retold_table p left t) z ≡ at t z
-    told_at t = kept t p z (retold_slot left (at t p)) (λ is. p_not_z (sym is))
+    told_at : (t : Table S) → at (retold_table p (left next p x) t) z ≡ at t z
+    told_at t = kept t p z (retold_slot (left next p x) (at t p)) (λ is. p_not_z (sym is))
 
-    start : Freed p q z ne q_not_z (retold_table p left d.table) (set (retold_table p left d.table) z None)
+    start : Freed p q z ne q_not_z (retold_table p (left next p x) d.table) (set (retold_table p (left next p x) d.table) z None)
     start = record { is = refl; zombie = subst (IsZombieOf (Some p)) (sym (told_at d.table)) zombie_d }
 
     d_holds : Holds x (at d.table p)
     d_holds = in_own x p q ne k.table _ h
 
     -- q's call, made where p's turn came first but z is still there
-    told_is : acted (retold p left d) q after_q (call y.machine y.reply) false ≡ retold p left l
-    told_is = acted_told p left q ne after_q d (call y.machine y.reply) false (ap is_free d_holds.there) (holds_alive x (at d.table p) d_holds)
+    told_is : acted (retold p (left next p x) d) q after_q (call y.machine y.reply) false ≡ retold p (left next p x) l
+    told_is = acted_told p (left next p x) q ne after_q d (call y.machine y.reply) false (ap is_free d_holds.there) (holds_alive x (at d.table p) d_holds)
 
     -- what comes of it is what the other order comes to, up to slots; and z is a zombie still
     pub record Comes : Type 0 where
       pub same : SameButSlots (acted (change z d) q after_q (call y.machine y.reply) false) (change z l)
       pub zombie : IsZombieOf (Some p) (at l.table z)
 
-    by_same : (m : KernelState S) → Same q q (λ c. c) (SameEntries (Freed p q z ne q_not_z)) (keeps p q z ne q_not_z) (retold p left l) m → (m ≡ change z l) × IsZombieOf (Some p) (at l.table z)
+    by_same : (m : KernelState S) → Same q q (λ c. c) (SameEntries (Freed p q z ne q_not_z)) (keeps p q z ne q_not_z) (retold p (left next p x) l) m → (m ≡ change z l) × IsZombieOf (Some p) (at l.table z)
     by_same m s =
         (sym s.rest ∙ (λ i. record l { table = s.related.0.is i; entries = s.related.1 i }), subst (IsZombieOf (Some p)) (told_at l.table) s.related.0.zombie)
 
     no_fork : call y.machine y.reply ≢ Fork → Comes
     no_fork other =
-        let s = acted_so p q z ne q_not_z after_q (retold p left d) (set (retold_table p left d.table) z None) start (call y.machine y.reply) false other in
+        let s = acted_so p q z ne q_not_z after_q (retold p (left next p x) d) (set (retold_table p (left next p x) d.table) z None) start (call y.machine y.reply) false other in
         let it = by_same (acted (change z d) q after_q (call y.machine y.reply) false)
         (subst (λ (j : KernelState S). Same q q (λ c. c) (SameEntries (Freed p q z ne q_not_z)) (keeps p q z ne q_not_z) j (acted (change z d) q after_q (call y.machine y.reply) false)) told_is s) in
         record { same = subst (λ (j : KernelState S). SameButSlots (acted (change z d) q after_q (call y.machine y.reply) false) j) it.0 (same_itself (acted (change z d) q after_q (call y.machine y.reply) false)); zombie = it.1 }
@@ -198,44 +203,44 @@ module _ {S : Type 0} (call : S → Reply → Call) (next : S → Reply → S) (
     a_begun = begun_on call next k (changes z k) (p ∷ []) b (own k z (begun_still call next k b) h p_not_z found)
 
     a_there : at (changes z k).table q ≡ Some y
-    a_there = kept (retold_table p left k.table) z q None q_not_z ∙ kept k.table p q (retold_slot left (at k.table p)) ne ∙ there
+    a_there = kept (retold_table p (left next p x) k.table) z q None q_not_z ∙ kept k.table p q (retold_slot (left next p x) (at k.table p)) ne ∙ there
 
-    given_table : dispatched (set (retold_table p left k.table) z None) q 0 ≡ set (retold_table p left (dispatched k.table q 0)) z None
+    given_table : dispatched (set (retold_table p (left next p x) k.table) z None) q 0 ≡ set (retold_table p (left next p x) (dispatched k.table q 0)) z None
     given_table =
-        ap (λ (v : Slot S). set (set (retold_table p left k.table) z None) q (with_status (Running 0) v)) (kept (retold_table p left k.table) z q None q_not_z) ∙
-        set_comm (retold_table p left k.table) z q None (with_status (Running 0) (at (retold_table p left k.table) q)) (λ is. q_not_z (sym is)) ∙ ap (λ (t : Table S). set t z None) (status_told p left q ne k.table (Running 0))
+        ap (λ (v : Slot S). set (set (retold_table p (left next p x) k.table) z None) q (with_status (Running 0) v)) (kept (retold_table p (left next p x) k.table) z q None q_not_z) ∙
+        set_comm (retold_table p (left next p x) k.table) z q None (with_status (Running 0) (at (retold_table p (left next p x) k.table) q)) (λ is. q_not_z (sym is)) ∙ ap (λ (t : Table S). set t z None) (status_told p (left next p x) q ne k.table (Running 0))
 
-    mid : Mid (set (retold_table p left d.table) z None) q
+    mid : Mid (set (retold_table p (left next p x) d.table) z None) q
     mid = subst (λ (t : Table S). Mid t q) given_table (begun_mid call next (changes z k) q y a_begun a_there (ap is_runnable_status ready))
 
     -- q forks into the slot c, which is free without p's turn too
     forks : (c : ℕ) → call y.machine y.reply ≡ Fork → lowest_free k.table ≡ Some c → Comes
     forks c is free =
-        let t : Table S = set (retold_table p left d.table) z None in
-        let lowest : lowest_free (retold_table p left d.table) ≡ Some c =
-        position_same is_free d.table p (retold_slot left (at d.table p)) None (told_free (at d.table p)) ∙ lowest_dispatched k.table q ∙ free in
-        let none : at (retold_table p left d.table) c ≡ None = was_free (retold_table p left d.table) c lowest in
+        let t : Table S = set (retold_table p (left next p x) d.table) z None in
+        let lowest : lowest_free (retold_table p (left next p x) d.table) ≡ Some c =
+        position_same is_free d.table p (retold_slot (left next p x) (at d.table p)) None (told_free (at d.table p)) ∙ lowest_dispatched k.table q ∙ free in
+        let none : at (retold_table p (left next p x) d.table) c ≡ None = was_free (retold_table p (left next p x) d.table) c lowest in
         let c_not_z : c ≢ z = λ same.
-        let no : true ≡ false = sym (dead (Some p) (at (retold_table p left d.table) z) start.zombie) ∙ ap is_zombie (ap (at (retold_table p left d.table)) (sym same) ∙ none) in
+        let no : true ≡ false = sym (dead (Some p) (at (retold_table p (left next p x) d.table) z) start.zombie) ∙ ap is_zombie (ap (at (retold_table p (left next p x) d.table)) (sym same) ∙ none) in
         absurd (let v : ⊥ = cc in v) in
-        let none_t : at t c ≡ None = kept (retold_table p left d.table) z c None c_not_z ∙ none in
-        let within : c < length t = subst (λ (i : ℕ). c < i) (sym (length-set (retold_table p left d.table) z None)) (child_within (retold_table p left d.table) c lowest) in
-        let s = fork_so p q z ne q_not_z after_q (retold p left d) t start c c_not_z in
-        let left_is : fork_into (retold p left d) q after_q (Some c) ≡ retold p left l =
-        ap (fork_into (retold p left d) q after_q) (sym lowest) ∙ ap (λ (e : Call). acted (retold p left d) q after_q e false) (sym is) ∙ told_is in
+        let none_t : at t c ≡ None = kept (retold_table p (left next p x) d.table) z c None c_not_z ∙ none in
+        let within : c < length t = subst (λ (i : ℕ). c < i) (sym (length-set (retold_table p (left next p x) d.table) z None)) (child_within (retold_table p (left next p x) d.table) c lowest) in
+        let s = fork_so p q z ne q_not_z after_q (retold p (left next p x) d) t start c c_not_z in
+        let left_is : fork_into (retold p (left next p x) d) q after_q (Some c) ≡ retold p (left next p x) l =
+        ap (fork_into (retold p (left next p x) d) q after_q) (sym lowest) ∙ ap (λ (e : Call). acted (retold p (left next p x) d) q after_q e false) (sym is) ∙ told_is in
         let it = by_same (fork_into (change z d) q after_q (Some c))
         (subst (λ (j : KernelState S). Same q q (λ e. e) (SameEntries (Freed p q z ne q_not_z)) (keeps p q z ne q_not_z) j (fork_into (change z d) q after_q (Some c))) left_is s) in
         by (lowest_free t) refl none_t within it
       where
-        told_free : (v : Slot S) → is_free (retold_slot left v) ≡ is_free v
+        told_free : (v : Slot S) → is_free (retold_slot (left next p x) v) ≡ is_free v
         told_free None = refl
         told_free (Some v) = refl
 
-        by : (o : Option ℕ) → lowest_free (set (retold_table p left d.table) z None) ≡ o → at (set (retold_table p left d.table) z None) c ≡ None → c < length (set (retold_table p left d.table) z None)
+        by : (o : Option ℕ) → lowest_free (set (retold_table p (left next p x) d.table) z None) ≡ o → at (set (retold_table p (left next p x) d.table) z None) c ≡ None → c < length (set (retold_table p (left next p x) d.table) z None)
             → (fork_into (change z d) q after_q (Some c) ≡ change z l) × IsZombieOf (Some p) (at l.table z) → Comes
-        by None full none within it = absurd (finds_free (set (retold_table p left d.table) z None) c within none full)
+        by None full none within it = absurd (finds_free (set (retold_table p (left next p x) d.table) z None) c within none full)
         by (Some e) has none within it =
-            let t : Table S = set (retold_table p left d.table) z None in
+            let t : Table S = set (retold_table p (left next p x) d.table) z None in
             let two = forks_into unchanged q q after_q (change z d) t (moves_itself t q) mid mid.long e c (subst (λ (i : ℕ). e < i) mid.long (child_within t e has)) (subst (λ (i : ℕ). c < i) mid.long within) (was_free t e has) none in
             let one : acted (change z d) q after_q (call y.machine y.reply) false ≡ fork_into (change z d) q after_q (Some e) = ap (λ (v : Call). acted (change z d) q after_q v false) is ∙ ap (fork_into (change z d) q after_q) has in
             record {
