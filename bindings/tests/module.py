@@ -285,6 +285,26 @@ def pairs():
     assert b"harts: 6; events" in xvsh.draw_two("echo a | cat", run.schedule.replace(b" 0 ", b" 5 "), run.schedule).html
 
 
+def in_every_way():
+    """A suite in memory is graded by the program as by the library, byte for byte; and what needs threads is graded by it alone."""
+    files = {"in": "hi\n", "x/b": "1 1 3 \n"}
+    suite = '[[test]]\nname = "t"\ninput_file = "in"\noutput_file = "x/b"\n'
+    for script in ("wc", "cat", "wc &", "(", b"\xff\0"):
+        assert xvsh.grade_harts(suite, script, files).json == xvsh.grade_script(suite, script, files).json
+    own = suite + 'script = "wc"\n'
+    assert xvsh.grade_harts(own, files=files).json == xvsh.grade_script(own, files=files).json
+    # where the newest process runs first there is no room for 32 that are made one by the other
+    every, crowd = '[[test]]\nname = "t"\noutput = "a\\n"\nevery_way = %s\n', "echo a" + "|cat" * 31
+    assert [it.verdict for ways in ("false", "true") for it in xvsh.grade_harts(every % ways, crowd)] == ["pass", "no room"]
+    assert [it.verdict for script in ("echo a", "echo b") for it in xvsh.grade_harts(every % "true", script)] == ["pass", "wrong"]
+    refused(xvsh.Fault.EveryWay, 1, lambda: xvsh.grade_script(every % "true", "echo a"))
+    try:
+        xvsh.grade_harts(suite, "wc")
+        raise AssertionError("a file is missing")
+    except xvsh.GradeError as error:
+        assert error.status == 2 and error.said.endswith(": line 3: cannot read in"), error
+
+
 def on_harts():
     """A run on threads is one on these harts, of a settled script its meaning, of files of any names; a long one is by several harts."""
     files = {**FILES, "a=b": "1", ".": "2", "-": "3", "-c": "4", "é": "5"}
@@ -396,6 +416,7 @@ def main():
     gradings()
     comings()
     on_harts()
+    in_every_way()
     pairs()
     pictures()
     traces()

@@ -7,7 +7,8 @@
 Over ctypes, with no dependency. The first call that needs the library loads libxvsh.so from the path in XVSH_LIBRARY, else from beside
 this file, where `pip install` puts it, else from lib/ of the checkout that this file stands in, where `bindings/build` puts it, which is
 called where lib/ has none and dist/ has it; else where the system looks. Where there is none it raises ImportError. `grade` runs the
-program, and needs no library; `grade_script` grades bytes in memory by the library; `run_harts` needs both. `outcomes` and `grade_scripts` are
+program, and needs no library; `grade_script` grades bytes in memory by the library, and
+`grade_harts` by the program; `run_harts` needs both. `outcomes` and `grade_scripts` are
 iterators, whose results come one by one.
 
 Each call raises the faults of what it is given: LineTooLong, ByteZero and ScriptTooLong of the script; where it takes them, TooLong,
@@ -46,7 +47,7 @@ __all__ = [
     "Fault", "File", "Files", "Finding", "GivenUp", "GradeError", "Graded", "InputTooLong", "Lack", "LineTooLong", "Memory", "MissingName", "Need", "NoEvent",
     "NoProgram", "NotRunnable", "NotRunning", "Note", "Order", "Outcome", "Outcomes", "Parting", "Pipe", "Plain", "Process", "ProgramError", "Reason", "Report", "RoomCheck", "Run",
     "ScriptTooLong", "Scripts", "Session", "Spent", "SuiteTooLong", "TakenName", "TimedOut", "TooLarge", "TooLong", "TooManyFiles", "TurnsCheck", "Unfinished", "UnusedScript",
-    "Verdict", "Whys", "XvshError", "check", "check_room", "check_turns", "draw", "draw_two", "explain", "explain_why", "explore", "grade", "grade_script", "grade_scripts", "outcomes", "plain", "replay", "run", "run_harts",
+    "Verdict", "Whys", "XvshError", "check", "check_room", "check_turns", "draw", "draw_two", "explain", "explain_why", "explore", "grade", "grade_harts", "grade_script", "grade_scripts", "outcomes", "plain", "replay", "run", "run_harts",
     "version",
 ]
 __version__ = "0.3.0"
@@ -884,7 +885,7 @@ def grade_script(
     0: none. `watch` and `timeout` are as of `explore`.
 
     BadSuite, with the line and what is `said` of it; SuiteTooLong; UnusedScript where no test is run on the script; EveryWay of a test with
-    `every_way`, which takes threads: `grade` runs it; TooManyFiles; GivenUp; and Memory, also where it is refused to the judging of a test. A
+    `every_way`, which takes threads: `grade_harts` runs it; TooManyFiles; GivenUp; and Memory, also where it is refused to the judging of a test. A
     script that is too long, or refused, is a verdict, and no error.
 
     >>> import xvsh
@@ -1069,5 +1070,5 @@ def _schedule(turns: Iterable[int]) -> bytes:
 
 
 # they stand on what is above
-from .by_program import run_harts
+from .by_program import grade_harts, run_harts
 from .coming import Outcomes, Scripts, grade_scripts, outcomes

@@ -1,8 +1,10 @@
-"""What the library has no call for: runs on threads. The program makes them, and the library replays their schedules."""
+"""What the library has no call for: runs on threads, and tests with `every_way`. The program makes such runs, and the library replays the
+schedule of one; the program judges such tests, on what is in memory."""
 from __future__ import annotations
 
 import contextlib
 import dataclasses
+import itertools
 import json
 import operator
 import os
@@ -10,9 +12,9 @@ import tempfile
 from collections.abc import Iterator
 
 from . import MAX_TURNS, BadTurns, Bytes, Fault, Files, Run, Unfinished, _error_of, _raw, replay
-from .grading import AnyPath, NoProgram, ProgramError, _program, _run
+from .grading import AnyPath, NoProgram, ProgramError, Report, _flags, _graded_by, _program, _run
 
-__all__ = ["run_harts"]
+__all__ = ["grade_harts", "run_harts"]
 
 MAX_HARTS = 8
 
@@ -42,9 +44,7 @@ class _Room:
     """A folder with a task in it: the program runs in files/, beside which the rest is."""
 
     def __init__(self, path: str, task: _Task) -> None:
-        self._path, self._task = path, task
-        found = _program(task.program)
-        self._program = os.path.abspath(found) if os.path.dirname(found) else found
+        self._path, self._task, self._program = path, task, _absolute(task.program)
         os.mkdir(os.path.join(path, "files"))
         self.write("script", task.script)
         self.write("input", task.input)
@@ -76,6 +76,12 @@ class _Room:
         if not told.get("finished"):
             ended = f"ended with status {status}" if status >= 0 else f"was ended by signal {-status}"
             raise ProgramError(f"xvsh run {ended}{said and f': {said}'}", status, said)
+
+
+def _absolute(program: AnyPath | None) -> str:
+    """The program, as it is called from another folder."""
+    found = _program(program)
+    return os.path.abspath(found) if os.path.dirname(found) else found
 
 
 @contextlib.contextmanager
@@ -118,3 +124,45 @@ def run_harts(
         room.run(f"--harts={count}", *([] if turns is None else [f"--turns={operator.index(turns)}"]), "--schedule-to=../schedule")
         schedule = room.read("schedule")
     return task.replayed(schedule)
+
+
+def _place(folder: str, name: str, data: bytes) -> None:
+    """Puts a file below the folder, where a suite names it by this path."""
+    path = os.path.join(folder, name)
+    os.makedirs(os.path.dirname(path), exist_ok=True)
+    with open(path, "xb") as file:
+        file.write(data)
+
+
+def grade_harts(
+    suite: Bytes, script: Bytes | None = None, files: Files | None = None, *, states: int | None = None, program: AnyPath | None = None, timeout: float | None = None,
+) -> Report:
+    r"""Grades a script by the tests of a suite, both in memory, as `grade_script` does, and runs a script that passes a test with `every_way` in
+    every way: on threads, too.
+
+    The library starts no thread, so the program judges (`xvsh grade --json --jobs=1`): it is found as by `grade`, and has the suite and the
+    files in a folder that is there for so long. Each name of `files` is a path below that folder; a ValueError of one that begins with `/`, has
+    a part `..`, or is that of another file or of a folder. A path of the suite that leads out of the folder is read of the machine.
+
+    NoProgram; TimedOut, after `timeout` seconds; and GradeError where nothing is graded, with what the program `said`.
+
+    >>> import xvsh
+    >>> suite = '[[test]]\nname = "counts"\ninput_file = "in"\noutput = "1 1 3 \\n"\nevery_way = true\n'
+    >>> report = xvsh.grade_harts(suite, "wc", {"in": "hi\n"})
+    >>> report.status, [(verdict.script, verdict.verdict) for verdict in report]
+    ('all passed', [('-', 'pass')])
+    """
+    placed = {name: _raw(data) for name, data in (files or {}).items()}
+    for name in placed:
+        if os.path.isabs(name) or os.pardir in name.split(os.sep) or not name:
+            raise ValueError(f"no file of a suite in memory is at {name!r}")
+    taken = set(map(os.path.normpath, placed))
+    called = next(name for number in itertools.count() if (name := f"suite{number}.toml") not in taken)
+    with tempfile.TemporaryDirectory(prefix="xvsh-") as folder:
+        try:
+            for name, data in {**placed, called: _raw(suite)}.items():
+                _place(folder, name, data)
+        except (FileExistsError, NotADirectoryError, IsADirectoryError) as error:
+            raise ValueError(f"two files of the suite, or a file and a folder, have one path: {os.path.relpath(error.filename, folder)!r}") from None
+        words = [_absolute(program), *_flags(1, states), "--", called, *([] if script is None else ["-"])]
+        return _graded_by(words, timeout, folder, b"" if script is None else _raw(script))

@@ -208,17 +208,17 @@ def _end(child: subprocess.Popen[bytes]) -> None:
     child.wait()
 
 
-def _run(words: list[str], timeout: float | None, folder: str | None = None) -> tuple[int, bytes, str]:
-    """The status, the output and the diagnostics of the program, which runs in the folder; where that is interrupted, or the seconds are over,
-    it is ended."""
+def _run(words: list[str], timeout: float | None, folder: str | None = None, input: bytes = b"") -> tuple[int, bytes, str]:
+    """The status, the output and the diagnostics of the program, which runs in the folder, on this standard input; where that is interrupted, or
+    the seconds are over, it is ended."""
     pipe = subprocess.PIPE
     try:
-        child = subprocess.Popen(words, stdin=subprocess.DEVNULL, stdout=pipe, stderr=pipe, start_new_session=True, cwd=folder)
+        child = subprocess.Popen(words, stdin=pipe if input else subprocess.DEVNULL, stdout=pipe, stderr=pipe, start_new_session=True, cwd=folder)
     except OSError as error:
         raise NoProgram(f"the program {words[0]} can't be run: {error.strerror}") from error
     with child:
         try:
-            out, said = child.communicate(timeout=timeout)
+            out, said = child.communicate(input or None, timeout=timeout)
         except subprocess.TimeoutExpired:
             _end(child)
             raise TimedOut(f"xvsh {words[1]} took more than {timeout:g} seconds, and was ended") from None
@@ -249,11 +249,19 @@ def grade(
     path can't be read, 2 where the suite is wrong or a number is out of its range, 4 where memory is refused. A test that isn't passed
     is no error.
     """
-    words = [_program(program), "grade", "--json"]
-    for name, number in (("jobs", jobs), ("states", states)):
-        words += [] if number is None else [f"--{name}={operator.index(number):d}"]
     paths = [scripts] if isinstance(scripts, (str, bytes, os.PathLike)) else list(scripts)
-    status, out, said = _run([*words, "--", *map(_words, (suite, *paths))], timeout)
+    return _graded_by([_program(program), *_flags(jobs, states), "--", *map(_words, (suite, *paths))], timeout)
+
+
+def _flags(jobs: int | None, states: int | None) -> list[str]:
+    """The words of a grading before its paths."""
+    numbers = [f"--{name}={operator.index(number):d}" for name, number in (("jobs", jobs), ("states", states)) if number is not None]
+    return ["grade", "--json", *numbers]
+
+
+def _graded_by(words: list[str], timeout: float | None, folder: str | None = None, input: bytes = b"") -> Report:
+    """The report of the program that is called by these words, in the folder and on this standard input."""
+    status, out, said = _run(words, timeout, folder, input)
     if status == 125:
         raise NoProgram(f"the program {words[0]} can't be run: {said}", status, said)
     if status not in (0, 3, 4) or not out:
