@@ -1,0 +1,15 @@
+pub mod Buried
+pub mod Waited
+pub mod Exiting
+pub mod Turned
+pub mod Families
+pub mod Bare
+pub mod Touched
+pub mod Chains
+pub mod Fitting
+pub mod Stepping
+pub mod Leaving
+pub mod Descending
+pub mod Exited
+pub mod Whole
+pub mod Joining
