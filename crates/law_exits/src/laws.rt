@@ -13,9 +13,9 @@ ghost use Rattle.law_exits.specs.Exits.{ExitsBareNext, ExitsInRoom, ExitsNext, I
 use user_calls::Machine;
 
 /// An exit of a process that holds no descriptor can be made before or after any other process's turn. Both orders come to the same
-/// but for who sleeps, numbers of entries, names of pipes and the count of events; or the exit alone comes to what both turns come to,
-/// since the other process only falls asleep before it; or the other one waits and frees a zombie in both orders, maybe not the same
-/// one, and then slots and what is left of zombies may differ too. The process goes on to have such a turn until it takes it.
+/// but for who sleeps, numbers of entries, names of pipes and the count of events; or the exit alone comes to what both turns come to;
+/// or the other process waits and frees a zombie in both orders, maybe not the same one, and then slots and what is left of zombies may
+/// differ too. The process goes on to have such a turn until it takes it.
 pub fn an_exit_without_descriptors_can_be_made_in_either_order<M: Machine>()
     ensures either { (k a l : KernelState M.State) (p q : ℕ) → IsBegun M.call_of M.next_of k → ExitsBareNext M.call_of M.next_of k p → p ≢ 0 → q ≢ p
         → after_turn M.call_of M.next_of k p ≡ Some a → after_turn M.call_of M.next_of k q ≡ Some l
@@ -25,8 +25,7 @@ pub fn an_exit_without_descriptors_can_be_made_in_either_order<M: Machine>()
 {}
 
 /// So it is with an exit of a process that can close at once whatever descriptors it holds, if the other turn finds free entries for
-/// what it opens. The exit alone comes to what both turns come to also where the other process reads from a pipe that is empty, and
-/// the exit closes its last write end.
+/// what it opens.
 pub fn an_exit_can_be_made_in_either_order<M: Machine>()
     ensures either { (k a l : KernelState M.State) (p q : ℕ) → IsBegun M.call_of M.next_of k → ExitsNext M.call_of M.next_of k p → p ≢ 0 → q ≢ p → FindsFreeNext M.call_of M.next_of k q
         → after_turn M.call_of M.next_of k p ≡ Some a → after_turn M.call_of M.next_of k q ≡ Some l
@@ -36,7 +35,7 @@ pub fn an_exit_can_be_made_in_either_order<M: Machine>()
 {}
 
 /// So such an exit gives way to nobody's turn but to a wait that frees a zombie, in a kernel of a run where whatever is opened from
-/// then on finds free entries: it can be taken before any other turn or after it, and stays such a turn until it is taken.
+/// then on finds free entries: it can be taken before any other turn but such a wait or after it, and stays such an exit over that turn.
 pub fn an_exit_gives_way_to_nobody_who_frees_no_zombie<M: Machine>()
     ensures { (k a l : KernelState M.State) (p q : ℕ) → ExitsInRoom M.call_of M.next_of k p → q ≢ p → (ReapsNext M.call_of M.next_of k q → ⊥)
         → after_turn M.call_of M.next_of k p ≡ Some a → after_turn M.call_of M.next_of k q ≡ Some l
