@@ -36,7 +36,7 @@ use Rattle.law_private_turns.proofs.Staying.{Holds, holds_alive, in_own}
 use Rattle.law_private_turns.proofs.Turned.{turn_is, turn_keeps}
 use Rattle.law_private_turns.proofs.Woken.{at_woke, exited_told}
 use Rattle.law_entry_numbers.proofs.Numberings.{unchanged}
-use Rattle.law_slot_numbers.specs.Slots.{SameButSlots}
+use Rattle.order_model.specs.Slots.{SameButSlots}
 use Rattle.law_slot_numbers.proofs.Acted.{Mid, but_slots, reaps}
 use Rattle.law_slot_numbers.proofs.Calls.{SameEntries, here, answering}
 use Rattle.law_slot_numbers.proofs.Same.{moves_itself}

@@ -16,6 +16,7 @@ use Rattle.order_model.specs.Alike.{IsStill}
 use Rattle.order_model.specs.Begun.{IsBegun}
 use Rattle.order_model.specs.Closes.{FindsFreeNext, IsClosedAtOnce, NobodyElseWrites}
 use Rattle.order_model.specs.Turns.{after_turn}
+use Rattle.order_model.specs.Giving.{ExitsNext}
 use Rattle.law_outcomes.proofs.Outcomes.{every_call_ends}
 use Rattle.law_orders.proofs.Back.{could_turn}
 use Rattle.law_orders.proofs.Follow.{after_turn as turned, given_0}
@@ -29,7 +30,7 @@ use Rattle.law_write_ends.proofs.Facts.{named}
 use Rattle.law_write_ends.proofs.NextCalls.{readers_put_nothing}
 use Rattle.law_write_ends.proofs.Runs.{ends, fresh}
 use Rattle.law_read_ends.proofs.Others.{OthersHaveNone, OnlyP, fds_status, others_own, outcome_only}
-use Rattle.law_exits.specs.Exits.{ExitsNext, InEitherOrderAnyhow, IsDoneAnyhow, InEitherOrderReaping}
+use Rattle.law_exits.specs.Exits.{InEitherOrderAnyhow, IsDoneAnyhow, InEitherOrderReaping}
 use Rattle.law_exits.proofs.Leaving.{leaves, own_exit}
 use Rattle.law_exits.proofs.Exited.{exit_either}
 

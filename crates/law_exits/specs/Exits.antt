@@ -12,18 +12,10 @@ use Rattle.order_model.specs.Anyhow.{AlikeAnyhow}
 use Rattle.order_model.specs.Begun.{IsBegun}
 use Rattle.order_model.specs.Closes.{HasRoomAhead, IsClosedAtOnce}
 use Rattle.order_model.specs.Turns.{after_turn}
-use Rattle.law_slot_numbers.specs.Slots.{SameButSlots}
-use Rattle.law_waits.specs.Waits.{ReapsNext}
+use Rattle.order_model.specs.Slots.{SameButSlots}
+use Rattle.order_model.specs.Giving.{ReapsNext}
 
 module _ {S : Type 0} (call : S → Reply → Call) (next : S → Reply → S) where
-  -- the process p is Runnable and exits next, and it can close at once whatever descriptors it holds
-  pub record ExitsNext (k : KernelState S) (p : ℕ) : Type 0 where
-    pub process : Process S
-    pub there : at k.table p ≡ Some process
-    pub ready : process.status ≡ Runnable
-    pub calls : call process.machine process.reply ≡ Exit
-    pub at_once : (fd : ℕ) (file : Opened) → file_at k.entries (entry_of process.fds fd) ≡ Some file → IsClosedAtOnce k p file.object
-
   -- the process p is Runnable and exits next, and it holds no descriptor
   pub record ExitsBareNext (k : KernelState S) (p : ℕ) : Type 0 where
     pub process : Process S

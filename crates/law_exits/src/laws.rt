@@ -6,9 +6,9 @@ ghost use Rattle.order_model.specs.Begun.{IsBegun};
 ghost use Rattle.order_model.specs.Anyhow.{DoesAnyhow};
 ghost use Rattle.order_model.specs.Reduced.{Joins};
 ghost use Rattle.order_model.specs.Turns.{after_turn};
-ghost use Rattle.law_waits.specs.Waits.{ReapsNext};
+ghost use Rattle.order_model.specs.Giving.{ExitsNext, ReapsNext};
 ghost use Rattle.order_model.specs.Closes.{FindsFreeNext};
-ghost use Rattle.law_exits.specs.Exits.{ExitsBareNext, ExitsInRoom, ExitsNext, InEitherOrderAnyhow, InEitherOrderReaping, IsDoneAnyhow};
+ghost use Rattle.law_exits.specs.Exits.{ExitsBareNext, ExitsInRoom, InEitherOrderAnyhow, InEitherOrderReaping, IsDoneAnyhow};
 
 use user_calls::Machine;
 
@@ -39,5 +39,5 @@ pub fn an_exit_can_be_made_in_either_order<M: Machine>()
 pub fn an_exit_gives_way_to_nobody_who_frees_no_zombie<M: Machine>()
     ensures { (k a l : KernelState M.State) (p q : ℕ) → ExitsInRoom M.call_of M.next_of k p → q ≢ p → (ReapsNext M.call_of M.next_of k q → ⊥)
         → after_turn M.call_of M.next_of k p ≡ Some a → after_turn M.call_of M.next_of k q ≡ Some l
-        → Joins (after_turn M.call_of M.next_of) (DoesAnyhow M.call_of M.next_of) (ExitsInRoom M.call_of M.next_of) a l p q }
+        → Joins (after_turn M.call_of M.next_of) (DoesAnyhow M.call_of M.next_of) (ExitsInRoom M.call_of M.next_of) a l p }
 {}

@@ -40,7 +40,8 @@ use Rattle.law_private_turns.proofs.Shared.{given_sound}
 use Rattle.law_private_turns.proofs.Begun.{begun_on, begun_still}
 use Rattle.law_private_turns.proofs.Turned.{idle_told, turn_is, turn_keeps, ready_slot, runnable_by}
 use Rattle.law_entry_numbers.proofs.Numberings.{unchanged}
-use Rattle.law_slot_numbers.specs.Slots.{IsMoved, SameButSlots}
+use Rattle.order_model.specs.Slots.{IsMoved, SameButSlots}
+use Rattle.order_model.specs.Giving.{ForksNext}
 use Rattle.law_slot_numbers.proofs.Slots.{exactly}
 use Rattle.law_slot_numbers.proofs.Tables.{Moves, ready_moved, dispatched_moved}
 use Rattle.law_slot_numbers.proofs.Calls.{Same}
@@ -49,7 +50,7 @@ use Rattle.law_slot_numbers.proofs.Same.{moves_itself, same_back}
 use Rattle.law_slot_numbers.proofs.Turns.{begun_mid}
 use Rattle.law_waits.specs.Waits.{InEitherOrderButSlots}
 use Rattle.law_waits.proofs.Turned.{IsFork, which, lowest_dispatched, left, table_beside}
-use Rattle.law_forks.specs.Forks.{ForksNext, HasSlot}
+use Rattle.law_forks.specs.Forks.{HasSlot}
 use Rattle.law_forks.proofs.Held.{AreCounted, all_renamed}
 use Rattle.law_forks.proofs.Filled.{Filled, keeps, fork_so, acted_so}
 

@@ -8,14 +8,6 @@ use Rattle.proc_table.specs.Slots.{Process, at}
 use Rattle.proc_table.specs.Calls.{lowest_free}
 use Rattle.kernel_model.specs.KernelState.{KernelState}
 
-module _ {S : Type 0} (call : S → Reply → Call) where
-  -- the process p is Runnable and next forks
-  pub record ForksNext (k : KernelState S) (p : ℕ) : Type 0 where
-    pub process : Process S
-    pub there : at k.table p ≡ Some process
-    pub ready : process.status ≡ Runnable
-    pub calls : call process.machine process.reply ≡ Fork
-
 -- some slot is free
 abbrev pub HasSlot : {S : Type 0} → KernelState S → Type 0
 HasSlot k = lowest_free k.table ≢ None

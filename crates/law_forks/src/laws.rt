@@ -6,8 +6,9 @@ ghost use Rattle.proc_table.specs.Slots.{Process, at};
 ghost use Rattle.kernel_model.specs.KernelState.{KernelState};
 ghost use Rattle.order_model.specs.Begun.{IsBegun};
 ghost use Rattle.order_model.specs.Turns.{after_turn};
+ghost use Rattle.order_model.specs.Giving.{ForksNext};
 ghost use Rattle.law_waits.specs.Waits.{InEitherOrderButSlots};
-ghost use Rattle.law_forks.specs.Forks.{ForksNext, HasSlot};
+ghost use Rattle.law_forks.specs.Forks.{HasSlot};
 
 use user_calls::Machine;
 

@@ -17,7 +17,7 @@ use Rattle.order_model.specs.Woke.{woke, woke_status, woke_slot, woke_table, Ali
 use Rattle.order_model.specs.Numbers.{Numbering, SameButNumbers, renumbered, renumbered_slot, renumbered_table}
 use Rattle.order_model.specs.Outcome.{SameOutcome}
 use Rattle.order_model.specs.Turns.{Turn, after_turn}
-use Rattle.order_model.specs.Reduced.{IsFollowing}
+use Rattle.order_model.specs.Reduced.{IsFollowing, ComesTo}
 use Rattle.order_model.specs.Anyhow.{AlikeAnyhow, SameKeyAnyhow, DoesAnyhow, itself, likened, bare_status, bare_slot, bare_table}
 use Rattle.law_orders.proofs.Entries.{entry_renamed}
 use Rattle.law_orders.proofs.Keys.{one_place}
@@ -252,26 +252,26 @@ module _ {S : Type 0} (call : S → Reply → Call) (next : S → Reply → S) w
   does_bare k m (itself j) = refl
   does_bare k m (likened i j n b d alike rest) = bare_anyhow i j alike ∙ does_bare j m rest
 
-  abbrev Steps : KernelState S → KernelState S → ℕ → Type 0
-  Steps k now p = DoesAnyhow call next k now ⊎ ((after : KernelState S) × (after_turn call next k p ≡ Some after) × DoesAnyhow call next after now)
+  abbrev Steps : KernelState S → KernelState S → Type 0
+  Steps k now = ComesTo (after_turn call next) (DoesAnyhow call next) k now
 
-  pub follows_anyhow : (k l now : KernelState S) (p : ℕ) → DoesAnyhow call next k l → after_turn call next l p ≡ Some now → Steps k now p
-  follows_anyhow k l now p (itself j) is = inr (now, is, itself now)
+  pub follows_anyhow : (k l now : KernelState S) (p : ℕ) → DoesAnyhow call next k l → after_turn call next l p ≡ Some now → Steps k now
+  follows_anyhow k l now p (itself j) is = inr (p, now, is, itself now)
   follows_anyhow k l now p (likened i j n b d alike rest) is = by (follows_anyhow j n now p rest is) where
-    step_by : (mid : KernelState S) (last : KernelState S) → after_turn call next j p ≡ Some mid → DoesAnyhow call next mid now → SameButNumbers mid last
-        → AlikeAwake i last ⊎ ((after : KernelState S) × (after_turn call next i p ≡ Some after) × AlikeAwake after last) → Steps i now p
-    step_by mid last first more same (inl like) = inl (likened i mid now b (begun_on call next j mid (p ∷ []) d first) (joined i last mid like (same_back mid last same)) more)
-    step_by mid last first more same (inr t) =
-        inr (t.0, t.1, likened t.0 mid now (begun_on call next i t.0 (p ∷ []) b t.1) (begun_on call next j mid (p ∷ []) d first) (joined t.0 last mid t.2 (same_back mid last same)) more)
+    step_by : (q : ℕ) (mid : KernelState S) (last : KernelState S) → after_turn call next j q ≡ Some mid → DoesAnyhow call next mid now → SameButNumbers mid last
+        → AlikeAwake i last ⊎ ((after : KernelState S) × (after_turn call next i q ≡ Some after) × AlikeAwake after last) → Steps i now
+    step_by q mid last first more same (inl like) = inl (likened i mid now b (begun_on call next j mid (q ∷ []) d first) (joined i last mid like (same_back mid last same)) more)
+    step_by q mid last first more same (inr t) =
+        inr (q, t.0, t.1, likened t.0 mid now (begun_on call next i t.0 (q ∷ []) b t.1) (begun_on call next j mid (q ∷ []) d first) (joined t.0 last mid t.2 (same_back mid last same)) more)
 
-    by : Steps j now p → Steps i now p
+    by : Steps j now → Steps i now
     by (inl more) = inl (likened i j now b d alike more)
     by (inr s) =
         let w = between i j alike in
         let still = begun_still call next j d in
         let back = same_back w.kernel j w.same in
-        let t = one_taken call next j w.kernel s.0 (quiet p) still back s.1 in
-        step_by s.0 t.last s.1 s.2 t.same (one_step call next i w.kernel t.last p b (still_so j w.kernel back still) w.awake t.turns)
+        let t = one_taken call next j w.kernel s.1 (quiet s.0) still back s.2 in
+        step_by s.0 s.1 t.last s.2 s.3 t.same (one_step call next i w.kernel t.last s.0 b (still_so j w.kernel back still) w.awake t.turns)
 
   pub following_anyhow : IsFollowing (after_turn call next) (DoesAnyhow call next)
   following_anyhow = record { itself = itself; on = anyhow_on; follows = follows_anyhow }

@@ -1,10 +1,10 @@
 -- Private turns give way to nobody's, up to who sleeps, who runs, names of pipes and numbers of entries.
-use Rattle.std.proofs.Common.{◌≡◌, ◌⊎◌, ℕ, Some, inl, inr}
+use Rattle.std.proofs.Common.{inl, inr}
 use Rattle.user_calls.specs.declared.calls.Call.{Call}
 use Rattle.user_calls.specs.declared.calls.Reply.{Reply}
 use Rattle.kernel_model.specs.KernelState.{KernelState}
 use Rattle.order_model.specs.Turns.{after_turn}
-use Rattle.order_model.specs.Reduced.{IsSafe}
+use Rattle.order_model.specs.Reduced.{IsSafe, ComesTo}
 use Rattle.order_model.specs.Begun.{DoesAwake, itself as awake_itself, likened as awake_likened, PrivatelyBegun}
 use Rattle.order_model.specs.Anyhow.{DoesAnyhow, itself, likened}
 use Rattle.law_private_turns.proofs.Safe.{privates_safe_awake}
@@ -15,12 +15,11 @@ module _ {S : Type 0} (call : S → Reply → Call) (next : S → Reply → S) w
   widened k l (awake_itself j) = itself j
   widened k l (awake_likened i j n b d alike rest) = likened i j n b d (awake_anyhow i j alike) (widened j n rest)
 
-  widened_joins : (a both : KernelState S) (q : ℕ) → DoesAwake call next a both ⊎ ((after : KernelState S) × (after_turn call next a q ≡ Some after) × DoesAwake call next after both)
-      → DoesAnyhow call next a both ⊎ ((after : KernelState S) × (after_turn call next a q ≡ Some after) × DoesAnyhow call next after both)
-  widened_joins a both q (inl d) = inl (widened a both d)
-  widened_joins a both q (inr s) = inr (s.0, s.1, widened s.0 both s.2)
+  widened_joins : (a both : KernelState S) → ComesTo (after_turn call next) (DoesAwake call next) a both → ComesTo (after_turn call next) (DoesAnyhow call next) a both
+  widened_joins a both (inl d) = inl (widened a both d)
+  widened_joins a both (inr s) = inr (s.0, s.1, s.2, widened s.1 both s.3)
 
   pub privates_safe_anyhow : IsSafe (after_turn call next) (DoesAnyhow call next) (PrivatelyBegun call next)
   privates_safe_anyhow k a l p q e ne first second =
       let b = privates_safe_awake call next k a l p q e ne first second in
-      record { both = b.both; taken = b.taken; still = b.still; joins = widened_joins a b.both q b.joins }
+      record { both = b.both; taken = b.taken; still = b.still; joins = widened_joins a b.both b.joins }

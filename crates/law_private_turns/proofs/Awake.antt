@@ -20,7 +20,7 @@ use Rattle.law_orders.proofs.Back.{could_turn}
 use Rattle.law_orders.proofs.Keys.{one_key}
 use Rattle.order_model.specs.Woke.{woke_status, woke_slot, woke_table, woke, AlikeAwake, SameKeyAwake}
 use Rattle.order_model.specs.Begun.{IsBegun, DoesAwake, itself, likened}
-use Rattle.order_model.specs.Reduced.{IsFollowing}
+use Rattle.order_model.specs.Reduced.{IsFollowing, ComesTo}
 use Rattle.law_private_turns.proofs.Woken.{at_woke}
 use Rattle.law_private_turns.proofs.Wakes.{acted_woke}
 use Rattle.law_private_turns.proofs.Fine.{FinePut, Fine}
@@ -227,16 +227,16 @@ module _ {S : Type 0} (call : S → Reply → Call) (next : S → Reply → S) w
   awake_on k l m (itself j) more = more
   awake_on k l m (likened i j n b d alike rest) more = likened i j m b d alike (awake_on j n m rest more)
 
-  pub follows_awake : (k l now : KernelState S) (p : ℕ) → DoesAwake call next k l → after_turn call next l p ≡ Some now → DoesAwake call next k now ⊎ ((after : KernelState S) × (after_turn call next k p ≡ Some after) × DoesAwake call next after now)
-  follows_awake k l now p (itself j) is = inr (now, is, itself now)
+  pub follows_awake : (k l now : KernelState S) (p : ℕ) → DoesAwake call next k l → after_turn call next l p ≡ Some now → ComesTo (after_turn call next) (DoesAwake call next) k now
+  follows_awake k l now p (itself j) is = inr (p, now, is, itself now)
   follows_awake k l now p (likened i j n b d alike rest) is = by (follows_awake j n now p rest is) where
-    then : (mid : KernelState S) → after_turn call next j p ≡ Some mid → DoesAwake call next mid now → OneStep i mid p → DoesAwake call next i now ⊎ ((after : KernelState S) × (after_turn call next i p ≡ Some after) × DoesAwake call next after now)
-    then mid first more (inl same) = inl (likened i mid now b (begun_on call next j mid (p ∷ []) d first) same more)
-    then mid first more (inr s) = inr (s.0, s.1, likened s.0 mid now (begun_on call next i s.0 (p ∷ []) b s.1) (begun_on call next j mid (p ∷ []) d first) s.2 more)
+    then : (q : ℕ) (mid : KernelState S) → after_turn call next j q ≡ Some mid → DoesAwake call next mid now → OneStep i mid q → ComesTo (after_turn call next) (DoesAwake call next) i now
+    then q mid first more (inl same) = inl (likened i mid now b (begun_on call next j mid (q ∷ []) d first) same more)
+    then q mid first more (inr s) = inr (q, s.0, s.1, likened s.0 mid now (begun_on call next i s.0 (q ∷ []) b s.1) (begun_on call next j mid (q ∷ []) d first) s.2 more)
 
-    by : DoesAwake call next j now ⊎ ((after : KernelState S) × (after_turn call next j p ≡ Some after) × DoesAwake call next after now) → DoesAwake call next i now ⊎ ((after : KernelState S) × (after_turn call next i p ≡ Some after) × DoesAwake call next after now)
+    by : ComesTo (after_turn call next) (DoesAwake call next) j now → ComesTo (after_turn call next) (DoesAwake call next) i now
     by (inl more) = inl (likened i j now b d alike more)
-    by (inr s) = then s.0 s.1 s.2 (one_step i j s.0 p b (begun_still call next j d) alike s.1)
+    by (inr s) = then s.0 s.1 s.2 s.3 (one_step i j s.1 s.0 b (begun_still call next j d) alike s.2)
 
   pub following_awake : IsFollowing (after_turn call next) (DoesAwake call next)
   following_awake = record { itself = itself; on = awake_on; follows = follows_awake }

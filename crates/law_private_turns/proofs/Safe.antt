@@ -22,5 +22,5 @@ module _ {S : Type 0} (call : S → Reply → Call) (next : S → Reply → S) w
         both = b.both;
         taken = b.taken;
         still = record { private = b.still; begun = begun_l };
-        joins = inr (b.after, b.second, likened b.after b.both b.both begun_after begun_both (alike_awake b.after b.both b.alike) (itself b.both));
+        joins = inr (q, b.after, b.second, likened b.after b.both b.both begun_after begun_both (alike_awake b.after b.both b.alike) (itself b.both));
       }

@@ -11,7 +11,7 @@ use Rattle.order_model.specs.Turns.{by_turns, after_turn, quiet_turns}
 use Rattle.order_model.specs.Reduced.{IsSafe, Joins}
 use Rattle.order_model.specs.Begun.{IsBegun}
 use Rattle.order_model.specs.Anyhow.{AlikeAnyhow, DoesAnyhow, itself, likened}
-use Rattle.order_model.specs.Closes.{HasRoomAhead, IsPlain, IsClosedAtOnce, NobodyElseWrites, ClosesNext, GivesWay, GivesWayBegun}
+use Rattle.order_model.specs.Closes.{HasRoomAhead, IsPlain, IsClosedAtOnce, NobodyElseWrites, ClosesNext, ClosesOrPrivate, ClosesOrPrivateBegun}
 use Rattle.law_private_turns.proofs.Begun.{begun_on, begun_still}
 use Rattle.law_last_closes.proofs.Anyhow.{awake_anyhow, joined, numbers_anyhow}
 use Rattle.law_last_closes.proofs.Safe.{privates_safe_anyhow}
@@ -28,7 +28,7 @@ module _ {S : Type 0} (call : S → Reply → Call) (next : S → Reply → S) w
 
   module _ (k a l : KernelState S) (p q : ℕ) (begun : IsBegun call next k) (ne : q ≢ p) (child : p ≢ 0) (room : HasRoomAhead call next k) (first : after_turn call next k p ≡ Some a) (second : after_turn call next k q ≡ Some l) where
     abbrev JoinsHere : Type 0
-    JoinsHere = Joins (after_turn call next) (DoesAnyhow call next) (GivesWayBegun call next) a l p q
+    JoinsHere = Joins (after_turn call next) (DoesAnyhow call next) (ClosesOrPrivateBegun call next) a l p
 
     still : IsStill k
     still = begun_still call next k begun
@@ -39,7 +39,7 @@ module _ {S : Type 0} (call : S → Reply → Call) (next : S → Reply → S) w
     begun_l : IsBegun call next l
     begun_l = begun_on call next k l (q ∷ []) begun second
 
-    on_l : ClosesNext call next (IsClosedAtOnce l p) l p → GivesWayBegun call next l p
+    on_l : ClosesNext call next (IsClosedAtOnce l p) l p → ClosesOrPrivateBegun call next l p
     on_l closes = record { gives = inr (record { child = child; closes = closes; room = room_on k l q room second }); begun = begun_l }
 
     -- both orders come to kernels that are alike
@@ -60,7 +60,7 @@ module _ {S : Type 0} (call : S → Reply → Call) (next : S → Reply → S) w
       at_once (PipeRead pipe) is nobody = nobody_stays call next k p q pipe still (ends call next k begun) (fresh call next k begun) (of_kind (λ o. o ≡ PipeRead pipe) is) nobody ne l second
       at_once (PipeWrite pipe) is none = tt
 
-      stays : GivesWayBegun call next l p
+      stays : ClosesOrPrivateBegun call next l p
       stays =
           let kept = close_stays call next (λ o. o ≡ e.file.object) k l p q still (of_kind (λ o. o ≡ e.file.object) refl) ne second in
           on_l (record {
@@ -83,7 +83,7 @@ module _ {S : Type 0} (call : S → Reply → Call) (next : S → Reply → S) w
             both = b.both;
             taken = b.taken;
             still = stays;
-            joins = inr (b.after, b.second, in_order b.after b.both b.second b.taken (numbers_anyhow b.after b.between b.both b.alike b.same));
+            joins = inr (q, b.after, b.second, in_order b.after b.both b.second b.taken (numbers_anyhow b.after b.between b.both b.alike b.same));
           }
 
       writer_joins : (pipe : ℕ) → e.file.object ≡ PipeWrite pipe → JoinsHere
@@ -98,7 +98,7 @@ module _ {S : Type 0} (call : S → Reply → Call) (next : S → Reply → S) w
               both = b.both;
               taken = b.taken;
               still = stays;
-              joins = inr (b.after, b.second, in_order b.after b.both b.second b.taken (joined b.after b.between b.both b.alike b.same));
+              joins = inr (q, b.after, b.second, in_order b.after b.both b.second b.taken (joined b.after b.between b.both b.alike b.same));
             }
         by (inr reads) =
             let b = empty_read call next k a l p q pipe still (ends call next k begun) (fresh call next k begun) it ne first second reads in
@@ -116,7 +116,7 @@ module _ {S : Type 0} (call : S → Reply → Call) (next : S → Reply → S) w
             both = b.both;
             taken = b.taken;
             still = stays;
-            joins = inr (b.after, b.second, in_order b.after b.both b.second b.taken (joined b.after b.between b.both b.alike b.same));
+            joins = inr (q, b.after, b.second, in_order b.after b.both b.second b.taken (joined b.after b.between b.both b.alike b.same));
           }
 
       closes_join : (object : Object) → e.file.object ≡ object → IsClosedAtOnce k p object → JoinsHere
@@ -127,9 +127,9 @@ module _ {S : Type 0} (call : S → Reply → Call) (next : S → Reply → S) w
       closes_join (PipeRead pipe) is nobody = reader_joins pipe is nobody
       closes_join (PipeWrite pipe) is none = writer_joins pipe is
 
-  pub gives_way_safe : IsSafe (after_turn call next) (DoesAnyhow call next) (GivesWayBegun call next)
+  pub gives_way_safe : IsSafe (after_turn call next) (DoesAnyhow call next) (ClosesOrPrivateBegun call next)
   gives_way_safe k a l p q e ne first second = by e.gives where
-    by : GivesWay call next k p → Joins (after_turn call next) (DoesAnyhow call next) (GivesWayBegun call next) a l p q
+    by : ClosesOrPrivate call next k p → Joins (after_turn call next) (DoesAnyhow call next) (ClosesOrPrivateBegun call next) a l p
     by (inl private) =
         let b = privates_safe_anyhow call next k a l p q (record { private = private; begun = e.begun }) ne first second in
         record { both = b.both; taken = b.taken; still = record { gives = inl b.still.private; begun = b.still.begun }; joins = b.joins }

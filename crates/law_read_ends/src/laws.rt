@@ -6,7 +6,7 @@ ghost use Rattle.kernel_model.specs.KernelState.{KernelState};
 ghost use Rattle.kernel_model.specs.Pipes.{pipe_of};
 ghost use Rattle.order_model.specs.Alike.{IsStill};
 ghost use Rattle.order_model.specs.Anyhow.{DoesAnyhow};
-ghost use Rattle.order_model.specs.Closes.{ClosesNext, FindsFreeNext, GivesWayBegun, NobodyElseWrites};
+ghost use Rattle.order_model.specs.Closes.{ClosesNext, FindsFreeNext, ClosesOrPrivateBegun, NobodyElseWrites};
 ghost use Rattle.order_model.specs.Reduced.{IsSafe};
 ghost use Rattle.order_model.specs.Turns.{after_turn};
 ghost use Rattle.law_kernel.specs.Ends.{EndsAgree};
@@ -32,5 +32,5 @@ pub fn the_close_of_a_read_end_to_which_nobody_else_writes_can_be_made_in_either
 /// be taken before any other process's turn or after it, and stays such a turn until it is taken. Only the close of the read end of a
 /// pipe to which somebody else can write is left out.
 pub fn such_closes_give_way_to_nobody<M: Machine>()
-    ensures { IsSafe (after_turn M.call_of M.next_of) (DoesAnyhow M.call_of M.next_of) (GivesWayBegun M.call_of M.next_of) }
+    ensures { IsSafe (after_turn M.call_of M.next_of) (DoesAnyhow M.call_of M.next_of) (ClosesOrPrivateBegun M.call_of M.next_of) }
 {}

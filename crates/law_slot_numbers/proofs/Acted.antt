@@ -22,7 +22,7 @@ use Rattle.kernel_model.specs.Events.{acted}
 use Rattle.law_kernel.specs.Sleeping.{Lives}
 use Rattle.order_model.specs.Numbers.{Numbering}
 use Rattle.law_orders.proofs.Tables.{same_eq}
-use Rattle.law_slot_numbers.specs.Slots.{moved_channel, moved_slot, IsZombieOf, IsMoved, same, zombies, SameButSlots}
+use Rattle.order_model.specs.Slots.{moved_channel, moved_slot, IsZombieOf, IsMoved, same, zombies, SameButSlots}
 use Rattle.law_slot_numbers.proofs.Slots.{dead, zombie_is, one_to_one, stays_free, was_free, same_zombie_child}
 use Rattle.law_slot_numbers.proofs.Swaps.{exchanged}
 use Rattle.law_slot_numbers.proofs.Tables.{Moves, fds_moved, put_moved, ready_moved, sleep_moved, set_fds_moved, woken_moved, exited_moved, zombie_child_so, some_child_so}

@@ -12,7 +12,7 @@ use Rattle.proc_table.specs.Slots.{Slot, Table, at, is_free, is_number, is_child
 use Rattle.proc_table.proofs.Changes.{kept}
 use Rattle.law_kernel.specs.Sleeping.{Lives, SleepsOn}
 use Rattle.order_model.specs.Numbers.{Numbering, renumbered_place}
-use Rattle.law_slot_numbers.specs.Slots.{moved_channel, moved_status, moved_slot, IsZombieOf, IsMoved, same, zombies}
+use Rattle.order_model.specs.Slots.{moved_channel, moved_status, moved_slot, IsZombieOf, IsMoved, same, zombies}
 use Rattle.law_slot_numbers.proofs.Swaps.{Exchanged, exchanged}
 use Rattle.law_slot_numbers.proofs.Tables.{Moves}
 

@@ -10,7 +10,7 @@ use Rattle.kernel_model.specs.Events.{IsFinished}
 use Rattle.order_model.specs.Numbers.{Numbering, renumbered_place}
 use Rattle.order_model.specs.Outcome.{SameOutcome, outcome_of}
 use Rattle.law_entry_numbers.proofs.Numberings.{unchanged, opposite, followed_by}
-use Rattle.law_slot_numbers.specs.Slots.{moved_channel, moved_status, moved_process, moved_slot, IsZombieOf, IsMoved, same, zombies, AreMoved, SameButSlots}
+use Rattle.order_model.specs.Slots.{moved_channel, moved_status, moved_process, moved_slot, IsZombieOf, IsMoved, same, zombies, AreMoved, SameButSlots}
 use Rattle.law_slot_numbers.proofs.Slots.{stays_free}
 use Rattle.law_slot_numbers.proofs.Tables.{Moves}
 

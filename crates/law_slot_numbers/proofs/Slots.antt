@@ -14,7 +14,7 @@ use Rattle.kernel_model.specs.KernelState.{fds_of}
 use Rattle.order_model.specs.Alike.{IsOneToOne}
 use Rattle.order_model.specs.Numbers.{Numbering, renumbered_place}
 use Rattle.law_orders.proofs.Tables.{same_eq}
-use Rattle.law_slot_numbers.specs.Slots.{moved_channel, moved_status, moved_process, moved_slot, IsZombieOf, IsMoved, same, zombies}
+use Rattle.order_model.specs.Slots.{moved_channel, moved_status, moved_process, moved_slot, IsZombieOf, IsMoved, same, zombies}
 
 -- ---- what changes a slot
 

@@ -23,7 +23,7 @@ use Rattle.law_orders.proofs.Follow.{after_turn as turned, given_0}
 use Rattle.law_orders.proofs.Back.{could_turn}
 use Rattle.law_private_turns.proofs.Begun.{begun_on, begun_still, begun_waits}
 use Rattle.law_private_turns.proofs.Turned.{turn_is, ready_slot}
-use Rattle.law_slot_numbers.specs.Slots.{moved_status, moved_process, moved_slot, SameButSlots}
+use Rattle.order_model.specs.Slots.{moved_status, moved_process, moved_slot, SameButSlots}
 use Rattle.law_slot_numbers.specs.Matched.{IsTurnTakenToo, AreTurnsTakenToo}
 use Rattle.law_slot_numbers.proofs.Slots.{exactly}
 use Rattle.law_slot_numbers.proofs.Tables.{Moves, dispatched_moved}

@@ -5,7 +5,7 @@ ghost use Rattle.kernel_model.specs.KernelState.{KernelState};
 ghost use Rattle.order_model.specs.Begun.{IsBegun};
 ghost use Rattle.order_model.specs.Outcome.{SameOutcome};
 ghost use Rattle.order_model.specs.Turns.{after_turn, after_turns};
-ghost use Rattle.law_slot_numbers.specs.Slots.{SameButSlots};
+ghost use Rattle.order_model.specs.Slots.{SameButSlots};
 ghost use Rattle.law_slot_numbers.specs.Matched.{IsTurnTakenToo, AreTurnsTakenToo};
 
 use user_calls::Machine;

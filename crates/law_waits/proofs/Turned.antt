@@ -36,13 +36,14 @@ use Rattle.law_private_turns.proofs.Staying.{Holds, holds_itself, holds_alive, i
 use Rattle.law_private_turns.proofs.Begun.{begun_on, begun_still}
 use Rattle.law_private_turns.proofs.Turned.{set_twice, idle_told, turn_is, turn_keeps, ready_slot, runnable_by}
 use Rattle.law_entry_numbers.proofs.Numberings.{unchanged}
-use Rattle.law_slot_numbers.specs.Slots.{IsZombieOf, SameButSlots}
+use Rattle.order_model.specs.Slots.{IsZombieOf, SameButSlots}
+use Rattle.order_model.specs.Giving.{FindsSlotNext, ReapsNext}
 use Rattle.law_slot_numbers.proofs.Slots.{dead, child_of, zombie_is}
 use Rattle.law_slot_numbers.proofs.Acted.{Mid, but_slots, finds_free, forks_into, reaps}
 use Rattle.law_slot_numbers.proofs.Calls.{SameEntries, Same}
 use Rattle.law_slot_numbers.proofs.Same.{moves_itself, same_itself, same_on}
 use Rattle.law_slot_numbers.proofs.Turns.{begun_mid}
-use Rattle.law_waits.specs.Waits.{ReapsNext, FindsSlotNext, InEitherOrderButSlots}
+use Rattle.law_waits.specs.Waits.{InEitherOrderButSlots}
 use Rattle.law_waits.proofs.Freed.{Freed, keeps, fork_so, acted_so}
 
 -- ---- calls that fork, and others

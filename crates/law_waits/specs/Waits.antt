@@ -9,22 +9,9 @@ use Rattle.proc_table.specs.Calls.{lowest_free}
 use Rattle.kernel_model.specs.KernelState.{KernelState}
 use Rattle.order_model.specs.Alike.{Alike}
 use Rattle.order_model.specs.Turns.{after_turn}
-use Rattle.law_slot_numbers.specs.Slots.{SameButSlots}
+use Rattle.order_model.specs.Slots.{SameButSlots}
 
 module _ {S : Type 0} (call : S → Reply → Call) (next : S → Reply → S) where
-  -- the process p is Runnable, next waits for a child, and has one that is a zombie
-  pub record ReapsNext (k : KernelState S) (p : ℕ) : Type 0 where
-    pub process : Process S
-    pub there : at k.table p ≡ Some process
-    pub ready : process.status ≡ Runnable
-    pub calls : call process.machine process.reply ≡ Wait
-    pub zombie : ℕ
-    pub dead : is_zombie_child_of p (at k.table zombie) ≡ true
-
-  -- if q forks next, a slot is free
-  abbrev pub FindsSlotNext : KernelState S → ℕ → Type 0
-  FindsSlotNext k q = (y : Process S) → at k.table q ≡ Some y → call y.machine y.reply ≡ Fork → lowest_free k.table ≢ None
-
   -- p's turn leads to a, and q's turn to l: each can take its turn then, and what both orders come to differs only in the numbers of
   -- slots, in what is left of zombies, in what pipes are called and in how many events there were
   pub record InEitherOrderButSlots (a l : KernelState S) (p q : ℕ) : Type 0 where

@@ -79,10 +79,10 @@ module _ {S : Type 0} (call : S → Reply → Call) (next : S → Reply → S) w
     pub room : HasRoomAhead k
 
   -- it is such a close, or private
-  abbrev pub GivesWay : KernelState S → ℕ → Type 0
-  GivesWay k p = Privately call k p ⊎ ClosesInRoom k p
+  abbrev pub ClosesOrPrivate : KernelState S → ℕ → Type 0
+  ClosesOrPrivate k p = Privately call k p ⊎ ClosesInRoom k p
 
   -- the same, in a kernel of a run
-  pub record GivesWayBegun (k : KernelState S) (p : ℕ) : Type 0 where
-    pub gives : GivesWay k p
+  pub record ClosesOrPrivateBegun (k : KernelState S) (p : ℕ) : Type 0 where
+    pub gives : ClosesOrPrivate k p
     pub begun : IsBegun call next k

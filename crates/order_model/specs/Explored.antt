@@ -10,7 +10,7 @@ use Rattle.kernel_model.specs.Quiet.{no_refusals}
 use Rattle.order_model.specs.Turns.{after_turn, IsReachedFrom}
 use Rattle.order_model.specs.Outcome.{RunOutcome, outcome_of}
 use Rattle.order_model.specs.Reduced.{IsReduced}
-use Rattle.order_model.specs.Closes.{GivesWay}
+use Rattle.order_model.specs.Giving.{GivesWay}
 use Rattle.order_model.specs.Anyhow.{SameKeyAnyhow, bare_table}
 
 -- the kernel is finished and this is its outcome

@@ -8,6 +8,9 @@ pub mod Privately
 pub mod Reduced
 pub mod Begun
 pub mod Closes
-pub mod Explored
 pub mod Numbers
 pub mod Anyhow
+pub mod Slots
+pub mod Giving
+pub mod Linked
+pub mod Explored
