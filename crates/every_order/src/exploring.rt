@@ -7,14 +7,16 @@ ghost use Rattle.run_model.specs.ScriptRun.{script_kernel};
 ghost use Rattle.order_model.specs.Explored.{AreAllOutcomes, IsNeverStuck};
 ghost use Rattle.order_search.specs.Told.{outcome_by, IsReplayed, AreApart, LeadsToSleep};
 
+use few_forks::has_few_forks;
 use law_every_outcome::laws::{
     a_script_begins_at_a_boot, no_run_is_stuck_if_each_kernel_can_do_something,
     what_a_search_found_is_explored, what_was_explored_is_every_outcome,
 };
+use law_few_forks::laws::a_script_of_few_forks_has_slots_ahead;
 use law_few_opens::laws::a_script_of_few_opens_has_room_ahead;
 use mem_files::Files;
 use mem_files::laws::are_files;
-use order_search::{Exploration, ExploreFault, Origin, Unwatched, Watch, explore_from};
+use order_search::{Ahead, Exploration, ExploreFault, Origin, Unwatched, Watch, explore_from};
 use room_bounds::has_few_opens;
 use script_load::Script;
 use sh_machine::{Naming, User};
@@ -95,6 +97,7 @@ fn explore_named<N: Naming, B: Allocator, C: Allocator, W: Watch>(
     are_files(setting.files);
     a_script_begins_at_a_boot();
     a_script_of_few_opens_has_room_ahead();
+    a_script_of_few_forks_has_slots_ahead();
     what_a_search_found_is_explored::<User<B, N>>();
     what_was_explored_is_every_outcome::<User<B, N>>();
     no_run_is_stuck_if_each_kernel_can_do_something::<User<B, N>>();
@@ -103,7 +106,10 @@ fn explore_named<N: Naming, B: Allocator, C: Allocator, W: Watch>(
         shell: User::shell(setting.script),
         stdin: setting.stdin,
         files: setting.files,
-        has_room: has_few_opens(setting.script),
+        ahead: Ahead {
+            entries: has_few_opens(setting.script),
+            slots: has_few_forks(setting.script),
+        },
     };
     explore_from(alloc, &origin, states, watch)
 }

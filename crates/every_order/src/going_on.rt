@@ -1,8 +1,8 @@
 //! Explorations of what can follow turns that were taken.
 
-ghost use Rattle.std.specs.Prelude.{◌≡◌, ◌<◌, IfOk, true, false};
+ghost use Rattle.std.specs.Prelude.{◌≡◌, ◌<◌, IfOk, false};
 ghost use Rattle.kernel_model.specs.Boot.{boot_kernel};
-ghost use Rattle.order_model.specs.Closes.{HasRoomAhead};
+ghost use Rattle.order_search.specs.Room.{HasAhead};
 ghost use Rattle.every_order.specs.Rest.{TellsAfter};
 
 use law_every_outcome::laws::{
@@ -27,7 +27,7 @@ pub fn explore_after<M: Machine, C: Allocator, W: Watch>(
     states: usize,
     watch: &mut W,
 ) -> Result<Exploration, ExploreFault>
-    requires { origin.now.has_room ≡ true → HasRoomAhead M.call_of M.next_of (boot_kernel (M.view origin.now.init) (M.view origin.now.shell) origin.now.stdin.now origin.now.files.now) }
+    requires { HasAhead M.call_of M.next_of origin.now.ahead (boot_kernel (M.view origin.now.init) (M.view origin.now.shell) origin.now.stdin.now origin.now.files.now) }
     ensures told { IfOk result (TellsAfter M.call_of M.next_of (boot_kernel (M.view origin.now.init) (M.view origin.now.shell) origin.now.stdin.now origin.now.files.now) pids.now) }
     ensures part { IfOk result (λ found. found.whole ≡ false → states < found.states) }
 {

@@ -6,4 +6,4 @@ mod going_on;
 
 pub use exploring::{Setting, explore, explore_watched};
 pub use going_on::explore_after;
-pub use order_search::{Exploration, ExploreFault, Origin, Outcome, Unwatched, Watch};
+pub use order_search::{Ahead, Exploration, ExploreFault, Origin, Outcome, Unwatched, Watch};

@@ -3,6 +3,7 @@ use Rattle.std.proofs.Common.{◌≡◌, ◌≢◌, inl, inr, ℕ, zero, suc, Li
 use Rattle.std.specs.Prelude.{if◌then◌else◌, ◌&&◌, not, nat_lt, is_some, position, count_by, cond}
 use Rattle.std.proofs.lemmas.List.Sums.{sum_by-cons}
 use Rattle.user_calls.specs.declared.calls.Call.{Call}
+use Rattle.user_calls.specs.declared.calls.Call.TheVariants.{Fork, Exit, Wait, Close}
 use Rattle.user_calls.specs.declared.calls.Reply.{Reply}
 use Rattle.fd_table.specs.declared.names.Object.{Object}
 use Rattle.fd_table.specs.declared.names.Object.TheVariants.{Input, Out, Diag, File, PipeRead, PipeWrite}
@@ -12,7 +13,7 @@ use Rattle.mem_files.specs.Name.{Name, Bytes}
 use Rattle.proc_table.specs.declared.states.Status.{Status}
 use Rattle.proc_table.specs.declared.states.Status.TheVariants.{Runnable, Running, Asleep, Zombie}
 use Rattle.proc_table.specs.declared.table.TheConstants.{HARTS}
-use Rattle.proc_table.specs.Slots.{Slot, Table, Process, at, is_runnable, is_runnable_status, is_running, is_running_status, is_running_on}
+use Rattle.proc_table.specs.Slots.{Slot, Table, Process, at, is_runnable, is_runnable_status, is_running, is_running_status, is_running_on, is_number, is_zombie_status, is_zombie_child_of}
 use Rattle.proc_table.specs.Calls.{dispatched}
 use Rattle.kernel_model.specs.declared.events.Event.TheVariants.{Trap}
 use Rattle.kernel_model.specs.KernelState.{KernelState, fds_of, fds_at, file_at}
@@ -23,11 +24,15 @@ use Rattle.order_model.specs.Key.{key, place_in}
 use Rattle.order_model.specs.Woke.{woke_status, woke_slot, woke_table, woke}
 use Rattle.order_model.specs.Anyhow.{bare_status, bare_slot, bare_table}
 use Rattle.order_model.specs.Privately.{IsPrivateCall}
-use Rattle.order_model.specs.Closes.{HasRoomAhead, IsClosedAtOnce, NobodyElseWrites, ClosesNext, GivesWay}
+use Rattle.order_model.specs.Closes.{IsClosedAtOnce, NobodyElseWrites, ClosesNext}
+use Rattle.order_model.specs.Giving.{ForksNext, ReapsNext, ExitsNext, GivesWay, privately, closes, forks, reaps, exits}
 use Rattle.order_model.specs.Outcome.{outcome_of}
 use Rattle.order_model.specs.Turns.{by_turns, quiet_turns, after_turns, after_turn, turn_events, turn_notes}
 use Rattle.order_search.specs.Led.{start_kernel}
-use Rattle.order_search.specs.Shown.{IsOpenAs, IsPrivateSlot, IsGiving}
+use Rattle.order_search.specs.declared.origin.Ahead.{Ahead}
+use Rattle.order_search.specs.Room.{HasAhead}
+use Rattle.order_search.specs.Shown.{IsOpenAs, IsPrivateSlot}
+use Rattle.order_search.specs.Giving.{IsGiving, privately as seen_privately, closes as seen_closes, forks as seen_forks, reaps as seen_reaps, exits as seen_exits}
 use Rattle.order_search.specs.Places.{IsOrderly, names_in, place_among}
 use Rattle.order_search.proofs.Placing.{place_is}
 use Rattle.law_kernel.proofs.EntriesLong.{every_run_has_entries}
@@ -142,6 +147,16 @@ private_slot call name (Some p) idle e =
       calls = subst (λ (q : Process _). IsPrivateCall q.fds (call q.machine q.reply)) (sym same) e.calls;
     }
 
+zombie_status_idle : (name : ℕ → ℕ) (s : Status) → is_zombie_status (idle_status name s) ≡ is_zombie_status s
+zombie_status_idle name Runnable = refl
+zombie_status_idle name (Running h) = refl
+zombie_status_idle name (Asleep c) = refl
+zombie_status_idle name Zombie = refl
+
+zombie_idle : {S : Type 0} (name : ℕ → ℕ) (pid : ℕ) (x : Slot S) → is_zombie_child_of pid (idle_slot name x) ≡ is_zombie_child_of pid x
+zombie_idle name pid None = refl
+zombie_idle name pid (Some p) = ap (λ (b : Bool). is_number pid p.parent && b) (zombie_status_idle name p.status)
+
 -- a process's descriptors are its own in the key too
 idle_fds : {S : Type 0} (name : ℕ → ℕ) (x : Slot S) → fds_of (idle_slot name x) ≡ fds_of x
 idle_fds name None = refl
@@ -182,52 +197,107 @@ module _ {S : Type 0} (call : S → Reply → Call) (next : S → Reply → S) w
     at_once (PipeRead id) nobody = nobody_else id nobody
     at_once (PipeWrite id) free = tt
 
+    -- a process that is Runnable in the key is so in the kernel
+    record InKernel (seen : Process S) : Type 0 where
+      process : Process S
+      there : at k.table pid ≡ Some process
+      ready : process.status ≡ Runnable
+      same : record process { status = idle_status name process.status } ≡ seen
+
+    in_kernel : is_running (at k.table pid) ≡ false → (seen : Process S) → at look.table pid ≡ Some seen → seen.status ≡ Runnable → InKernel seen
+    in_kernel idle seen there ready = by (at k.table pid) refl where
+      by : (x : Slot S) → at k.table pid ≡ x → InKernel seen
+      by None is = let none : None ≡ Some seen = sym (ap (idle_slot name) is) ∙ sym (slot pid) ∙ there in absurd (let z : ⊥ = cc in z)
+      by (Some p) is =
+          let both : idle_slot name (Some p) ≡ Some seen = sym (ap (idle_slot name) is) ∙ sym (slot pid) ∙ there in
+          let same : record p { status = idle_status name p.status } ≡ seen = cc in
+          record { process = p; there = is; ready = ready_is name p.status (ap (λ (q : Process S). q.status) same ∙ ready) (sym (ap is_running is) ∙ idle); same = same }
+
+    calls_too : (seen : Process S) (c : Call) (w : InKernel seen) → call seen.machine seen.reply ≡ c → call w.process.machine w.process.reply ≡ c
+    calls_too seen c w is = ap (λ (q : Process S). call q.machine q.reply) w.same ∙ is
+
     -- a close in the key is one of the kernel
     closing : is_running (at k.table pid) ≡ false → ClosesNext call next (IsClosedAtOnce look pid) look pid → ClosesNext call next (IsClosedAtOnce k pid) k pid
-    closing idle c = by_slot (at k.table pid) refl where
-      by_file : (p : Process S) → at k.table pid ≡ Some p → record p { status = idle_status name p.status } ≡ c.process → (o : Option OpenFile) → entry_at k.entries c.entry ≡ o → ClosesNext call next (IsClosedAtOnce k pid) k pid
-      by_file p there same None used = let none : None ≡ Some c.file = sym (ap (renamed_entry name) used) ∙ sym (entry c.entry) ∙ c.used in absurd (let z : ⊥ = cc in z)
-      by_file p there same (Some f) used =
+    closing idle c = by_file (in_kernel idle c.process c.there c.ready) (entry_at k.entries c.entry) refl where
+      by_file : InKernel c.process → (o : Option OpenFile) → entry_at k.entries c.entry ≡ o → ClosesNext call next (IsClosedAtOnce k pid) k pid
+      by_file w None used = let none : None ≡ Some c.file = sym (ap (renamed_entry name) used) ∙ sym (entry c.entry) ∙ c.used in absurd (let z : ⊥ = cc in z)
+      by_file w (Some f) used =
           let both : renamed_entry name (Some f) ≡ Some c.file = sym (ap (renamed_entry name) used) ∙ sym (entry c.entry) ∙ c.used in
           record {
-            process = p;
-            there = there;
-            ready = ready_is name p.status (ap (λ (q : Process S). q.status) same ∙ c.ready) (sym (ap is_running there) ∙ idle);
+            process = w.process;
+            there = w.there;
+            ready = w.ready;
             fd = c.fd;
-            calls = ap (λ (q : Process S). call q.machine q.reply) same ∙ c.calls;
+            calls = calls_too c.process (Close c.fd) w c.calls;
             entry = c.entry;
-            holds = ap (λ (q : Process S). entry_of q.fds c.fd) same ∙ c.holds;
+            holds = ap (λ (q : Process S). entry_of q.fds c.fd) w.same ∙ c.holds;
             file = f;
             used = used;
             of = at_once f.object (subst (IsOpenAs (IsClosedAtOnce look pid)) (sym both) c.of);
           }
 
-      by_slot : (x : Slot S) → at k.table pid ≡ x → ClosesNext call next (IsClosedAtOnce k pid) k pid
-      by_slot None there = let none : None ≡ Some c.process = sym (ap (idle_slot name) there) ∙ sym (slot pid) ∙ c.there in absurd (let z : ⊥ = cc in z)
-      by_slot (Some p) there =
-          let both : idle_slot name (Some p) ≡ Some c.process = sym (ap (idle_slot name) there) ∙ sym (slot pid) ∙ c.there in
-          by_file p there (let same : record p { status = idle_status name p.status } ≡ c.process = cc in same) (entry_at k.entries c.entry) refl
+    -- so is a fork
+    forking : is_running (at k.table pid) ≡ false → ForksNext call look pid → ForksNext call k pid
+    forking idle f = let w = in_kernel idle f.process f.there f.ready in record { process = w.process; there = w.there; ready = w.ready; calls = calls_too f.process Fork w f.calls }
 
-  -- whose turn gives way in the key gives way, in a kernel that has room if that is said of it
-  pub key_gives : (k look : KernelState S) (room : Bool) (pid : ℕ) → look ≡ key k → count_by is_running k.table ≡ 0 → (room ≡ true → HasRoomAhead call next k) → (pid ≢ 0) × IsGiving call next room look pid → GivesWay call next k pid
-  key_gives k look room pid is none ahead e = by e.1 where
+    -- a wait that finds a zombie
+    reaping : is_running (at k.table pid) ≡ false → ReapsNext call next look pid → ReapsNext call next k pid
+    reaping idle r =
+        let w = in_kernel idle r.process r.there r.ready in
+        record {
+          process = w.process;
+          there = w.there;
+          ready = w.ready;
+          calls = calls_too r.process Wait w r.calls;
+          zombie = r.zombie;
+          dead = sym (zombie_idle name pid (at k.table r.zombie)) ∙ ap (is_zombie_child_of pid) (sym (slot r.zombie)) ∙ r.dead;
+        }
+
+    -- and an exit
+    exiting : is_running (at k.table pid) ≡ false → ExitsNext call next look pid → ExitsNext call next k pid
+    exiting idle e =
+        let w = in_kernel idle e.process e.there e.ready in
+        record {
+          process = w.process;
+          there = w.there;
+          ready = w.ready;
+          calls = calls_too e.process Exit w e.calls;
+          at_once = λ fd f held.
+              let there : file_at look.entries (entry_of e.process.fds fd) ≡ renamed_entry name (Some f) =
+              ap (λ (q : Process S). file_at look.entries (entry_of q.fds fd)) (sym w.same) ∙ file (entry_of w.process.fds fd) ∙ ap (renamed_entry name) held in
+              at_once f.object (e.at_once fd _ there);
+        }
+
+  -- whose turn gives way in the key gives way, in a kernel that has ahead what is said of it
+  pub key_gives : (k look : KernelState S) (ahead : Ahead) (pid : ℕ) → look ≡ key k → count_by is_running k.table ≡ 0 → HasAhead call next ahead k → IsGiving call next ahead look pid → GivesWay call next k pid
+  key_gives k look ahead pid is none has e = by e where
     idle : is_running (at k.table pid) ≡ false
     idle = none_of is_running k.table pid refl none
 
-    by : IsGiving call next room look pid → GivesWay call next k pid
-    by (inl private) =
+    by : IsGiving call next ahead look pid → GivesWay call next k pid
+    by (seen_privately ne private) =
         let x = private_slot call (place_in k.pipes) (at k.table pid) idle (subst (IsPrivateSlot call) (slot k look pid is pid) private) in
-        inl (record { child = e.0; process = x.process; there = x.is; ready = x.ready; calls = x.calls })
-    by (inr closes) = inr (record { child = e.0; closes = closing k look pid is idle closes.1; room = ahead closes.0 })
+        privately (record { child = ne; process = x.process; there = x.is; ready = x.ready; calls = x.calls })
+    by (seen_closes ne said c) = closes (record { child = ne; closes = closing k look pid is idle c; room = has.entries said })
+    by (seen_forks ne said f) = forks ne (forking k look pid is idle f) (has.slots said)
+    by (seen_reaps said r) = reaps (reaping k look pid is idle r) (has.slots said)
+    by (seen_exits ne said x) = exits ne (exiting k look pid is idle x) (has.entries said)
 
   -- turns after turns
   more : (pids later : List ℕ) (o : Option (KernelState S)) → by_turns call next o (quiet_turns (pids ++ later)) ≡ by_turns call next (by_turns call next o (quiet_turns pids)) (quiet_turns later)
   more [] later o = refl
   more (p ∷ pids) later o = more pids later (by_turns call next o (quiet_turns (p ∷ [])))
 
-  -- a kernel to which turns lead from one that has room ahead has it too
-  pub room_led : (start k : KernelState S) (pids : List ℕ) → HasRoomAhead call next start → after_turns call next start pids ≡ Some k → HasRoomAhead call next k
-  room_led start k pids room turns later m q is = room (pids ++ later) m q (more pids later (Some start) ∙ ap (λ (o : Option (KernelState S)). by_turns call next o (quiet_turns later)) turns ∙ is)
+  -- a kernel to which turns lead from one that has something ahead has it too
+  pub ahead_led : (start k : KernelState S) (pids : List ℕ) (ahead : Ahead) → HasAhead call next ahead start → after_turns call next start pids ≡ Some k → HasAhead call next ahead k
+  ahead_led start k pids ahead has turns =
+      record {
+        entries = λ said later m q is. has.entries said (pids ++ later) m q (then later m is);
+        slots = λ said later m q is. has.slots said (pids ++ later) m q (then later m is);
+      }
+    where
+      then : (later : List ℕ) (m : KernelState S) → after_turns call next k later ≡ Some m → after_turns call next start (pids ++ later) ≡ Some m
+      then later m is = more pids later (Some start) ∙ ap (λ (o : Option (KernelState S)). by_turns call next o (quiet_turns later)) turns ∙ is
 
 -- ---- keys but for who sleeps
 

@@ -10,7 +10,7 @@ use Rattle.fd_table.specs.Descriptors.{Descriptors}
 use Rattle.proc_table.specs.Slots.{Process, Slot, Table, at}
 use Rattle.order_model.specs.Anyhow.{bare_slot}
 use Rattle.order_search.specs.declared.private.NextCall.{NextCall}
-use Rattle.order_search.specs.declared.private.NextCall.TheVariants.{Private, Closes, Unknown}
+use Rattle.order_search.specs.declared.private.NextCall.TheVariants.{Private, Closes, Forks, Waits, Exits, Unknown}
 use Rattle.order_search.specs.Shown.{slot_of, IsNextCall, IsReadyCall, IsClosingSlot, IsOpenAs, IsNoReadEnd, HasNoWriteEnd}
 use Rattle.fd_table.specs.declared.names.Object.{Object}
 use Rattle.fd_table.specs.declared.names.Object.TheVariants.{Input, Out, Diag, File, PipeRead, PipeWrite}
@@ -99,6 +99,9 @@ module _ {S : Type 0} (call : S → Reply → Call) where
   pub ready_known : (p : Process S) (known : NextCall) → p.status ≡ Runnable → IsNextCall p.fds (call p.machine p.reply) known → IsReadyCall call (Some p) known
   ready_known p Private ready is = record { process = p; is = refl; ready = ready; calls = is }
   ready_known p (Closes entry) ready is = record { process = p; is = refl; ready = ready; fd = is.0; calls = is.1; holds = is.2 }
+  ready_known p Forks ready is = record { process = p; is = refl; ready = ready; calls = is }
+  ready_known p Waits ready is = record { process = p; is = refl; ready = ready; calls = is }
+  ready_known p Exits ready is = record { process = p; is = refl; ready = ready; calls = is }
   ready_known p Unknown ready is = tt
 
   -- a close of an object that is known is a close that can be made at once

@@ -6,7 +6,7 @@ use Rattle.proc_table.specs.declared.pid.TheConstants.{PROCS}
 use Rattle.kernel_model.specs.KernelState.{KernelState}
 use Rattle.closed_search.specs.Searched.{IsReached, IsReducedUnder}
 use Rattle.order_model.specs.Anyhow.{SameKeyAnyhow}
-use Rattle.order_model.specs.Closes.{GivesWay}
+use Rattle.order_model.specs.Giving.{GivesWay}
 use Rattle.order_model.specs.Turns.{after_turn, after_turns}
 use Rattle.order_model.specs.Explored.{IsFinishedOrBusy}
 use Rattle.order_search.specs.declared.ordering.Exploration.{Exploration}

@@ -4,3 +4,5 @@ pub mod Places
 pub mod Told
 pub mod Exploring
 pub mod Under
+pub mod Room
+pub mod Giving

@@ -1,21 +1,20 @@
 -- What is shown of the kept parts of a kernel. No public clause cites this module.
-use Rattle.std.specs.Prelude.{◌≡◌, ◌≢◌, ◌⊎◌, ℕ, Bool, true, Option, Some, None}
+use Rattle.std.specs.Prelude.{◌≡◌, ◌≢◌, ℕ, Option, Some, None}
 use Rattle.std.specs.Rc.{rc_value}
 use Rattle.std.specs.declared.rc.Rc.{Rc}
 use Rattle.user_calls.specs.declared.calls.Call.{Call}
-use Rattle.user_calls.specs.declared.calls.Call.TheVariants.{Close}
+use Rattle.user_calls.specs.declared.calls.Call.TheVariants.{Fork, Exit, Wait, Close}
 use Rattle.user_calls.specs.declared.calls.Reply.{Reply}
 use Rattle.fd_table.specs.declared.names.Object.{Object}
 use Rattle.fd_table.specs.declared.names.Object.TheVariants.{Input, Out, Diag, File, PipeRead, PipeWrite}
 use Rattle.fd_table.specs.Entries.{Entries, OpenFile}
 use Rattle.fd_table.specs.Descriptors.{Descriptors, entry_of}
 use Rattle.proc_table.specs.declared.states.Status.TheVariants.{Runnable}
-use Rattle.proc_table.specs.Slots.{Slot, Process, at}
-use Rattle.kernel_model.specs.KernelState.{KernelState, file_at}
+use Rattle.proc_table.specs.Slots.{Slot, Process}
+use Rattle.kernel_model.specs.KernelState.{file_at}
 use Rattle.order_model.specs.Privately.{IsPrivateCall}
-use Rattle.order_model.specs.Closes.{ClosesNext, IsClosedAtOnce}
 use Rattle.order_search.specs.declared.private.NextCall.{NextCall}
-use Rattle.order_search.specs.declared.private.NextCall.TheVariants.{Private, Closes, Unknown}
+use Rattle.order_search.specs.declared.private.NextCall.TheVariants.{Private, Closes, Forks, Waits, Exits, Unknown}
 use Rattle.order_search.specs.declared.private.CloseOf.{CloseOf}
 use Rattle.order_search.specs.declared.private.CloseOf.TheVariants.{ReadEnd, Other, Nothing}
 
@@ -35,6 +34,9 @@ pub record IsPrivateSlot {S : Type 0} (call : S → Reply → Call) (x : Slot S)
 abbrev pub IsNextCall : Descriptors → Call → NextCall → Type 0
 IsNextCall fds call Private = IsPrivateCall fds call
 IsNextCall fds call (Closes entry) = (fd : ℕ) × (call ≡ Close fd) × (entry_of fds fd ≡ Some entry)
+IsNextCall fds call Forks = call ≡ Fork
+IsNextCall fds call Waits = call ≡ Wait
+IsNextCall fds call Exits = call ≡ Exit
 IsNextCall fds call Unknown = Unit {0}
 
 -- the slot's process is Runnable, and its next call closes a descriptor that holds this entry
@@ -46,10 +48,20 @@ pub record IsClosingSlot {S : Type 0} (call : S → Reply → Call) (entry : ℕ
   pub calls : call process.machine process.reply ≡ Close fd
   pub holds : entry_of process.fds fd ≡ Some entry
 
+-- the slot's process is Runnable, and this is its next call
+pub record IsCallingSlot {S : Type 0} (call : S → Reply → Call) (calls_next : Call) (x : Slot S) : Type 0 where
+  pub process : Process S
+  pub is : x ≡ Some process
+  pub ready : process.status ≡ Runnable
+  pub calls : call process.machine process.reply ≡ calls_next
+
 -- this is known of the next call of the slot's process: nothing, where it isn't Runnable
 abbrev pub IsReadyCall : {S : Type 0} → (S → Reply → Call) → Slot S → NextCall → Type 0
 IsReadyCall call x Private = IsPrivateSlot call x
 IsReadyCall call x (Closes entry) = IsClosingSlot call entry x
+IsReadyCall call x Forks = IsCallingSlot call Fork x
+IsReadyCall call x Waits = IsCallingSlot call Wait x
+IsReadyCall call x Exits = IsCallingSlot call Exit x
 IsReadyCall call x Unknown = Unit {0}
 
 -- an entry is in use, and has an object of this kind open
@@ -74,7 +86,3 @@ IsCloseOf x Nothing = x ≡ None
 -- none of the descriptors is one of this pipe's write end
 abbrev pub HasNoWriteEnd : Entries → ℕ → Descriptors → Type 0
 HasNoWriteEnd E pipe fds = (fd : ℕ) (file : OpenFile) → file_at E (entry_of fds fd) ≡ Some file → file.object ≢ PipeWrite pipe
-
--- the next call of the process pid is private, or, where there is room, a close that can be made at once
-abbrev pub IsGiving : {S : Type 0} → (S → Reply → Call) → (S → Reply → S) → Bool → KernelState S → ℕ → Type 0
-IsGiving call next room k pid = IsPrivateSlot call (at k.table pid) ⊎ ((room ≡ true) × ClosesNext call next (IsClosedAtOnce k pid) k pid)

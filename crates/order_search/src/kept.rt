@@ -460,6 +460,7 @@ impl<M: Machine> Held<M> {
     ghost use Rattle.order_model.specs.Woke.{woke_slot};
     ghost use Rattle.order_model.specs.Numbers.{renumbered_slot};
     ghost use Rattle.order_model.specs.Anyhow.{bare_slot};
+    ghost use Rattle.proc_table.specs.Slots.{is_zombie_child_of};
     ghost use Rattle.order_search.specs.Shown.{HasNoWriteEnd, IsReadyCall};
     ghost use Rattle.order_search.specs.Under.{number_under};
 
@@ -506,6 +507,16 @@ impl<M: Machine> Held<M> {
             self.next
         } else {
             NextCall::Unknown
+        }
+    }
+
+    // Whether it is a zombie whose parent has the slot of this number.
+    pub fn is_zombie_of(&self, parent: usize) -> bool
+        ensures { result ≡ true → is_zombie_child_of parent (Some self.now) ≡ true }
+    {
+        match self.parent {
+            Some(number) => self.status == Status::Zombie && usize::from(number) == parent,
+            None => false,
         }
     }
 

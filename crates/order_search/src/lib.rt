@@ -24,5 +24,5 @@ mod unchanged;
 pub use closed_search::{Unwatched, Watch};
 pub use fault::ExploreFault;
 pub use ordering::{Exploration, explore_after, explore_from};
-pub use origin::Origin;
+pub use origin::{Ahead, Origin};
 pub use outcomes::Outcome;

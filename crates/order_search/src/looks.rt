@@ -1,13 +1,14 @@
 //! What of a kernel is kept and compared.
 
 ghost use Rattle.std.specs.Prelude.{◌≡◌, ◌↔◌, IsTrue, IsSome, true, false, map};
-ghost use Rattle.proc_table.specs.Slots.{is_runnable};
+ghost use Rattle.proc_table.specs.Slots.{is_runnable, is_zombie_child_of};
 ghost use Rattle.order_model.specs.Anyhow.{bare_slot};
 ghost use Rattle.order_model.specs.Woke.{woke_slot};
 ghost use Rattle.kernel_model.specs.KernelState.{fds_of};
 ghost use Rattle.order_search.specs.Shown.{slot_of, HasNoWriteEnd, IsReadyCall};
 
 use crate::kept::{AllFiles, Bytes, Entries, Held, Opened, Pipes};
+use crate::origin::Ahead;
 use crate::pools::{Digest, Same};
 use crate::private::{CloseOf, NextCall};
 use crate::ranks::{NUMBERS, Ranks};
@@ -115,7 +116,9 @@ impl<M: Machine> Look<M> {
     ghost use Rattle.order_search.specs.Under.{AreRenumberedParts};
     ghost use Rattle.order_model.specs.Closes.{IsClosedAtOnce, NobodyElseWrites};
     ghost use Rattle.fd_table.specs.Entries.{entry_at};
-    ghost use Rattle.order_search.specs.Shown.{IsGiving, IsOpenAs};
+    ghost use Rattle.kernel_model.specs.KernelState.{fds_at};
+    ghost use Rattle.order_search.specs.Giving.{AreClosedAtOnce, HasZombieChild, IsGiving};
+    ghost use Rattle.order_search.specs.Shown.{IsOpenAs};
 
     // A look at nothing.
     pub fn blank(alloc: Global) -> Result<Look<M>, AllocError> {
@@ -232,30 +235,74 @@ impl<M: Machine> Look<M> {
         pid < self.slots.len() && is_ready(&self.slots[pid])
     }
 
-    // A process, not init, that is Runnable and whose next call is private, or, where there is room, a close that can be made at once.
-    pub fn giving_pid(&self, room: bool) -> Option<usize>
-        ensures { IfSome result (λ pid. (pid ≢ 0) × IsGiving M.call_of M.next_of room self.now pid) }
+    // A process that is Runnable and whose turn gives way to nobody's, where so much is free ahead.
+    pub fn giving_pid(&self, ahead: Ahead) -> Option<usize>
+        ensures { IfSome result (λ pid. IsGiving M.call_of M.next_of ahead self.now pid) }
     {
-        for pid in 1..self.slots.len() {
-            if self.gives_way(pid, room) {
+        for pid in 0..self.slots.len() {
+            if self.gives_way(pid, ahead) {
                 return Some(pid);
             }
         }
         None
     }
 
-    // Whether that process is one.
-    fn gives_way(&self, pid: usize, room: bool) -> bool
-        ensures { result ≡ true → IsGiving M.call_of M.next_of room self.now pid }
+    // Whether that process is one. Of init only a wait is.
+    fn gives_way(&self, pid: usize, ahead: Ahead) -> bool
+        ensures { result ≡ true → IsGiving M.call_of M.next_of ahead self.now pid }
     {
         if pid >= self.slots.len() {
             return false;
         }
         match ready_call(&self.slots[pid]) {
-            NextCall::Private => true,
-            NextCall::Closes(entry) => room && self.is_closed_at_once(pid, entry),
+            NextCall::Private => pid != 0,
+            NextCall::Closes(entry) => {
+                pid != 0 && ahead.entries && self.is_closed_at_once(pid, entry)
+            }
+            NextCall::Forks => pid != 0 && ahead.slots,
+            NextCall::Waits => ahead.slots && self.has_zombie_child(pid),
+            NextCall::Exits => pid != 0 && ahead.entries && self.lets_go_at_once(pid),
             NextCall::Unknown => false,
         }
+    }
+
+    // Whether some zombie's parent is that process.
+    fn has_zombie_child(&self, pid: usize) -> bool
+        ensures { result ≡ true → HasZombieChild self.now.table pid }
+    {
+        for number in 0..self.slots.len() {
+            if is_zombie_child(&self.slots[number], pid) {
+                return true;
+            }
+        }
+        false
+    }
+
+    // Whether that process can close at once whatever descriptors it holds.
+    fn lets_go_at_once(&self, pid: usize) -> bool
+        ensures { result ≡ true → AreClosedAtOnce self.now pid (fds_at self.now pid) }
+    {
+        if pid >= self.slots.len() {
+            return false;
+        }
+        match &self.slots[pid] {
+            Some(held) => self.are_closed_at_once(pid, &held.places),
+            None => false,
+        }
+    }
+
+    // Whether that process can close descriptors that hold these entries at once.
+    fn are_closed_at_once(&self, pid: usize, places: &[Option<u8>]) -> bool
+        ensures { result ≡ true → AreClosedAtOnce self.now pid places.now }
+    {
+        for fd in 0..places.len() {
+            if let Some(number) = places[fd] {
+                if !self.is_closed_at_once(pid, number) {
+                    return false;
+                }
+            }
+        }
+        true
     }
 
     // Whether that process can close a descriptor of the entry of this number at once.
@@ -304,6 +351,16 @@ fn ready_call<M: Machine>(slot: &Option<Rc<Held<M>>>) -> NextCall
     match slot {
         Some(held) => held.ready_call(),
         None => NextCall::Unknown,
+    }
+}
+
+// Whether the slot's process is a zombie, whose parent has the slot of this number.
+fn is_zombie_child<M: Machine>(slot: &Option<Rc<Held<M>>>, parent: usize) -> bool
+    ensures { result ≡ true → is_zombie_child_of parent (slot_of slot.now) ≡ true }
+{
+    match slot {
+        Some(held) => held.is_zombie_of(parent),
+        None => false,
     }
 }
 

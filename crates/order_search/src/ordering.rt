@@ -2,9 +2,9 @@
 
 ghost use Rattle.std.specs.Prelude.{◌≡◌, ◌<◌, IfOk, IfSome, None, All, length, map, true, false};
 ghost use Rattle.order_search.specs.Led.{start_kernel};
-ghost use Rattle.order_model.specs.Closes.{HasRoomAhead};
 ghost use Rattle.order_model.specs.Explored.{IsFinishedOrBusy};
 ghost use Rattle.order_search.specs.Led.{kernel_of};
+ghost use Rattle.order_search.specs.Room.{HasAhead};
 ghost use Rattle.order_search.specs.Told.{LeadsToSleep, Tells};
 ghost use Rattle.order_search.specs.Exploring.{Explores, ExploresAfter};
 
@@ -42,7 +42,7 @@ pub fn explore_from<M: Machine, C: Allocator, W: Watch>(
     states: usize,
     watch: &mut W,
 ) -> Result<Exploration, ExploreFault>
-    requires { origin.now.has_room ≡ true → HasRoomAhead M.call_of M.next_of (start_kernel (M.view origin.now.init) (M.view origin.now.shell) origin.now.stdin.now origin.now.files.now) }
+    requires { HasAhead M.call_of M.next_of origin.now.ahead (start_kernel (M.view origin.now.init) (M.view origin.now.shell) origin.now.stdin.now origin.now.files.now) }
     ensures explores { IfOk result (Explores M.call_of M.next_of (start_kernel (M.view origin.now.init) (M.view origin.now.shell) origin.now.stdin.now origin.now.files.now) (start_kernel (M.view origin.now.init) (M.view origin.now.shell) origin.now.stdin.now origin.now.files.now)) }
     ensures part { IfOk result (λ e. e.whole ≡ false → states < e.states) }
 {
@@ -60,7 +60,7 @@ pub fn explore_after<M: Machine, C: Allocator, W: Watch>(
     states: usize,
     watch: &mut W,
 ) -> Result<Exploration, ExploreFault>
-    requires { origin.now.has_room ≡ true → HasRoomAhead M.call_of M.next_of (start_kernel (M.view origin.now.init) (M.view origin.now.shell) origin.now.stdin.now origin.now.files.now) }
+    requires { HasAhead M.call_of M.next_of origin.now.ahead (start_kernel (M.view origin.now.init) (M.view origin.now.shell) origin.now.stdin.now origin.now.files.now) }
     ensures explores { IfOk result (ExploresAfter M.call_of M.next_of (start_kernel (M.view origin.now.init) (M.view origin.now.shell) origin.now.stdin.now origin.now.files.now) pids.now) }
     ensures part { IfOk result (λ e. e.whole ≡ false → states < e.states) }
 {

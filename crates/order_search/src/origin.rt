@@ -17,6 +17,15 @@ use user_calls::{CallSlot, Machine};
 // The most turns of a run.
 pub const MAX_TURNS: usize = 1_000_000_000;
 
+/// What of a kernel's tables is free for whatever comes, after whatever turns. `false` is always right, and costs states.
+#[derive(Clone, Copy, Debug, PartialEq, Eq)]
+pub struct Ahead {
+    /// Whether whatever is opened finds free open-file entries.
+    pub entries: bool,
+    /// Whether whoever forks finds a free slot.
+    pub slots: bool,
+}
+
 // What a kernel is booted with.
 #[derive(Drop)]
 pub struct Origin<'t, M: Machine, C: Allocator> {
@@ -24,8 +33,7 @@ pub struct Origin<'t, M: Machine, C: Allocator> {
     pub shell: M,
     pub stdin: &'t [u8],
     pub files: &'t Files<C>,
-    /// Whether whatever is opened, after whatever turns, finds free open-file entries; `false` is always right, and costs states.
-    pub has_room: bool,
+    pub ahead: Ahead,
 }
 
 impl<'t, M: Machine, C: Allocator> Origin<'t, M, C> {

@@ -13,6 +13,10 @@ pub enum NextCall {
     Private,
     // It closes a descriptor that holds this entry.
     Closes(u8),
+    Forks,
+    // It waits for a child.
+    Waits,
+    Exits,
     Unknown,
 }
 
@@ -47,6 +51,9 @@ fn known_of(call: &CallSlot, places: &[Option<u8>]) -> NextCall
 {
     match call.kind() {
         CallKind::Exec(_) => NextCall::Private,
+        CallKind::Fork => NextCall::Forks,
+        CallKind::Wait => NextCall::Waits,
+        CallKind::Exit => NextCall::Exits,
         CallKind::Dup(fd) => {
             if entry_of(places, fd).is_some() && lowest_free(places).is_some() {
                 NextCall::Private

@@ -81,13 +81,13 @@ impl<'t, M: Machine, C: Allocator> Model for Standing<'t, M, C> {
       now = n.kernel.value;
     } };
 
-    ghost invariant = { λ n. IsLed M.call_of M.next_of (start_kernel (M.view n.origin.now.init) (M.view n.origin.now.shell) n.origin.now.stdin.now n.origin.now.files.now) n.origin.now.has_room n.pids.items n.kernel.value n.look };
+    ghost invariant = { λ n. IsLed M.call_of M.next_of (start_kernel (M.view n.origin.now.init) (M.view n.origin.now.shell) n.origin.now.stdin.now n.origin.now.files.now) n.origin.now.ahead n.pids.items n.kernel.value n.look };
 }
 
 impl<'t, M: Machine, C: Allocator> Standing<'t, M, C> {
-    ghost use Rattle.std.specs.Prelude.{◌≡◌, true, Some, IfOk};
+    ghost use Rattle.std.specs.Prelude.{◌≡◌, Some, IfOk};
     ghost use Rattle.order_search.specs.Led.{start_kernel};
-    ghost use Rattle.order_model.specs.Closes.{HasRoomAhead};
+    ghost use Rattle.order_search.specs.Room.{HasAhead};
     ghost use Rattle.order_model.specs.Turns.{after_turns};
 
     // The kernel after turns of these processes.
@@ -96,7 +96,7 @@ impl<'t, M: Machine, C: Allocator> Standing<'t, M, C> {
         origin: &'t Origin<'t, M, C>,
         pids: &[u8],
     ) -> Result<Self, ExploreFault>
-        requires { origin.now.has_room ≡ true → HasRoomAhead M.call_of M.next_of (start_kernel (M.view origin.now.init) (M.view origin.now.shell) origin.now.stdin.now origin.now.files.now) }
+        requires { HasAhead M.call_of M.next_of origin.now.ahead (start_kernel (M.view origin.now.init) (M.view origin.now.shell) origin.now.stdin.now origin.now.files.now) }
         ensures { IfOk result (λ node. after_turns M.call_of M.next_of (start_kernel (M.view origin.now.init) (M.view origin.now.shell) origin.now.stdin.now origin.now.files.now) pids.now ≡ Some node.now) }
     {
         let state = remake(tools.alloc, origin, pids)?;
@@ -196,7 +196,7 @@ impl<'t, M: Machine, C: Allocator> Node for Standing<'t, M, C> {
     ghost use Rattle.kernel_model.specs.KernelState.{KernelState};
     ghost use Rattle.order_model.specs.Woke.{woke};
     ghost use Rattle.order_model.specs.Anyhow.{SameKeyAnyhow};
-    ghost use Rattle.order_model.specs.Closes.{GivesWay};
+    ghost use Rattle.order_model.specs.Giving.{GivesWay};
     ghost use Rattle.order_model.specs.Turns.{after_turn};
 
     ghost State = { KernelState M.State };
@@ -232,7 +232,7 @@ impl<'t, M: Machine, C: Allocator> Node for Standing<'t, M, C> {
     }
 
     fn private_move(&self) -> Option<usize> {
-        self.look.giving_pid(self.origin.has_room)
+        self.look.giving_pid(self.origin.ahead)
     }
 
     fn is_like(&self, other: &Self) -> bool {

@@ -8,7 +8,7 @@ ghost use Rattle.sh_machine.specs.Turn.{call_of, next_of};
 ghost use Rattle.run_model.specs.ScriptRun.{script_kernel};
 ghost use Rattle.order_search.specs.Told.{AreApart, IsReplayed, outcome_by};
 
-use every_order::{ExploreFault, Origin, Outcome, Setting, Unwatched, explore_after};
+use every_order::{Ahead, ExploreFault, Origin, Outcome, Setting, Unwatched, explore_after};
 use kernel_model::Event;
 use kernel_runs::{Order, RunOneFault, run_in_order};
 use sh_machine::{Naming, User};
@@ -69,7 +69,10 @@ fn left_named<N: Naming, B: Allocator, C: Allocator>(
         shell: User::shell(setting.script),
         stdin: setting.stdin,
         files: setting.files,
-        has_room: false,
+        ahead: Ahead {
+            entries: false,
+            slots: false,
+        },
     };
     let mut found = explore_after(alloc, &origin, pids, 1, &mut Unwatched)?;
     Ok(found.outcomes.pop())

@@ -5,7 +5,7 @@ ghost use Rattle.order_model.specs.Turns.{callers};
 ghost use Rattle.session_outcomes.specs.Outcomes.{GoOn, TellsRest};
 
 use crate::fault::RestFault;
-use every_order::{Exploration, Origin, Outcome, Watch, explore_after};
+use every_order::{Ahead, Exploration, Origin, Outcome, Watch, explore_after};
 use kernel_events::{Event, Kernel};
 use mem_files::laws::are_files;
 use std::alloc::{Allocator, Global};
@@ -91,7 +91,10 @@ pub fn outcomes_from<M: Machine, C: Allocator, W: Watch>(
         shell: begun.shell,
         stdin: begun.stdin,
         files: begun.files,
-        has_room: false,
+        ahead: Ahead {
+            entries: false,
+            slots: false,
+        },
     };
     let found = explore_after(alloc, &origin, pids.as_slice(), states, watch)?;
     if !go_on(found.outcomes.as_slice(), pids.as_slice()) {

@@ -7,7 +7,7 @@ use Rattle.sh_machine.specs.State.{User}
 use Rattle.sh_machine.specs.Turn.{call_of, next_of}
 use Rattle.sh_machine.specs.View.{user_of}
 use Rattle.run_model.specs.ScriptRun.{script_kernel}
-use Rattle.order_model.specs.Closes.{HasRoomAhead}
+use Rattle.order_search.specs.Room.{HasAhead}
 use Rattle.order_search.specs.Told.{outcome_by, IsReplayed, LeadsToSleep}
 use Rattle.order_search.specs.Exploring.{Explores}
 use Rattle.every_order.proofs.Passing.{passes, script_starts}
@@ -17,12 +17,17 @@ enough : PROCS ≤ PROCS
 enough = omega arith
 
 pub explore_from-requires : goal.explore_from-requires
-explore_from-requires g c = λ few.
+explore_from-requires g c =
     let profile = c.args.setting.now.script.now.profile in
     let lines = lines_of c.args.setting.now.script.now.lines in
     let same = script_starts profile lines (user_of c.init.result) (user_of c.shell.result) c.args.setting.now.stdin.now c.args.setting.now.files.now c.init.ensures c.shell.ensures in
-    subst (λ (start : KernelState User). HasRoomAhead call_of next_of start) (sym same)
-    (c.a_script_of_few_opens_has_room_ahead.ensures profile lines c.args.setting.now.stdin.now c.args.setting.now.files.now c.are_files.ensures (c.has_few_opens.ensures.0 few))
+    let input = c.args.setting.now.stdin.now in
+    let list = c.args.setting.now.files.now in
+    subst (HasAhead call_of next_of _) (sym same)
+    (record {
+      entries = λ few. c.a_script_of_few_opens_has_room_ahead.ensures profile lines input list c.are_files.ensures (c.has_few_opens.ensures.0 few);
+      slots = λ few. c.a_script_of_few_forks_has_slots_ahead.ensures profile lines input list c.are_files.ensures (c.has_few_forks.ensures.0 few);
+    })
 
 pub returns-clause-sound : goal.returns-clause-sound
 returns-clause-sound g c =

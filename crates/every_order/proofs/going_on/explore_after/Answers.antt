@@ -3,7 +3,7 @@ use Rattle.proc_table.specs.declared.pid.TheConstants.{PROCS}
 use Rattle.kernel_model.specs.KernelState.{KernelState}
 use Rattle.kernel_model.specs.Boot.{boot_kernel}
 use Rattle.order_model.specs.Begun.{IsBegun}
-use Rattle.order_model.specs.Closes.{HasRoomAhead}
+use Rattle.order_search.specs.Room.{HasAhead}
 use Rattle.order_search.specs.Told.{outcome_by}
 use Rattle.order_search.specs.Exploring.{ExploresAfter}
 use Rattle.order_search.proofs.Leading.{start_is}
@@ -17,7 +17,7 @@ pub explore_after-requires : goal.explore_after-requires
 explore_after-requires g c =
     let v = g.M.Machine.view in
     let o = c.args.origin.now in
-    λ said. subst (λ (k : KernelState g.row.M-State.Denot). HasRoomAhead g.M.Machine.call_of g.M.Machine.next_of k) (sym (start_is (v o.init) (v o.shell) o.stdin.now o.files.now)) (c.requires said)
+    subst (HasAhead g.M.Machine.call_of g.M.Machine.next_of o.ahead) (sym (start_is (v o.init) (v o.shell) o.stdin.now o.files.now)) c.requires
 
 pub returns-clause-told : goal.returns-clause-told
 returns-clause-told g c =
