@@ -1,3 +1,4 @@
 pub mod Linked
+pub mod Following
 pub mod Middle
 pub mod Safe
