@@ -1,5 +1,5 @@
 -- Kernels that are enough have the outcome of every finished run.
-use Rattle.std.proofs.Common.{◌≡◌, ℕ, ◌<◌, List, [], ◌∷◌, Some, None, inl, inr, length, refl, sym, subst, ◌∙◌}
+use Rattle.std.proofs.Common.{◌≡◌, ℕ, ◌<◌, List, [], ◌∷◌, Some, None, inl, inr, length, sym, subst, ◌∙◌}
 use Rattle.std.specs.Prelude.{All, Any, Contains, slice_index_or}
 use Rattle.user_calls.specs.declared.calls.Call.{Call}
 use Rattle.user_calls.specs.declared.calls.Reply.{Reply}
