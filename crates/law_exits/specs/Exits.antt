@@ -3,17 +3,16 @@ use Rattle.std.specs.Prelude.{◌≡◌, ◌≢◌, ℕ, Some, None}
 use Rattle.user_calls.specs.declared.calls.Call.{Call}
 use Rattle.user_calls.specs.declared.calls.Call.TheVariants.{Exit}
 use Rattle.user_calls.specs.declared.calls.Reply.{Reply}
-use Rattle.fd_table.specs.Entries.{OpenFile as Opened}
 use Rattle.fd_table.specs.Descriptors.{entry_of}
 use Rattle.proc_table.specs.declared.states.Status.TheVariants.{Runnable}
 use Rattle.proc_table.specs.Slots.{Process, at}
-use Rattle.kernel_model.specs.KernelState.{KernelState, file_at}
+use Rattle.kernel_model.specs.KernelState.{KernelState}
 use Rattle.order_model.specs.Anyhow.{AlikeAnyhow}
 use Rattle.order_model.specs.Begun.{IsBegun}
-use Rattle.order_model.specs.Closes.{HasRoomAhead, IsClosedAtOnce}
+use Rattle.order_model.specs.Closes.{HasRoomAhead}
 use Rattle.order_model.specs.Turns.{after_turn}
 use Rattle.order_model.specs.Slots.{SameButSlots}
-use Rattle.order_model.specs.Giving.{ReapsNext}
+use Rattle.order_model.specs.Giving.{ReapsNext, ExitsNext}
 
 module _ {S : Type 0} (call : S → Reply → Call) (next : S → Reply → S) where
   -- the process p is Runnable and exits next, and it holds no descriptor
@@ -54,6 +53,6 @@ module _ {S : Type 0} (call : S → Reply → Call) (next : S → Reply → S) w
   -- the turn of the process p, not init, is such an exit, in a kernel of a run that has room
   pub record ExitsInRoom (k : KernelState S) (p : ℕ) : Type 0 where
     pub child : p ≢ 0
-    pub exits : ExitsNext k p
+    pub exits : ExitsNext call next k p
     pub room : HasRoomAhead call next k
     pub begun : IsBegun call next k

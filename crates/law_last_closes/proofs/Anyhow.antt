@@ -12,7 +12,7 @@ use Rattle.proc_table.specs.declared.states.Status.TheVariants.{Runnable, Runnin
 use Rattle.proc_table.specs.Slots.{Slot, Table}
 use Rattle.kernel_model.specs.KernelState.{KernelState}
 use Rattle.order_model.specs.Idle.{idle_slot, idle_status, idle_kernel, renamed_entry}
-use Rattle.order_model.specs.Alike.{Alike}
+use Rattle.order_model.specs.Alike.{Alike, IsStill}
 use Rattle.order_model.specs.Woke.{woke, woke_status, woke_slot, woke_table, AlikeAwake}
 use Rattle.order_model.specs.Numbers.{Numbering, SameButNumbers, renumbered, renumbered_slot, renumbered_table}
 use Rattle.order_model.specs.Outcome.{SameOutcome}
@@ -23,7 +23,7 @@ use Rattle.law_orders.proofs.Entries.{entry_renamed}
 use Rattle.law_orders.proofs.Keys.{one_place}
 use Rattle.law_orders.proofs.Tables.{map_swap, count_map}
 use Rattle.law_private_turns.proofs.Awake.{alike_awake, one_step, outcome_awake}
-use Rattle.law_private_turns.proofs.Begun.{begun_on, begun_still}
+use Rattle.law_private_turns.proofs.Begun.{IsSettled, begun_on, begun_still, begun_settled}
 use Rattle.law_entry_numbers.proofs.Numberings.{same_itself, same_back, table_twice, table_none}
 use Rattle.law_entry_numbers.proofs.Still.{idle_so, outcome_so, still_so}
 use Rattle.law_entry_numbers.proofs.Turns.{one_taken}
@@ -252,26 +252,33 @@ module _ {S : Type 0} (call : S → Reply → Call) (next : S → Reply → S) w
   does_bare k m (itself j) = refl
   does_bare k m (likened i j n b d alike rest) = bare_anyhow i j alike ∙ does_bare j m rest
 
+  -- k can take the turn of p too, to what is alike to `now`, or it is so already
+  abbrev pub OneStepAnyhow : KernelState S → KernelState S → ℕ → Type 0
+  OneStepAnyhow k now p = AlikeAnyhow k now ⊎ ((after : KernelState S) × (after_turn call next k p ≡ Some after) × AlikeAnyhow after now)
+
+  pub one_step_anyhow : (k l now : KernelState S) (p : ℕ) → IsSettled call k → IsStill l → AlikeAnyhow k l → after_turn call next l p ≡ Some now → OneStepAnyhow k now p
+  one_step_anyhow k l now p b still a is =
+      let w = between k l a in
+      let back = same_back w.kernel l w.same in
+      let t = one_taken call next l w.kernel now (quiet p) still back is in
+      by t.last t.same (one_step call next k w.kernel t.last p b (still_so l w.kernel back still) w.awake t.turns) where
+        by : (last : KernelState S) → SameButNumbers now last → AlikeAwake k last ⊎ ((after : KernelState S) × (after_turn call next k p ≡ Some after) × AlikeAwake after last) → OneStepAnyhow k now p
+        by last same (inl like) = inl (joined k last now like (same_back now last same))
+        by last same (inr s) = inr (s.0, s.1, joined s.0 last now s.2 (same_back now last same))
+
   abbrev Steps : KernelState S → KernelState S → Type 0
   Steps k now = ComesTo (after_turn call next) (DoesAnyhow call next) k now
 
   pub follows_anyhow : (k l now : KernelState S) (p : ℕ) → DoesAnyhow call next k l → after_turn call next l p ≡ Some now → Steps k now
   follows_anyhow k l now p (itself j) is = inr (p, now, is, itself now)
   follows_anyhow k l now p (likened i j n b d alike rest) is = by (follows_anyhow j n now p rest is) where
-    step_by : (q : ℕ) (mid : KernelState S) (last : KernelState S) → after_turn call next j q ≡ Some mid → DoesAnyhow call next mid now → SameButNumbers mid last
-        → AlikeAwake i last ⊎ ((after : KernelState S) × (after_turn call next i q ≡ Some after) × AlikeAwake after last) → Steps i now
-    step_by q mid last first more same (inl like) = inl (likened i mid now b (begun_on call next j mid (q ∷ []) d first) (joined i last mid like (same_back mid last same)) more)
-    step_by q mid last first more same (inr t) =
-        inr (q, t.0, t.1, likened t.0 mid now (begun_on call next i t.0 (q ∷ []) b t.1) (begun_on call next j mid (q ∷ []) d first) (joined t.0 last mid t.2 (same_back mid last same)) more)
+    then : (q : ℕ) (mid : KernelState S) → after_turn call next j q ≡ Some mid → DoesAnyhow call next mid now → OneStepAnyhow i mid q → Steps i now
+    then q mid first more (inl same) = inl (likened i mid now b (begun_on call next j mid (q ∷ []) d first) same more)
+    then q mid first more (inr s) = inr (q, s.0, s.1, likened s.0 mid now (begun_on call next i s.0 (q ∷ []) b s.1) (begun_on call next j mid (q ∷ []) d first) s.2 more)
 
     by : Steps j now → Steps i now
     by (inl more) = inl (likened i j now b d alike more)
-    by (inr s) =
-        let w = between i j alike in
-        let still = begun_still call next j d in
-        let back = same_back w.kernel j w.same in
-        let t = one_taken call next j w.kernel s.1 (quiet s.0) still back s.2 in
-        step_by s.0 s.1 t.last s.2 s.3 t.same (one_step call next i w.kernel t.last s.0 b (still_so j w.kernel back still) w.awake t.turns)
+    by (inr s) = then s.0 s.1 s.2 s.3 (one_step_anyhow i j s.1 s.0 (begun_settled call next i b) (begun_still call next j d) alike s.2)
 
   pub following_anyhow : IsFollowing (after_turn call next) (DoesAnyhow call next)
   following_anyhow = record { itself = itself; on = anyhow_on; follows = follows_anyhow }

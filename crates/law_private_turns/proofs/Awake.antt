@@ -26,7 +26,7 @@ use Rattle.law_private_turns.proofs.Wakes.{acted_woke}
 use Rattle.law_private_turns.proofs.Fine.{FinePut, Fine}
 use Rattle.law_private_turns.proofs.Idling.{idle_call}
 use Rattle.law_private_turns.proofs.Turned.{turn_is, ready_slot, runnable_by}
-use Rattle.law_private_turns.proofs.Begun.{begun_on, begun_still, begun_fine, begun_waits, begun_asks}
+use Rattle.law_private_turns.proofs.Begun.{IsSettled, begun_on, begun_still, begun_settled}
 
 -- ---- to wake and to be idle
 
@@ -143,7 +143,7 @@ module _ {S : Type 0} (call : S → Reply → Call) (next : S → Reply → S) w
   abbrev OneStep : KernelState S → KernelState S → ℕ → Type 0
   OneStep k now p = AlikeAwake k now ⊎ ((after : KernelState S) × (after_turn call next k p ≡ Some after) × AlikeAwake after now)
 
-  module _ (k l : KernelState S) (p : ℕ) (b : IsBegun call next k) (d : IsStill l) (a : AlikeAwake k l) (y : Process S) (there : at l.table p ≡ Some y) (ready : is_runnable_status y.status ≡ true) where
+  module _ (k l : KernelState S) (p : ℕ) (b : IsSettled call k) (d : IsStill l) (a : AlikeAwake k l) (y : Process S) (there : at l.table p ≡ Some y) (ready : is_runnable_status y.status ≡ true) where
     abbrev dl : KernelState S
     dl = counted (given_0 l p)
 
@@ -159,7 +159,7 @@ module _ {S : Type 0} (call : S → Reply → Call) (next : S → Reply → S) w
     -- Runnable in both
     taken : (x : Process S) → at k.table p ≡ Some x → x.status ≡ Runnable → x.machine ≡ y.machine → x.reply ≡ y.reply → OneStep k (turned call next l p y false) p
     taken x here runs machine reply =
-        let still = begun_still call next k b in
+        let still = b.still in
         let x_ready : is_runnable_status x.status ≡ true = ap is_runnable_status runs in
         let dk : KernelState S = counted (given_0 k p) in
         let before : AlikeAwake dk dl =
@@ -176,7 +176,7 @@ module _ {S : Type 0} (call : S → Reply → Call) (next : S → Reply → S) w
     -- asleep in k: the turn comes to nothing
     left_out : (x : Process S) (c : Channel) → at k.table p ≡ Some x → x.status ≡ Asleep c → x.machine ≡ y.machine → x.reply ≡ y.reply → OneStep k (turned call next l p y false) p
     left_out x c here asleep machine reply =
-        let still = begun_still call next k b in
+        let still = b.still in
         let e : KernelState S = counted (counted k) in
         let before : AlikeAwake e dl =
         record {
@@ -188,8 +188,8 @@ module _ {S : Type 0} (call : S → Reply → Call) (next : S → Reply → S) w
         } in
         let both = calls_awake e dl k.events l.events p (next x.machine x.reply) (call x.machine x.reply) still.names l_names (omega arith) (omega arith) before in
         let nothing : woke (acted e p (next x.machine x.reply) (call x.machine x.reply) false) ≡ woke e =
-        idle_call e p x here (next x.machine x.reply) c (call x.machine x.reply) false asleep (fine_there (at k.table p) x here (begun_fine call next k b p))
-        (begun_waits call next k b p c (sleeps_there (at k.table p) x c here asleep)) (begun_asks call next k b p x c here asleep) in
+        idle_call e p x here (next x.machine x.reply) c (call x.machine x.reply) false asleep (fine_there (at k.table p) x here (b.fine p))
+        (b.rests.waits p c (sleeps_there (at k.table p) x c here asleep)) (b.asks p x c here asleep) in
         let after : AlikeAwake k (acted dl p (next x.machine x.reply) (call x.machine x.reply) false) =
         record {
           first = both.first;
@@ -208,13 +208,13 @@ module _ {S : Type 0} (call : S → Reply → Call) (next : S → Reply → S) w
 
     found : Elsewhere y (at k.table p)
     found =
-        elsewhere_by a.first a.second y (at k.table p) (runnable_by y.status ready) (none_runs k.table p (begun_still call next k b).idle) (slots_awake k l a p ∙ ap (λ (x : Slot S). idle_slot a.second (woke_slot x)) there)
+        elsewhere_by a.first a.second y (at k.table p) (runnable_by y.status ready) (none_runs k.table p b.still.idle) (slots_awake k l a p ∙ ap (λ (x : Slot S). idle_slot a.second (woke_slot x)) there)
 
   pub found_elsewhere : (k l : KernelState S) (p : ℕ) → IsStill k → AlikeAwake k l → (y : Process S) → at l.table p ≡ Some y → y.status ≡ Runnable → Elsewhere y (at k.table p)
   found_elsewhere k l p still a y there ready =
       elsewhere_by a.first a.second y (at k.table p) ready (none_runs k.table p still.idle) (slots_awake k l a p ∙ ap (λ (x : Slot S). idle_slot a.second (woke_slot x)) there)
 
-  pub one_step : (k l now : KernelState S) (p : ℕ) → IsBegun call next k → IsStill l → AlikeAwake k l → after_turn call next l p ≡ Some now → OneStep k now p
+  pub one_step : (k l now : KernelState S) (p : ℕ) → IsSettled call k → IsStill l → AlikeAwake k l → after_turn call next l p ≡ Some now → OneStep k now p
   one_step k l now p b d a is =
       let r = ready_slot (at l.table p) (could_turn call next l (record { pid = p; refused = false }) (now, is)) in
       let both : Some (turned call next l p r.process false) ≡ Some now = sym (turn_is call next l p r.process d r.there r.ready) ∙ is in
@@ -236,7 +236,7 @@ module _ {S : Type 0} (call : S → Reply → Call) (next : S → Reply → S) w
 
     by : ComesTo (after_turn call next) (DoesAwake call next) j now → ComesTo (after_turn call next) (DoesAwake call next) i now
     by (inl more) = inl (likened i j now b d alike more)
-    by (inr s) = then s.0 s.1 s.2 s.3 (one_step i j s.1 s.0 b (begun_still call next j d) alike s.2)
+    by (inr s) = then s.0 s.1 s.2 s.3 (one_step i j s.1 s.0 (begun_settled call next i b) (begun_still call next j d) alike s.2)
 
   pub following_awake : IsFollowing (after_turn call next) (DoesAwake call next)
   following_awake = record { itself = itself; on = awake_on; follows = follows_awake }

@@ -9,7 +9,7 @@ use Rattle.kernel_model.specs.Boot.{boot_kernel}
 use Rattle.kernel_model.specs.Events.{counted}
 use Rattle.kernel_model.proofs.Lasting.{no_run}
 use Rattle.law_outcomes.proofs.Outcomes.{every_call_ends}
-use Rattle.law_kernel.specs.Sleeping.{AllWait}
+use Rattle.law_kernel.specs.Sleeping.{AllWait, Rests}
 use Rattle.law_kernel.specs.Asking.{AllAsk}
 use Rattle.law_kernel.proofs.Runs.{every_run_rests, past_two}
 use Rattle.law_kernel.proofs.AskRuns.{every_run_asks}
@@ -26,6 +26,13 @@ boot_fine : {S : Type 0} (init shell : S) (input : Bytes) (list : List (Name × 
 boot_fine init shell input list zero = tt
 boot_fine init shell input list (suc zero) = tt
 boot_fine {S} init shell input list (suc (suc q)) = subst (λ (x : Slot S). Fine x) (sym (past_two S 62 q)) tt
+
+-- what a kernel of a run is between two turns: still, and whoever sleeps has to, and will make the same call again
+pub record IsSettled {S : Type 0} (call : S → Reply → Call) (k : KernelState S) : Type 0 where
+  pub still : IsStill k
+  pub fine : AllFine k.table
+  pub rests : Rests k.table k.pipes
+  pub asks : AllAsk call k
 
 module _ {S : Type 0} (call : S → Reply → Call) (next : S → Reply → S) where
   pub after_still : (k now : KernelState S) (p : ℕ) → IsStill k → after_turn call next k p ≡ Some now → IsStill now
@@ -80,8 +87,14 @@ module _ {S : Type 0} (call : S → Reply → Call) (next : S → Reply → S) w
     pub begun_fine : AllFine k.table
     begun_fine = turns_fine boot k b.pids boots (boot_fine b.init b.shell b.input b.files) b.turns
 
+    begun_rests : Rests k.table k.pipes
+    begun_rests = every_run_rests call next b.init b.shell b.input b.files (turn_events (quiet_turns b.pids)) (turn_notes (quiet_turns b.pids)) k b.turns
+
     pub begun_waits : AllWait k.table k.pipes
-    begun_waits = (every_run_rests call next b.init b.shell b.input b.files (turn_events (quiet_turns b.pids)) (turn_notes (quiet_turns b.pids)) k b.turns).waits
+    begun_waits = begun_rests.waits
 
     pub begun_asks : AllAsk call k
     begun_asks = every_run_asks call next b.init b.shell b.input b.files (turn_events (quiet_turns b.pids)) (turn_notes (quiet_turns b.pids)) k b.are b.turns
+
+    pub begun_settled : IsSettled call k
+    begun_settled = record { still = begun_still; fine = begun_fine; rests = begun_rests; asks = begun_asks }

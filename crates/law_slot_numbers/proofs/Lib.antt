@@ -6,3 +6,4 @@ pub mod Freeing
 pub mod Acted
 pub mod Same
 pub mod Turns
+pub mod Sleepers

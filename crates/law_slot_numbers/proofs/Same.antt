@@ -55,7 +55,7 @@ slot_none : {S : Type 0} (x : Slot S) → moved_slot (λ i. i) x ≡ x
 slot_none None = refl
 slot_none (Some p) = λ i. Some (record p { status = status_none p.status i; parent = place_none p.parent i })
 
-back_slot : {S : Type 0} (n : Numbering) (x : Slot S) → moved_slot n.back (moved_slot n.to x) ≡ x
+pub back_slot : {S : Type 0} (n : Numbering) (x : Slot S) → moved_slot n.back (moved_slot n.to x) ≡ x
 back_slot n x = slot_twice n.to n.back (λ i. i) n.there x ∙ slot_none x
 
 back_place : (n : Numbering) (o : Option ℕ) → renumbered_place n.back (renumbered_place n.to o) ≡ o

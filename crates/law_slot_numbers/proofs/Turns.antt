@@ -15,13 +15,13 @@ use Rattle.kernel_model.specs.KernelState.{KernelState}
 use Rattle.kernel_model.specs.Events.{acted, counted}
 use Rattle.kernel_model.proofs.Lasting.{no_run}
 use Rattle.law_kernel.specs.Sleeping.{Lives, SleepsOn, IsFamily}
-use Rattle.law_kernel.proofs.Runs.{every_run_rests}
 use Rattle.order_model.specs.Turns.{by_turns, after_turn, after_turns, quiet_turns, turn_events, turn_notes}
+use Rattle.order_model.specs.Alike.{IsStill}
 use Rattle.order_model.specs.Begun.{IsBegun}
 use Rattle.order_model.specs.Numbers.{Numbering}
 use Rattle.law_orders.proofs.Follow.{after_turn as turned, given_0}
 use Rattle.law_orders.proofs.Back.{could_turn}
-use Rattle.law_private_turns.proofs.Begun.{begun_on, begun_still, begun_waits}
+use Rattle.law_private_turns.proofs.Begun.{IsSettled, begun_on, begun_still, begun_settled}
 use Rattle.law_private_turns.proofs.Turned.{turn_is, ready_slot}
 use Rattle.order_model.specs.Slots.{moved_status, moved_process, moved_slot, SameButSlots}
 use Rattle.law_slot_numbers.specs.Matched.{IsTurnTakenToo, AreTurnsTakenToo}
@@ -84,16 +84,16 @@ module _ {S : Type 0} (t : Table S) (pid : ℕ) where
 -- ---- a turn
 
 module _ {S : Type 0} (call : S → Reply → Call) (next : S → Reply → S) where
-  begun_family : (k : KernelState S) → IsBegun call next k → IsFamily k.table
-  begun_family k b = (every_run_rests call next b.init b.shell b.input b.files (turn_events (quiet_turns b.pids)) (turn_notes (quiet_turns b.pids)) k b.turns).family
-
-  -- a kernel of a run in the middle of a turn
-  pub begun_mid : (k : KernelState S) (pid : ℕ) (x : Process S) → IsBegun call next k → at k.table pid ≡ Some x → is_runnable_status x.status ≡ true → Mid (counted (given_0 k pid)).table pid
-  begun_mid k pid x b there ready =
-      mid_of k.table pid (length-set k.table pid (with_status (Running 0) (at k.table pid)) ∙ (begun_still call next k b).sound.slots) (begun_family k b) (λ i q s. (begun_waits call next k b i (Children q) s).0)
+  -- a kernel in the middle of a turn
+  settled_mid : (k : KernelState S) (pid : ℕ) (x : Process S) → IsSettled call k → at k.table pid ≡ Some x → is_runnable_status x.status ≡ true → Mid (counted (given_0 k pid)).table pid
+  settled_mid k pid x b there ready =
+      mid_of k.table pid (length-set k.table pid (with_status (Running 0) (at k.table pid)) ∙ b.still.sound.slots) b.rests.family (λ i q s. (b.rests.waits i (Children q) s).0)
       (record { used = ap is_free there; alive = ap is_zombie there ∙ alive_status x.status ready })
 
-  module _ (k l : KernelState S) (b : IsBegun call next k) (d : IsBegun call next l) (a : SameButSlots k l) (pid : ℕ) (x : Process S) (there : at k.table pid ≡ Some x) (ready : is_runnable_status x.status ≡ true) where
+  pub begun_mid : (k : KernelState S) (pid : ℕ) (x : Process S) → IsBegun call next k → at k.table pid ≡ Some x → is_runnable_status x.status ≡ true → Mid (counted (given_0 k pid)).table pid
+  begun_mid k pid x b there ready = settled_mid k pid x (begun_settled call next k b) there ready
+
+  module _ (k l : KernelState S) (b : IsSettled call k) (d : IsStill l) (a : SameButSlots k l) (pid : ℕ) (x : Process S) (there : at k.table pid ≡ Some x) (ready : is_runnable_status x.status ≡ true) where
     n : Numbering
     n = a.numbering
 
@@ -119,26 +119,29 @@ module _ {S : Type 0} (call : S → Reply → Call) (next : S → Reply → S) w
     left =
         let dk : KernelState S = counted (given_0 k pid) in
         let u : Table S = (counted (given_0 l (a.numbering.to pid))).table in
-        let it = acted_under a.numbering pid (a.numbering.to pid) (next x.machine x.reply) dk u dispatched_both (begun_mid k pid x b there ready)
-        (length-set l.table (a.numbering.to pid) (with_status (Running 0) (at l.table (a.numbering.to pid))) ∙ (begun_still call next l d).sound.slots) (call x.machine x.reply) false in
+        let it = acted_under a.numbering pid (a.numbering.to pid) (next x.machine x.reply) dk u dispatched_both (settled_mid k pid x b there ready)
+        (length-set l.table (a.numbering.to pid) (with_status (Running 0) (at l.table (a.numbering.to pid))) ∙ d.sound.slots) (call x.machine x.reply) false in
         let same_l : record dk { table = u } ≡ counted (given_0 l (a.numbering.to pid)) = ap (λ (j : KernelState S). record (counted (counted j)) { table = u }) a.rest in
         subst (λ (j : KernelState S). SameButSlots (turned call next k pid x false) (acted j (a.numbering.to pid) (next x.machine x.reply) (call x.machine x.reply) false)) same_l
         (but_slots pid (a.numbering.to pid) _ _ it)
 
     taken : (now : KernelState S) → after_turn call next k pid ≡ Some now → IsTurnTakenToo call next l (a.numbering.to pid) now
     taken now is =
-        let here : Some (turned call next k pid x false) ≡ Some now = sym (turn_is call next k pid x (begun_still call next k b) there ready) ∙ is in
+        let here : Some (turned call next k pid x false) ≡ Some now = sym (turn_is call next k pid x b.still there ready) ∙ is in
         let same : turned call next k pid x false ≡ now = cc in
         record {
           after = turned call next l (a.numbering.to pid) (moved_process a.numbering.to x) false;
-          turn = turn_is call next l (a.numbering.to pid) (moved_process a.numbering.to x) (begun_still call next l d) there_l (ready_status a.numbering.to x.status ready);
+          turn = turn_is call next l (a.numbering.to pid) (moved_process a.numbering.to x) d there_l (ready_status a.numbering.to x.status ready);
           same = subst (λ (j : KernelState S). SameButSlots j (turned call next l (a.numbering.to pid) (moved_process a.numbering.to x) false)) same left;
         }
 
-  pub turn_taken : (k l now : KernelState S) (pid : ℕ) (a : SameButSlots k l) → IsBegun call next k → IsBegun call next l → after_turn call next k pid ≡ Some now → IsTurnTakenToo call next l (a.numbering.to pid) now
-  turn_taken k l now pid a b d is =
+  pub settled_taken : (k l now : KernelState S) (pid : ℕ) (a : SameButSlots k l) → IsSettled call k → IsStill l → after_turn call next k pid ≡ Some now → IsTurnTakenToo call next l (a.numbering.to pid) now
+  settled_taken k l now pid a b d is =
       let r = ready_slot (at k.table pid) (could_turn call next k (record { pid = pid; refused = false }) (now, is)) in
       taken k l b d a pid r.process r.there r.ready now is
+
+  pub turn_taken : (k l now : KernelState S) (pid : ℕ) (a : SameButSlots k l) → IsBegun call next k → IsBegun call next l → after_turn call next k pid ≡ Some now → IsTurnTakenToo call next l (a.numbering.to pid) now
+  turn_taken k l now pid a b d is = settled_taken k l now pid a (begun_settled call next k b) (begun_still call next l d) is
 
   -- ---- turns
 

@@ -1,0 +1,4 @@
+pub mod Linked
+pub mod Following
+pub mod Middle
+pub mod Safe
