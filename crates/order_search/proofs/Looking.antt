@@ -5,13 +5,14 @@ use Rattle.std.specs.Prelude.{Option, Result, Ok, not, IfSome, IsSome, is_some, 
 use Rattle.std.specs.Option.{is_some as some_in}
 use Rattle.std.proofs.lemmas.Bool.{cases_eq, eqb-true, ltb-true, ltb-false}
 use Rattle.user_calls.specs.declared.calls.Call.{Call}
+use Rattle.user_calls.specs.declared.calls.Call.TheVariants.{Fork, Exit, Wait}
 use Rattle.user_calls.specs.declared.calls.Reply.{Reply}
 use Rattle.fd_table.specs.Descriptors.{Descriptors}
 use Rattle.proc_table.specs.Slots.{Process, Slot, Table, at}
 use Rattle.order_model.specs.Anyhow.{bare_slot}
 use Rattle.order_search.specs.declared.private.NextCall.{NextCall}
 use Rattle.order_search.specs.declared.private.NextCall.TheVariants.{Private, Closes, Forks, Waits, Exits, Unknown}
-use Rattle.order_search.specs.Shown.{slot_of, IsNextCall, IsReadyCall, IsClosingSlot, IsOpenAs, IsNoReadEnd, HasNoWriteEnd}
+use Rattle.order_search.specs.Shown.{slot_of, IsNextCall, IsReadyCall, IsClosingSlot, IsCallingSlot, IsOpenAs, IsNoReadEnd, HasNoWriteEnd}
 use Rattle.fd_table.specs.declared.names.Object.{Object}
 use Rattle.fd_table.specs.declared.names.Object.TheVariants.{Input, Out, Diag, File, PipeRead, PipeWrite}
 use Rattle.fd_table.specs.Entries.{Entries, OpenFile, entry_at}
@@ -20,6 +21,8 @@ use Rattle.fd_table.specs.declared.descriptors.TheConstants.{DESCRIPTORS}
 use Rattle.proc_table.specs.declared.states.Status.TheVariants.{Runnable}
 use Rattle.kernel_model.specs.KernelState.{KernelState, fds_of, fds_at, file_at}
 use Rattle.order_model.specs.Closes.{ClosesNext, IsClosedAtOnce, NobodyElseWrites}
+use Rattle.order_model.specs.Giving.{ForksNext, ReapsNext, ExitsNext}
+use Rattle.order_search.specs.Giving.{HasZombieChild, AreClosedAtOnce}
 
 module _ {S Z : Type 0} where
   pub at_kept : (xs : List (Option (Rc (Process S) Z))) (i : ℕ) (d : Option (Rc (Process S) Z)) → i < length xs → at (map slot_of xs) i ≡ slot_of (get_or xs i d)
@@ -110,6 +113,23 @@ module _ {S : Type 0} (call : S → Reply → Call) where
     by : (o : Option OpenFile) → entry_at k.entries entry ≡ o → IsOpenAs kind o → ClosesNext call next kind k pid
     by None used of = absurd of
     by (Some f) used of = record { process = c.process; there = c.is; ready = c.ready; fd = c.fd; calls = c.calls; entry = entry; holds = c.holds; file = f; used = used; of = of }
+
+  -- so is a fork, a wait of whom a zombie is a child, and an exit of whom can close at once what it holds
+  pub forks_known : (k : KernelState S) (pid : ℕ) → IsCallingSlot call Fork (at k.table pid) → ForksNext call k pid
+  forks_known k pid c = record { process = c.process; there = c.is; ready = c.ready; calls = c.calls }
+
+  pub reaps_known : (next : S → Reply → S) (k : KernelState S) (pid : ℕ) → IsCallingSlot call Wait (at k.table pid) → HasZombieChild k.table pid → ReapsNext call next k pid
+  reaps_known next k pid c child = record { process = c.process; there = c.is; ready = c.ready; calls = c.calls; zombie = child.0; dead = child.1 }
+
+  pub exits_known : (next : S → Reply → S) (k : KernelState S) (pid : ℕ) → IsCallingSlot call Exit (at k.table pid) → AreClosedAtOnce k pid (fds_at k pid) → ExitsNext call next k pid
+  exits_known next k pid c all =
+      record {
+        process = c.process;
+        there = c.is;
+        ready = c.ready;
+        calls = c.calls;
+        at_once = λ fd f held. all fd f (ap (λ (x : Slot S). file_at k.entries (entry_of (fds_of x) fd)) c.is ∙ held);
+      }
 
 -- ---- who writes to a pipe
 
