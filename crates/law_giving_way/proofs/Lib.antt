@@ -1,2 +1,3 @@
 pub mod Linked
 pub mod Following
+pub mod Stalled

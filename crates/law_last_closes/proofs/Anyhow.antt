@@ -144,7 +144,7 @@ module _ {S : Type 0} (k l : KernelState S) (a : AlikeAnyhow k l) where
   abbrev E : Entries
   E = picked its k.entries
 
-  named_so : (e : ℕ) → renamed_entry a.second (its e) ≡ renamed_entry a.first (entry_at k.entries e)
+  pub named_so : (e : ℕ) → renamed_entry a.second (its e) ≡ renamed_entry a.first (entry_at k.entries e)
   named_so e = sym (entry_renamed a.second l.entries (n.to e)) ∙ a.same.is.entries.same e ∙ entry_renamed a.first k.entries e
 
   its_past : (e : ℕ) → length k.entries ≤ e → its e ≡ None

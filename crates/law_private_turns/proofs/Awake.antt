@@ -19,7 +19,7 @@ use Rattle.law_orders.proofs.Follow.{after_turn as turned, given_0, given_names,
 use Rattle.law_orders.proofs.Back.{could_turn}
 use Rattle.law_orders.proofs.Keys.{one_key}
 use Rattle.order_model.specs.Woke.{woke_status, woke_slot, woke_table, woke, AlikeAwake, SameKeyAwake}
-use Rattle.order_model.specs.Begun.{IsBegun, DoesAwake, itself, likened}
+use Rattle.order_model.specs.Begun.{DoesAwake, itself, likened}
 use Rattle.order_model.specs.Reduced.{IsFollowing, ComesTo}
 use Rattle.law_private_turns.proofs.Woken.{at_woke}
 use Rattle.law_private_turns.proofs.Wakes.{acted_woke}
@@ -99,7 +99,7 @@ calls_awake j i m n p after c names names_too later later_too a =
     }
 
 -- a dispatch isn't seen
-given_awake : {S : Type 0} (name : ℕ → ℕ) (l : KernelState S) (p : ℕ) → is_runnable (at l.table p) ≡ true → idle_kernel name 0 (woke (counted (given_0 l p))) ≡ idle_kernel name 0 (woke l)
+pub given_awake : {S : Type 0} (name : ℕ → ℕ) (l : KernelState S) (p : ℕ) → is_runnable (at l.table p) ≡ true → idle_kernel name 0 (woke (counted (given_0 l p))) ≡ idle_kernel name 0 (woke l)
 given_awake name l p ready =
     woke_idle name (counted (given_0 l p)) ∙ ap woke (λ i. record (idle_kernel name 0 l) { table = dispatch_idle name l.table p 0 ready i }) ∙ sym (woke_idle name l)
 
