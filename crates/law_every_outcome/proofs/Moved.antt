@@ -2,7 +2,7 @@
 use Rattle.std.proofs.Common.{◌≡◌, ◌≢◌, ◌⊎◌, ℕ, zero, suc, ◌<◌, ◌≤◌, List, [], ◌∷◌, Bool, true, false, Option, Some, None, inl, inr, length, refl, sym, ap, subst, ◌∙◌, arith}
 use Rattle.std.specs.Prelude.{All, Any, slice_index_or, ◌==◌}
 use Rattle.std.proofs.lemmas.Bool.{eq-eqb, eqb-true}
-use Rattle.order_model.specs.Reduced.{turns, IsFollowing, Joins, IsSafe, IsLed, listed, private_turn, GoesOn, IsReduced, IsEnding}
+use Rattle.order_model.specs.Reduced.{turns, IsFollowing, ComesTo, Joins, IsSafe, IsLed, listed, private_turn, GoesOn, IsReduced, IsEnding}
 
 pub of_all : {X : Type 0} (P : X → Type 0) (xs : List X) (i : ℕ) (x : X) → All P xs → i < length xs → slice_index_or xs i x ≡ x → P x
 of_all P xs i x all within there = subst P there (all i x within)
@@ -26,11 +26,11 @@ module _ {K : Type 0} (turn : K → ℕ → Option K) (does : K → K → Type 0
     runs : turns turn (Some k) rest ≡ Some last
     like : does last m
 
-  follow_by : (k i m : K) (p : ℕ) (ps : List ℕ) → ((j : K) → does j i → Follows j m ps) → does k i ⊎ ((after : K) × (turn k p ≡ Some after) × does after i) → Follows k m (p ∷ ps)
+  follow_by : (k i m : K) (p : ℕ) (ps : List ℕ) → ((j : K) → does j i → Follows j m ps) → ComesTo turn does k i → Follows k m (p ∷ ps)
   follow_by k i m p ps on (inl like) = let f = on k like in record { rest = f.rest; short = omega (arith, f.short); last = f.last; runs = f.runs; like = f.like }
   follow_by k i m p ps on (inr s) =
-      let f = on s.0 s.2 in
-      record { rest = p ∷ f.rest; short = omega (arith, f.short); last = f.last; runs = ap (λ (o : Option K). turns turn o f.rest) s.1 ∙ f.runs; like = f.like }
+      let f = on s.1 s.3 in
+      record { rest = s.0 ∷ f.rest; short = omega (arith, f.short); last = f.last; runs = ap (λ (o : Option K). turns turn o f.rest) s.2 ∙ f.runs; like = f.like }
 
   followed : (k l m : K) (ps : List ℕ) → does k l → turns turn (Some l) ps ≡ Some m → Follows k m ps
   followed k l m [] like is =
@@ -49,18 +49,18 @@ module _ {K : Type 0} (turn : K → ℕ → Option K) (does : K → K → Type 0
     runs : turns turn (Some a) rest ≡ Some last
     like : does last m
 
-  -- a turn of q before the one of p, by what joins them
-  joined : (a l m : K) (p q n : ℕ) (j : Joins turn does private a l p q) → Front j.both m n → does a j.both ⊎ ((after : K) × (turn a q ≡ Some after) × does after j.both) → Front a m (suc n)
-  joined a l m p q n j f (inl like) =
+  -- another turn before the one of p, by what joins them
+  joined : (a l m : K) (p n : ℕ) (j : Joins turn does private a l p) → Front j.both m n → ComesTo turn does a j.both → Front a m (suc n)
+  joined a l m p n j f (inl like) =
       let g = followed a j.both f.last f.rest like f.runs in
       record { rest = g.rest; less = omega (arith, f.less, g.short); last = g.last; runs = g.runs; like = can.on g.last f.last m g.like f.like }
-  joined a l m p q n j f (inr more) =
-      let g = followed more.0 j.both f.last f.rest more.2 f.runs in
+  joined a l m p n j f (inr more) =
+      let g = followed more.1 j.both f.last f.rest more.3 f.runs in
       record {
-        rest = q ∷ g.rest;
+        rest = more.0 ∷ g.rest;
         less = omega (arith, f.less, g.short);
         last = g.last;
-        runs = ap (λ (o : Option K). turns turn o g.rest) more.1 ∙ g.runs;
+        runs = ap (λ (o : Option K). turns turn o g.rest) more.2 ∙ g.runs;
         like = can.on g.last f.last m g.like f.like;
       }
 
@@ -80,7 +80,7 @@ module _ {K : Type 0} (turn : K → ℕ → Option K) (does : K → K → Type 0
     by false differ None second on rest = absurd (no_turns qs m rest)
     by false differ (Some l) second on rest =
         let j = safe k a l p q mine (apart p q differ) first second in
-        joined a l m p q (length qs) j (on l j.both j.still j.taken rest over) j.joins
+        joined a l m p (length qs) j (on l j.both j.still j.taken rest over) j.joins
 
   module _ (seen : List K) (all : All (GoesOn turn does private seen) seen) where
     abbrev Reaches : ℕ → Type 0

@@ -12,7 +12,7 @@ use Rattle.order_model.specs.Explored.{FinishesWith, AreOutcomesOf, IsOutcomeByT
 use Rattle.closed_search.specs.Searched.{IsReached, here, more, IsLed as IsLedTo, listed as listed_to, privately, IsReducedUnder}
 use Rattle.law_orders.proofs.Back.{could_turn}
 use Rattle.order_model.specs.Reduced.{IsLed, listed, private_turn}
-use Rattle.order_model.specs.Closes.{GivesWay}
+use Rattle.order_model.specs.Giving.{GivesWay}
 use Rattle.order_model.specs.Anyhow.{SameKeyAnyhow}
 use Rattle.order_model.specs.Begun.{IsBegun}
 use Rattle.law_every_outcome.proofs.Moved.{of_all}

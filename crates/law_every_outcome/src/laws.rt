@@ -13,7 +13,7 @@ ghost use Rattle.order_model.specs.Woke.{AlikeAwake, SameKeyAwake};
 ghost use Rattle.order_model.specs.Anyhow.{SameKeyAnyhow};
 ghost use Rattle.order_model.specs.Turns.{after_turn, IsReachedFrom};
 ghost use Rattle.order_model.specs.Outcome.{RunOutcome};
-ghost use Rattle.order_model.specs.Closes.{GivesWay};
+ghost use Rattle.order_model.specs.Giving.{GivesWay};
 ghost use Rattle.order_model.specs.Begun.{IsBegun};
 ghost use Rattle.order_model.specs.Explored.{FinishesWith, AreOutcomesOf, AreEnough, Explored, IsFinishedOrBusy, IsOutcomeOfRun, AreAllOutcomes, IsNeverStuck};
 ghost use Rattle.closed_search.specs.Searched.{IsReducedUnder, IsReached};

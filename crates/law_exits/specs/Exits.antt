@@ -13,7 +13,7 @@ use Rattle.order_model.specs.Begun.{IsBegun}
 use Rattle.order_model.specs.Closes.{HasRoomAhead, IsClosedAtOnce}
 use Rattle.order_model.specs.Turns.{after_turn}
 use Rattle.order_model.specs.Slots.{SameButSlots}
-use Rattle.order_model.specs.Giving.{ReapsNext}
+use Rattle.order_model.specs.Giving.{ReapsNext, ExitsNext}
 
 module _ {S : Type 0} (call : S → Reply → Call) (next : S → Reply → S) where
   -- the process p is Runnable and exits next, and it holds no descriptor
@@ -54,6 +54,6 @@ module _ {S : Type 0} (call : S → Reply → Call) (next : S → Reply → S) w
   -- the turn of the process p, not init, is such an exit, in a kernel of a run that has room
   pub record ExitsInRoom (k : KernelState S) (p : ℕ) : Type 0 where
     pub child : p ≢ 0
-    pub exits : ExitsNext k p
+    pub exits : ExitsNext call next k p
     pub room : HasRoomAhead call next k
     pub begun : IsBegun call next k

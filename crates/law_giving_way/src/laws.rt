@@ -1,9 +1,10 @@
 //! Laws: each function's contract is the law, and its body is empty. They are of any machines.
 
 ghost use Rattle.kernel_model.specs.KernelState.{KernelState};
+ghost use Rattle.order_model.specs.Giving.{GivesWayBegun};
 ghost use Rattle.order_model.specs.Linked.{CanDo};
 ghost use Rattle.order_model.specs.Outcome.{SameOutcome};
-ghost use Rattle.order_model.specs.Reduced.{IsFollowing};
+ghost use Rattle.order_model.specs.Reduced.{IsFollowing, IsSafe};
 ghost use Rattle.order_model.specs.Turns.{after_turn};
 
 use user_calls::Machine;
@@ -15,4 +16,12 @@ pub fn neither_sleepers_nor_slots_are_seen<M: Machine>()
     ensures follows { IsFollowing (after_turn M.call_of M.next_of) (CanDo M.call_of M.next_of) }
     ensures back { (k m : KernelState M.State) → CanDo M.call_of M.next_of k m → CanDo M.call_of M.next_of m k }
     ensures outcome { (k m : KernelState M.State) → CanDo M.call_of M.next_of k m → SameOutcome k m }
+{}
+
+/// Private turns, closes and exits where whatever is opened later finds free entries, and forks and waits that free a zombie where
+/// whoever forks later finds a free slot give way to nobody's turn, in a kernel of a run: such a turn can be taken before any other
+/// process's turn or after it, and stays such a turn over that one. The first order comes to what the second one comes to, in these same
+/// respects, or the turn alone does.
+pub fn such_turns_give_way_to_nobody<M: Machine>()
+    ensures { IsSafe (after_turn M.call_of M.next_of) (CanDo M.call_of M.next_of) (GivesWayBegun M.call_of M.next_of) }
 {}
