@@ -1,5 +1,5 @@
 -- Kernels that are enough have the outcome of every finished run.
-use Rattle.std.proofs.Common.{◌≡◌, ℕ, ◌<◌, List, [], ◌∷◌, Some, None, inl, inr, length, refl, sym, subst, ◌∙◌}
+use Rattle.std.proofs.Common.{◌≡◌, ℕ, ◌<◌, List, [], ◌∷◌, Some, None, inl, inr, length, sym, subst, ◌∙◌}
 use Rattle.std.specs.Prelude.{All, Any, Contains, slice_index_or}
 use Rattle.user_calls.specs.declared.calls.Call.{Call}
 use Rattle.user_calls.specs.declared.calls.Reply.{Reply}
@@ -53,7 +53,7 @@ module _ {S : Type 0} (call : S → Reply → Call) (next : S → Reply → S) w
   finished_ends m over k p e does = not_over k m p e.gives (can_outcome call next k m does) over
 
   module _ (start : KernelState S) (seen : List (KernelState S)) (begun : IsBegun call next start) (e : AreEnough call next start seen) where
-    seen_begun : (i : ℕ) (k : KernelState S) → i < length seen → slice_index_or seen i k ≡ k → IsBegun call next k
+    pub seen_begun : (i : ℕ) (k : KernelState S) → i < length seen → slice_index_or seen i k ≡ k → IsBegun call next k
     seen_begun i k within there = let way = of_all (IsReachedFrom call next start) seen i k e.reached within there in begun_on call next start k way.pids begun way.turns
 
     led : (k : KernelState S) → IsBegun call next k → IsLed (after_turn call next) (λ s k. SameKeyAnyhow k s) (GivesWay call next) seen k → IsLed (after_turn call next) (CanDo call next) (GivesWayBegun call next) seen k
