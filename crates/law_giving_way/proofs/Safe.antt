@@ -8,7 +8,7 @@ use Rattle.kernel_model.specs.KernelState.{KernelState}
 use Rattle.order_model.specs.Turns.{by_turns, after_turn, quiet_turns}
 use Rattle.order_model.specs.Reduced.{ComesTo, IsSafe, Joins}
 use Rattle.order_model.specs.Begun.{IsBegun}
-use Rattle.order_model.specs.Closes.{HasRoomAhead, ClosesOrPrivate, ClosesOrPrivateBegun}
+use Rattle.order_model.specs.Closes.{HasRoomAhead, ClosesOrPrivate}
 use Rattle.order_model.specs.Anyhow.{AlikeAnyhow, DoesAnyhow}
 use Rattle.order_model.specs.Giving.{ForksNext, ReapsNext, ExitsNext, HasSlotsAhead, GivesWay, privately, closes, forks, reaps, exits, GivesWayBegun}
 use Rattle.order_model.specs.Linked.{AlikeButSlots, then_slots, slots_then, CanDo, itself, likened}
