@@ -3,14 +3,13 @@ use Rattle.std.specs.Prelude.{◌≡◌, ◌≢◌, ℕ, Some, None}
 use Rattle.user_calls.specs.declared.calls.Call.{Call}
 use Rattle.user_calls.specs.declared.calls.Call.TheVariants.{Exit}
 use Rattle.user_calls.specs.declared.calls.Reply.{Reply}
-use Rattle.fd_table.specs.Entries.{OpenFile as Opened}
 use Rattle.fd_table.specs.Descriptors.{entry_of}
 use Rattle.proc_table.specs.declared.states.Status.TheVariants.{Runnable}
 use Rattle.proc_table.specs.Slots.{Process, at}
-use Rattle.kernel_model.specs.KernelState.{KernelState, file_at}
+use Rattle.kernel_model.specs.KernelState.{KernelState}
 use Rattle.order_model.specs.Anyhow.{AlikeAnyhow}
 use Rattle.order_model.specs.Begun.{IsBegun}
-use Rattle.order_model.specs.Closes.{HasRoomAhead, IsClosedAtOnce}
+use Rattle.order_model.specs.Closes.{HasRoomAhead}
 use Rattle.order_model.specs.Turns.{after_turn}
 use Rattle.order_model.specs.Slots.{SameButSlots}
 use Rattle.order_model.specs.Giving.{ReapsNext, ExitsNext}
