@@ -19,7 +19,7 @@ use Rattle.order_model.specs.Linked.{then_slots, CanDo, itself, likened}
 use Rattle.order_model.specs.Explored.{AreEnough, Explored, AreAllOutcomes}
 use Rattle.law_orders.proofs.Matching.{quiet_matched}
 use Rattle.law_private_turns.proofs.Begun.{begun_on, begun_still}
-use Rattle.law_last_closes.proofs.Anyhow.{anyhow_back, key_anyhow}
+use Rattle.law_last_closes.proofs.Anyhow.{anyhow_back, key_anyhow, outcome_on}
 use Rattle.law_slot_numbers.proofs.Same.{same_itself}
 use Rattle.law_giving_way.proofs.Linked.{can_outcome}
 use Rattle.law_giving_way.proofs.Following.{following}
@@ -27,14 +27,6 @@ use Rattle.law_giving_way.proofs.Safe.{giving_safe}
 use Rattle.law_every_outcome.proofs.Moved.{of_all, any_more, every_ending}
 use Rattle.law_every_outcome.proofs.Runs.{folded, of_run}
 use Rattle.law_every_outcome.proofs.Giving.{giver}
-
-outcome_on : {S : Type 0} (k l m : KernelState S) → SameOutcome k l → SameOutcome l m → SameOutcome k m
-outcome_on k l m a b =
-    record {
-      outcome = a.outcome ∙ b.outcome;
-      input = a.input ∙ b.input;
-      finished = (λ is. b.finished.0 (a.finished.0 is), λ is. a.finished.1 (b.finished.1 is));
-    }
 
 outcome_back : {S : Type 0} (k l : KernelState S) → SameOutcome k l → SameOutcome l k
 outcome_back k l a = record { outcome = sym a.outcome; input = sym a.input; finished = (a.finished.1, a.finished.0) }
@@ -53,7 +45,7 @@ module _ {S : Type 0} (call : S → Reply → Call) (next : S → Reply → S) w
   finished_ends m over k p e does = not_over k m p e.gives (can_outcome call next k m does) over
 
   module _ (start : KernelState S) (seen : List (KernelState S)) (begun : IsBegun call next start) (e : AreEnough call next start seen) where
-    seen_begun : (i : ℕ) (k : KernelState S) → i < length seen → slice_index_or seen i k ≡ k → IsBegun call next k
+    pub seen_begun : (i : ℕ) (k : KernelState S) → i < length seen → slice_index_or seen i k ≡ k → IsBegun call next k
     seen_begun i k within there = let way = of_all (IsReachedFrom call next start) seen i k e.reached within there in begun_on call next start k way.pids begun way.turns
 
     led : (k : KernelState S) → IsBegun call next k → IsLed (after_turn call next) (λ s k. SameKeyAnyhow k s) (GivesWay call next) seen k → IsLed (after_turn call next) (CanDo call next) (GivesWayBegun call next) seen k

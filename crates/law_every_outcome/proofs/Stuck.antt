@@ -1,38 +1,35 @@
 -- No run is stuck if each kernel of a reduced list is finished or can do something.
-use Rattle.std.proofs.Common.{◌≡◌, ◌⊎◌, ℕ, zero, suc, List, [], ◌∷◌, Bool, true, false, None, Some, inl, inr, refl, sym, ap, subst, ◌∙◌}
+use Rattle.std.proofs.Common.{◌≡◌, ◌⊎◌, ℕ, zero, suc, List, [], ◌∷◌, Bool, true, false, Some, inl, inr, refl, sym, ap, subst, ◌∙◌}
 use Rattle.std.specs.Prelude.{All}
 use Rattle.user_calls.specs.declared.calls.Call.{Call}
+use Rattle.user_calls.specs.declared.calls.Call.TheVariants.{Wait}
 use Rattle.user_calls.specs.declared.calls.Reply.{Reply}
 use Rattle.proc_table.specs.declared.states.Channel.{Channel}
 use Rattle.proc_table.specs.declared.states.Channel.TheVariants.{PipeBytes, PipeRoom, Children}
 use Rattle.proc_table.specs.declared.states.Status.{Status}
-use Rattle.proc_table.specs.declared.states.Status.TheVariants.{Runnable, Asleep}
-use Rattle.proc_table.specs.Slots.{Slot, Table, Process, at, is_runnable}
+use Rattle.proc_table.specs.declared.states.Status.TheVariants.{Runnable, Running, Asleep, Zombie}
+use Rattle.proc_table.specs.Slots.{Slot, Table, Process, at, is_zombie, is_zombie_status}
 use Rattle.kernel_model.specs.declared.events.Event.{Event}
 use Rattle.kernel_model.specs.KernelState.{KernelState}
 use Rattle.kernel_model.specs.Events.{run, IsFinished}
 use Rattle.kernel_model.specs.Quiet.{no_refusals}
 use Rattle.kernel_model.proofs.Quiet.{run_quiet}
 use Rattle.law_kernel.specs.Asking.{MaySleep}
-use Rattle.order_model.specs.Alike.{IsStill}
 use Rattle.order_model.specs.Turns.{after_turn, callers}
 use Rattle.order_model.specs.Explored.{AreEnough, IsFinishedOrBusy, IsFinishedOrAwake, IsNeverStuck}
-use Rattle.law_orders.proofs.Back.{could_turn}
+use Rattle.law_kernel.specs.Sleeping.{Waits}
 use Rattle.law_orders.proofs.Matching.{quiet_matched}
 use Rattle.order_model.specs.Reduced.{IsEnding}
-use Rattle.order_model.specs.Numbers.{renumbered_slot}
 use Rattle.order_model.specs.Begun.{IsBegun}
-use Rattle.order_model.specs.Closes.{GivesWayBegun}
-use Rattle.order_model.specs.Anyhow.{DoesAnyhow, itself, likened}
+use Rattle.order_model.specs.Giving.{GivesWayBegun}
+use Rattle.order_model.specs.Linked.{CanDo}
 use Rattle.law_every_outcome.proofs.Moved.{of_all}
-use Rattle.law_every_outcome.proofs.Looks.{looks, awake, runnable_awake, slot_awake}
-use Rattle.law_private_turns.proofs.Begun.{begun_still, begun_asks}
-use Rattle.law_private_turns.proofs.Awake.{awake_back, Elsewhere, found_elsewhere}
-use Rattle.law_entry_numbers.proofs.Numberings.{same_back}
-use Rattle.law_entry_numbers.proofs.Still.{slots_so, still_so}
-use Rattle.law_last_closes.proofs.Anyhow.{between, anyhow_on, does_back, does_bare, follows_anyhow}
-use Rattle.law_every_outcome.proofs.Giving.{Sleepless, giver}
-use Rattle.law_every_outcome.proofs.Listed.{does_outcome, turns_listed}
+use Rattle.law_every_outcome.proofs.Looks.{looks, awake, awake_status, slot_awake}
+use Rattle.law_private_turns.proofs.Begun.{begun_on, begun_still, begun_settled}
+use Rattle.law_giving_way.proofs.Linked.{can_outcome}
+use Rattle.law_giving_way.proofs.Stalled.{MustSleep, IsStalled, all_asleep, stalled_on, stalled_turn}
+use Rattle.law_every_outcome.proofs.Giving.{Sleepless, FindsZombie, giver}
+use Rattle.law_every_outcome.proofs.Listed.{seen_begun, turns_listed}
 
 -- ---- somebody is awake, or nobody is
 
@@ -54,71 +51,51 @@ somebody : {S : Type 0} (t : Table S) → Somebody t ⊎ Nobody t
 somebody [] = inr (λ pid. refl)
 somebody (x ∷ t) = somebody_by x t (awake x) refl (somebody t)
 
+-- whoever lives where nobody is awake sleeps
+asleep_by : (s : Status) → awake_status s ≡ false → is_zombie_status s ≡ false → (c : Channel) × (s ≡ Asleep c)
+asleep_by Runnable none alive = absurd (let z : ⊥ = cc in z)
+asleep_by (Running h) none alive = absurd (let z : ⊥ = cc in z)
+asleep_by (Asleep c) none alive = (c, refl)
+asleep_by Zombie none alive = absurd (let z : ⊥ = cc in z)
+
+nobody_asleep : {S : Type 0} (t : Table S) → Nobody t → (q : ℕ) (x : Process S) → at t q ≡ Some x → is_zombie (at t q) ≡ false → (c : Channel) × (x.status ≡ Asleep c)
+nobody_asleep t none q x there alive = asleep_by x.status (sym (ap awake there) ∙ none q) (sym (ap is_zombie there) ∙ alive)
+
+-- ---- whose turn gives way to nobody's needn't sleep
+
+no_sleep : {S : Type 0} (m : KernelState S) (p : ℕ) (c : Call) (put : ℕ) (ch : Channel) → Sleepless c → MaySleep m p c put ch → ⊥
+no_sleep m p c put (PipeBytes id) never may = subst Sleepless may.2 never
+no_sleep m p c put (PipeRoom id) never may = subst Sleepless may.1.1 never
+no_sleep m p c put (Children pid) never may = subst Sleepless may.1 never
+
+-- a wait that finds a zombie
+no_wait : {S : Type 0} (m : KernelState S) (p : ℕ) (put : ℕ) (ch : Channel) → FindsZombie m p Wait → MaySleep m p Wait put ch → Waits m.table m.pipes p ch → ⊥
+no_wait m p put (PipeBytes id) finds may waits = let is = may.2 in let z : ⊥ = cc in z
+no_wait m p put (PipeRoom id) finds may waits = let is = may.1.1 in let z : ⊥ = cc in z
+no_wait m p put (Children pid) finds may waits =
+    let zombie = finds.1 in
+    let no : true ≡ false = sym zombie.1 ∙ waits.1.living zombie.0 in
+    let z : ⊥ = cc in
+    z
+
+needs_no_sleep : {S : Type 0} (m : KernelState S) (p : ℕ) (c : Call) (put : ℕ) → Sleepless c ⊎ FindsZombie m p c → MustSleep m p c put → ⊥
+needs_no_sleep m p c put (inl never) s = no_sleep m p c put s.channel never s.asks
+needs_no_sleep m p c put (inr finds) s = no_wait m p put s.channel (subst (FindsZombie m p) finds.0 finds) (subst (λ (d : Call). MaySleep m p d put s.channel) finds.0 s.asks) s.waits
+
 module _ {S : Type 0} (call : S → Reply → Call) (next : S → Reply → S) where
-  -- ---- whose turn gives way to nobody's doesn't sleep
+  nobody_stalled : (m : KernelState S) → IsBegun call next m → Nobody m.table → IsStalled call m
+  nobody_stalled m b none = all_asleep call next m (begun_settled call next m b) (nobody_asleep m.table none)
 
-  no_sleep : (m : KernelState S) (p : ℕ) (c : Call) (put : ℕ) (ch : Channel) → Sleepless c → MaySleep m p c put ch → ⊥
-  no_sleep m p c put (PipeBytes id) never may = subst Sleepless may.2 never
-  no_sleep m p c put (PipeRoom id) never may = subst Sleepless may.1.1 never
-  no_sleep m p c put (Children pid) never may = subst Sleepless may.1 never
-
-  -- the process p is Runnable, and its call never puts it to sleep
-  record Stands (m : KernelState S) (p : ℕ) : Type 0 where
-    process : Process S
-    there : at m.table p ≡ Some process
-    calls : Sleepless (call process.machine process.reply)
-    ready : process.status ≡ Runnable
-
-  awake_by : (m : KernelState S) (p : ℕ) (y : Process S) (w : Elsewhere y (at m.table p)) → IsBegun call next m → Sleepless (call y.machine y.reply) → Stands m p
-  awake_by m p y w b calls =
-      let x = w.process in
-      let same : Sleepless (call x.machine x.reply) = subst Sleepless (λ i. call (sym w.machine i) (sym w.reply i)) calls in
-      by w.status same where
-        by : (w.process.status ≡ Runnable) ⊎ ((c : Channel) × (w.process.status ≡ Asleep c)) → Sleepless (call w.process.machine w.process.reply) → Stands m p
-        by (inl ready) same = record { process = w.process; there = w.there; calls = same; ready = ready }
-        by (inr asleep) same = absurd (no_sleep m p (call w.process.machine w.process.reply) w.process.put asleep.0 same (begun_asks call next m b p w.process asleep.0 w.there asleep.1))
-
-  -- a process that is there under other numbers
-  elsewhere_so : (y : Process S) (to : ℕ → ℕ) (x : Slot S) → Elsewhere y x → Elsewhere y (renumbered_slot to x)
-  elsewhere_so y to None e = absurd (let there = e.there in let z : ⊥ = cc in z)
-  elsewhere_so y to (Some q) e =
-      let there = e.there in
-      let same : q ≡ e.process = cc in
-      record {
-        process = _;
-        there = refl;
-        machine = ap (λ (r : Process S). r.machine) same ∙ e.machine;
-        reply = ap (λ (r : Process S). r.reply) same ∙ e.reply;
-        status = subst (λ (r : Process S). (r.status ≡ Runnable) ⊎ ((c : Channel) × (r.status ≡ Asleep c))) (sym same) e.status;
-      }
-
-  stands_on : (k m : KernelState S) (p : ℕ) → DoesAnyhow call next k m → Stands k p → Stands m p
-  stands_on k m p (itself j) s = s
-  stands_on k m p (likened i j n b d alike rest) s =
-      let w = between i j alike in
-      let still : IsStill w.kernel = still_so j w.kernel (same_back w.kernel j w.same) (begun_still call next j d) in
-      let e = elsewhere_so s.process w.same.numbering.to (at w.kernel.table p) (found_elsewhere call next w.kernel i p still (awake_back i w.kernel w.awake) s.process s.there s.ready) in
-      stands_on j m p rest (awake_by j p s.process (subst (Elsewhere s.process) (sym (slots_so w.kernel j p w.same)) e) d s.calls)
-
-  nobody_ends : (m : KernelState S) → Nobody m.table → IsEnding (after_turn call next) (DoesAnyhow call next) (GivesWayBegun call next) m
-  nobody_ends m none k p e does =
+  stalled_ends : (m : KernelState S) → IsStalled call m → IsEnding (after_turn call next) (CanDo call next) (GivesWayBegun call next) m
+  stalled_ends m stalled k p e can =
       let x = giver call next k p e.gives in
-      let s = stands_on k m p does (record { process = x.process; there = x.there; calls = x.calls; ready = x.ready }) in
-      let up : awake (at m.table p) ≡ true = ap awake s.there ∙ runnable_awake (Some s.process) (ap (λ (t : Status). is_runnable (Some (record s.process { status = t }))) s.ready) in
-      let no : true ≡ false = sym up ∙ none p in
-      let z : ⊥ = cc in
-      z
+      needs_no_sleep k p (call x.process.machine x.process.reply) x.process.put x.calls
+      (stalled_on call next k m can stalled p x.process x.there (ap is_zombie x.there ∙ ap is_zombie_status x.ready))
 
   module _ (start : KernelState S) (seen : List (KernelState S)) (begun : IsBegun call next start) (e : AreEnough call next start seen) (busy : All (IsFinishedOrBusy call next) seen) where
-    over_by : (m s : KernelState S) → Nobody m.table → DoesAnyhow call next s m → IsFinishedOrBusy call next s → IsFinished m
-    over_by m s none does (inl over) = (does_outcome call next s m does).finished.0 over
-    over_by m s none does (inr b) = by (follows_anyhow call next m s b.now b.pid (does_back call next s m does) b.turn) where
-      by : DoesAnyhow call next m b.now ⊎ ((after : KernelState S) × (after_turn call next m b.pid ≡ Some after) × DoesAnyhow call next after b.now) → IsFinished m
-      by (inl more) = absurd (b.other (sym (does_bare call next s b.now (anyhow_on call next s m b.now does more))))
-      by (inr turn) =
-          let up : awake (at m.table b.pid) ≡ true = runnable_awake (at m.table b.pid) (could_turn call next m (record { pid = b.pid; refused = false }) (turn.0, turn.1)) in
-          let no : true ≡ false = sym up ∙ none b.pid in
-          absurd (let z : ⊥ = cc in z)
+    over_by : (m s : KernelState S) → IsStalled call m → IsBegun call next s → CanDo call next s m → IsFinishedOrBusy call next s → IsFinished m
+    over_by m s stalled b can (inl over) = (can_outcome call next s m can).finished.0 over
+    over_by m s stalled b can (inr t) = absurd (t.other (stalled_turn call next s t.now t.pid (begun_still call next s b) (stalled_on call next s m can stalled) t.turn))
 
     not_stuck : (m : KernelState S) (es : List Event) → run call next (Some start) es (no_refusals es) ≡ Some m → IsFinishedOrAwake m
     not_stuck m es is = by (somebody m.table) where
@@ -126,9 +103,10 @@ module _ {S : Type 0} (call : S → Reply → Call) (next : S → Reply → S) w
       by (inl some) = inr (some.0, slot_awake (at m.table some.0) some.1)
       by (inr none) =
           let f = quiet_matched call next start m es (begun_still call next start begun) is in
-          let none_too : Nobody f.last.table = λ pid. sym ((looks m f.last f.alike).who pid) ∙ none pid in
-          let any = turns_listed call next start seen begun e f.last (callers es) f.turns (nobody_ends f.last none_too) in
-          let over = over_by f.last any.1 none_too any.4 (of_all (IsFinishedOrBusy call next) seen any.0 any.1 busy any.2 any.3) in
+          let last_begun = begun_on call next start f.last (callers es) begun f.turns in
+          let stalled = nobody_stalled f.last last_begun (λ pid. sym ((looks m f.last f.alike).who pid) ∙ none pid) in
+          let any = turns_listed call next start seen begun e f.last (callers es) f.turns (stalled_ends f.last stalled) in
+          let over = over_by f.last any.1 stalled (seen_begun call next start seen begun e any.0 any.1 any.2 any.3) any.4 (of_all (IsFinishedOrBusy call next) seen any.0 any.1 busy any.2 any.3) in
           inl (f.outcome.finished.1 over)
 
     pub never_stuck : IsNeverStuck call next start

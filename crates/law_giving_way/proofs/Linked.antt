@@ -1,5 +1,4 @@
 -- To be able to do what another kernel can holds of each kernel with itself, both ways, and is passed on; outcomes are the same.
-use Rattle.std.proofs.Common.{◌∙◌}
 use Rattle.user_calls.specs.declared.calls.Call.{Call}
 use Rattle.user_calls.specs.declared.calls.Reply.{Reply}
 use Rattle.kernel_model.specs.KernelState.{KernelState}
@@ -7,16 +6,8 @@ use Rattle.order_model.specs.Outcome.{SameOutcome}
 use Rattle.order_model.specs.Anyhow.{DoesAnyhow, itself as the_same, likened as linked_by}
 use Rattle.order_model.specs.Linked.{AlikeButSlots, then_slots, slots_then, CanDo, itself, likened}
 use Rattle.law_private_turns.proofs.Begun.{begun_still}
-use Rattle.law_last_closes.proofs.Anyhow.{anyhow_back, outcome_anyhow}
+use Rattle.law_last_closes.proofs.Anyhow.{anyhow_back, outcome_on, outcome_anyhow}
 use Rattle.law_slot_numbers.proofs.Same.{same_itself, same_back, outcome_so}
-
-outcome_on : {S : Type 0} (k l m : KernelState S) → SameOutcome k l → SameOutcome l m → SameOutcome k m
-outcome_on k l m a b =
-    record {
-      outcome = a.outcome ∙ b.outcome;
-      input = a.input ∙ b.input;
-      finished = (λ is. b.finished.0 (a.finished.0 is), λ is. a.finished.1 (b.finished.1 is));
-    }
 
 pub alike_back : {S : Type 0} (k l : KernelState S) → AlikeButSlots k l → AlikeButSlots l k
 alike_back k l (then_slots j still a s) = slots_then j still (same_back j l s) (anyhow_back k j a)

@@ -144,7 +144,7 @@ module _ {S : Type 0} (k l : KernelState S) (a : AlikeAnyhow k l) where
   abbrev E : Entries
   E = picked its k.entries
 
-  named_so : (e : ℕ) → renamed_entry a.second (its e) ≡ renamed_entry a.first (entry_at k.entries e)
+  pub named_so : (e : ℕ) → renamed_entry a.second (its e) ≡ renamed_entry a.first (entry_at k.entries e)
   named_so e = sym (entry_renamed a.second l.entries (n.to e)) ∙ a.same.is.entries.same e ∙ entry_renamed a.first k.entries e
 
   its_past : (e : ℕ) → length k.entries ≤ e → its e ≡ None
@@ -197,7 +197,7 @@ module _ {S : Type 0} (k l : KernelState S) (a : AlikeAnyhow k l) where
 
 -- ---- what such kernels have in common
 
-outcome_on : {S : Type 0} (k l m : KernelState S) → SameOutcome k l → SameOutcome l m → SameOutcome k m
+pub outcome_on : {S : Type 0} (k l m : KernelState S) → SameOutcome k l → SameOutcome l m → SameOutcome k m
 outcome_on k l m a b =
     record {
       outcome = a.outcome ∙ b.outcome;
@@ -243,14 +243,6 @@ module _ {S : Type 0} (call : S → Reply → Call) (next : S → Reply → S) w
   pub anyhow_on : (k l m : KernelState S) → DoesAnyhow call next k l → DoesAnyhow call next l m → DoesAnyhow call next k m
   anyhow_on k l m (itself j) more = more
   anyhow_on k l m (likened i j n b d alike rest) more = likened i j m b d alike (anyhow_on j n m rest more)
-
-  pub does_back : (k m : KernelState S) → DoesAnyhow call next k m → DoesAnyhow call next m k
-  does_back k m (itself j) = itself j
-  does_back k m (likened i j n b d alike rest) = anyhow_on m j i (does_back j m rest) (likened j i i d b (anyhow_back i j alike) (itself i))
-
-  pub does_bare : (k m : KernelState S) → DoesAnyhow call next k m → bare_table k.table ≡ bare_table m.table
-  does_bare k m (itself j) = refl
-  does_bare k m (likened i j n b d alike rest) = bare_anyhow i j alike ∙ does_bare j m rest
 
   -- k can take the turn of p too, to what is alike to `now`, or it is so already
   abbrev pub OneStepAnyhow : KernelState S → KernelState S → ℕ → Type 0

@@ -44,7 +44,7 @@ use Rattle.law_private_turns.proofs.Turned.{set_twice, idle_told, turn_is, turn_
 use Rattle.order_model.specs.Numbers.{SameButNumbers}
 use Rattle.order_model.specs.Closes.{IsPlain, FindsFree, FindsFreeNext, ClosesNext}
 use Rattle.law_last_closes.specs.Either.{InEitherOrder}
-use Rattle.law_last_closes.proofs.Closing.{HasPlain, CanGo, no_trace_of}
+use Rattle.law_last_closes.proofs.Closing.{HasPlain, no_trace_of}
 use Rattle.law_last_closes.proofs.Objects.{IsOpenOn, outcome_on}
 use Rattle.law_last_closes.proofs.Acted.{CanLose, CanGoBy, goes_by, acted_lost}
 

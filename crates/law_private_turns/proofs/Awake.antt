@@ -19,7 +19,7 @@ use Rattle.law_orders.proofs.Follow.{after_turn as turned, given_0, given_names,
 use Rattle.law_orders.proofs.Back.{could_turn}
 use Rattle.law_orders.proofs.Keys.{one_key}
 use Rattle.order_model.specs.Woke.{woke_status, woke_slot, woke_table, woke, AlikeAwake, SameKeyAwake}
-use Rattle.order_model.specs.Begun.{IsBegun, DoesAwake, itself, likened}
+use Rattle.order_model.specs.Begun.{DoesAwake, itself, likened}
 use Rattle.order_model.specs.Reduced.{IsFollowing, ComesTo}
 use Rattle.law_private_turns.proofs.Woken.{at_woke}
 use Rattle.law_private_turns.proofs.Wakes.{acted_woke}
@@ -55,9 +55,6 @@ alike_awake k l a =
       second_one_to_one = a.second_one_to_one;
       same = woke_idle a.first k ∙ ap woke a.same ∙ sym (woke_idle a.second l);
     }
-
-pub awake_back : {S : Type 0} (k l : KernelState S) → AlikeAwake k l → AlikeAwake l k
-awake_back k l a = record { first = a.second; second = a.first; first_one_to_one = a.second_one_to_one; second_one_to_one = a.first_one_to_one; same = sym a.same }
 
 pub one_key_awake : {S : Type 0} (k l : KernelState S) → SameKeyAwake k l → AlikeAwake k l
 one_key_awake k l is =
@@ -99,7 +96,7 @@ calls_awake j i m n p after c names names_too later later_too a =
     }
 
 -- a dispatch isn't seen
-given_awake : {S : Type 0} (name : ℕ → ℕ) (l : KernelState S) (p : ℕ) → is_runnable (at l.table p) ≡ true → idle_kernel name 0 (woke (counted (given_0 l p))) ≡ idle_kernel name 0 (woke l)
+pub given_awake : {S : Type 0} (name : ℕ → ℕ) (l : KernelState S) (p : ℕ) → is_runnable (at l.table p) ≡ true → idle_kernel name 0 (woke (counted (given_0 l p))) ≡ idle_kernel name 0 (woke l)
 given_awake name l p ready =
     woke_idle name (counted (given_0 l p)) ∙ ap woke (λ i. record (idle_kernel name 0 l) { table = dispatch_idle name l.table p 0 ready i }) ∙ sym (woke_idle name l)
 
@@ -209,10 +206,6 @@ module _ {S : Type 0} (call : S → Reply → Call) (next : S → Reply → S) w
     found : Elsewhere y (at k.table p)
     found =
         elsewhere_by a.first a.second y (at k.table p) (runnable_by y.status ready) (none_runs k.table p b.still.idle) (slots_awake k l a p ∙ ap (λ (x : Slot S). idle_slot a.second (woke_slot x)) there)
-
-  pub found_elsewhere : (k l : KernelState S) (p : ℕ) → IsStill k → AlikeAwake k l → (y : Process S) → at l.table p ≡ Some y → y.status ≡ Runnable → Elsewhere y (at k.table p)
-  found_elsewhere k l p still a y there ready =
-      elsewhere_by a.first a.second y (at k.table p) ready (none_runs k.table p still.idle) (slots_awake k l a p ∙ ap (λ (x : Slot S). idle_slot a.second (woke_slot x)) there)
 
   pub one_step : (k l now : KernelState S) (p : ℕ) → IsSettled call k → IsStill l → AlikeAwake k l → after_turn call next l p ≡ Some now → OneStep k now p
   one_step k l now p b d a is =

@@ -9,7 +9,7 @@ use Rattle.kernel_model.specs.Boot.{boot_kernel}
 use Rattle.kernel_model.specs.Events.{counted}
 use Rattle.kernel_model.proofs.Lasting.{no_run}
 use Rattle.law_outcomes.proofs.Outcomes.{every_call_ends}
-use Rattle.law_kernel.specs.Sleeping.{AllWait, Rests}
+use Rattle.law_kernel.specs.Sleeping.{Rests}
 use Rattle.law_kernel.specs.Asking.{AllAsk}
 use Rattle.law_kernel.proofs.Runs.{every_run_rests, past_two}
 use Rattle.law_kernel.proofs.AskRuns.{every_run_asks}
@@ -84,16 +84,13 @@ module _ {S : Type 0} (call : S → Reply → Call) (next : S → Reply → S) w
     pub begun_still : IsStill k
     begun_still = turns_still boot k b.pids boots b.turns
 
-    pub begun_fine : AllFine k.table
+    begun_fine : AllFine k.table
     begun_fine = turns_fine boot k b.pids boots (boot_fine b.init b.shell b.input b.files) b.turns
 
     begun_rests : Rests k.table k.pipes
     begun_rests = every_run_rests call next b.init b.shell b.input b.files (turn_events (quiet_turns b.pids)) (turn_notes (quiet_turns b.pids)) k b.turns
 
-    pub begun_waits : AllWait k.table k.pipes
-    begun_waits = begun_rests.waits
-
-    pub begun_asks : AllAsk call k
+    begun_asks : AllAsk call k
     begun_asks = every_run_asks call next b.init b.shell b.input b.files (turn_events (quiet_turns b.pids)) (turn_notes (quiet_turns b.pids)) k b.are b.turns
 
     pub begun_settled : IsSettled call k

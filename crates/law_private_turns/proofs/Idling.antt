@@ -49,14 +49,9 @@ same_pipe [] id p is = refl
 same_pipe (q ∷ rest) id p is = same_pipe_by id q rest p (id == q.0) (same_pipe rest id p) is
 
 module _ {S : Type 0} (k : KernelState S) (p : ℕ) (x : Process S) (there : at k.table p ≡ Some x) (after : S) where
-  -- whoever sleeps with as much put as before is as if awake
-  sleeps_unseen : (c d : Channel) (put : ℕ) → x.status ≡ Asleep d → x.put ≡ put → woke_table (slept k.table p c put) ≡ woke_table k.table
-  sleeps_unseen c d put asleep same =
-      map-set_same woke_slot k.table p (put_to_sleep c put (at k.table p)) None
-      (ap (λ (y : Slot S). woke_slot (put_to_sleep c put y)) there ∙ (λ i. woke_slot (Some (record x { status = sym asleep i; put = sym same i }))) ∙ ap woke_slot (sym there))
-
-  unseen_by : (c d : Channel) (put : ℕ) (pipes : Pipes) → x.status ≡ Asleep d → x.put ≡ put → pipes ≡ k.pipes → woke (sleeps (record k { pipes = pipes }) p c put) ≡ woke k
-  unseen_by c d put pipes asleep same is = λ i. record k { table = sleeps_unseen c d put asleep same i; pipes = is i }
+  -- to fall asleep with as much put as before, beside pipes that are what they were
+  asleep_so : (c : Channel) (put : ℕ) (pipes : Pipes) → x.put ≡ put → pipes ≡ k.pipes → woke (sleeps (record k { pipes = pipes }) p c put) ≡ woke (sleeps k p c x.put)
+  asleep_so c put pipes same is = λ i. woke (sleeps (record k { pipes = is i }) p c (sym same i))
 
   -- ---- wait
 
@@ -69,9 +64,9 @@ module _ {S : Type 0} (k : KernelState S) (p : ℕ) (x : Process S) (there : at 
       let no : true ≡ false = sym w.child.1 ∙ none_at (is_child_of p) refl k.table some w.child.0 in
       absurd (let z : ⊥ = cc in z)
 
-  idle_wait : x.status ≡ Asleep (Children p) → x.put ≡ 0 → WaitsForChild k.table p → (refused : Bool) → woke (acted k p after Wait refused) ≡ woke k
-  idle_wait asleep put w refused =
-      ap (λ (a : Waited). woke (wait_by k p after a)) (waits_by (zombie_child k.table p) (some_child k.table p) refl refl w) ∙ unseen_by (Children p) (Children p) 0 k.pipes asleep put refl
+  sleeps_wait : x.put ≡ 0 → WaitsForChild k.table p → (refused : Bool) → woke (acted k p after Wait refused) ≡ woke (sleeps k p (Children p) x.put)
+  sleeps_wait put w refused =
+      ap (λ (a : Waited). woke (wait_by k p after a)) (waits_by (zombie_child k.table p) (some_child k.table p) refl refl w) ∙ asleep_so (Children p) 0 k.pipes put refl
 
   -- ---- read
 
@@ -86,11 +81,11 @@ module _ {S : Type 0} (k : KernelState S) (p : ℕ) (x : Process S) (there : at 
   stays_empty : (q : PipeState) (n : ℕ) → WaitsForBytes q → after_take q n ≡ q
   stays_empty q n w = λ i. record q { bytes = (drop_nothing n q.bytes w.empty ∙ sym w.empty) i }
 
-  idle_read_pipe : (id n : ℕ) → x.status ≡ Asleep (PipeBytes id) → x.put ≡ 0 → (w : IsThere WaitsForBytes k.pipes id) → woke (read_pipe k p after id n (pipe_of k.pipes id)) ≡ woke k
-  idle_read_pipe id n asleep put w =
+  sleeps_read : (id n : ℕ) → x.put ≡ 0 → (w : IsThere WaitsForBytes k.pipes id) → woke (read_pipe k p after id n (pipe_of k.pipes id)) ≡ woke (sleeps k p (PipeBytes id) x.put)
+  sleeps_read id n put w =
       ap (λ (o : Option PipeState). woke (read_pipe k p after id n o)) w.found ∙
       ap (λ (t : Take). woke (read_by (record k { pipes = with_pipe k.pipes id (after_take w.pipe n) }) p after id (take n w.pipe.bytes) t)) (takes_nothing w.pipe n w.holds) ∙
-      unseen_by (PipeBytes id) (PipeBytes id) 0 (with_pipe k.pipes id (after_take w.pipe n)) asleep put (ap (with_pipe k.pipes id) (stays_empty w.pipe n w.holds) ∙ same_pipe k.pipes id w.pipe w.found)
+      asleep_so (PipeBytes id) 0 (with_pipe k.pipes id (after_take w.pipe n)) put (ap (with_pipe k.pipes id) (stays_empty w.pipe n w.holds) ∙ same_pipe k.pipes id w.pipe w.found)
 
   read_is : (id n : ℕ) (o : Option ℕ) → object_of (file_at k.entries o) ≡ Some (PipeRead id) → read_held k p after n o ≡ read_pipe k p after id n (pipe_of k.pipes id)
   read_is id n None is = absurd (let z : ⊥ = cc in z)
@@ -112,12 +107,12 @@ module _ {S : Type 0} (k : KernelState S) (p : ℕ) (x : Process S) (there : at 
       let full : room q ≡ 0 = let f = w.filled in omega (arith, f) in
       λ i. record q { bytes = ((λ j. q.bytes ++ (if w.reader j then take (full j) xs else [])) ∙ append-nil q.bytes) i }
 
-  idle_write_pipe : (id : ℕ) (xs : List ℕ) → x.status ≡ Asleep (PipeRoom id) → 0 < length xs → (w : IsThere WaitsForRoom k.pipes id) → woke (write_pipe k p after id x.put xs (pipe_of k.pipes id)) ≡ woke k
-  idle_write_pipe id xs asleep some w =
+  sleeps_write : (id : ℕ) (xs : List ℕ) → 0 < length xs → (w : IsThere WaitsForRoom k.pipes id) → woke (write_pipe k p after id x.put xs (pipe_of k.pipes id)) ≡ woke (sleeps k p (PipeRoom id) x.put)
+  sleeps_write id xs some w =
       let j : KernelState S = record k { pipes = with_pipe k.pipes id (after_put w.pipe xs) } in
       ap (λ (o : Option PipeState). woke (write_pipe k p after id x.put xs o)) w.found ∙
       ap (λ (t : Put). woke (write_by j p after id x.put (length xs) t)) (puts_nothing w.pipe xs w.holds some) ∙ unseen p (sleeps j p (PipeRoom id) x.put) (PipeBytes id) ∙
-      unseen_by (PipeRoom id) (PipeRoom id) x.put (with_pipe k.pipes id (after_put w.pipe xs)) asleep refl (ap (with_pipe k.pipes id) (stays_full w.pipe xs w.holds) ∙ same_pipe k.pipes id w.pipe w.found)
+      asleep_so (PipeRoom id) x.put (with_pipe k.pipes id (after_put w.pipe xs)) refl (ap (with_pipe k.pipes id) (stays_full w.pipe xs w.holds) ∙ same_pipe k.pipes id w.pipe w.found)
 
   write_is : (id : ℕ) (b : List ℕ) (refused : Bool) (o : Option ℕ) → object_of (file_at k.entries o) ≡ Some (PipeWrite id) → write_held k p after b refused o ≡ write_pipe k p after id (put_of (at k.table p)) (drop (put_of (at k.table p)) b) (pipe_of k.pipes id)
   write_is id b refused None is = absurd (let z : ⊥ = cc in z)
@@ -131,17 +126,26 @@ module _ {S : Type 0} (k : KernelState S) (p : ℕ) (x : Process S) (there : at 
   left_some (suc put) [] less = absurd (omega (arith, less))
   left_some (suc put) (y ∷ b) less = left_some put b (omega (arith, less))
 
-  -- ---- any call of one that sleeps
+  -- ---- any call of one that has to wait
 
-  pub idle_call : (ch : Channel) (c : Call) (refused : Bool) → x.status ≡ Asleep ch → FinePut x.status x.put → Waits k.table k.pipes p ch → MaySleep k p c x.put ch → woke (acted k p after c refused) ≡ woke k
-  idle_call (Children pid) c refused asleep fine w m =
-      let here : x.status ≡ Asleep (Children p) = asleep ∙ ap (λ (i : ℕ). Asleep (Children i)) w.0 in
-      let none : x.put ≡ 0 = subst (λ (s : Status). FinePut s x.put) asleep fine in
-      ap (λ (d : Call). woke (acted k p after d refused)) m.1 ∙ idle_wait here none w.1 refused
-  idle_call (PipeBytes id) c refused asleep fine w m =
-      let none : x.put ≡ 0 = subst (λ (s : Status). FinePut s x.put) asleep fine in
-      ap (λ (d : Call). woke (acted k p after d refused)) m.2 ∙ ap woke (read_is id (min m.1 block_size) (entry_of (fds_at k p) m.0) m.3) ∙ idle_read_pipe id (min m.1 block_size) asleep none w
-  idle_call (PipeRoom id) c refused asleep fine w m =
+  pub sleeps_call : (ch : Channel) (c : Call) (refused : Bool) → FinePut (Asleep ch) x.put → Waits k.table k.pipes p ch → MaySleep k p c x.put ch → woke (acted k p after c refused) ≡ woke (sleeps k p ch x.put)
+  sleeps_call (Children pid) c refused none w m =
+      ap (λ (d : Call). woke (acted k p after d refused)) m.1 ∙ sleeps_wait none w.1 refused ∙ (λ i. woke (sleeps k p (Children (sym w.0 i)) x.put))
+  sleeps_call (PipeBytes id) c refused none w m =
+      ap (λ (d : Call). woke (acted k p after d refused)) m.2 ∙ ap woke (read_is id (min m.1 block_size) (entry_of (fds_at k p) m.0) m.3) ∙ sleeps_read id (min m.1 block_size) none w
+  sleeps_call (PipeRoom id) c refused fine w m =
       let at_p : put_of (at k.table p) ≡ x.put = ap put_of there in
       ap (λ (d : Call). woke (acted k p after d refused)) m.1.1 ∙ ap woke (write_is id m.0 refused (entry_of (fds_at k p) m.1.0) m.1.2) ∙
-      (λ i. woke (write_pipe k p after id (at_p i) (drop (at_p i) m.0) (pipe_of k.pipes id))) ∙ idle_write_pipe id (drop x.put m.0) asleep (left_some x.put m.0 m.2) w
+      (λ i. woke (write_pipe k p after id (at_p i) (drop (at_p i) m.0) (pipe_of k.pipes id))) ∙ sleeps_write id (drop x.put m.0) (left_some x.put m.0 m.2) w
+
+  -- ---- any call of one that sleeps
+
+  -- whoever sleeps with as much put as before is as if awake
+  sleeps_unseen : (c : Channel) → x.status ≡ Asleep c → woke_table (slept k.table p c x.put) ≡ woke_table k.table
+  sleeps_unseen c asleep =
+      map-set_same woke_slot k.table p (put_to_sleep c x.put (at k.table p)) None
+      (ap (λ (y : Slot S). woke_slot (put_to_sleep c x.put y)) there ∙ (λ i. woke_slot (Some (record x { status = sym asleep i }))) ∙ ap woke_slot (sym there))
+
+  pub idle_call : (ch : Channel) (c : Call) (refused : Bool) → x.status ≡ Asleep ch → FinePut x.status x.put → Waits k.table k.pipes p ch → MaySleep k p c x.put ch → woke (acted k p after c refused) ≡ woke k
+  idle_call ch c refused asleep fine w m =
+      sleeps_call ch c refused (subst (λ (s : Status). FinePut s x.put) asleep fine) w m ∙ (λ i. record k { table = sleeps_unseen ch asleep i })

@@ -58,6 +58,9 @@ slot_none (Some p) = λ i. Some (record p { status = status_none p.status i; par
 pub back_slot : {S : Type 0} (n : Numbering) (x : Slot S) → moved_slot n.back (moved_slot n.to x) ≡ x
 back_slot n x = slot_twice n.to n.back (λ i. i) n.there x ∙ slot_none x
 
+pub back_channel : (n : Numbering) (c : Channel) → moved_channel n.back (moved_channel n.to c) ≡ c
+back_channel n c = channel_twice n.to n.back (λ i. i) n.there c ∙ channel_none c
+
 back_place : (n : Numbering) (o : Option ℕ) → renumbered_place n.back (renumbered_place n.to o) ≡ o
 back_place n o = place_twice n.to n.back (λ i. i) n.there o ∙ place_none o
 

@@ -34,7 +34,7 @@ same_free n x y (zombies parent z w) = ap is_free w.there ∙ sym (ap is_free z.
 lives_moved : {S : Type 0} (n : Numbering) (x y : Slot S) → IsMoved n.to x y → Lives x → Lives y
 lives_moved n x y m l = record { used = same_free n x y m ∙ l.used; alive = same_zombie n x y m ∙ l.alive }
 
-fine_status : (to : ℕ → ℕ) (s : Status) (put : ℕ) → FinePut s put → FinePut (moved_status to s) put
+pub fine_status : (to : ℕ → ℕ) (s : Status) (put : ℕ) → FinePut s put → FinePut (moved_status to s) put
 fine_status to Runnable put f = tt
 fine_status to (Running h) put f = tt
 fine_status to (Asleep (PipeBytes id)) put f = f
@@ -96,8 +96,11 @@ module _ {S : Type 0} (k l : KernelState S) (a : SameButSlots k l) where
 
   -- ---- what it asks for
 
+  pub alive_so : (q : ℕ) → is_zombie (at l.table q) ≡ false → is_zombie (at k.table (a.numbering.back q)) ≡ false
+  alive_so q alive = sym (same_zombie a.numbering _ _ (from q)) ∙ alive
+
   exact : (q : ℕ) → is_zombie (at l.table q) ≡ false → at l.table q ≡ moved_slot a.numbering.to (at k.table (a.numbering.back q))
-  exact q alive = exactly a.numbering (at k.table (a.numbering.back q)) (at l.table q) (from q) (sym (same_zombie a.numbering _ _ (from q)) ∙ alive)
+  exact q alive = exactly a.numbering (at k.table (a.numbering.back q)) (at l.table q) (from q) (alive_so q alive)
 
   same_fds : (q : ℕ) → is_zombie (at l.table q) ≡ false → fds_at k (a.numbering.back q) ≡ fds_at l q
   same_fds q alive = sym (fds_so a.numbering.to (at k.table (a.numbering.back q))) ∙ ap fds_of (sym (exact q alive))
@@ -110,16 +113,15 @@ module _ {S : Type 0} (k l : KernelState S) (a : SameButSlots k l) where
   asks_so q c put (PipeRoom id) alive m = (m.0, (m.1.0, m.1.1, same_object q alive m.1.0 ∙ m.1.2), m.2)
   asks_so q c put (Children pid) alive m = (sym (a.numbering.here pid) ∙ ap a.numbering.to m.0 ∙ a.numbering.here q, m.1)
 
-  -- ---- who sleeps in l sleeps in k
+  -- ---- who lives in l lives in k
 
-  there_so : (q : ℕ) (p : Process S) (c : Channel) → at l.table q ≡ Some p → p.status ≡ Asleep c → at k.table (a.numbering.back q) ≡ Some (moved_process a.numbering.back p)
-  there_so q p c there asleep =
-      sym (back_slot a.numbering (at k.table (a.numbering.back q))) ∙ ap (moved_slot a.numbering.back) (sym (exact q (sleeper_alive p c (at l.table q) there asleep)) ∙ there)
+  pub there_so : (q : ℕ) (p : Process S) → at l.table q ≡ Some p → is_zombie (at l.table q) ≡ false → at k.table (a.numbering.back q) ≡ Some (moved_process a.numbering.back p)
+  there_so q p there alive = sym (back_slot a.numbering (at k.table (a.numbering.back q))) ∙ ap (moved_slot a.numbering.back) (sym (exact q alive) ∙ there)
 
   waits_too : AllWait k.table k.pipes → AllWait l.table l.pipes
   waits_too all q c s =
       let p = sleeps_is (at l.table q) c s in
-      waits_so q c (all (a.numbering.back q) (moved_channel a.numbering.back c) (sleeps_there _ _ _ (there_so q p.0 c p.1 p.2) (ap (moved_status a.numbering.back) p.2)))
+      waits_so q c (all (a.numbering.back q) (moved_channel a.numbering.back c) (sleeps_there _ _ _ (there_so q p.0 p.1 (sleeper_alive p.0 c (at l.table q) p.1 p.2)) (ap (moved_status a.numbering.back) p.2)))
 
   family_too : IsFamily k.table → IsFamily l.table
   family_too f =
@@ -138,5 +140,5 @@ module _ {S : Type 0} (k l : KernelState S) (a : SameButSlots k l) where
         rests = record { waits = waits_too s.rests.waits; small = subst AreSmall same_pipes s.rests.small; family = family_too s.rests.family };
         asks = λ q p c there asleep.
             asks_so q (call p.machine p.reply) p.put c (sleeper_alive p c (at l.table q) there asleep)
-            (s.asks (a.numbering.back q) (moved_process a.numbering.back p) (moved_channel a.numbering.back c) (there_so q p c there asleep) (ap (moved_status a.numbering.back) asleep));
+            (s.asks (a.numbering.back q) (moved_process a.numbering.back p) (moved_channel a.numbering.back c) (there_so q p there (sleeper_alive p c (at l.table q) there asleep)) (ap (moved_status a.numbering.back) asleep));
       }
