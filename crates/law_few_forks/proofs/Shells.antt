@@ -104,6 +104,9 @@ module _ (profile : Profile) where
   told_fits : (n : ℕ) (message : Bytes) → Fits n (tells message)
   told_fits n message = record { most = omega arith; splits = tt }
 
+  failed_fits : (n : ℕ) (what name : Bytes) → Fits n (failed what name)
+  failed_fits n what name = record { most = omega arith; splits = tt }
+
   -- what a turn leaves
   turn_left : (t : Turn) → user_ahead (user_of_next profile t.next) ≡ 1 + next_forks t.next
   turn_left t = next_same profile t.next
@@ -217,9 +220,9 @@ module _ (profile : Profile) where
 
   shell_fits : (state : Shell) (reply : Reply) → Fits (shell_forks state) (shell_turn profile state reply)
   shell_fits (top phase lines) reply = top_fits phase lines reply
-  shell_fits (unknown name) reply = unknown_fits 0 reply (failed (codes "exec ") name) (told_fits 0 _)
+  shell_fits (unknown name) reply = unknown_fits 0 reply (failed (codes "exec ") name) (failed_fits 0 (codes "exec ") name)
   shell_fits (closes_old mode file body) reply = done_fits _ reply _ (record { most = omega arith; splits = tt })
-  shell_fits (opens_file file body) reply = fd_fits _ reply (runs body) (failed (codes "open ") file) (runs_fits body) (told_fits _ _)
+  shell_fits (opens_file file body) reply = fd_fits _ reply (runs body) (failed (codes "open ") file) (runs_fits body) (failed_fits _ (codes "open ") file)
   shell_fits (forks_left left right) reply =
       fork_fits _ reply (calls Wait (waits_left right)) (runs left) (record { most = omega arith; splits = tt }) (fits_more (most_forks left) _ _ (omega arith) (runs_fits left))
   shell_fits (waits_left right) reply = done_fits _ reply (runs right) (runs_fits right)

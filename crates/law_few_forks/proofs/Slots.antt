@@ -1,19 +1,18 @@
 -- Let each process count itself and those that it still forks, itself and through these. Where all of them together are no more than there
 -- are slots, it stays so; and whoever forks finds a free one.
-use Rattle.std.proofs.Common.{◌≡◌, ℕ, zero, suc, ◌+◌, ◌≤◌, List, [], ◌∷◌, Option, Some, None, refl, ap, arith}
-use Rattle.std.specs.Prelude.{count_by, cond, length}
+use Rattle.std.proofs.Common.{◌≡◌, ℕ, zero, suc, ◌+◌, ◌≤◌, [], ◌∷◌, Some, None, refl, ap, arith}
+use Rattle.std.specs.Prelude.{count_by, cond, length, IsSome}
 use Rattle.std.proofs.lemmas.List.Sums.{sum_by-cons}
 use Rattle.user_calls.specs.declared.calls.Call.{Call}
-use Rattle.user_calls.specs.declared.calls.Call.TheVariants.{Fork}
 use Rattle.user_calls.specs.declared.calls.Reply.{Reply}
 use Rattle.user_calls.specs.declared.calls.Reply.TheVariants.{Child, Done}
 use Rattle.fd_table.proofs.Free.{found}
 use Rattle.proc_table.specs.declared.pid.TheConstants.{PROCS}
-use Rattle.proc_table.specs.Slots.{Slot, Table, Process, at, is_free}
+use Rattle.proc_table.specs.Slots.{Slot, Table, at, is_free}
 use Rattle.proc_table.specs.Calls.{lowest_free}
 use Rattle.kernel_model.specs.KernelState.{KernelState}
 use Rattle.order_model.specs.Alike.{IsStill}
-use Rattle.order_model.specs.Turns.{after_turn, after_turns}
+use Rattle.order_model.specs.Turns.{after_turn}
 use Rattle.order_model.specs.Giving.{FindsSlotNext, HasSlotsAhead}
 use Rattle.law_private_turns.proofs.Begun.{after_still}
 use Rattle.law_few_opens.proofs.Left.{IsPaidOnce, IsSpent, slot_left, table_left, turn_spends, turns_keep}
@@ -38,7 +37,7 @@ module _ {S : Type 0} (call : S → Reply → Call) (next : S → Reply → S) (
   -- a slot is free, or its process counts itself
   one_each : (x : Slot S) → 1 ≤ one_if_free x + of_slot x
   one_each None = omega arith
-  one_each (Some y) = each (next y.machine y.reply)
+  one_each (Some y) = omega (arith, each (next y.machine y.reply))
 
   all_count : (t : Table S) → length t ≤ count_by is_free t + of_table t
   all_count [] = omega arith
@@ -50,7 +49,12 @@ module _ {S : Type 0} (call : S → Reply → Call) (next : S → Reply → S) (
   one_counts_more (x ∷ t) (suc q) = omega (arith, sum_by-cons one_if_free x t, sum_by-cons of_slot x t, one_each x, one_counts_more t q)
 
   none_free : (t : Table S) → lowest_free t ≡ None → count_by is_free t ≡ 0
-  none_free t none = ?
+  none_free t none = by (count_by is_free t) refl where
+    by : (n : ℕ) → count_by is_free t ≡ n → count_by is_free t ≡ 0
+    by zero is = is
+    by (suc n) is =
+        let some : IsSome (lowest_free t) = (found is_free t).1 (omega (arith, is)) in
+        absurd (let z : ⊥ = cc in z)
 
   -- a kernel between two turns, in which all processes and those that they still fork are no more than there are slots
   record HasEnough (k : KernelState S) : Type 0 where
