@@ -3,4 +3,4 @@
 
 mod forks;
 
-pub use forks::{MOST_FORKS, has_few_forks};
+pub use forks::has_few_forks;
