@@ -1,4 +1,5 @@
 pub mod Sums
+pub mod Left
 pub mod Spending
 pub mod Programs
 pub mod Shells

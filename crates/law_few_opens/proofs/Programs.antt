@@ -1,5 +1,5 @@
 -- What programs still open at most: a file for each word that names one, and is not opened yet.
-use Rattle.std.proofs.Common.{ℕ, ◌+◌, ◌≤◌, List, [], ◌∷◌, ◌++◌, Bool, true, false, length, arith}
+use Rattle.std.proofs.Common.{◌≡◌, ℕ, ◌+◌, ◌≤◌, List, [], ◌∷◌, ◌++◌, Bool, true, false, length, subst, arith}
 use Rattle.std.specs.Prelude.{nat_lt, if◌then◌else◌, slice_index_or}
 use Rattle.mem_files.specs.Name.{Name, Bytes}
 use Rattle.prog_parts.specs.declared.program.Program.{Program}
@@ -48,6 +48,9 @@ IsForkless (Write fd b) = Unit {0}
 IsForkless (OpenFile name mode) = Unit {0}
 IsForkless (Close fd) = Unit {0}
 IsForkless (Dup fd) = Unit {0}
+
+pub no_fork : (made : Call) → IsForkless made → made ≡ Fork → ⊥
+no_fork made forkless is = subst (λ (c : Call). IsForkless c) is forkless
 
 -- such a turn opens so much at most, and forks nothing
 pub record Opens (n : ℕ) (t : Turn) : Type 0 where

@@ -20,13 +20,14 @@ use Rattle.sh_machine.specs.Turn.{call_of, next_of}
 use Rattle.order_model.specs.Closes.{HasRoomAhead}
 use Rattle.law_orders.proofs.Booted.{boot_still}
 use Rattle.room_model.specs.Opens.{HasFewOpens}
-use Rattle.law_few_opens.proofs.Spending.{slot_left, table_left, enough_ahead, IsWithin, every_run_within}
+use Rattle.law_few_opens.proofs.Left.{slot_left, table_left}
+use Rattle.law_few_opens.proofs.Spending.{cost, enough_ahead, IsWithin, every_run_within}
 use Rattle.law_few_opens.proofs.Shells.{of_lines, user_ahead, users_spend}
 
 -- two processes, and 62 free slots
-two_left : (x y : Slot User) → table_left call_of next_of user_ahead (x ∷ y ∷ replicate 62 None) ≡ slot_left call_of next_of user_ahead x + slot_left call_of next_of user_ahead y
+two_left : (x y : Slot User) → table_left call_of next_of cost user_ahead (x ∷ y ∷ replicate 62 None) ≡ slot_left call_of next_of cost user_ahead x + slot_left call_of next_of cost user_ahead y
 two_left x y =
-    let f = slot_left call_of next_of user_ahead in
+    let f = slot_left call_of next_of cost user_ahead in
     omega (arith, sum_by-cons f x (y ∷ replicate 62 None), sum_by-cons f y (replicate 62 None), sum_by-replicate f 62 None)
 
 module _ (profile : Profile) (lines : List ScriptLine) (input : Bytes) (list : List (Name × Bytes)) where
@@ -36,7 +37,7 @@ module _ (profile : Profile) (lines : List ScriptLine) (input : Bytes) (list : L
   free_at_start : free_count start.entries ≡ 97
   free_at_start = refl
 
-  left_at_start : table_left call_of next_of user_ahead start.table ≤ of_lines lines
+  left_at_start : table_left call_of next_of cost user_ahead start.table ≤ of_lines lines
   left_at_start = omega (arith, two_left (at start.table 0) (at start.table 1), users_spend.each (shell profile (top Starts lines)) Start)
 
   pub room_ahead : AreFiles list → HasFewOpens lines → HasRoomAhead call_of next_of start

@@ -22,8 +22,9 @@ use Rattle.sh_machine.specs.declared.state.Side.TheVariants.{Closes, Dups, Close
 use Rattle.sh_machine.specs.State.{Parent, makes, forks_writer, forks_reader, closes_reader, closes_writer, waits_first, waits_second, Shell, top, unknown, closes_old, opens_file, forks_left, waits_left, pipes, side, forks_back, told, ended, User, init, shell, program}
 use Rattle.sh_machine.specs.Turn.{Next, stays, becomes, Turn, calls, exits, failed, call_mode, call_of, next_of, user_of_next, on_done, on_fd, on_fork, on_pipe, on_unknown, execs_found, runs, runs_first, takes_first, top_turn, pipe_turn, side_turn, shell_turn}
 use Rattle.room_model.specs.Opens.{most_opens}
-use Rattle.law_few_opens.proofs.Spending.{cost, left, IsSpent}
-use Rattle.law_few_opens.proofs.Programs.{program_ahead, IsForkless, turn_opens}
+use Rattle.law_few_opens.proofs.Left.{left, IsSpent}
+use Rattle.law_few_opens.proofs.Spending.{cost}
+use Rattle.law_few_opens.proofs.Programs.{program_ahead, turn_opens, no_fork}
 
 -- what lines open
 abbrev pub of_lines : List ScriptLine → ℕ
@@ -189,7 +190,7 @@ shell_opens profile ended reply = omega arith
 
 -- where a turn forks, what comes after it is split
 abbrev SplitsAt : Profile → Call → Next → Type 0
-SplitsAt profile Fork next = left call_of next_of user_ahead (user_of_next profile next) Child + left call_of next_of user_ahead (user_of_next profile next) Done ≤ next_ahead next
+SplitsAt profile Fork next = left call_of next_of cost user_ahead (user_of_next profile next) Child + left call_of next_of cost user_ahead (user_of_next profile next) Done ≤ next_ahead next
 SplitsAt profile (Exec found) next = Unit {0}
 SplitsAt profile Exit next = Unit {0}
 SplitsAt profile Wait next = Unit {0}
@@ -321,20 +322,17 @@ module _ (profile : Profile) where
 
 -- ---- processes
 
-each_left : (m : User) (r : Reply) → left call_of next_of user_ahead m r ≤ user_ahead m
+each_left : (m : User) (r : Reply) → left call_of next_of cost user_ahead m r ≤ user_ahead m
 each_left init r = omega arith
 each_left (shell profile state) r = omega (arith, turn_left profile (shell_turn profile state r), shell_opens profile state r)
 each_left (program state) r = (turn_opens state r).most
 
-no_fork : (made : Call) → IsForkless made → made ≡ Fork → ⊥
-no_fork made forkless is = subst (λ (c : Call). IsForkless c) is forkless
-
-split_left : (m : User) (r : Reply) → call_of m r ≡ Fork → left call_of next_of user_ahead (next_of m r) Child + left call_of next_of user_ahead (next_of m r) Done ≤ user_ahead (next_of m r)
+split_left : (m : User) (r : Reply) → call_of m r ≡ Fork → left call_of next_of cost user_ahead (next_of m r) Child + left call_of next_of cost user_ahead (next_of m r) Done ≤ user_ahead (next_of m r)
 split_left init r is = absurd (let z : ⊥ = cc in z)
 split_left (shell profile state) r is =
     let t = shell_turn profile state r in
     omega (arith, at_fork profile t.call t.next is (shell_splits profile state r), next_same profile t.next)
 split_left (program state) r is = absurd (no_fork _ (turn_opens state r).forkless is)
 
-pub users_spend : IsSpent call_of next_of user_ahead
+pub users_spend : IsSpent call_of next_of cost user_ahead
 users_spend = record { each = each_left; splits = split_left }

@@ -6,6 +6,8 @@ mod calls;
 #[cfg(test)]
 mod files;
 #[cfg(test)]
+mod forks;
+#[cfg(test)]
 mod lines;
 #[cfg(test)]
 mod memory;
