@@ -292,12 +292,12 @@ module _ {S : Type 0} (call : S → Reply → Call) (next : S → Reply → S) w
   pub ahead_led : (start k : KernelState S) (pids : List ℕ) (ahead : Ahead) → HasAhead call next ahead start → after_turns call next start pids ≡ Some k → HasAhead call next ahead k
   ahead_led start k pids ahead has turns =
       record {
-        entries = λ said later m q is. has.entries said (pids ++ later) m q (then later m is);
-        slots = λ said later m q is. has.slots said (pids ++ later) m q (then later m is);
+        entries = λ said later m q is. has.entries said (pids ++ later) m q (longer later m is);
+        slots = λ said later m q is. has.slots said (pids ++ later) m q (longer later m is);
       }
     where
-      then : (later : List ℕ) (m : KernelState S) → after_turns call next k later ≡ Some m → after_turns call next start (pids ++ later) ≡ Some m
-      then later m is = more pids later (Some start) ∙ ap (λ (o : Option (KernelState S)). by_turns call next o (quiet_turns later)) turns ∙ is
+      longer : (later : List ℕ) (m : KernelState S) → after_turns call next k later ≡ Some m → after_turns call next start (pids ++ later) ≡ Some m
+      longer later m is = more pids later (Some start) ∙ ap (λ (o : Option (KernelState S)). by_turns call next o (quiet_turns later)) turns ∙ is
 
 -- ---- keys but for who sleeps
 

@@ -1,4 +1,5 @@
 use Rattle.std.proofs.Common.{◌≡◌, ◌≢◌, ◌<◌, ℕ, true, false, length, ap, sym, subst, ◌∙◌, rules}
+use Rattle.std.specs.Prelude.{not, ◌==◌}
 use Rattle.user_calls.specs.declared.calls.Call.TheVariants.{Fork, Exit, Wait}
 use Rattle.proc_table.specs.Slots.{at}
 use Rattle.kernel_model.specs.KernelState.{KernelState}
@@ -22,7 +23,7 @@ returns-then-ahead g c = λ yes.
     let made = closes_known call g.M.Machine.next_of k pid entry (IsClosedAtOnce k pid) (subst (IsClosingSlot call entry) (sym there) closing) (c.is_closed_at_once.ensures yes) in
     elim c.if-pid-ne0.branch [
       | then-pid-ne0 w ↦ closes w.if-pid-ne0.true (sym w.value-is ∙ c.if-ahead.true) made
-      | else-pid-ne0 w ↦ absurd (let no : true ≡ false = sym c.if-ahead.true ∙ w.value-is in let z : ⊥ = cc in z)
+      | else-pid-ne0 w ↦ absurd (let no : true ≡ false = sym c.if-ahead.true ∙ w.value-is ∙ ap (λ (n : ℕ). not (n == 0)) w.if-pid-ne0.false in let z : ⊥ = cc in z)
     ]
 
 pub returns-then-pid-ne0-2 : goal.returns-then-pid-ne0-2
@@ -59,5 +60,5 @@ returns-then-ahead-3 g c = λ yes.
     let made = exits_known call g.M.Machine.next_of k pid (subst (IsCallingSlot call Exit) (sym there) exiting) (c.lets_go_at_once.ensures yes) in
     elim c.if-pid-ne0-3.branch [
       | then-pid-ne0-3 w ↦ exits w.if-pid-ne0-3.true (sym w.value-is ∙ c.if-ahead-3.true) made
-      | else-pid-ne0-3 w ↦ absurd (let no : true ≡ false = sym c.if-ahead-3.true ∙ w.value-is in let z : ⊥ = cc in z)
+      | else-pid-ne0-3 w ↦ absurd (let no : true ≡ false = sym c.if-ahead-3.true ∙ w.value-is ∙ ap (λ (n : ℕ). not (n == 0)) w.if-pid-ne0-3.false in let z : ⊥ = cc in z)
     ]
