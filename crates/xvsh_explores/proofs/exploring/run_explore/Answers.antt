@@ -1,7 +1,4 @@
-use Rattle.std.proofs.Common.{subst}
-use Rattle.script_load.specs.Line.{lines_of}
 use Rattle.xvsh_read.proofs.Faults.{at_fault}
-use Rattle.script_outcomes.specs.Found.{IsFound}
 use Rattle.xvsh_explores.specs.Explores.{no_start}
 use Rattle.xvsh_explores.proofs.Known.{told_faults}
 use Rattle.xvsh_explores.proofs.exploring.run_explore.Goals as goal
