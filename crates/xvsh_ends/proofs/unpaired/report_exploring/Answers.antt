@@ -22,4 +22,4 @@ pub returns-in-NoOutcome : goal.returns-in-NoOutcome
 returns-in-NoOutcome c input file why =
     let request = c.args.request.now in
     let named = subst (IsExploringFault input file request.source.script.now request.source.files.now request.pair) c.in-NoOutcome.is why in
-    subst (λ word. IsDue input file (paired_asked word (explore_alone_asked request)) c.report_unpaired-2.result) (sym named) (c.report_unpaired-2.ensures input file (explore_alone_asked request) _ (inr refl))
+    subst (λ word. IsDue input file (paired_asked word (explore_alone_asked request)) c.report_unpaired-in-NoOutcome.result) (sym named) (c.report_unpaired-in-NoOutcome.ensures input file (explore_alone_asked request) _ (inr refl))
