@@ -90,11 +90,12 @@ pub fn explore_of(
         is_thorough,
         witness: None,
         draw: None,
+        pair: None,
         is_json: true,
         input: None,
         text: None,
     };
-    match explore_start(alloc, &start, &request, &mut Unwatched) {
+    match explore_start(alloc, &start, &request, None, &mut Unwatched) {
         Ok(explored) => Ok(ExploreAnswer {
             is_whole: is_whole(&explored.found),
             is_single: is_single(&explored.found),

@@ -1,2 +1,3 @@
 pub mod Contrast
+pub mod Named
 pub mod Pairs

@@ -1,6 +1,6 @@
 //! Two outcomes of a list.
 
-ghost use Rattle.std.specs.Prelude.{◌≡◌, ◌⊎◌, ℕ, ◌<◌, ◌≤◌, IfSome, IfNone, length};
+ghost use Rattle.std.specs.Prelude.{◌≡◌, ◌⊎◌, ℕ, ◌<◌, ◌≤◌, Some, None, IfSome, IfNone, length};
 ghost use Rattle.outcome_pairs.specs.Pairs.{IsClearest, IsLeastWith, IsPair, IsWeighed, Weighs};
 
 use crate::contrast::Contrast;
@@ -83,4 +83,23 @@ pub fn clearest_pair(outcomes: &[Outcome]) -> Option<Pair>
         clearest = clearer_with(outcomes, clearest, other);
     }
     Some(clearest.pair)
+}
+
+/// The pair that is shown: the one that is asked for, and none where that isn't there; without such, the one whose difference is easiest
+/// to see.
+pub fn shown_pair(outcomes: &[Outcome], asked: Option<Pair>) -> Option<Pair>
+    ensures asked { (pair : Pair) → asked ≡ Some pair → pair.other < length outcomes.now → result ≡ Some pair }
+    ensures missing { (pair : Pair) → asked ≡ Some pair → length outcomes.now ≤ pair.other → result ≡ None }
+    ensures clearest { asked ≡ None → IfSome result (IsClearest outcomes.now) }
+{
+    match asked {
+        Some(pair) => {
+            if pair.other < outcomes.len() {
+                Some(pair)
+            } else {
+                None
+            }
+        }
+        None => clearest_pair(outcomes),
+    }
 }

@@ -162,6 +162,7 @@ pub record IsExploreOf (found : Found) (request : ExploreRequest) : Type 0 where
   pub all : IsFlag found (codes "all") request.is_thorough
   pub witness : IsWord found (codes "witness") request.witness
   pub draw : IsWord found (codes "draw") request.draw
+  pub pair : IsWord found (codes "pair") request.pair
   pub json : IsFlag found (codes "json") request.is_json
   pub input : IsWord found (codes "input") request.input
   pub text : IsTextOf found request.text

@@ -185,12 +185,12 @@ fn hint_at_bad<H: Hints>(alloc: Global, ending: &Ending, status: u8, host: &mut 
 /// have room in xv6's tables, or `nothing to tell`. `explain [--why] [--append] SCRIPT [FILE]..` with a FILE or `--why` reads what `plain` reads, and writes
 /// behind these sentences each reason why the script isn't settled, or that it is and why its pipes are safe.
 ///
-/// `explore [--states N] [--all] [--witness DIR] [--draw FILE] [--json] [--append] SCRIPT [FILE]..` reads what `plain` reads, tries
+/// `explore [--states N] [--all] [--witness DIR] [--draw FILE] [--pair N,M] [--json] [--append] SCRIPT [FILE]..` reads what `plain` reads, tries
 /// every order in which the script's processes can take their turns, through at most 200,000 states or N, and writes the outcomes,
 /// each with the events of a run to it, and where two of these runs part. A settled script has one output, which is written
-/// without trying, unless with `--all`, `--witness` or `--draw`. With `--witness` it writes first a schedule for each outcome to
+/// without trying, unless with `--all`, `--witness`, `--draw` or `--pair`. With `--witness` it writes first a schedule for each outcome to
 /// `DIR/1.schedule` and so on, which `replay` reads. With `--draw` it writes first the page of the runs to the two
-/// outcomes whose difference is easiest to see to FILE, as `run --trace` writes a trace; no page where no outcome was found. With `--json` it
+/// outcomes whose difference is easiest to see, or which `--pair` names, to FILE, as `run --trace` writes a trace; no page where no outcome was found. With `--json` it
 /// writes one object instead, also of a fault.
 ///
 /// `draw [--from N] [--to N] TRACE [OTHER]` reads a trace that `run --trace` wrote, or two of one script, and writes a page of HTML

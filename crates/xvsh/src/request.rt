@@ -162,6 +162,13 @@ fn page_of<'m>(words: &'m ArgMatches<'_>) -> Option<&'m str>
     words.get_str("draw")
 }
 
+// The word of the two outcomes that are shown, if there is one.
+fn pair_of<'m>(words: &'m ArgMatches<'_>) -> Option<&'m str>
+    ensures { IsWord (found_of words.now) (codes "pair") result }
+{
+    words.get_str("pair")
+}
+
 fn run_of<'m>(words: &'m ArgMatches<'_>) -> RunRequest<'m>
     ensures { IsRunOf (found_of words.now) result }
 {
@@ -259,6 +266,7 @@ fn explore_of<'m>(words: &'m ArgMatches<'_>) -> ExploreRequest<'m>
         is_thorough: flag_of(words, "all"),
         witness: witness_of(words),
         draw: page_of(words),
+        pair: pair_of(words),
         is_json: flag_of(words, "json"),
         input: input_of(words),
         text: text_of(words),

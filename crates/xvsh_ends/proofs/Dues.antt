@@ -15,9 +15,9 @@ use Rattle.xvsh_runs.specs.declared.fault.ProcessFault.TheVariants.{Common, BadH
 use Rattle.xvsh_runs.specs.Status.{run_status}
 use Rattle.script_outcomes.specs.declared.concluding.Conclusion.{Conclusion}
 use Rattle.script_outcomes.specs.declared.concluding.Conclusion.TheVariants.{OneOutput, SeveralOutputs, Stuck, Full as Filled, Part}
-use Rattle.xvsh_ends.specs.Ends.{Asked, asks_plain, asks_diagnosed, asks_run, asks_strict, asks_check, asks_turns, asks_room, asks_explain, asks_whys, asks_explore, help, misuse, verdict_status, check_status, explore_status, full_status, told_text, Due, plain_ran, no_plain, diagnosed, not_diagnosed, ran, no_run, ran_strict, no_strict, checked, no_check, counted, not_counted, room_told, no_room_told, explained, not_explained, whys_told, no_whys_told, explored, not_explored, helped, misused, no_memory, IsDue, Tells, TellsOr, tells, lacks_memory, asks_traced, traced, untraced, beside_trace, asks_witnessed, asks_filed, asks_lined, asks_json, asks_draw, drawn, undrawn, asks_input, unread, witnessed, unwitnessed, filed, unfiled, lined, valued, unvalued, IsObjectStatus, PrintsAlone}
+use Rattle.xvsh_ends.specs.Ends.{Asked, asks_plain, asks_diagnosed, asks_run, asks_strict, asks_check, asks_turns, asks_room, asks_explain, asks_whys, asks_explore, help, misuse, verdict_status, check_status, explore_status, full_status, told_text, Due, plain_ran, no_plain, diagnosed, not_diagnosed, ran, no_run, ran_strict, no_strict, checked, no_check, counted, not_counted, room_told, no_room_told, explained, not_explained, whys_told, no_whys_told, explored, not_explored, helped, misused, no_memory, IsDue, Tells, TellsOr, tells, lacks_memory, asks_traced, traced, untraced, beside_trace, asks_witnessed, asks_paired, asks_filed, asks_lined, asks_json, asks_draw, drawn, undrawn, asks_input, unread, witnessed, unwitnessed, paired, unpaired, filed, unfiled, lined, valued, unvalued, IsObjectStatus, PrintsAlone}
 use Rattle.std.specs.Borrow.{Bor}
-use Rattle.xvsh_ends.specs.Requests.{UnlessPrinted, witnessed_asked, json_asked}
+use Rattle.xvsh_ends.specs.Requests.{UnlessPrinted, witnessed_asked, paired_asked, json_asked}
 use Rattle.xvsh_ends.specs.declared.ending.Ending.{Ending}
 
 -- what is known stays where nothing changes
@@ -76,6 +76,11 @@ module _ (input : Option Bytes) (file : Path → Option Bytes) (what : Asked) wh
   due_witnessed None text told status due = due
   due_witnessed (Some path) text told status due = witnessed due
 
+  -- what is due without the word of a pair is due with it too
+  pub due_paired : (word : Option (Bor Path)) (text told : Bytes) (status : ℕ) → Due input file what text told status → Due input file (paired_asked word what) text told status
+  due_paired None text told status due = due
+  due_paired (Some word) text told status due = paired due
+
 verdict_prints : {X : Type 0} (strict is_settled : Bool) → verdict_status strict is_settled ≢ 0 → (strict ≡ true → verdict_status strict is_settled ≢ 3) → X
 verdict_prints false is_settled some three = absurd (some refl)
 verdict_prints true true some three = absurd (some refl)
@@ -109,6 +114,7 @@ unless (asks_whys profile script paths) status same is = λ some three. is
 unless (asks_explore profile script paths states all) status same is = λ some three four. is
 unless (asks_traced what path) status same is = unless what status same is
 unless (asks_witnessed what path) status same is = unless what status same is
+unless (asks_paired what word) status same is = unless what status same is
 unless (asks_filed what path) status same is = unless what status same is
 unless (asks_lined what) status same is = unless what status same is
 unless (asks_json what) status same is = λ some one three four. is
@@ -130,6 +136,7 @@ unless_implied (asks_whys profile script paths) status same other implies is = �
 unless_implied (asks_explore profile script paths states all) status same other implies is = λ some three four. implies (is some three four)
 unless_implied (asks_traced what path) status same other implies is = unless_implied what status same other implies is
 unless_implied (asks_witnessed what path) status same other implies is = unless_implied what status same other implies is
+unless_implied (asks_paired what word) status same other implies is = unless_implied what status same other implies is
 unless_implied (asks_filed what path) status same other implies is = unless_implied what status same other implies is
 unless_implied (asks_lined what) status same other implies is = unless_implied what status same other implies is
 unless_implied (asks_json what) status same other implies is = λ some one three four. implies (is some one three four)
@@ -152,6 +159,7 @@ unless_any (asks_whys profile script paths) status same is some one three four =
 unless_any (asks_explore profile script paths states all) status same is some one three four = is some three four
 unless_any (asks_traced what path) status same is some one three four = unless_any what status same is some one three four
 unless_any (asks_witnessed what path) status same is some one three four = unless_any what status same is some one three four
+unless_any (asks_paired what word) status same is some one three four = unless_any what status same is some one three four
 unless_any (asks_filed what path) status same is some one three four = unless_any what status same is some one three four
 unless_any (asks_lined what) status same is some one three four = unless_any what status same is some one three four
 unless_any (asks_json what) status same is some one three four = is some one three four
@@ -199,6 +207,8 @@ module _ (input : Option Bytes) (file : Path → Option Bytes) where
   nothing_due asked text told status (untraced {what = what}) = unless what 1 ([] ≡ []) refl
   nothing_due asked text told status (witnessed {what = what} due) = nothing_due what text told status due
   nothing_due asked text told status (unwitnessed {what = what} of) = unless what 1 ([] ≡ []) refl
+  nothing_due asked text told status (paired {what = what} due) = nothing_due what text told status due
+  nothing_due asked text told status (unpaired {what = what} report number is) = unless what status ([] ≡ []) refl
   nothing_due asked text told status (filed {what = what} due) = nothing_due what text told status due
   nothing_due asked text told status (lined {what = what} {told = plain} is due) = nothing_due what text plain status due
   nothing_due asked text told status (unfiled {what = what} of) = unless what 1 ([] ≡ []) refl

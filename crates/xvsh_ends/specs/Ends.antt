@@ -68,6 +68,8 @@ pub data Asked : Type 0 where
   asks_traced : Asked → Path → Asked
   -- the same, with a schedule of each outcome in the folder at a path
   asks_witnessed : Asked → Path → Asked
+  -- the same, of the two outcomes that a word names
+  asks_paired : Asked → Path → Asked
   -- the same, with a file for each that the run leaves, in a folder
   asks_filed : Asked → Path → Asked
   -- the same, with the numbers of the script's lines before those of its diagnostics
@@ -134,6 +136,10 @@ pub data IsInFolder (path : Path) : Path → Type 0 where
   folder : IsInFolder path path
   inside : (name : Bytes) → IsInFolder path (path ++ (codes "/" ++ name))
 
+-- the status of a word that names no two outcomes, and of one that names an outcome which isn't there
+abbrev pub IsPairStatus : ℕ → Type 0
+IsPairStatus status = (status ≡ 2) ⊎ (status ≡ 1)
+
 -- an object is printed with this status
 abbrev pub IsObjectStatus : ℕ → Type 0
 IsObjectStatus status = (status ≡ 0) ⊎ ((status ≡ 1) ⊎ ((status ≡ 3) ⊎ (status ≡ 4)))
@@ -188,6 +194,9 @@ module _ (input : Option Bytes) (file : Path → Option Bytes) where
     -- the same of a request with schedules in a folder, beside these; or that the folder or one of them can't be written
     witnessed : {what : Asked} {path : Path} {text told : Bytes} {status : ℕ} → Due what text told status → Due (asks_witnessed what path) text told status
     unwitnessed : {what : Asked} {path place : Path} → IsOfWitness path place → Due (asks_witnessed what path) [] (untraced_told place) 1
+    -- the same of a request with the word of a pair; or some report that it names no two outcomes, or one that isn't there
+    paired : {what : Asked} {word : Path} {text told : Bytes} {status : ℕ} → Due what text told status → Due (asks_paired what word) text told status
+    unpaired : {what : Asked} {word : Path} (told : Bytes) (status : ℕ) → IsPairStatus status → Due (asks_paired what word) [] told status
     -- the same of a request with files in a folder, beside these; or that the folder or one of them can't be written
     filed : {what : Asked} {path : Path} {text told : Bytes} {status : ℕ} → Due what text told status → Due (asks_filed what path) text told status
     unfiled : {what : Asked} {path place : Path} → IsInFolder path place → Due (asks_filed what path) [] (untraced_told place) 1

@@ -11,7 +11,7 @@ use Rattle.xvsh_checks.specs.declared.request.ExplainRequest.{ExplainRequest}
 use Rattle.xvsh_explores.specs.declared.request.ExploreRequest.{ExploreRequest}
 use Rattle.xvsh_ends.specs.declared.request.Request.{Request}
 use Rattle.xvsh_ends.specs.declared.request.Request.TheVariants.{Run, Replay, Plain, Check, Explain, Explore, Draw}
-use Rattle.xvsh_ends.specs.Ends.{Asked, asks_plain, asks_diagnosed, asks_run, asks_strict, asks_check, asks_turns, asks_room, asks_explain, asks_whys, asks_explore, help, misuse, on_harts, by_schedule, Ends, asks_traced, asks_witnessed, asks_filed, asks_lined, asks_json, asks_draw, asks_input}
+use Rattle.xvsh_ends.specs.Ends.{Asked, asks_plain, asks_diagnosed, asks_run, asks_strict, asks_check, asks_turns, asks_room, asks_explain, asks_whys, asks_explore, help, misuse, on_harts, by_schedule, Ends, asks_traced, asks_witnessed, asks_paired, asks_filed, asks_lined, asks_json, asks_draw, asks_input}
 
 -- a run by processes, strictly or not
 abbrev pub run_asked : Bool → RunRequest → Asked
@@ -69,9 +69,17 @@ abbrev pub json_asked : Bool → Asked → Asked
 json_asked false what = what
 json_asked true what = asks_json what
 
--- an exploration, with schedules or without
+-- the same, of two outcomes, if a word names them
+abbrev pub paired_asked : Option (Bor Path) → Asked → Asked
+paired_asked None what = what
+paired_asked (Some word) what = asks_paired what word.now
+
+-- an exploration, of two outcomes that are named or of no such, and with schedules or without
+abbrev pub explore_alone_asked : ExploreRequest → Asked
+explore_alone_asked request = asks_explore request.source.profile request.source.script.now request.source.files.now request.states request.is_thorough
+
 abbrev pub explore_plainly_asked : ExploreRequest → Asked
-explore_plainly_asked request = asks_explore request.source.profile request.source.script.now request.source.files.now request.states request.is_thorough
+explore_plainly_asked request = paired_asked request.pair (explore_alone_asked request)
 
 abbrev pub explore_told_asked : ExploreRequest → Asked
 explore_told_asked request = witnessed_asked request.witness (explore_plainly_asked request)
@@ -124,6 +132,7 @@ UnlessPrinted (asks_whys profile script paths) status same = status ≢ 0 → st
 UnlessPrinted (asks_explore profile script paths states all) status same = status ≢ 0 → status ≢ 3 → status ≢ 4 → same
 UnlessPrinted (asks_traced what path) status same = UnlessPrinted what status same
 UnlessPrinted (asks_witnessed what path) status same = UnlessPrinted what status same
+UnlessPrinted (asks_paired what word) status same = UnlessPrinted what status same
 UnlessPrinted (asks_filed what path) status same = UnlessPrinted what status same
 UnlessPrinted (asks_lined what) status same = UnlessPrinted what status same
 UnlessPrinted (asks_json what) status same = status ≢ 0 → status ≢ 1 → status ≢ 3 → status ≢ 4 → same

@@ -7,11 +7,11 @@ ghost use Rattle.script_outcomes.specs.Found.{Concludes};
 ghost use Rattle.xvsh_ends.specs.Ends.{Asked, Due, IsDue, asks_json, asks_witnessed, explore_status, told_text};
 ghost use Rattle.xvsh_ends.specs.Requests.{explore_asked, explore_told_asked, json_asked, witnessed_asked};
 
-use crate::ending::{Ending, Line, no_output, report_fault, report_no_memory, report_untraced};
+use crate::ending::{Ending, Line, no_output, report_no_memory, report_untraced};
 use crate::objects::{made_valued, valued};
 use crate::pages::drawn;
+use crate::unpaired::{exploring_fault_result, report_exploring};
 use crate::witnesses::{WitnessFault, write_schedules};
-use result_json::fault_result;
 use sh_lexer::Bytes;
 use std::alloc::Global;
 use xvsh_explores::{Conclusion, ExploreRequest, Explored, Watch, concluded, run_explore};
@@ -104,7 +104,7 @@ fn told_ending<H: Host + Traces + Watch>(
             Told { ending, page }
         }
         Err(fault) => Told {
-            ending: report_fault(alloc, fault),
+            ending: report_exploring(alloc, request, fault),
             page: None,
         },
     }
@@ -128,9 +128,10 @@ fn explore_json<H: Host + Traces + Watch>(
             }
         }
         Err(fault) => {
-            let made = fault_result(alloc, "explore", fault);
+            let made = exploring_fault_result(alloc, fault);
+            let ending = report_exploring(alloc, request, fault);
             Told {
-                ending: made_valued(alloc, report_fault(alloc, fault), made),
+                ending: made_valued(alloc, ending, made),
                 page: None,
             }
         }

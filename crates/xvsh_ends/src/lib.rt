@@ -18,6 +18,7 @@ mod request;
 mod run_objects;
 mod strictly;
 mod tracing;
+mod unpaired;
 mod unread;
 mod values;
 mod witnesses;

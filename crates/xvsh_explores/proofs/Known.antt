@@ -6,9 +6,17 @@ use Rattle.mem_files.specs.Name.{Bytes}
 use Rattle.xvsh_read.specs.declared.fault.Fault.{Fault}
 use Rattle.xvsh_read.specs.declared.fault.Fault.TheVariants.{Memory, TooLarge}
 use Rattle.xvsh_read.specs.Path.{Path}
-use Rattle.xvsh_explores.specs.Explores.{IsExploreFault, too_many_turns, no_memory}
+use Rattle.xvsh_explores.specs.Explores.{IsExploreFault, IsExploringFault, IsPairFault, too_many_turns, no_memory}
+use Rattle.xvsh_explores.specs.declared.fault.ExploringFault.{ExploringFault}
+use Rattle.xvsh_explores.specs.declared.fault.ExploringFault.TheVariants.{Common, NoPair, NoOutcome}
 
 -- want of memory, or of a number for a run's turns
 pub told_faults : (input : Option Bytes) (file : Path → Option Bytes) (script : Path) (paths : List (Bor Path)) (fault : Fault) → (fault ≡ Memory) ⊎ (fault ≡ TooLarge) → IsExploreFault input file script paths fault
 told_faults input file script paths fault (inl is) = subst (IsExploreFault input file script paths) (sym is) no_memory
 told_faults input file script paths fault (inr is) = subst (IsExploreFault input file script paths) (sym is) too_many_turns
+
+-- or the word of a pair
+pub pair_faults : (input : Option Bytes) (file : Path → Option Bytes) (script : Path) (paths : List (Bor Path)) (word : Option (Bor Path)) (fault : ExploringFault) → IsPairFault word fault → IsExploringFault input file script paths word fault
+pair_faults input file script paths word (Common fault) is = absurd is
+pair_faults input file script paths word (NoPair own) is = is
+pair_faults input file script paths word (NoOutcome own count) is = is

@@ -1,15 +1,29 @@
 -- What `explore` finds of a script.
-use Rattle.std.specs.Prelude.{ℕ, Bool, false, List, Option}
+use Rattle.std.specs.Prelude.{◌≡◌, ℕ, Bool, false, List, Option, Some}
 use Rattle.std.specs.Borrow.{Bor}
 use Rattle.mem_files.specs.Name.{Name, Bytes}
 use Rattle.script_load.specs.declared.profile.Profile.{Profile}
 use Rattle.script_load.specs.Line.{ScriptLine}
+use Rattle.outcome_pairs.specs.Named.{IsNamed}
+use Rattle.outcome_pairs.specs.declared.pair.Pair.{Pair}
 use Rattle.script_outcomes.specs.declared.finding.Found.{Found}
 use Rattle.script_outcomes.specs.Found.{IsFound}
 use Rattle.xvsh_read.specs.declared.fault.Fault.{Fault}
 use Rattle.xvsh_read.specs.declared.fault.Fault.TheVariants.{TooLarge, Memory}
 use Rattle.xvsh_read.specs.Path.{Path}
 use Rattle.xvsh_read.specs.Starting.{Starts, IsStartFault}
+use Rattle.xvsh_explores.specs.declared.fault.ExploringFault.{ExploringFault}
+use Rattle.xvsh_explores.specs.declared.fault.ExploringFault.TheVariants.{Common, NoPair, NoOutcome}
+
+-- where there is the word of a pair, these are the two outcomes that it names
+abbrev pub IsPairOf : Option (Bor Path) → Option Pair → Type 0
+IsPairOf word pair = (own : Bor Path) → word ≡ Some own → (named : Pair) × (pair ≡ Some named) × IsNamed own.now named
+
+-- such a word names no two outcomes, or one that isn't there
+abbrev pub IsPairFault : Option (Bor Path) → ExploringFault → Type 0
+IsPairFault word (Common fault) = ⊥
+IsPairFault word (NoPair own) = word ≡ Some own
+IsPairFault word (NoOutcome own count) = word ≡ Some own
 
 -- what follows is by what the host states of standard input and of the files at paths
 module _ (input : Option Bytes) (file : Path → Option Bytes) where
@@ -27,3 +41,9 @@ module _ (input : Option Bytes) (file : Path → Option Bytes) where
     no_start : {fault : Fault} → IsStartFault input file false script paths fault → IsExploreFault script paths fault
     too_many_turns : IsExploreFault script paths TooLarge
     no_memory : IsExploreFault script paths Memory
+
+  -- the same of a request with the word of a pair, if there is one
+  abbrev pub IsExploringFault : Path → List (Bor Path) → Option (Bor Path) → ExploringFault → Type 0
+  IsExploringFault script paths word (Common fault) = IsExploreFault script paths fault
+  IsExploringFault script paths word (NoPair own) = IsPairFault word (NoPair own)
+  IsExploringFault script paths word (NoOutcome own count) = IsPairFault word (NoOutcome own count)

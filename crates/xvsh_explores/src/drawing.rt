@@ -95,8 +95,8 @@ fn page_of_ways(
     Ok(Some(page))
 }
 
-/// The page of the runs to the two outcomes whose difference is easiest to see, or of the run to the only one; `None` where no page is
-/// asked for, or no outcome was found.
+/// The page of the runs to the two outcomes that are asked for, or else whose difference is easiest to see, or of the run to the only
+/// one; `None` where no page is asked for, or no outcome was found.
 pub fn page_of(
     alloc: Global,
     start: &Start,

@@ -4,16 +4,18 @@ ghost use Rattle.script_load.specs.Line.{lines_of};
 ghost use Rattle.dead_lines.specs.Dead.{bad_lines};
 ghost use Rattle.script_outcomes.specs.Found.{IsFound};
 ghost use Rattle.xvsh_plain.specs.Dead.{AreBadAt};
-ghost use Rattle.xvsh_explores.specs.Explores.{IsExploreFault, RanExplore};
+ghost use Rattle.xvsh_explores.specs.Explores.{IsExploringFault, IsPairFault, IsPairOf, RanExplore};
 ghost use Rattle.xvsh_read.specs.declared.fault.Fault.TheVariants.{Memory, TooLarge};
 
 use crate::drawing::page_of;
+use crate::fault::ExploringFault;
 use crate::findings::{Findings, findings_of, schedules_of};
 use crate::objects::{object_of, object_of_settled};
 use crate::request::ExploreRequest;
 use crate::telling::{told, told_settled};
 use dead_lines::{bad_lines, dead_lines};
 use order_partings::Scene;
+use outcome_pairs::{Pair, named_pair};
 use plain_run::Plain;
 use script_outcomes::{ExploreFault, Found, Limits, Setting, Tried, Watch, concluded, outcomes_of};
 use std::alloc::{AllocError, Global};
@@ -28,7 +30,9 @@ pub struct Explored {
     pub text: Vec<u8>,
     /// Where a folder for schedules was given, one of each outcome, as text, in the order of their numbers; else none.
     pub schedules: Vec<Vec<u8>>,
-    /// Where a page is asked for and an outcome was found, the page of the two outcomes whose difference is easiest to see.
+    /// The places of the two outcomes that are told apart and drawn, if any are.
+    pub pair: Option<Pair>,
+    /// Where a page is asked for and an outcome was found, the page of these two, or of the only outcome.
     pub page: Option<Vec<u8>>,
     /// The numbers, from 1, of the script's lines that are no command.
     pub bad: Vec<usize>,
@@ -39,6 +43,7 @@ pub struct Explored {
 struct Shown {
     text: Vec<u8>,
     schedules: Vec<Vec<u8>>,
+    pair: Option<Pair>,
     page: Option<Vec<u8>>,
 }
 
@@ -90,6 +95,7 @@ fn show(
     alloc: Global,
     start: &Start,
     request: &ExploreRequest<'_>,
+    asked: Option<Pair>,
     found: &Found,
 ) -> Result<Shown, AllocError> {
     let tried = match found {
@@ -97,6 +103,7 @@ fn show(
             return Ok(Shown {
                 text: text_of_settled(alloc, start, request, value)?,
                 schedules: Vec::new(alloc),
+                pair: None,
                 page: None,
             });
         }
@@ -108,7 +115,7 @@ fn show(
         files: &start.files,
     };
     let outcomes = tried.found.outcomes.as_slice();
-    let findings = findings_of(alloc, &scene, outcomes)?;
+    let findings = findings_of(alloc, &scene, outcomes, asked)?;
     let finds = Finds {
         found,
         tried,
@@ -117,8 +124,14 @@ fn show(
     Ok(Shown {
         text: text_of(alloc, start, request, finds)?,
         schedules: schedules_of(alloc, request, &findings)?,
+        pair: findings.pair,
         page: page_of(alloc, start, request, outcomes, &findings)?,
     })
+}
+
+// Whether something is asked for that only trying orders shows: a schedule of each outcome, a page, or a pair.
+fn needs_orders(request: &ExploreRequest<'_>) -> bool {
+    request.witness.is_some() || request.draw.is_some() || request.pair.is_some()
 }
 
 // How far to search: a settled script too where a schedule of its outcome is to be shown.
@@ -128,7 +141,7 @@ fn limits_of(request: &ExploreRequest<'_>) -> Limits
 {
     Limits {
         states: request.states as usize,
-        is_thorough: request.is_thorough || request.witness.is_some() || request.draw.is_some(),
+        is_thorough: request.is_thorough || needs_orders(request),
     }
 }
 
@@ -154,12 +167,13 @@ fn find<'a, W: Watch>(
     }
 }
 
-/// What is found and shown of a script from what its runs begin with: as `run_explore`, of a request whose source was read. `watch`
-/// is told how many states were found.
+/// What is found and shown of a script from what its runs begin with: as `run_explore`, of a request whose source was read and whose pair
+/// is the one that is asked for. `watch` is told how many states were found.
 pub fn explore_start<'a, W: Watch>(
     alloc: Global,
     start: &Start,
     request: &ExploreRequest<'a>,
+    asked: Option<Pair>,
     watch: &mut W,
 ) -> Result<Explored, Fault<'a>>
     ensures found { IfOk result (λ explored. IsFound start.now.script.profile (lines_of start.now.script.lines) start.now.stdin.items start.now.files request.now.states request.now.is_thorough explored.found) }
@@ -170,34 +184,84 @@ pub fn explore_start<'a, W: Watch>(
     let Shown {
         text,
         schedules,
+        pair,
         page,
-    } = show(alloc, start, request, &found)?;
+    } = show(alloc, start, request, asked, &found)?;
     let bad = bad_lines(alloc, start.script.lines.as_slice())?;
     Ok(Explored {
         found,
         text,
         schedules,
+        pair,
         page,
         bad,
     })
 }
 
+// The pair that the request asks for, if it asks for one.
+fn asked_pair<'a>(request: &ExploreRequest<'a>) -> Result<Option<Pair>, ExploringFault<'a>>
+    ensures pair { IfOk result (IsPairOf request.now.pair) }
+    ensures fault { IfErr result (IsPairFault request.now.pair) }
+{
+    let Some(word) = request.pair else {
+        return Ok(None);
+    };
+    match named_pair(word) {
+        Some(pair) => Ok(Some(pair)),
+        None => Err(ExploringFault::NoPair(word)),
+    }
+}
+
+// How many outcomes were found.
+fn count_of(found: &Found) -> usize {
+    match found {
+        Found::Settled(_) => 1,
+        Found::Tried(tried) => tried.found.outcomes.len(),
+    }
+}
+
+// What was shown, if it is of the pair that the request asks for.
+fn with_pair<'a>(
+    request: &ExploreRequest<'a>,
+    asked: Option<Pair>,
+    explored: Explored,
+) -> Result<Explored, ExploringFault<'a>>
+    ensures same { IfOk result (λ shown. shown ≡ explored) }
+    ensures pair { IfOk result (λ shown. IsPairOf request.now.pair asked → IsPairOf request.now.pair shown.pair) }
+    ensures fault { IfErr result (IsPairFault request.now.pair) }
+{
+    match request.pair {
+        Some(word) => {
+            if explored.pair == asked {
+                Ok(explored)
+            } else {
+                let count = count_of(&explored.found);
+                Err(ExploringFault::NoOutcome(word, count))
+            }
+        }
+        None => Ok(explored),
+    }
+}
+
 /// `explore`: reads the script, the files in order, and standard input unless that is the script, finds what the script can leave,
 /// and returns what is shown of it (own). A settled script that has room leaves what it means, and no order of it is tried,
-/// unless the request is thorough or asks for schedules or a page, or some file is soft. The host is told how many states were found.
+/// unless the request is thorough or asks for schedules, a page or a pair, or some file is soft. The host is told how many states were found.
 /// Nothing is written.
 ///
-/// A run with more turns than can be counted is the fault `TooLarge`.
+/// A run with more turns than can be counted is the fault `TooLarge`. `NoPair` of a word that names no two outcomes, and `NoOutcome` of
+/// one that names an outcome which wasn't found.
 pub fn run_explore<'a, H: Host + Watch>(
     alloc: Global,
     request: &ExploreRequest<'a>,
     host: &mut H,
-) -> Result<Explored, Fault<'a>>
+) -> Result<Explored, ExploringFault<'a>>
     ensures ran { IfOk result (λ explored. RanExplore (H.input host.old) (H.file host.old) request.now.source.profile request.now.source.script.now request.now.source.files.now request.now.states request.now.is_thorough explored.found) }
     ensures bad { IfOk result (λ explored. AreBadAt (H.input host.old) (H.file host.old) request.now.source.script.now explored.bad.items) }
-    ensures fault { IfErr result (IsExploreFault (H.input host.old) (H.file host.old) request.now.source.script.now request.now.source.files.now) }
+    ensures pair { IfOk result (λ explored. IsPairOf request.now.pair explored.pair) }
+    ensures fault { IfErr result (IsExploringFault (H.input host.old) (H.file host.old) request.now.source.script.now request.now.source.files.now request.now.pair) }
 {
+    let asked = asked_pair(request)?;
     let start = prepare(alloc, host, &request.source, false)?;
-    let explored = explore_start(alloc, &start, request, host)?;
-    Ok(explored)
+    let explored = explore_start(alloc, &start, request, asked, host)?;
+    with_pair(request, asked, explored)
 }

@@ -1,8 +1,10 @@
 //! Schedules that lead to the outcomes, and where these part.
+ghost use Rattle.std.specs.Prelude.{◌≡◌, ◌<◌, Some, None, IfOk, IfSome, length};
+ghost use Rattle.outcome_pairs.specs.Pairs.{IsClearest};
 
 use crate::request::ExploreRequest;
 use order_partings::{Parting, Scene, Way, align, events_of, part};
-use outcome_pairs::{Pair, clearest_pair};
+use outcome_pairs::{Pair, shown_pair};
 use schedule_lines::schedule_text;
 use script_outcomes::Outcome;
 use std::alloc::{AllocError, Global};
@@ -22,11 +24,12 @@ pub struct Findings {
     pub ways: Vec<Vec<u8>>,
     /// Where the schedule of each and that of one before it part, where that is told.
     pub partings: Vec<Option<Told>>,
-    /// The two whose difference is easiest to see, if there are two.
+    /// The two that are asked for, or those whose difference is easiest to see, if there are two.
     pub pair: Option<Pair>,
 }
 
-// Of so many outcomes each is told apart from the first; of more only the two whose difference is easiest to see are.
+// Of so many outcomes each is told apart from the first, unless a pair is asked for; of more only the two whose difference is easiest to
+// see are.
 const MOST_PARTED: usize = 4;
 
 // The way to an outcome that was found.
@@ -98,28 +101,33 @@ fn part_pair(
     Ok(partings)
 }
 
-// Makes ways alike, and returns where they part: all and the first, or of many those of the pair.
+// Makes ways alike, and returns where they part: all and the first, or of many, or where a pair is asked for, those of the pair.
 fn part_some(
     alloc: Global,
     scene: &Scene<'_>,
     ways: &mut [Way<'_>],
     pair: Option<Pair>,
+    is_asked: bool,
 ) -> Result<Vec<Option<Told>>, AllocError> {
     match pair {
-        Some(pair) if ways.len() > MOST_PARTED => part_pair(alloc, scene, ways, pair),
+        Some(pair) if is_asked || ways.len() > MOST_PARTED => part_pair(alloc, scene, ways, pair),
         _ => part_all(alloc, scene, ways),
     }
 }
 
-/// A schedule of each outcome, and where these part.
+/// A schedule of each outcome, and where these part: those of the pair that is asked for, if one is.
 pub fn findings_of(
     alloc: Global,
     scene: &Scene<'_>,
     outcomes: &[Outcome],
-) -> Result<Findings, AllocError> {
+    asked: Option<Pair>,
+) -> Result<Findings, AllocError>
+    ensures asked { IfOk result (λ findings. (pair : Pair) → asked ≡ Some pair → pair.other < length outcomes.now → findings.pair ≡ Some pair) }
+    ensures clearest { IfOk result (λ findings. asked ≡ None → IfSome findings.pair (IsClearest outcomes.now)) }
+{
     let mut found = ways_to(alloc, outcomes)?;
-    let pair = clearest_pair(outcomes);
-    let partings = part_some(alloc, scene, found.as_mut_slice(), pair)?;
+    let pair = shown_pair(outcomes, asked);
+    let partings = part_some(alloc, scene, found.as_mut_slice(), pair, asked.is_some())?;
     let mut ways = Vec::new(alloc);
     for way in found {
         ways.push(way.pids)?;

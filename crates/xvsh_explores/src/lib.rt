@@ -4,6 +4,7 @@
 mod cutting;
 mod drawing;
 mod exploring;
+mod fault;
 mod findings;
 mod objects;
 mod replays;
@@ -11,5 +12,6 @@ mod request;
 mod telling;
 
 pub use exploring::{Explored, explore_start, run_explore};
+pub use fault::ExploringFault;
 pub use request::{ExploreRequest, MAX_STATES};
 pub use script_outcomes::{Conclusion, Found, Tried, Watch, concluded};

@@ -17,6 +17,9 @@ pub struct ExploreRequest<'a> {
     pub witness: Option<&'a str>,
     /// The path of the page that draws two outcomes, if there is to be one. For it a settled script is explored too.
     pub draw: Option<&'a str>,
+    /// The word of the two outcomes that are told apart and drawn, as `1,2`; without it those whose difference is easiest to see are.
+    /// For it a settled script is explored too.
+    pub pair: Option<&'a str>,
     /// Print an object of JSON.
     pub is_json: bool,
     /// The word of the standard input, if there is one, and the script, where it is among the words: for the line that says how

@@ -170,7 +170,7 @@ fn add_stuck(alloc: Global, text: &mut Vec<u8>, tried: &Tried) -> Result<(), All
 /// The text of an exploration: a line on how many outputs there are and whether every order was tried, and then a line an
 /// outcome, with the events of a run to it, and one for what was full in it. Where outcomes differ in more than the
 /// output, each has its files and its diagnostics below it. Then comes where the schedules of two outcomes part: of the first and of
-/// each other one, or of many outcomes those of the two whose difference is easiest to see; and, where schedules are written, how to replay one. Bytes that aren't printable ASCII are shown by
+/// each other one, or of many outcomes those of the two whose difference is easiest to see, or of the two that are asked for; and, where schedules are written, how to replay one. Bytes that aren't printable ASCII are shown by
 /// their escapes.
 pub fn told(
     alloc: Global,

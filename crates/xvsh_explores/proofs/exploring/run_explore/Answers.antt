@@ -1,28 +1,13 @@
-use Rattle.std.proofs.Common.{subst}
-use Rattle.script_load.specs.Line.{lines_of}
 use Rattle.xvsh_read.proofs.Faults.{at_fault}
-use Rattle.script_outcomes.specs.Found.{IsFound}
 use Rattle.xvsh_explores.specs.Explores.{no_start}
 use Rattle.xvsh_explores.proofs.Known.{told_faults}
 use Rattle.xvsh_explores.proofs.exploring.run_explore.Goals as goal
 
 pub returns-in_err-start-clause-fault : goal.returns-in_err-start-clause-fault
 returns-in_err-start-clause-fault g c =
-    at_fault c.from_residual.result _ _ c.from_residual.ensures.1 (no_start c.in_err-start.ensures.fault)
+    at_fault c.from_residual-in_err-start.result _ _ c.from_residual-in_err-start.ensures.1 (no_start c.in_err-start.ensures.fault)
 
 pub returns-in_err-explored-clause-fault : goal.returns-in_err-explored-clause-fault
 returns-in_err-explored-clause-fault g c =
     let request = c.args.request.now in
     at_fault c.from_residual-in_err-explored.result _ _ c.from_residual-in_err-explored.ensures.1 (told_faults (g.H.Host.input c.args.host.now) (g.H.Host.file c.args.host.now) request.source.script.now request.source.files.now _ c.in_err-explored.ensures.fault)
-
-pub returns-clause-ran : goal.returns-clause-ran
-returns-clause-ran g c =
-    let start = c.in_ok-start.start in
-    let explored = c.in_ok-explored.explored in
-    record {
-      lines = lines_of start.script.lines;
-      given = start.files;
-      stdin = start.stdin.items;
-      starts = c.in_ok-start.ensures.prepared;
-      is = subst (λ profile. IsFound profile (lines_of start.script.lines) start.stdin.items start.files c.args.request.now.states c.args.request.now.is_thorough explored.found) c.in_ok-start.ensures.profile c.in_ok-explored.ensures.found;
-    }
