@@ -191,7 +191,7 @@ def gradings():
     assert (report.status, report.points, report.of) == ("all passed", 1, 1) and [(it.script, it.name, it.verdict) for it in report] == [("-", "t", "pass")]
     race, = xvsh.grade_script(SUITE, "cat > f &\ncat f", files)
     assert (race.verdict, race.passed, race.difference.file) == ("race", False, None) and race.right != race.wrong
-    unsure, = xvsh.grade_script(SUITE, "cat &", files, states=5)
+    unsure, = xvsh.grade_script(SUITE, "cat &", files, states=2)
     assert (unsure.verdict, unsure.found) == ("unsure", 1), unsure
     own = xvsh.grade_script(SUITE + 'script = "cat"\n', files=files)
     assert [(it.script, it.passed) for it in own] == [(None, True)]
@@ -203,15 +203,15 @@ def gradings():
         raise AssertionError("a file that isn't given")
     refused(xvsh.Fault.BadSuite, 1, lambda: xvsh.grade_script(SUITE, files=files))
     asked = []
-    refused(xvsh.Fault.GivenUp, 0, lambda: xvsh.grade_script(SUITE + "states = 1000000\n", "(cat; cat; cat) &\n(cat; cat; cat) &\n", files, watch=lambda n: asked.append(n) or len(asked) < 3))
+    refused(xvsh.Fault.GivenUp, 0, lambda: xvsh.grade_script(SUITE + "states = 1000000\n", "(cat; cat; cat) &\n" * 6, files, watch=lambda n: asked.append(n) or len(asked) < 3))
     assert asked == [1024, 2048, 3072], asked
     begun = time.monotonic()
-    refused(xvsh.Fault.GivenUp, 0, lambda: xvsh.explore("(cat; cat; cat) &\n(cat; cat; cat) &\n(cat; cat; cat) &\n", states=xvsh.MAX_STATES, timeout=0.3))
+    refused(xvsh.Fault.GivenUp, 0, lambda: xvsh.explore("(cat; cat; cat) &\n" * 8, states=xvsh.MAX_STATES, timeout=0.3))
     assert 0.3 <= time.monotonic() - begun < 10, time.monotonic() - begun
 
 
 # scripts, and how many outcomes they have, worked out by hand: two echoes write two bytes each, in one write or in two
-COMING = [("echo a &; echo b", 4), ("echo a > f &; echo b", 1), ("cat f | wc", 1), ("echo a | cat | cat | cat; (echo b; echo c) &\necho d", None)]
+COMING = [("echo a &; echo b", 4), ("echo a > f &; echo b", 1), ("cat f | wc", 1), ("echo a | cat | cat | cat | cat; (echo b; echo c) &\necho d", None)]
 
 
 def comings():
@@ -242,7 +242,7 @@ def comings():
             assert (graded.points, graded.of, graded.passed, graded.tests) == (theirs.points, theirs.of, theirs.passed, theirs.tests)
             assert [(it.script, it.verdict, it.message, it.difference) for it in graded.verdicts] == [(graded.script, it.verdict, it.message, it.difference) for it in theirs.verdicts]
     # a long search is given up where the iterator is closed
-    long = xvsh.grade_scripts(SUITE + "states = 10000000\n", [("a", "cat"), ("b", "(cat; cat; cat) &\n" * 3)], files, jobs=2)
+    long = xvsh.grade_scripts(SUITE + "states = 10000000\n", [("a", "cat"), ("b", "(cat; cat; cat) &\n" * 8)], files, jobs=2)
     assert next(long).script == "a"
     long.close()
     refused(xvsh.Fault.BadSuite, 3, lambda: next(xvsh.grade_scripts(SUITE, {"a": "cat"})))
