@@ -24,9 +24,9 @@
  * Faults. A call returns 0, or the number of a fault: then the answer has that number as `status`, what it is about as `place`, and
  * nothing else, but for XVSH_BAD_SUITE, which has `diag`. xvsh_fault_name and xvsh_fault_text have the name and the text of a number. A
  * number is never given to another fault; new ones may come, so have a default. No call aborts, and each returns: xvsh_run, xvsh_trace and
- * xvsh_draw take at most `turns` events, xvsh_replay, xvsh_draw_two and xvsh_look those of the schedules, xvsh_explore finds at most `states` states, and so
- * does xvsh_grade of each test, and xvsh_plain asks for at most the task's budget of memory, where it has one. The checks and xvsh_explain
- * run nothing; xvsh_explain_why runs the script by its meaning.
+ * the drawings of one run take at most `turns` events, xvsh_replay, xvsh_look and the drawings of two runs those of the schedules,
+ * xvsh_explore finds at most `states` states, and so does xvsh_grade of each test, and xvsh_plain asks for at most the task's budget of
+ * memory, where it has one. The checks and xvsh_explain run nothing; xvsh_explain_why runs the script by its meaning.
  *
  * Versions. xvsh_version_number() is 1,000,000 times the first number, 1,000 times the second, and the third. As long as the first is 0,
  * the shared library's soname has the first and the second, now libxvsh.so.0.3, and else the first alone. Under one soname these never
@@ -254,6 +254,13 @@ uint32_t xvsh_draw(const xvsh_task *task, uint64_t turns, uint32_t order, uint64
  * HTML that draws both runs, as `xvsh draw` writes it of their two traces: where they part, and once what both begin with. A fault is of the
  * first schedule, or where that can be replayed of the other. */
 uint32_t xvsh_draw_two(const xvsh_task *task, xvsh_bytes schedule, xvsh_bytes other, xvsh_answer *answer);
+
+/* Runs the script as xvsh_run does, and gives what that gives, but for events the picture of the run alone, in SVG, as `xvsh draw --svg` writes it
+ * of the run's trace: a document that stands alone, in UTF-8, 1,376 pixels wide, in light colours or where the reader prefers them in dark ones. */
+uint32_t xvsh_draw_svg(const xvsh_task *task, uint64_t turns, uint32_t order, uint64_t number, xvsh_answer *answer);
+
+/* Runs the script by the events of two schedules as xvsh_draw_two does, with the same faults, and gives for events the picture of both runs. */
+uint32_t xvsh_draw_two_svg(const xvsh_task *task, xvsh_bytes schedule, xvsh_bytes other, xvsh_answer *answer);
 
 /* Tells how a run stands after the events of a schedule, which need not be those of a whole run: a session is such a schedule, which
  * grows. Gives as json an object of `stands`, which is "runnable", "finished", or "stuck" where the run isn't finished and nobody can

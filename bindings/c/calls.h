@@ -17,6 +17,8 @@ void xvsh_explore_call(const xvsh_task *task, uint64_t states, uint32_t thorough
 void xvsh_trace_call(const xvsh_task *task, uint64_t turns, uint32_t order, uint64_t number, xvsh_answer *answer);
 void xvsh_draw_call(const xvsh_task *task, uint64_t turns, uint32_t order, uint64_t number, xvsh_answer *answer);
 void xvsh_draw_two_call(const xvsh_task *task, const uint8_t *one, size_t one_length, const uint8_t *other, size_t other_length, xvsh_answer *answer);
+void xvsh_draw_svg_call(const xvsh_task *task, uint64_t turns, uint32_t order, uint64_t number, xvsh_answer *answer);
+void xvsh_draw_two_svg_call(const xvsh_task *task, const uint8_t *one, size_t one_length, const uint8_t *other, size_t other_length, xvsh_answer *answer);
 void xvsh_grade_call(const xvsh_task *task, const uint8_t *suite, size_t length, uint64_t states, uint32_t alone, xvsh_answer *answer);
 void xvsh_look_call(const xvsh_task *task, const uint8_t *schedule, size_t length, xvsh_answer *answer);
 

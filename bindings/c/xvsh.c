@@ -239,6 +239,20 @@ uint32_t xvsh_draw_two(const xvsh_task *task, xvsh_bytes schedule, xvsh_bytes ot
   return status_of(answer);
 }
 
+uint32_t xvsh_draw_svg(const xvsh_task *task, uint64_t turns, uint32_t order, uint64_t number, xvsh_answer *answer) {
+  safe_task safe;
+  if (begin(task, &safe, answer)) xvsh_draw_svg_call(&safe.task, turns, order, number, answer);
+  return status_of(answer);
+}
+
+uint32_t xvsh_draw_two_svg(const xvsh_task *task, xvsh_bytes schedule, xvsh_bytes other, xvsh_answer *answer) {
+  safe_task safe;
+  if (!begin_with(task, &schedule, &safe, answer)) return status_of(answer);
+  if (make_safe(&other)) xvsh_draw_two_svg_call(&safe.task, schedule.at, schedule.length, other.at, other.length, answer);
+  else answer->status = XVSH_NULL;
+  return status_of(answer);
+}
+
 uint32_t xvsh_look(const xvsh_task *task, xvsh_bytes schedule, xvsh_answer *answer) {
   safe_task safe;
   if (begin_with(task, &schedule, &safe, answer)) xvsh_look_call(&safe.task, schedule.at, schedule.length, answer);

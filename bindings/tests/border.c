@@ -43,6 +43,8 @@ static bool refused(const xvsh_task *task, uint32_t fault, uint64_t place) {
   right = xvsh_replay(task, xvsh_text(""), &answer) == fault && answer.place == place && is_nothing(&answer) && right;
   right = xvsh_trace(task, 1000000, XVSH_KERNEL, 0, &answer) == fault && answer.place == place && is_nothing(&answer) && right;
   right = xvsh_draw(task, 1000000, XVSH_KERNEL, 0, &answer) == fault && answer.place == place && is_nothing(&answer) && right;
+  right = xvsh_draw_svg(task, 1000000, XVSH_KERNEL, 0, &answer) == fault && answer.place == place && is_nothing(&answer) && right;
+  right = xvsh_draw_two_svg(task, xvsh_text(""), xvsh_text(""), &answer) == fault && answer.place == place && is_nothing(&answer) && right;
   right = xvsh_draw_two(task, xvsh_text(""), xvsh_text(""), &answer) == fault && answer.place == place && is_nothing(&answer) && right;
   right = xvsh_look(task, xvsh_text(""), &answer) == fault && answer.place == place && is_nothing(&answer) && right;
   right = xvsh_explore(task, 1000000, 1, &answer) == fault && answer.place == place && is_nothing(&answer) && right;

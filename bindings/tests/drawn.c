@@ -142,12 +142,14 @@ static void ask(const xvsh_task *task, xvsh_answer *answer, xvsh_answer *other, 
   told(xvsh_trace(task, drawn(20000), drawn(7), drawn(70), answer), answer, "trace", number);
   xvsh_bytes empty = XVSH_NO_BYTES;
   told(xvsh_draw(task, drawn(20000), drawn(7), drawn(70), answer), answer, "draw", number);
+  told(xvsh_draw_svg(task, drawn(20000), drawn(7), drawn(70), answer), answer, "draw_svg", number);
   bool ran = told(xvsh_run(task, 20000, drawn(6), drawn(64), answer), answer, "run", number);
   if (ran && told(xvsh_replay(task, answer->events, other), other, "replay", number)) hold(same(answer->out, other->out) && same(answer->block, other->block), "replay", number);
   xvsh_bytes schedule = any_schedule(ran ? answer->events : empty);
   told(xvsh_replay(task, schedule, other), other, "replay of a changed schedule", number);
   told(xvsh_look(task, schedule, other), other, "look", number);
   if (told(xvsh_draw_two(task, ran ? answer->events : empty, schedule, other), other, "draw_two", number)) hold(same(answer->out, other->out) && other->events.length > 0, "draw_two", number);
+  if (told(xvsh_draw_two_svg(task, ran ? answer->events : empty, schedule, other), other, "draw_two_svg", number)) hold(same(answer->out, other->out) && other->events.length > 0, "draw_two_svg", number);
   free((void *)schedule.at);
   xvsh_bytes suite = any_suite();
   told(xvsh_grade(task, suite, drawn(2) * 40, drawn(4) == 0, other), other, "grade", number);

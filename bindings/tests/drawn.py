@@ -99,7 +99,7 @@ class Program:
         return json.loads(self.prints(*words, "--json", given=given, schedule=schedule))
 
     def draws(self, trace, *others):
-        """The page that the program draws of a trace, or of it and another at a path."""
+        """The page, or with `--svg` the picture, that the program draws of a trace, or of it and another at a path."""
         return subprocess.run([self.path, "draw", "-", *others], input=trace, stdout=subprocess.PIPE, check=True).stdout
 
     def place(self, name, data):
@@ -162,8 +162,12 @@ def pair_differs(program, text, stdin, given, append, run, trace, seed):
     except xvsh.Spent:
         return None if "&" in text.decode("latin-1") else "run: the turns are spent"
     both = xvsh.draw_two(text, run.schedule, other.schedule, stdin, given, append=append)
-    page = program.draws(trace, program.place("other of it", other.trace))
-    return None if both.html == page and both.run == run else f"draw_two: {both} beside {page!r} and {run}"
+    path = program.place("other of it", other.trace)
+    page = program.draws(trace, path)
+    if both.html != page or both.run != run:
+        return f"draw_two: {both} beside {page!r} and {run}"
+    both, picture = xvsh.draw_two_svg(text, run.schedule, other.schedule, stdin, given, append=append), program.draws(trace, path, "--svg")
+    return None if both.svg.encode() == picture and both.run == run else f"draw_two_svg: {both} beside {picture!r} and {run}"
 
 
 def same(program, text, stdin, given, append, draw):
@@ -192,6 +196,9 @@ def same(program, text, stdin, given, append, draw):
     page = program.draws(printed)
     if drawn.html != page or (drawn.run.out, drawn.run.files, drawn.run.diag) != (run.out, run.files, run.diag):
         return f"draw: {drawn} beside {page!r} and {run}"
+    drawn, picture = xvsh.draw_svg(text, stdin, given, append=append, turns=1_000_000, order=order, seed=seed), program.draws(printed, "--svg")
+    if drawn.svg.encode() != picture or (drawn.run.out, drawn.run.files, drawn.run.diag) != (run.out, run.files, run.diag):
+        return f"draw_svg: {drawn} beside {picture!r} and {run}"
     why = pair_differs(program, text, stdin, given, append, run, printed, seed)
     if why:
         return why

@@ -263,6 +263,21 @@ def pictures():
         assert "var(" not in text and set(re.findall(r"url\((.)", text)) <= {"#"} and "@" not in picture.find(name + "style").text
 
 
+def alone():
+    """A picture is the program's of the library's trace, is XML, and has the title of each call of the run; of two runs it tells where they part."""
+    program = os.environ.get("XVSH") or os.path.join(HERE, "xvsh")
+    name, files = "{http://www.w3.org/2000/svg}", {"g": b"\0\xff<b>\n"}
+    for script in ("echo hi | wc", b"echo <&\"'> \xff\x01\x7f\t | cat > f; lss", "(echo a; echo b) &\necho c | cat | cat | wc\n" * 3):
+        picture, traced = xvsh.draw_svg(script, files=files), xvsh.run(script, files=files, trace=True)
+        assert picture.svg.encode() == subprocess.run([program, "draw", "--svg", "-"], input=traced.trace, stdout=subprocess.PIPE, check=True).stdout and picture.run.out == traced.out
+        titles = [it.text for it in ElementTree.fromstring(picture.svg).iter(name + "title")]
+        due = [f"event {it.n}, hart {it.hart}, process {it.pid}: {it.record['call']['name']}" for it in traced if it.kind == "trap"]
+        assert due == [it for it in titles if it.startswith("event ")]
+        whole = xvsh.run(script, files=files)
+        both = xvsh.draw_two_svg(script, whole.schedule, whole.schedule, files=files)
+        assert both.run == whole and "The events of both are the same." in [it.text for it in ElementTree.fromstring(both.svg).iter(name + "text")]
+
+
 def pairs():
     """A page of two runs is the program's page of the library's traces of these two, the first before the other; its picture has three parts."""
     program = os.environ.get("XVSH") or os.path.join(HERE, "xvsh")
@@ -419,6 +434,7 @@ def main():
     in_every_way()
     pairs()
     pictures()
+    alone()
     traces()
     schemas()
     forms()

@@ -53,6 +53,8 @@ static uint32_t call(int kind, xvsh_answer *answer) {
     case 15: return xvsh_grade(&racy, suite, 0, 0, answer);
     case 16: return xvsh_grade(&task, xvsh_text("title = 1\n"), 0, 0, answer);
     case 17: return xvsh_draw_two(&task, events, events, answer);
+    case 18: return xvsh_draw_svg(&task, 100000, XVSH_KERNEL, 0, answer);
+    case 19: return xvsh_draw_two_svg(&task, events, events, answer);
     default: return xvsh_look(&task, xvsh_text("D 0 1\nT 0 1\nD 0 2\nT 0 2\n"), answer);
   }
 }
@@ -65,8 +67,8 @@ static bool same(xvsh_bytes one, xvsh_bytes other) {
  * memory was refused, and goes on; then it says so, and a schedule may lead nowhere. */
 static bool is_right(int kind, const xvsh_answer *answer, const xvsh_answer *wanted) {
   if (answer->status == XVSH_MEMORY) return true;
-  if ((kind == 1 || kind == 8 || kind == 13) && answer->status == XVSH_SPENT) return true;
-  bool by_events = kind == 2 || kind == 3 || kind == 9 || kind == 17;
+  if ((kind == 1 || kind == 8 || kind == 13 || kind == 18) && answer->status == XVSH_SPENT) return true;
+  bool by_events = kind == 2 || kind == 3 || kind == 9 || kind == 17 || kind == 19;
   if (by_events && answer->status >= XVSH_NOT_RUNNABLE && answer->status <= XVSH_UNFINISHED) return true;
   if (answer->status != wanted->status) return false;
   return answer->full == XVSH_HEAP || kind == 9 || (same(answer->out, wanted->out) && same(answer->json, wanted->json) && (answer->status == XVSH_OK || same(answer->diag, wanted->diag)));
@@ -86,7 +88,7 @@ int main(void) {
   xvsh_answer run = XVSH_ANSWER;
   if (call(1, &run) != XVSH_OK) return 1;
   events = run.events;
-  for (int kind = 0; kind < 18; kind++) {
+  for (int kind = 0; kind < 20; kind++) {
     xvsh_answer answer = XVSH_ANSWER, wanted = XVSH_ANSWER;
     left = -1;
     asked = 0;

@@ -115,6 +115,22 @@ void xvsh_draw_two_call(const xvsh_task *task, const uint8_t *one, size_t one_le
   if (!answer->status) answer->events = copied(text, strlen(text));
 }
 
+void xvsh_draw_svg_call(const xvsh_task *task, uint64_t turns, uint32_t order, uint64_t number, xvsh_answer *answer) {
+  static const char picture[] = "<svg>\n";
+  run("svg", task, turns, order, number, answer);
+  if (!answer->status) answer->events = copied(picture, sizeof picture - 1);
+}
+
+/* The picture has the lengths of the two schedules. */
+void xvsh_draw_two_svg_call(const xvsh_task *task, const uint8_t *one, size_t one_length, const uint8_t *other, size_t other_length, xvsh_answer *answer) {
+  char text[96];
+  (void)one;
+  (void)other;
+  snprintf(text, sizeof text, "<svg>%llu %llu", (unsigned long long)one_length, (unsigned long long)other_length);
+  answered(task, "two svg", "", answer);
+  if (!answer->status) answer->events = copied(text, strlen(text));
+}
+
 void xvsh_replay_call(const xvsh_task *task, const uint8_t *schedule, size_t length, xvsh_answer *answer) {
   answered(task, "replay", "", answer);
   if (!answer->status) answer->events = copied(schedule, length);

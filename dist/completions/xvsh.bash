@@ -13,7 +13,7 @@ _xvsh() {
         check) flags='--turns --room --strict --json --input -c -h --help' ;;
         explain) flags='--why --append --json --input -c -h --help' ;;
         explore) flags='--states --all --witness --draw --pair --json --append --input -c -h --help' ;;
-        draw) flags='--from --to -h --help' ;;
+        draw) flags='--from --to --svg -h --help' ;;
         step) flags='--schedule --append --json --input -c -h --help' ;;
         grade) flags='--json --tap --gradescope --jobs --states -h --help' ;;
     esac

@@ -45,9 +45,9 @@ __all__ = [
     "Answer", "AnyPath", "BadName", "BadOrder", "BadStates", "BadSuite", "BadTurns", "ByteZero", "Bytes", "Check", "Difference", "Drawing", "Event", "EveryWay", "Explanation",
     "Exploration",
     "Fault", "File", "Files", "Finding", "GivenUp", "GradeError", "Graded", "InputTooLong", "Lack", "LineTooLong", "Memory", "MissingName", "Need", "NoEvent",
-    "NoProgram", "NotRunnable", "NotRunning", "Note", "Order", "Outcome", "Outcomes", "Parting", "Pipe", "Plain", "Process", "ProgramError", "Reason", "Report", "RoomCheck", "Run",
+    "NoProgram", "NotRunnable", "NotRunning", "Note", "Order", "Outcome", "Outcomes", "Parting", "Picture", "Pipe", "Plain", "Process", "ProgramError", "Reason", "Report", "RoomCheck", "Run",
     "ScriptTooLong", "Scripts", "Session", "Spent", "SuiteTooLong", "TakenName", "TimedOut", "TooLarge", "TooLong", "TooManyFiles", "TurnsCheck", "Unfinished", "UnusedScript",
-    "Verdict", "Whys", "XvshError", "check", "check_room", "check_turns", "draw", "draw_two", "explain", "explain_why", "explore", "grade", "grade_harts", "grade_script", "grade_scripts", "outcomes", "plain", "replay", "run", "run_harts",
+    "Verdict", "Whys", "XvshError", "check", "check_room", "check_turns", "draw", "draw_svg", "draw_two", "draw_two_svg", "explain", "explain_why", "explore", "grade", "grade_harts", "grade_script", "grade_scripts", "outcomes", "plain", "replay", "run", "run_harts",
     "version",
 ]
 __version__ = "0.3.0"
@@ -296,6 +296,7 @@ _numbers: dict[str, list[Any]] = {
     "plain": [], "run": [c.c_uint64, c.c_uint32, c.c_uint64], "replay": [_Bytes], "check": [c.c_uint32], "explain": [],
     "check_turns": [c.c_uint32], "check_room": [c.c_uint32], "explain_why": [],
     "draw": [c.c_uint64, c.c_uint32, c.c_uint64], "draw_two": [_Bytes, _Bytes],
+    "draw_svg": [c.c_uint64, c.c_uint32, c.c_uint64], "draw_two_svg": [_Bytes, _Bytes],
     "explore": [c.c_uint64, c.c_uint32], "explore_watched": [c.c_uint64, c.c_uint32, c.POINTER(_Watch)], "trace": [c.c_uint64, c.c_uint32, c.c_uint64], "look": [_Bytes],
     "grade": [_Bytes, c.c_uint64, c.c_uint32], "grade_watched": [_Bytes, c.c_uint64, c.c_uint32, c.POINTER(_Watch)],
 }
@@ -435,7 +436,8 @@ class Drawing(Shown):
 
     @property
     def svg(self) -> str:
-        """The picture of the page alone, in SVG, which needs nothing from elsewhere, in the colours of a light page."""
+        """The picture of the page alone, in SVG, which needs nothing from elsewhere, in the colours of a light page. Where the page isn't needed, `draw_svg` makes a picture in these
+        and in dark colours."""
         return svg_of(self.html.decode("utf-8", "replace"))
 
     def _repr_svg_(self) -> str:
@@ -444,6 +446,18 @@ class Drawing(Shown):
     def _repr_html_(self) -> str:
         page = html.escape(self.html.decode("utf-8", "replace"), quote=True)
         return f'<iframe srcdoc="{page}" sandbox="" style="width:100%;height:40em;border:0" title="a drawing of a run"></iframe>'
+
+
+@dataclasses.dataclass(frozen=True, repr=False)
+class Picture(Shown):
+    """A finished run, which has no schedule here unless it was handed in, and the picture of it in SVG, or of it and another: a document that stands alone, in light colours or
+    where the reader prefers them in dark ones. A notebook shows the picture."""
+
+    run: Run
+    svg: str
+
+    def _repr_svg_(self) -> str:
+        return self.svg
 
 
 def _traced(trace: bytes) -> Iterator[Event]:
@@ -756,6 +770,29 @@ def draw_two(script: Bytes, schedule: Bytes, other: Bytes, input: Bytes = b"", f
     first = _raw(schedule)
     call = _call("draw_two", script, input, files, append, 0, _Bytes(*_view(kept, first)), _Bytes(*_view(kept, _raw(other))))
     return Drawing(Run(call.out, call.files, call.diag, first, call.full), call.events)
+
+
+def draw_svg(
+    script: Bytes, input: Bytes = b"", files: Files | None = None, *, append: bool = False, turns: int = 10_000_000, order: Order = Order.KERNEL, seed: int = 0,
+) -> Picture:
+    """Runs the script as `run` does, and gives the picture of the run alone, as `xvsh draw --svg` writes it of its trace. The faults are those of `run`.
+
+    >>> import xvsh
+    >>> picture = xvsh.draw_svg("echo hi")
+    >>> picture.svg[:5], picture.run.out
+    ('<svg ', b'hi\\n')
+    """
+    numbers = _number(turns, 64, "turns are"), _number(order, 32, "an order is"), _number(seed, 64, "a seed is")
+    call = _call("draw_svg", script, input, files, append, 0, *numbers)
+    return Picture(Run(call.out, call.files, call.diag, b"", call.full), call.events.decode())
+
+
+def draw_two_svg(script: Bytes, schedule: Bytes, other: Bytes, input: Bytes = b"", files: Files | None = None, *, append: bool = False) -> Picture:
+    """Runs the script by two schedules as `draw_two` does, with the same faults, and gives the picture of both runs, as `xvsh draw --svg` writes it of their two traces."""
+    kept: list[Any] = []
+    first = _raw(schedule)
+    call = _call("draw_two_svg", script, input, files, append, 0, _Bytes(*_view(kept, first)), _Bytes(*_view(kept, _raw(other))))
+    return Picture(Run(call.out, call.files, call.diag, first, call.full), call.events.decode())
 
 
 def replay(script: Bytes, schedule: Bytes, input: Bytes = b"", files: Files | None = None, *, append: bool = False) -> Run:

@@ -66,6 +66,8 @@ extern "C" {
     pub(crate) fn xvsh_trace(task: *const Task, turns: u64, order: u32, number: u64, answer: *mut Answer) -> u32;
     pub(crate) fn xvsh_draw(task: *const Task, turns: u64, order: u32, number: u64, answer: *mut Answer) -> u32;
     pub(crate) fn xvsh_draw_two(task: *const Task, schedule: Bytes, other: Bytes, answer: *mut Answer) -> u32;
+    pub(crate) fn xvsh_draw_svg(task: *const Task, turns: u64, order: u32, number: u64, answer: *mut Answer) -> u32;
+    pub(crate) fn xvsh_draw_two_svg(task: *const Task, schedule: Bytes, other: Bytes, answer: *mut Answer) -> u32;
     pub(crate) fn xvsh_replay(task: *const Task, schedule: Bytes, answer: *mut Answer) -> u32;
     pub(crate) fn xvsh_look(task: *const Task, schedule: Bytes, answer: *mut Answer) -> u32;
     pub(crate) fn xvsh_check(task: *const Task, strict: u32, answer: *mut Answer) -> u32;

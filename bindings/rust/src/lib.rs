@@ -144,6 +144,17 @@ impl<'a> Task<'a> {
         self.ask(|task, answer| unsafe { border::xvsh_draw_two(task, view(schedule), view(other), answer) }).map(Run)
     }
 
+    /// Runs it as `run` does, and gives for its events the picture of the run alone, in SVG.
+    pub fn draw_svg(&self, turns: u64, order: Order) -> Result<Run, Error> {
+        let (order, number) = order.numbers();
+        self.ask(|task, answer| unsafe { border::xvsh_draw_svg(task, turns, order, number, answer) }).map(Run)
+    }
+
+    /// Runs it by the events of two schedules, and gives what the first run leaves, and for its events the picture of both runs, in SVG.
+    pub fn draw_two_svg(&self, schedule: &[u8], other: &[u8]) -> Result<Run, Error> {
+        self.ask(|task, answer| unsafe { border::xvsh_draw_two_svg(task, view(schedule), view(other), answer) }).map(Run)
+    }
+
     /// Runs it by the events of a schedule of one to eight harts: a run's, or any other.
     pub fn replay(&self, schedule: &[u8]) -> Result<Run, Error> {
         self.ask(|task, answer| unsafe { border::xvsh_replay(task, view(schedule), answer) }).map(Run)

@@ -46,6 +46,10 @@ fn runs_and_their_schedules() {
     let both = task().draw_two(run.events(), run.events()).unwrap();
     assert_eq!(both.out(), run.out());
     assert!(both.events().to_ascii_lowercase().starts_with(b"<!doctype html>") && both.events() != drawn.events());
+    let picture = task().draw_svg(100_000, Order::Kernel).unwrap();
+    assert!(picture.out() == run.out() && picture.events().starts_with(b"<svg ") && picture.events().ends_with(b"</svg>\n"));
+    let pictures = task().draw_two_svg(run.events(), run.events()).unwrap();
+    assert!(pictures.out() == run.out() && pictures.events().starts_with(b"<svg ") && pictures.events() != picture.events());
     assert!(traced.events().starts_with(b"{") && holds(traced.events(), "\"kind\":\"dispatch\""));
 }
 

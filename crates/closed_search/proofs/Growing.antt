@@ -1,6 +1,6 @@
 -- What holds of a list of states that grows, as the search finds them.
 use Rattle.std.proofs.Common.{◌≡◌, ℕ, zero, suc, ◌+◌, ◌<◌, ◌≤◌, ◌⊎◌, inl, inr, List, [], ◌∷◌, ◌++◌, length, Option, Some, None, refl, sym, ap, subst, ◌∙◌, arith, append_assoc, length-append}
-use Rattle.std.specs.Prelude.{All, Any, map, slice_index_or, Result, Ok, Err, IfOk}
+use Rattle.std.specs.Prelude.{All, Any, map, slice_index_or, slice_set, Result, Ok, Err, IfOk}
 use Rattle.std.proofs.lemmas.List.{append-nil}
 use Rattle.std.proofs.lemmas.List.Elements.{All-append, All-nil}
 use Rattle.closed_search.specs.Searched.{IsLedOn, at_first, on, IsLed, listed, privately, IsExpanded, IsReached, here, more as more_steps, IsLonger, IsReducedUnder}
@@ -162,3 +162,17 @@ longer_by P Q xs ys more a = record { rest = a.rest; grown = a.grown; each = all
 pub move_first : {T : Type 0} (step : T → ℕ → Option T) (s t u : T) (move : ℕ) → step s move ≡ Some t → IsReached step t u → IsReached step s u
 move_first step s t u move is here = more_steps s t move here is
 move_first step s t u move is (more_steps v w n before next) = more_steps v w n (move_first step s t v move is before) next
+
+-- what is written at a place changes nothing that is seen, if it shows the same
+pub set_unseen : {A T : Type 0} (view : A → T) (xs : List A) (k : ℕ) (y d : A) → k < length xs → view y ≡ view (slice_index_or xs k d) → map view (slice_set xs k y) ≡ map view xs
+set_unseen view [] k y d within same = absurd (omega arith)
+set_unseen view (x ∷ xs) zero y d within same = ap (λ (t : _). t ∷ map view xs) same
+set_unseen view (x ∷ xs) (suc k) y d within same = ap (λ (l : List _). view x ∷ l) (set_unseen view xs k y d (omega arith) same)
+
+-- a state is listed where it stands for one
+pub listed_here : {A T : Type 0} (view : A → T) (stands : T → T → Type 0) (xs : List A) (k : ℕ) (d : A) (t : T) → k < length xs → stands t (view (slice_index_or xs k d)) → Any (stands t) (map view xs)
+listed_here view stands [] k d t within is = absurd (omega arith)
+listed_here view stands (x ∷ xs) zero d t within is = (0, view x, omega arith, refl, is)
+listed_here view stands (x ∷ xs) (suc k) d t within is =
+    let a = listed_here view stands xs k d t (omega arith) is in
+    (suc a.0, a.1, omega (arith, a.2), a.3, a.4)

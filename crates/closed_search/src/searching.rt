@@ -1,6 +1,6 @@
 //! The search.
 
-ghost use Rattle.std.specs.Prelude.{◌≡◌, ℕ, ◌<◌, ◌≤◌, Some, None, Ok, IfOk, IfSome, OnOk, All, length, map, slice_index_or, true, false, [], ◌∷◌, ◌++◌};
+ghost use Rattle.std.specs.Prelude.{◌≡◌, ℕ, ◌<◌, ◌≤◌, Some, None, Ok, IfOk, IfSome, OnOk, All, length, map, slice_index_or, option_map, true, false, [], ◌∷◌, ◌++◌};
 ghost use Rattle.closed_search.specs.Searched.{HasLike, IsLedOn, IsLed, IsExpanded, IsReached, IsLonger, IsReducedUnder};
 
 use crate::indexes::Index;
@@ -70,8 +70,9 @@ fn add<T: Node>(nodes: &mut Vec<T>, index: &mut Index, node: T) -> Result<(), T:
 }
 
 // The node after a private move, if one was found.
-fn advance<T: Node>(node: &T, tools: &mut T::Tools) -> Result<Option<T>, T::Fault>
-    ensures { IfOk result (λ found. IfSome found (λ next. (move : ℕ) × T.private (T.state node.now) move × (T.step (T.state node.now) move ≡ Some (T.state next)))) }
+fn advance<T: Node>(node: &mut T, tools: &mut T::Tools) -> Result<Option<T>, T::Fault>
+    ensures next { IfOk result (λ found. IfSome found (λ next. (move : ℕ) × T.private (T.state node.old) move × (T.step (T.state node.old) move ≡ Some (T.state next)))) }
+    ensures same { T.state node.new ≡ T.state node.old }
 {
     match node.private_move() {
         None => Ok(None),
@@ -85,7 +86,7 @@ fn settle<T: Node>(first: T, tools: &mut T::Tools, chain: usize) -> Result<T, T:
 {
     let mut node = first;
     for _ in 0..chain {
-        match advance(&node, tools)? {
+        match advance(&mut node, tools)? {
             None => return Ok(node),
             Some(next) => node = next,
         }
@@ -108,6 +109,20 @@ fn add_settled<T: Node>(
     add(nodes, index, settled)
 }
 
+// The node after a move of the one at the place.
+fn after_at<T: Node>(
+    nodes: &mut Vec<T>,
+    tools: &mut T::Tools,
+    place: usize,
+    step_number: usize,
+) -> Result<Option<T>, T::Fault>
+    requires place { place < length nodes.old.items }
+    ensures next { IfOk result (λ found. (d : T.State) → option_map T.state found ≡ T.step (slice_index_or (map T.state nodes.old.items) place d) step_number) }
+    ensures same { map T.state nodes.new.items ≡ map T.state nodes.old.items }
+{
+    nodes[place].after(tools, step_number)
+}
+
 // What the node after a move of the one at the place leads to is added, unless a node stands for it.
 fn take_move<T: Node>(
     nodes: &mut Vec<T>,
@@ -121,7 +136,10 @@ fn take_move<T: Node>(
     ensures has { IfOk result (λ _. (d t : T.State) → T.step (slice_index_or (map T.state nodes.old.items) place d) step_number ≡ Some t → IsLed T.step T.stands T.private (map T.state nodes.new.items) t) }
     ensures grown { IfOk result (λ _. IsLonger (λ t. (d : T.State) → IsReached T.step (slice_index_or (map T.state nodes.old.items) place d) t) (map T.state nodes.old.items) (map T.state nodes.new.items)) }
 {
-    let found = nodes[place].after(tools, step_number)?;
+    if nodes[place].leads_nowhere(step_number) {
+        return Ok(());
+    }
+    let found = after_at(nodes, tools, place, step_number)?;
     match found {
         None => Ok(()),
         Some(node) => add_settled(nodes, index, tools, node, chain),

@@ -1,4 +1,4 @@
-//! Runs, and the pages that draw them.
+//! Runs, and the pages and pictures that draw them.
 ghost use Rattle.std.specs.Prelude.{IfErr, IfOk};
 ghost use Rattle.embed_draws.specs.Pairs.{CanReplay, IsPairFault};
 ghost use Rattle.embed_runs.specs.Runs.{IsReplayAnswer, IsRunAnswer, IsRunFault};
@@ -6,7 +6,9 @@ ghost use Rattle.embed_runs.specs.Runs.{IsReplayAnswer, IsRunAnswer, IsRunFault}
 use crate::tracing::traced;
 use embed_runs::{Order, RunAnswer, replay_of, run_of};
 use embed_task::{EmbedFault, Task};
-use figure_page::{Bounds, pair_page, run_page};
+use figure_page::{pair_page, run_page};
+use figure_strips::Bounds;
+use figure_svg::{pair_svg, run_svg};
 use std::alloc::Global;
 
 // All events that one page draws.
@@ -17,40 +19,63 @@ fn all() -> Bounds {
     }
 }
 
-// The page of the run of the task by this schedule, which took place before: so only memory can be refused.
-fn page_by(alloc: Global, task: &Task<'_>, schedule: &[u8]) -> Option<Vec<u8>> {
+/// As what runs are drawn.
+#[derive(Clone, Copy, Debug, PartialEq, Eq)]
+pub enum Form {
+    /// The page of HTML that `xvsh draw` writes.
+    Page,
+    /// The picture in SVG that `xvsh draw --svg` writes.
+    Picture,
+}
+
+// What is drawn of the run of the task by this schedule, which took place before: so only memory can be refused.
+fn drawn_by(alloc: Global, task: &Task<'_>, schedule: &[u8], form: Form) -> Option<Vec<u8>> {
     let Some(trace) = traced(alloc, task, schedule) else {
         return None;
     };
-    match run_page(alloc, &trace, all()) {
-        Ok(page) => Some(page),
+    let drawn = match form {
+        Form::Page => run_page(alloc, &trace, all()),
+        Form::Picture => run_svg(alloc, &trace, all()),
+    };
+    match drawn {
+        Ok(text) => Some(text),
         Err(_) => None,
     }
 }
 
-// The page of two such runs.
-fn page_by_both(alloc: Global, task: &Task<'_>, one: &[u8], other: &[u8]) -> Option<Vec<u8>> {
+// What is drawn of two such runs.
+fn both_drawn_by(
+    alloc: Global,
+    task: &Task<'_>,
+    one: &[u8],
+    other: &[u8],
+    form: Form,
+) -> Option<Vec<u8>> {
     let Some(first) = traced(alloc, task, one) else {
         return None;
     };
     let Some(second) = traced(alloc, task, other) else {
         return None;
     };
-    match pair_page(alloc, &first, &second, all()) {
-        Ok(page) => Some(page),
+    let drawn = match form {
+        Form::Page => pair_page(alloc, &first, &second, all()),
+        Form::Picture => pair_svg(alloc, &first, &second, all()),
+    };
+    match drawn {
+        Ok(text) => Some(text),
         Err(_) => None,
     }
 }
 
-/// What a finished run leaves, and a page that draws it.
+/// What a finished run leaves, and what draws it.
 #[derive(Drop)]
 pub struct DrawAnswer {
     pub run: RunAnswer,
-    /// The page of HTML, as `xvsh draw` writes it of the run's trace, or of the traces of two runs.
+    /// The page or the picture, as `xvsh draw` writes it of the run's trace, or of the traces of two runs.
     pub page: Vec<u8>,
 }
 
-/// Runs the script of a task by its processes, as `run_of`, and draws that run, which is made once more for it.
+/// Runs the script of a task by its processes, as `run_of`, and draws that run in a form; it is made once more for it.
 ///
 /// The faults are those of `run_of`.
 pub fn draw_of(
@@ -58,6 +83,7 @@ pub fn draw_of(
     task: &Task<'_>,
     turns: u64,
     order: Order,
+    form: Form,
 ) -> Result<DrawAnswer, EmbedFault>
     ensures ran { IfOk result (λ answer. IsRunAnswer task.now answer.run) }
     ensures fault { IfErr result (IsRunFault task.now turns) }
@@ -66,14 +92,14 @@ pub fn draw_of(
         Ok(run) => run,
         Err(fault) => return Err(fault),
     };
-    match page_by(alloc, task, run.schedule.as_slice()) {
+    match drawn_by(alloc, task, run.schedule.as_slice(), form) {
         Some(page) => Ok(DrawAnswer { run, page }),
         None => Err(EmbedFault::Memory),
     }
 }
 
-/// Runs the script of a task by the events of two schedules, as `replay_of`, and draws both runs on one page: the answer is what the first
-/// leaves.
+/// Runs the script of a task by the events of two schedules, as `replay_of`, and draws both runs on one page or in one picture: the
+/// answer is what the first leaves.
 ///
 /// The faults are those of `replay_of`, of the first schedule before the other.
 pub fn draw_two_of(
@@ -81,6 +107,7 @@ pub fn draw_two_of(
     task: &Task<'_>,
     one: &[u8],
     other: &[u8],
+    form: Form,
 ) -> Result<DrawAnswer, EmbedFault>
     ensures ran { IfOk result (λ answer. IsReplayAnswer task.now one.now answer.run) }
     ensures both { IfOk result (λ _. CanReplay task.now other.now) }
@@ -94,7 +121,7 @@ pub fn draw_two_of(
         Ok(second) => second,
         Err(fault) => return Err(fault),
     };
-    match page_by_both(alloc, task, one, other) {
+    match both_drawn_by(alloc, task, one, other, form) {
         Some(page) => Ok(DrawAnswer { run, page }),
         None => Err(EmbedFault::Memory),
     }

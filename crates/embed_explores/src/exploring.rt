@@ -88,6 +88,7 @@ pub fn explore_of(
         },
         states,
         is_thorough,
+        is_full: false,
         witness: None,
         draw: None,
         pair: None,

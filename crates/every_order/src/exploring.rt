@@ -23,13 +23,16 @@ use sh_machine::{Naming, User};
 use std::alloc::{Allocator, Global};
 use std::marker::Brand;
 
-/// What the runs of a script begin with.
+/// What the runs of a script begin with, and how much of them is tried.
 #[derive(Clone, Copy)]
 pub struct Setting<'a, B: Allocator, C: Allocator> {
     pub script: &'a Script<B>,
     /// The standard input.
     pub stdin: &'a [u8],
     pub files: &'a Files<C>,
+    /// Whether every turn is tried in every state. What is found is the same without, of fewer states: there a turn that gives way to
+    /// nobody's is taken at once, and no other one is tried (own).
+    pub is_full: bool,
 }
 
 /// Tries the orders in which the processes of a script can take their turns, with this standard input and these files: all
@@ -58,6 +61,7 @@ pub fn explore<B: Allocator, C: Allocator>(
         script,
         stdin,
         files,
+        is_full: false,
     };
     explore_watched(alloc, &setting, states, &mut Unwatched)
 }
@@ -110,6 +114,7 @@ fn explore_named<N: Naming, B: Allocator, C: Allocator, W: Watch>(
             entries: has_few_opens(setting.script),
             slots: has_few_forks(setting.script),
         },
+        is_full: setting.is_full,
     };
     explore_from(alloc, &origin, states, watch)
 }

@@ -1,7 +1,8 @@
 //! What stands above a figure: the script, what it printed, and how the run ended.
 
-use crate::style::{HEAD, STYLE};
+use crate::style::{BEGUN, HEAD, STYLE};
 use Piece::{Count, Lines, Mark, Num, Short};
+use figure_strips::PATTERNS;
 use figure_words::{Run, full_name};
 use page_markup::{Page, Piece};
 use std::alloc::Allocator;
@@ -27,6 +28,8 @@ pub(crate) fn add_head<A: Allocator>(page: &mut Page<A>, title: &'static str, sc
         Short(script, TITLE_ROOM),
         Mark("</title>\n"),
         Mark(STYLE),
+        Mark(PATTERNS),
+        Mark(BEGUN),
         Mark("<main>\n<h1>"),
         Mark(title),
         Mark("</h1>\n"),
@@ -114,20 +117,9 @@ pub(crate) fn add_size<A: Allocator + Copy>(
     run: &Run<'_, A>,
 ) {
     let trace = run.trace;
+    page.add(&[Mark("<div><dt>"), Mark(name), Mark("</dt><dd>")]);
+    figure_words::add_size(page, run);
     page.add(&[
-        Mark("<div><dt>"),
-        Mark(name),
-        Mark("</dt><dd>harts: "),
-        Num(trace.head.harts as usize),
-        Mark("; events: "),
-        Num(trace.events.len()),
-        Mark("; processes: "),
-        Num(run.lives.len()),
-        Mark("; pipes: "),
-        Num(run.bands.len()),
-        Mark("; input: "),
-        Count(trace.head.input),
-        Mark("; "),
         Mark(if trace.end.is_finished {
             "finished"
         } else {

@@ -12,5 +12,5 @@ mod story;
 mod style;
 mod table;
 
-pub use page::{Bounds, MOST_EVENTS, run_page};
+pub use page::run_page;
 pub use pair::pair_page;

@@ -5,51 +5,11 @@ use crate::story::add_story;
 use crate::style::KEY;
 use crate::table::add_table;
 use Piece::{Mark, Num};
-use figure_strips::{Fold, Window, add_strips, folds_of};
+use figure_strips::{Bounds, Fold, Sheet, Span, Window, add_strips, folds_of};
 use figure_words::Run;
 use page_markup::{Page, Piece};
 use std::alloc::{AllocError, Allocator};
 use trace_data::Trace;
-
-/// How many events a page draws at most.
-pub const MOST_EVENTS: usize = 10_000;
-
-/// Which events are drawn: from the first on, and up to the last, by their numbers; all where there is none.
-#[derive(Clone, Copy, Debug)]
-pub struct Bounds {
-    pub from: Option<usize>,
-    pub to: Option<usize>,
-}
-
-/// Events that are drawn: the number of the first, and of the one behind the last.
-#[derive(Clone, Copy)]
-pub(crate) struct Span {
-    pub(crate) first: usize,
-    pub(crate) past: usize,
-}
-
-impl Span {
-    /// How many events it has.
-    pub(crate) fn count(self) -> usize {
-        self.past.saturating_sub(self.first)
-    }
-}
-
-impl Bounds {
-    // The same of a run of so many events, of which at most `MOST_EVENTS` are drawn.
-    pub(crate) fn span(self, events: usize) -> Span {
-        let first = self.from.unwrap_or(1).max(1);
-        let last = self
-            .to
-            .unwrap_or(events)
-            .min(events)
-            .min(first.saturating_add(MOST_EVENTS - 1));
-        Span {
-            first,
-            past: last.saturating_add(1).max(first),
-        }
-    }
-}
 
 // Says which events are left out, if some are.
 pub(crate) fn add_left_out<A: Allocator>(page: &mut Page<A>, span: Span, events: usize) {
@@ -106,7 +66,8 @@ pub(crate) fn add_figure<A: Allocator + Copy>(
     let folds = folds_of(alloc, run, (span.first, span.past))?;
     add_folded(page, folds.as_slice());
     let window = Window::new(span.first, span.past, folds.as_slice());
-    add_strips(alloc, page, run, window)
+    let _page = add_strips(alloc, page, run, window, Sheet::Page)?;
+    Ok(())
 }
 
 /// The page of a run, in HTML: its script, what it printed and left, what happened in sentences, its figure, and a table of its

@@ -1,37 +1,20 @@
 //! The page of two runs of one script.
 
 use crate::header::{add_files, add_head, add_printed, add_size};
-use crate::page::{Bounds, Span, add_figure, add_left_out};
+use crate::page::{add_figure, add_left_out};
 use crate::story::add_story;
 use crate::style::KEY;
 use crate::table::add_table;
 use Piece::{Mark, Num};
-use figure_words::{Run, add_process, add_sentence};
+use figure_strips::{Bounds, Span};
+use figure_words::{Run, add_parting, add_process, add_sentence};
 use page_markup::{Page, Piece};
+use run_figure::common_events;
 use std::alloc::{AllocError, Allocator};
 use trace_data::{Event, Trace};
 
 // How many columns a command takes.
 const ROOM: usize = 40;
-
-// Whether the two events are of the same kind, on the same hart, of the same process.
-fn is_same(one: &Event, other: &Event) -> bool {
-    one.trap.is_some() == other.trap.is_some()
-        && one.hart == other.hart
-        && one.process == other.process
-}
-
-// With how many events both runs begin.
-fn shared(one: &[Event], other: &[Event]) -> usize {
-    let mut count: usize = 0;
-    for (a, b) in one.iter().zip(other) {
-        if !is_same(a, b) {
-            break;
-        }
-        count = count.saturating_add(1);
-    }
-    count
-}
 
 // The call that the process of the event makes then: at the event, or at the first one to which it runs from there.
 fn deed_of(events: &[Event], number: usize) -> Option<&Event> {
@@ -87,7 +70,7 @@ fn add_card<A: Allocator + Copy>(
 }
 
 // Where the two part, in a sentence, and what comes then in each.
-fn add_parting<A: Allocator + Copy>(
+fn add_where<A: Allocator + Copy>(
     page: &mut Page<A>,
     one: &Run<'_, A>,
     other: &Run<'_, A>,
@@ -99,13 +82,9 @@ fn add_parting<A: Allocator + Copy>(
         return;
     }
     let number = count.saturating_add(1);
-    page.add(&[
-        Mark("<p>Both runs begin with the same "),
-        Num(count),
-        Mark(" events. They part at event "),
-        Num(number),
-        Mark(", where another process comes next.</p>\n<div class=\"two\">\n"),
-    ]);
+    page.mark("<p>");
+    add_parting(page, count);
+    page.mark("</p>\n<div class=\"two\">\n");
     add_card(page, one, "run 1", number);
     add_card(page, other, "run 2", number);
     page.mark("</div>\n");
@@ -138,16 +117,6 @@ fn add_both_facts<A: Allocator + Copy>(page: &mut Page<A>, one: &Run<'_, A>, oth
     add_size(page, "Run 1", one);
     add_size(page, "Run 2", other);
     page.mark("</dl>\n");
-}
-
-// The part of these events before an event, or from it on.
-fn cut(span: Span, at: usize, is_before: bool) -> Span {
-    let at = at.max(span.first).min(span.past);
-    if is_before {
-        Span { past: at, ..span }
-    } else {
-        Span { first: at, ..span }
-    }
 }
 
 // The figure and the table of a run from an event on.
@@ -185,21 +154,21 @@ pub fn pair_page<A: Allocator + Copy>(
     let mut page = Page::new(alloc);
     let mut first = Run::new(alloc, one)?;
     let mut second = Run::new(alloc, other)?;
-    let count = shared(one.events.as_slice(), other.events.as_slice());
+    let count = common_events(one.events.as_slice(), other.events.as_slice());
     let parting = count.saturating_add(1);
     add_head(&mut page, "Two runs of a script", one.text(one.head.script));
     add_both_facts(&mut page, &first, &second);
-    add_parting(&mut page, &first, &second, count);
+    add_where(&mut page, &first, &second, count);
     let span = bounds.span(one.events.len());
     page.mark("<h2>What both begin with</h2>\n");
     add_left_out(&mut page, span, one.events.len());
     page.mark(KEY);
     first.pass(1, span.first);
-    add_figure(alloc, &mut page, &mut first, cut(span, parting, true))?;
-    add_table(&mut page, &first, cut(span, parting, true));
-    let rest = cut(span, parting, false);
+    add_figure(alloc, &mut page, &mut first, span.before(parting))?;
+    add_table(&mut page, &first, span.before(parting));
+    let rest = span.from(parting);
     add_rest(alloc, &mut page, &mut first, "Run 1", rest)?;
-    let rest = cut(bounds.span(other.events.len()), parting, false);
+    let rest = bounds.span(other.events.len()).from(parting);
     add_rest(alloc, &mut page, &mut second, "Run 2", rest)?;
     page.mark("</main>\n</body>\n</html>\n");
     page.end()

@@ -1,7 +1,7 @@
 //! What happened: the calls that a reader should know of, in sentences.
 
-use crate::page::Span;
 use Piece::{Mark, Num};
+use figure_strips::Span;
 use figure_words::{Run, add_process, add_sentence, events_of};
 use page_markup::{Page, Piece};
 use std::alloc::Allocator;

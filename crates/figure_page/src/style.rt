@@ -87,10 +87,10 @@ td:nth-child(-n+3),th:nth-child(-n+3){white-space:nowrap}
 </head>
 <body>
 <svg width=\"0\" height=\"0\" aria-hidden=\"true\" style=\"position:absolute\"><defs>
-<pattern id=\"children\" width=\"6\" height=\"6\" patternUnits=\"userSpaceOnUse\"><rect class=\"under\" width=\"6\" height=\"6\"/><path class=\"hatch\" d=\"M0 6L6 0\"/></pattern>
-<pattern id=\"bytes\" width=\"6\" height=\"6\" patternUnits=\"userSpaceOnUse\"><rect class=\"under\" width=\"6\" height=\"6\"/><path class=\"hatch\" d=\"M3 0V6\"/></pattern>
-<pattern id=\"room\" width=\"6\" height=\"6\" patternUnits=\"userSpaceOnUse\"><rect class=\"under\" width=\"6\" height=\"6\"/><path class=\"hatch\" d=\"M0 6L6 0M0 0L6 6\"/></pattern>
-</defs></svg>
+";
+
+/// What stands between the patterns of sleep and what a page says.
+pub(crate) const BEGUN: &str = "</defs></svg>
 ";
 
 /// What the marks of a figure mean.

@@ -1,7 +1,7 @@
 //! The table of the events.
 
-use crate::page::Span;
 use Piece::{Mark, Num};
+use figure_strips::Span;
 use figure_words::{Run, add_call, add_node, add_process, add_sentence, events_of};
 use page_markup::{Page, Piece};
 use std::alloc::Allocator;

@@ -4,31 +4,15 @@ use crate::axis::add_axis;
 use crate::bands::add_bands;
 use crate::files::add_files;
 use crate::folds::{first_strip, rest_of};
-use crate::geometry::{TIME, Window};
+use crate::geometry::Window;
 use crate::lanes::add_lanes;
 use crate::names::add_names;
+use crate::sheet::{Sheet, begin_time, end_strip};
 use crate::strip::Strip;
 use crate::written::{add_fold_outputs, add_written};
-use Piece::Num;
 use figure_words::Run;
-use page_markup::{Page, Piece};
+use page_markup::Page;
 use std::alloc::{AllocError, Allocator};
-
-// The frame of the time of a strip, and its title.
-fn begin_time<A: Allocator>(page: &mut Page<A>, window: Window<'_>, height: usize) {
-    let last = window.past.saturating_sub(1);
-    page.fill(
-        "<div class=\"time\"><svg role=\"img\" viewBox=\"0 0 % %\" width=\"%\" height=\"%\"><title>Events % to %; the table below has each of them</title>",
-        &[
-            Num(TIME),
-            Num(height),
-            Num(TIME),
-            Num(height),
-            Num(window.first),
-            Num(last),
-        ],
-    );
-}
 
 // What a strip's events wrote.
 fn add_output<A: Allocator>(page: &mut Page<A>, run: &Run<'_, A>, strip: &Strip<'_, A>) {
@@ -46,35 +30,36 @@ fn add_time<A: Allocator + Copy>(
     page: &mut Page<A>,
     run: &Run<'_, A>,
     strip: &Strip<'_, A>,
+    sheet: Sheet,
 ) -> Result<(), AllocError> {
-    begin_time(page, strip.window, strip.height);
+    begin_time(page, sheet, strip.window, strip.height);
     add_axis(page, strip.window, strip.height);
     add_lanes(page, run, strip.window, strip.rows.as_slice());
     add_bands(alloc, page, run, strip)?;
     add_files(alloc, page, run, strip)?;
     add_output(page, run, strip);
-    page.mark("</svg></div>");
     Ok(())
 }
 
-// The strip of these events.
+// The strip of these events; returns what is left of the sheet.
 fn add_strip<A: Allocator + Copy>(
     alloc: A,
     page: &mut Page<A>,
     run: &mut Run<'_, A>,
     window: Window<'_>,
-) -> Result<(), AllocError> {
+    sheet: Sheet,
+) -> Result<Sheet, AllocError> {
     run.pass(window.first, window.past);
     let strip = Strip::new(alloc, run, window)?;
-    page.mark("<div class=\"strip\">");
-    add_names(page, run, &strip);
-    add_time(alloc, page, run, &strip)?;
-    page.mark("</div>\n");
-    Ok(())
+    add_names(page, run, &strip, sheet);
+    add_time(alloc, page, run, &strip, sheet)?;
+    end_strip(page, sheet);
+    Ok(sheet.below(strip.height))
 }
 
 /// Adds these events to the page, in as many strips as they need; the run passes them. Each strip has the lanes of the processes
-/// that are there, their boxes, sleeps and edges, the bands of pipes and of files, the output and the diagnostics. Own.
+/// that are there, their boxes, sleeps and edges, the bands of pipes and of files, the output and the diagnostics. Returns what is
+/// left of the sheet below them. Own.
 ///
 /// `AllocError` where memory is refused.
 pub fn add_strips<A: Allocator + Copy>(
@@ -82,15 +67,17 @@ pub fn add_strips<A: Allocator + Copy>(
     page: &mut Page<A>,
     run: &mut Run<'_, A>,
     window: Window<'_>,
-) -> Result<(), AllocError> {
+    sheet: Sheet,
+) -> Result<Sheet, AllocError> {
+    let mut left = sheet;
     let mut rest = window;
     for _strip in window.first..window.past {
         if rest.first >= rest.past {
-            return Ok(());
+            return Ok(left);
         }
         let strip = first_strip(rest);
-        add_strip(alloc, page, run, strip)?;
+        left = add_strip(alloc, page, run, strip, left)?;
         rest = rest_of(rest, strip);
     }
-    Ok(())
+    Ok(left)
 }

@@ -8,6 +8,9 @@ pub const TIME: usize = 1122;
 /// How wide the names beside a strip are.
 pub const NAMES: usize = 222;
 
+/// How far below a strip of a picture the next one is.
+pub const GAP: usize = 12;
+
 /// How wide a letter is.
 pub const LETTER: usize = 6;
 

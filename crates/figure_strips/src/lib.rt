@@ -1,6 +1,7 @@
-//! The figure of a run in strips of events: a run and some of its events go in, and pictures in SVG are added to a page.
+//! The figure of a run in strips of events: a run and some of its events go in, and pictures in SVG are added to a page, or to one
+//! picture.
 //!
-//! `folds_of` says which events are drawn as one, and `add_strips` draws. All coordinates are whole pixels.
+//! `Bounds` says which events are drawn, `folds_of` which of them as one, and `add_strips` draws. All coordinates are whole pixels.
 #![tactic(auto)]
 
 mod axis;
@@ -17,10 +18,17 @@ mod lanes;
 mod lives;
 mod names;
 mod outcomes;
+mod patterns;
 mod shapes;
+mod sheet;
+mod span;
 mod strip;
 mod written;
 
 pub use drawing::add_strips;
 pub use folds::folds_of;
-pub use geometry::{Fold, Window};
+pub use geometry::{Fold, NAMES, TIME, Window};
+pub use labels::begin_text;
+pub use patterns::PATTERNS;
+pub use sheet::Sheet;
+pub use span::{Bounds, MOST_EVENTS, Span};

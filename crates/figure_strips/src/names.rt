@@ -2,6 +2,7 @@
 
 use crate::geometry::{BAND, FILE, LETTER, NAMES, Row};
 use crate::labels::{add_text, begin_text};
+use crate::sheet::{Sheet, begin_names};
 use crate::strip::Strip;
 use Piece::{Mark, Num, Pipe, Short};
 use figure_words::{Run, add_doing};
@@ -105,16 +106,17 @@ fn add_line_name<A: Allocator>(page: &mut Page<A>, is_there: bool, name: &'stati
 }
 
 /// The names at the left of a strip.
-pub fn add_names<A: Allocator + Copy>(page: &mut Page<A>, run: &Run<'_, A>, strip: &Strip<'_, A>) {
-    let height = strip.height;
-    page.fill(
-        "<div class=\"side\"><svg aria-hidden=\"true\" viewBox=\"0 0 % %\" width=\"%\" height=\"%\"><text class=\"faint\" x=\"0\" y=\"14\">event</text>",
-        &[Num(NAMES), Num(height), Num(NAMES), Num(height)],
-    );
+pub fn add_names<A: Allocator + Copy>(
+    page: &mut Page<A>,
+    run: &Run<'_, A>,
+    strip: &Strip<'_, A>,
+    sheet: Sheet,
+) {
+    begin_names(page, sheet, strip.height);
+    page.mark("<text class=\"faint\" x=\"0\" y=\"14\">event</text>");
     add_lane_names(page, run, strip.rows.as_slice());
     add_band_names(page, run, strip.bands.as_slice(), strip.below);
     add_file_names(page, run, strip.files.as_slice(), strip.file_top());
     add_line_name(page, strip.has_output, "output", strip.output_top());
     add_line_name(page, strip.has_messages, "messages", strip.message_top());
-    page.mark("</svg></div>");
 }

@@ -5,10 +5,12 @@
 //! sentence; the bytes of a trace come out as text.
 #![tactic(auto)]
 
+mod facts;
 mod run;
 mod sentences;
 mod words;
 
+pub use facts::{add_parting, add_size};
 pub use run::{Life, Run, events_of, place_of};
 pub use sentences::add_sentence;
 pub use words::{add_call, add_channel, add_doing, add_node, add_process, call_name, full_name};

@@ -1,4 +1,4 @@
--- Where the pipe of a name stands. No public clause cites this module.
+-- Where the pipe of a name stands. Of these a public clause cites `placed` alone.
 use Rattle.std.specs.Prelude.{◌≡◌, ℕ, ◌<◌, Bool, ◌==◌, length, Some, slice_index_or, slice_set, remove}
 use Rattle.byte_pipe.specs.PipeState.{PipeState, new_pipe}
 use Rattle.kernel_model.specs.Pipes.{Pipes, pipe_of, with_pipe, without_pipe}

@@ -121,15 +121,15 @@ impl<A: Allocator> Pipes<A> {
         place_of(&self.index, name)
     }
 
-    // How many pipes there are.
-    fn count(&self) -> usize
+    /// How many pipes there are (own).
+    pub fn count(&self) -> usize
         ensures { result ≡ length self.now }
     {
         self.index.len()
     }
 
-    // The name of the pipe at a place.
-    fn name(&self, at: usize) -> u64
+    /// The name of the pipe at a place, counted from 0 in the order in which the pipes were made (own).
+    pub fn name(&self, at: usize) -> u64
         requires { at < length self.now }
         ensures { result ≡ (placed self.now at).0 }
     {

@@ -15,10 +15,9 @@ impl<M: Machine, A: Allocator + Copy> State<M, A> {
         ensures { OnOk result (self.new ≡ other.now) }
     {
         self.pipes.copy_from(&other.pipes)?;
-        let Ok(files) = other.files.copy(*self.out.allocator()) else {
-            return Err(AllocError);
-        };
-        self.files = files;
+        if !self.files.same(&other.files) {
+            self.copy_files(other)?;
+        }
         self.input.copy_from(&other.input)?;
         copy_bytes(&mut self.out, &other.out)?;
         copy_bytes(&mut self.diag, &other.diag)?;
@@ -26,6 +25,16 @@ impl<M: Machine, A: Allocator + Copy> State<M, A> {
         self.entries.copy_from(&other.entries);
         self.events = other.events;
         self.full = other.full;
+        Ok(())
+    }
+    // The files become equal to those of the other state; all else stays.
+    fn copy_files(&mut self, other: &Self) -> Result<(), AllocError>
+        ensures { OnOk result (self.new ≡ record self.old { files = other.now.files }) }
+    {
+        let Ok(files) = other.files.copy(*self.out.allocator()) else {
+            return Err(AllocError);
+        };
+        self.files = files;
         Ok(())
     }
 }

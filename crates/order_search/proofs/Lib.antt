@@ -2,6 +2,7 @@ pub mod Turned
 pub mod Orderly
 pub mod Placing
 pub mod Numbering
+pub mod Filling
 pub mod Telling
 pub mod Leading
 pub mod Looking

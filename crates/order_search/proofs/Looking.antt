@@ -1,7 +1,7 @@
 -- Slots that are kept.
 use Rattle.std.proofs.Common.{◌≡◌, ◌≢◌, ◌⊎◌, inl, inr, take, ℕ, zero, suc, ◌+◌, ◌<◌, ◌≤◌, List, [], ◌∷◌, Bool, true, false, Some, None, length, get_or, refl, sym, ap, subst, ◌∙◌, arith, map}
 use Rattle.std.specs.declared.rc.Rc.{Rc}
-use Rattle.std.specs.Prelude.{Option, Result, Ok, not, IfSome, IsSome, is_some, nat_eq, nat_lt, replicate}
+use Rattle.std.specs.Prelude.{Option, Result, Ok, not, IfSome, IsSome, is_some, SomeIff, nat_eq, nat_lt, replicate}
 use Rattle.std.specs.Option.{is_some as some_in}
 use Rattle.std.proofs.lemmas.Bool.{cases_eq, eqb-true, ltb-true, ltb-false}
 use Rattle.user_calls.specs.declared.calls.Call.{Call}
@@ -12,7 +12,7 @@ use Rattle.proc_table.specs.Slots.{Process, Slot, Table, at}
 use Rattle.order_model.specs.Anyhow.{bare_slot}
 use Rattle.order_search.specs.declared.private.NextCall.{NextCall}
 use Rattle.order_search.specs.declared.private.NextCall.TheVariants.{Private, Closes, Forks, Waits, Exits, Unknown}
-use Rattle.order_search.specs.Shown.{slot_of, IsNextCall, IsReadyCall, IsClosingSlot, IsCallingSlot, IsOpenAs, IsNoReadEnd, HasNoWriteEnd}
+use Rattle.order_search.specs.Shown.{filled, slot_of, AreApart, IsNextCall, IsReadyCall, IsClosingSlot, IsCallingSlot, IsOpenAs, IsNoReadEnd, HasNoWriteEnd}
 use Rattle.fd_table.specs.declared.names.Object.{Object}
 use Rattle.fd_table.specs.declared.names.Object.TheVariants.{Input, Out, Diag, File, PipeRead, PipeWrite}
 use Rattle.fd_table.specs.Entries.{Entries, OpenFile, entry_at}
@@ -23,17 +23,24 @@ use Rattle.kernel_model.specs.KernelState.{KernelState, fds_of, fds_at, file_at}
 use Rattle.order_model.specs.Closes.{ClosesNext, IsClosedAtOnce, NobodyElseWrites}
 use Rattle.order_model.specs.Giving.{ForksNext, ReapsNext, ExitsNext}
 use Rattle.order_search.specs.Giving.{HasZombieChild, AreClosedAtOnce}
+use Rattle.order_search.proofs.Filling.{at_filled}
 
 module _ {S Z : Type 0} where
-  pub at_kept : (xs : List (Option (Rc (Process S) Z))) (i : ℕ) (d : Option (Rc (Process S) Z)) → i < length xs → at (map slot_of xs) i ≡ slot_of (get_or xs i d)
-  at_kept [] i d within = absurd (let z : ⊥ = omega (arith, within) in z)
-  at_kept (x ∷ xs) zero d within = refl
-  at_kept (x ∷ xs) (suc i) d within = at_kept xs i d (omega (arith, within))
+  kept_at : (xs : List (Option (Rc (Process S) Z))) (i : ℕ) (d : Option (Rc (Process S) Z)) → i < length xs → at (map slot_of xs) i ≡ slot_of (get_or xs i d)
+  kept_at [] i d within = absurd (let z : ⊥ = omega (arith, within) in z)
+  kept_at (x ∷ xs) zero d within = refl
+  kept_at (x ∷ xs) (suc i) d within = kept_at xs i d (omega (arith, within))
 
-  pub past_kept : (xs : List (Option (Rc (Process S) Z))) (i : ℕ) → length xs ≤ i → at (map slot_of xs) i ≡ None
-  past_kept [] i past = refl
-  past_kept (x ∷ xs) zero past = absurd (let z : ⊥ = omega (arith, past) in z)
-  past_kept (x ∷ xs) (suc i) past = past_kept xs i (omega (arith, past))
+  nothing_at : (xs : List (Option (Rc (Process S) Z))) (i : ℕ) → length xs ≤ i → at (map slot_of xs) i ≡ None
+  nothing_at [] i past = refl
+  nothing_at (x ∷ xs) zero past = absurd (let z : ⊥ = omega (arith, past) in z)
+  nothing_at (x ∷ xs) (suc i) past = nothing_at xs i (omega (arith, past))
+
+  pub at_kept : (xs : List (Option (Rc (Process S) Z))) (i : ℕ) (d : Option (Rc (Process S) Z)) → i < length xs → at (filled 64 (map slot_of xs)) i ≡ slot_of (get_or xs i d)
+  at_kept xs i d within = at_filled 64 (map slot_of xs) i ∙ kept_at xs i d within
+
+  pub past_kept : (xs : List (Option (Rc (Process S) Z))) (i : ℕ) → length xs ≤ i → at (filled 64 (map slot_of xs)) i ≡ None
+  past_kept xs i past = at_filled 64 (map slot_of xs) i ∙ nothing_at xs i past
 
 apart_by : {S : Type 0} (t : Table S) (i pid : ℕ) → ((q : ℕ) → q ≢ 0 → q < i → at t q ≡ None) → at t i ≡ None → pid ≢ 0 → pid < i + 1 → (pid ≡ i) ⊎ (pid ≢ i) → at t pid ≡ None
 apart_by t i pid before here other less (inl is) = ap (λ (q : ℕ). at t q) is ∙ here
@@ -41,6 +48,13 @@ apart_by t i pid before here other less (inr ne) = before pid other (omega (arit
 
 pub alone_next : {S : Type 0} (t : Table S) (i : ℕ) → ((q : ℕ) → q ≢ 0 → q < i → at t q ≡ None) → at t i ≡ None → (pid : ℕ) → pid ≢ 0 → pid < i + 1 → at t pid ≡ None
 alone_next t i before here pid other less = apart_by t i pid before here other less (cases_eq pid i)
+
+-- and past the last one nobody is
+pub alone_past : {S : Type 0} (t : Table S) (n : ℕ) → ((q : ℕ) → q ≢ 0 → q < n → at t q ≡ None) → ((q : ℕ) → n ≤ q → at t q ≡ None) → (pid : ℕ) → pid ≢ 0 → at t pid ≡ None
+alone_past t n before past pid other = by (nat_lt pid n) refl where
+  by : (b : Bool) → nat_lt pid n ≡ b → at t pid ≡ None
+  by true is = before pid other (ltb-true pid n is)
+  by false is = past pid (ltb-false pid n is)
 
 pub untaken : (n : ℕ) (xs : List ℕ) → (length (take n xs) ≡ n → ⊥) → take n xs ≡ xs
 untaken zero xs ne = absurd (ne refl)
@@ -70,6 +84,10 @@ pub if_some_more : {X : Type 0} (o : Option X) (P Q : X → Type 0) → ((x : X)
 if_some_more None P Q more is = is
 if_some_more (Some x) P Q more is = more x is
 
+pub some_if_value : {X : Type 0} (o : Option X) (P : Type 0) (v w : X) → SomeIff o P v → v ≡ w → IfSome o (λ x. x ≡ w)
+some_if_value None P v w some is = tt
+some_if_value (Some x) P v w some is = some.1 ∙ is
+
 pub not_said : {E : Type 0} (b : Bool) → ◌≡◌ {A = Result Bool E} (Ok (not b)) (Ok true) → b ≡ false
 not_said true is = absurd (let z : ⊥ = cc in z)
 not_said false is = refl
@@ -81,11 +99,10 @@ at_bare [] i = refl
 at_bare (x ∷ t) zero = refl
 at_bare (x ∷ t) (suc i) = at_bare t i
 
-pub slots_at : {S Z : Type 0} (xs ys : List (Option (Rc (Process S) Z))) (i : ℕ) (x y : Option (Rc (Process S) Z)) → i < length xs → i < length ys → x ≡ get_or xs i x → y ≡ get_or ys i y
-    → map bare_slot (map slot_of xs) ≡ map bare_slot (map slot_of ys) → bare_slot (slot_of x) ≡ bare_slot (slot_of y)
-slots_at {S} xs ys i x y within within_too is is_too same =
-    (λ j. bare_slot (slot_of (is j))) ∙ ap bare_slot (sym (at_kept xs i x within)) ∙ sym (at_bare (map slot_of xs) i) ∙ ap (λ (t : Table S). at t i) same ∙
-    at_bare (map slot_of ys) i ∙ ap bare_slot (at_kept ys i y within_too) ∙ sym (λ j. bare_slot (slot_of (is_too j)))
+-- tables of which slots of one number differ, differ
+pub apart_tables : {S : Type 0} (t u : Table S) → AreApart t u → map bare_slot (filled 64 t) ≡ map bare_slot (filled 64 u) → ⊥
+apart_tables t u a same =
+    a.1 (ap bare_slot (sym (at_filled 64 t a.0)) ∙ sym (at_bare (filled 64 t) a.0) ∙ ap (λ (v : Table _). at v a.0) same ∙ at_bare (filled 64 u) a.0 ∙ ap bare_slot (at_filled 64 u a.0))
 
 pub same_number : (m n : ℕ) → nat_eq m n ≡ true → m ≡ n
 same_number m n is = eqb-true m n is

@@ -1,5 +1,5 @@
 -- Kernels that turns lead to. No public clause cites this module.
-use Rattle.std.specs.Prelude.{◌≡◌, ℕ, ◌<◌, ◌^◌, List, Some, count_by}
+use Rattle.std.specs.Prelude.{◌≡◌, ℕ, ◌<◌, ◌^◌, Bool, true, List, Some, count_by}
 use Rattle.mem_files.specs.Name.{Name, Bytes}
 use Rattle.user_calls.specs.declared.calls.Call.{Call}
 use Rattle.user_calls.specs.declared.calls.Reply.{Reply}
@@ -8,6 +8,7 @@ use Rattle.kernel_model.specs.KernelState.{KernelState}
 use Rattle.kernel_model.specs.Boot.{boot_kernel}
 use Rattle.kernel_model.specs.Sound.{IsSound}
 use Rattle.order_model.specs.Key.{key}
+use Rattle.order_model.specs.Explored.{IsBusy}
 use Rattle.order_model.specs.Turns.{after_turns}
 use Rattle.order_search.specs.declared.origin.Ahead.{Ahead}
 use Rattle.order_search.specs.Room.{HasAhead}
@@ -22,12 +23,13 @@ pub record Led (S : Type 0) : Type 0 where
   pub pids : List ℕ
   pub now : KernelState S
 
--- the turns lead there, this is its key, nobody runs, and the start has ahead what is said of it
-pub record IsLed {S : Type 0} (call : S → Reply → Call) (next : S → Reply → S) (start : KernelState S) (ahead : Ahead) (pids : List ℕ) (now seen : KernelState S) : Type 0 where
+-- the turns lead there, this is its key, nobody runs, the start has ahead what is said of it, and the kernel is busy where that is said
+pub record IsLed {S : Type 0} (call : S → Reply → Call) (next : S → Reply → S) (start : KernelState S) (ahead : Ahead) (pids : List ℕ) (now seen : KernelState S) (is_busy : Bool) : Type 0 where
   pub room : HasAhead call next ahead start
   pub turns : after_turns call next start pids ≡ Some now
   pub look : seen ≡ key now
   pub idle : count_by is_running now.table ≡ 0
+  pub busy : is_busy ≡ true → IsBusy call next now
 
 -- the kernel of a node
 abbrev pub kernel_of : {S : Type 0} → Led S → KernelState S

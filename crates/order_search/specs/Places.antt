@@ -2,7 +2,7 @@
 use Rattle.std.specs.Prelude.{◌≡◌, ◌≢◌, ℕ, suc, ◌<◌, ◌≤◌, ◌==◌, if◌then◌else◌, List, [], ◌∷◌, ◌++◌, Some, None, IsSome, map, length, slice_index}
 use Rattle.byte_pipe.specs.PipeState.{PipeState}
 use Rattle.fd_table.specs.declared.names.Object.TheVariants.{Input}
-use Rattle.fd_table.specs.Entries.{Entries, lowest_free_entry, added}
+use Rattle.fd_table.specs.Entries.{Entries, entry_at, lowest_free_entry, added}
 use Rattle.proc_table.specs.Slots.{Slot, Table, at}
 use Rattle.kernel_model.specs.Pipes.{Pipes}
 use Rattle.kernel_model.specs.KernelState.{KernelState}
@@ -42,6 +42,12 @@ pub record IsOrderly {S : Type 0} (k : KernelState S) : Type 0 where
 pub record AreNumbers (numbers : List ℕ) : Type 0 where
   pub all : length numbers ≡ 100
   pub each : (i : ℕ) → i < 100 → slice_index numbers i ≡ i
+
+-- these are the numbers of the first entries, in order, and past them all are free
+pub record AreNumbersOf (t : Entries) (numbers : List ℕ) : Type 0 where
+  pub within : length numbers ≤ length t
+  pub each : (i : ℕ) → i < length numbers → slice_index numbers i ≡ i
+  pub free : (e : ℕ) → length numbers ≤ e → entry_at t e ≡ None
 
 -- the standard input was opened at the lowest free entry, whose number was added
 pub record IsNextNumber (t u : Entries) (before after : List ℕ) : Type 0 where

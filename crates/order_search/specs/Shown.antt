@@ -1,5 +1,5 @@
 -- What is shown of the kept parts of a kernel. No public clause cites this module.
-use Rattle.std.specs.Prelude.{◌≡◌, ◌≢◌, ℕ, Option, Some, None}
+use Rattle.std.specs.Prelude.{◌≡◌, ◌≢◌, ℕ, ◌-◌, List, ◌++◌, Option, Some, None, length, replicate}
 use Rattle.std.specs.Rc.{rc_value}
 use Rattle.std.specs.declared.rc.Rc.{Rc}
 use Rattle.user_calls.specs.declared.calls.Call.{Call}
@@ -10,18 +10,27 @@ use Rattle.fd_table.specs.declared.names.Object.TheVariants.{Input, Out, Diag, F
 use Rattle.fd_table.specs.Entries.{Entries, OpenFile}
 use Rattle.fd_table.specs.Descriptors.{Descriptors, entry_of}
 use Rattle.proc_table.specs.declared.states.Status.TheVariants.{Runnable}
-use Rattle.proc_table.specs.Slots.{Slot, Process}
+use Rattle.proc_table.specs.Slots.{Slot, Table, Process, at}
 use Rattle.kernel_model.specs.KernelState.{file_at}
+use Rattle.order_model.specs.Anyhow.{bare_slot}
 use Rattle.order_model.specs.Privately.{IsPrivateCall}
 use Rattle.order_search.specs.declared.private.NextCall.{NextCall}
 use Rattle.order_search.specs.declared.private.NextCall.TheVariants.{Private, Closes, Forks, Waits, Exits, Unknown}
 use Rattle.order_search.specs.declared.private.CloseOf.{CloseOf}
 use Rattle.order_search.specs.declared.private.CloseOf.TheVariants.{ReadEnd, Other, Nothing}
 
+-- the list, and nothing past it up to this length
+unfoldable pub filled : {X : Type 0} → ℕ → List (Option X) → List (Option X)
+filled n xs = xs ++ replicate (n - length xs) None
+
 -- the slot of a process that is kept
 abbrev pub slot_of : {S Z : Type 0} → Option (Rc (Process S) Z) → Slot S
 slot_of None = None
 slot_of (Some kept) = Some (rc_value kept)
+
+-- slots of one number differ in more than who sleeps or runs and what descriptors hold
+abbrev pub AreApart : {S : Type 0} → Table S → Table S → Type 0
+AreApart t u = (i : ℕ) × (bare_slot (at t i) ≢ bare_slot (at u i))
 
 -- the slot's process is Runnable, and its next call is private
 pub record IsPrivateSlot {S : Type 0} (call : S → Reply → Call) (x : Slot S) : Type 0 where

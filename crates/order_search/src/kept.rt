@@ -2,12 +2,15 @@
 //! value.
 
 ghost use Rattle.std.specs.Prelude.{◌≡◌, ◌↔◌, IsTrue, true};
+ghost use Rattle.fd_table.specs.Entries.{entry_at};
+ghost use Rattle.fd_table.specs.declared.names.Object.TheVariants.{PipeWrite};
+ghost use Rattle.order_search.specs.Shown.{IsCloseOf, IsOpenAs};
 ghost use Rattle.order_model.specs.Woke.{woke_status};
 ghost use Rattle.order_model.specs.Anyhow.{bare_status};
 
 use crate::pools::{Digest, Same};
 use crate::private::{CloseOf, NextCall};
-use crate::renumbering::are_places_under;
+use crate::renumbering::{are_places_under, free_entries};
 use fd_table::{Mode, Object};
 use mem_files::Files;
 use proc_table::Status;
@@ -55,7 +58,7 @@ impl Model for Opened {
     ghost view = { λ f. record { object = f.object; count = f.count; offset = f.offset } };
 }
 
-// All entries.
+// All entries. Those past the last one of these slots are free.
 #[derive(Drop)]
 pub struct Entries {
     pub slots: Vec<Option<Opened>>,
@@ -64,10 +67,11 @@ pub struct Entries {
 
 impl Model for Entries {
     ghost use Rattle.fd_table.specs.Entries.{Entries as Shown};
+    ghost use Rattle.order_search.specs.Shown.{filled};
 
     ghost Value = { Shown };
 
-    ghost view = { λ e. e.slots.items };
+    ghost view = { λ e. filled 100 e.slots.items };
 }
 
 // A pipe, named by its place.
@@ -328,61 +332,86 @@ pub fn same_entry(entry: &Option<Opened>, other: &Option<Opened>) -> bool
     }
 }
 
-impl Same for Entries {
-    fn same(&self, other: &Entries) -> bool {
-        if self.slots.len() != other.slots.len() {
+// Whether the entries are equal.
+fn same_entries(entries: &[Option<Opened>], others: &[Option<Opened>]) -> bool
+    ensures { result ≡ true → entries.now ≡ others.now }
+{
+    if entries.len() != others.len() {
+        return false;
+    }
+    for i in 0..entries.len() {
+        if !same_entry(&entries[i], &others[i]) {
             return false;
         }
-        for i in 0..self.slots.len() {
-            if !same_entry(&self.slots[i], &other.slots[i]) {
-                return false;
-            }
-        }
-        true
     }
+    true
+}
 
-    fn digest(&self) -> u64 {
-        self.digest
+// What a close of a descriptor of the entry of this number closes.
+fn close_in(entries: &[Option<Opened>], number: u8) -> CloseOf
+    ensures { IsCloseOf (entry_at entries.now number) result }
+{
+    let place = usize::from(number);
+    if place >= entries.len() {
+        return CloseOf::Nothing;
+    }
+    match &entries[place] {
+        Some(opened) => opened.close_of(),
+        None => CloseOf::Nothing,
+    }
+}
+
+// Whether the entry of this number is the write end of this pipe.
+fn is_write_end_in(entries: &[Option<Opened>], number: u8, pipe: u64) -> bool
+    ensures { IsTrue result ↔ IsOpenAs (λ o. o ≡ PipeWrite pipe) (entry_at entries.now number) }
+{
+    let place = usize::from(number);
+    if place >= entries.len() {
+        return false;
+    }
+    match &entries[place] {
+        Some(opened) => opened.is_write_end(pipe),
+        None => false,
     }
 }
 
 impl Entries {
-    ghost use Rattle.std.specs.Prelude.{◌≡◌, ◌↔◌, IsTrue};
-    ghost use Rattle.fd_table.specs.Entries.{entry_at};
+    ghost use Rattle.std.specs.Prelude.{◌≡◌, ◌↔◌, IsTrue, IfSome, true};
+    ghost use Rattle.fd_table.specs.Entries.{entry_at, free_count};
     ghost use Rattle.fd_table.specs.declared.names.Object.TheVariants.{PipeWrite};
-    ghost use Rattle.order_search.specs.Shown.{IsCloseOf, IsOpenAs};
+    ghost use Rattle.order_search.specs.Shown.{filled, IsCloseOf, IsOpenAs};
+
+    // Whether the two are kept alike, and so are equal.
+    pub fn same(&self, other: &Entries) -> bool
+        ensures { result ≡ true → self.now ≡ other.now }
+    {
+        same_entries(&self.slots, &other.slots)
+    }
 
     // What a close of a descriptor of the entry of this number closes.
     pub fn close_of(&self, number: u8) -> CloseOf
         ensures { IsCloseOf (entry_at self.now number) result }
     {
-        let place = usize::from(number);
-        if place >= self.slots.len() {
-            return CloseOf::Nothing;
-        }
-        match &self.slots[place] {
-            Some(opened) => opened.close_of(),
-            None => CloseOf::Nothing,
-        }
+        close_in(&self.slots, number)
     }
 
     // Whether the entry of this number is the write end of this pipe.
     fn is_write_end(&self, number: u8, pipe: u64) -> bool
         ensures { IsTrue result ↔ IsOpenAs (λ o. o ≡ PipeWrite pipe) (entry_at self.now number) }
     {
-        let place = usize::from(number);
-        if place >= self.slots.len() {
-            return false;
-        }
-        match &self.slots[place] {
-            Some(opened) => opened.is_write_end(pipe),
-            None => false,
-        }
+        is_write_end_in(&self.slots, number, pipe)
+    }
+
+    // How many entries are free, if that can be counted.
+    pub fn free_count(&self) -> Option<usize>
+        ensures { IfSome result (λ count. count ≡ free_count self.now) }
+    {
+        free_entries(&self.slots).checked_add(100usize.saturating_sub(self.slots.len()))
     }
 
     // The entries, with their digest.
     pub fn of(slots: Vec<Option<Opened>>) -> Entries
-        ensures { result ≡ slots.items }
+        ensures { result ≡ filled 100 slots.items }
     {
         let mut digest = Digest::new();
         for slot in &slots {

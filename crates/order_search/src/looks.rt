@@ -1,18 +1,18 @@
 //! What of a kernel is kept and compared.
 
-ghost use Rattle.std.specs.Prelude.{◌≡◌, ◌↔◌, IsTrue, IsSome, true, false, map};
-ghost use Rattle.proc_table.specs.Slots.{is_runnable, is_zombie_child_of};
+ghost use Rattle.std.specs.Prelude.{◌≡◌, ◌≢◌, ◌↔◌, IsTrue, IsSome, true, false, map};
+ghost use Rattle.proc_table.specs.Slots.{at, is_runnable, is_zombie_child_of};
 ghost use Rattle.order_model.specs.Anyhow.{bare_slot};
 ghost use Rattle.order_model.specs.Woke.{woke_slot};
 ghost use Rattle.kernel_model.specs.KernelState.{fds_of};
-ghost use Rattle.order_search.specs.Shown.{slot_of, HasNoWriteEnd, IsReadyCall};
+ghost use Rattle.order_search.specs.Shown.{slot_of, AreApart, HasNoWriteEnd, IsReadyCall};
 
 use crate::kept::{AllFiles, Bytes, Entries, Held, Opened, Pipes};
 use crate::origin::Ahead;
 use crate::pools::{Digest, Same};
 use crate::private::{CloseOf, NextCall};
 use crate::ranks::{NUMBERS, Ranks};
-use crate::renumbering::{Renumbering, are_entries_under, are_slots_under, free_entries};
+use crate::renumbering::{Renumbering, are_entries_under, are_slots_under};
 use kernel_model::Full;
 use mem_files::Files;
 use std::alloc::{AllocError, Global};
@@ -20,7 +20,8 @@ use std::marker::Model;
 use std::rc::Rc;
 use user_calls::Machine;
 
-// A kernel as it would be if nobody ran, nothing had happened, and each pipe were called by its place.
+// A kernel as it would be if nobody ran, nothing had happened, and each pipe were called by its place. Slots past the last one of these
+// are free.
 #[derive(Drop)]
 pub struct Look<M: Machine> {
     pub slots: Vec<Option<Rc<Held<M>>>>,
@@ -37,12 +38,12 @@ pub struct Look<M: Machine> {
 impl<M: Machine> Model for Look<M> {
     ghost use Rattle.std.specs.Prelude.{map};
     ghost use Rattle.kernel_model.specs.KernelState.{KernelState};
-    ghost use Rattle.order_search.specs.Shown.{slot_of};
+    ghost use Rattle.order_search.specs.Shown.{filled, slot_of};
 
     ghost Value = { KernelState M.State };
 
     ghost view = { λ l. record {
-      table = map slot_of l.slots.items;
+      table = filled 64 (map slot_of l.slots.items);
       entries = l.entries.value;
       pipes = l.pipes.value;
       files = l.files.value;
@@ -64,14 +65,28 @@ fn same_slot<M: Machine>(slot: &Option<Rc<Held<M>>>, other: &Option<Rc<Held<M>>>
     }
 }
 
-fn same_slots<M: Machine>(slots: &[Option<Rc<Held<M>>>], others: &[Option<Rc<Held<M>>>]) -> bool
-    ensures { IsTrue result ↔ (map bare_slot (map slot_of slots.now) ≡ map bare_slot (map slot_of others.now)) }
+// Whether the slots of this number are equal, but for who sleeps or runs and for what descriptors hold.
+fn same_at<M: Machine>(
+    slots: &[Option<Rc<Held<M>>>],
+    others: &[Option<Rc<Held<M>>>],
+    number: usize,
+) -> bool
+    ensures { result ≡ false → bare_slot (at (map slot_of slots.now) number) ≢ bare_slot (at (map slot_of others.now) number) }
 {
-    if slots.len() != others.len() {
-        return false;
+    match (slots.get(number), others.get(number)) {
+        (Some(slot), Some(other)) => same_slot(slot, other),
+        (Some(slot), None) => !is_used(slot),
+        (None, Some(other)) => !is_used(other),
+        (None, None) => true,
     }
-    for i in 0..slots.len() {
-        if !same_slot(&slots[i], &others[i]) {
+}
+
+// Whether slots of the same number are equal, but for who sleeps or runs and for what descriptors hold.
+fn same_slots<M: Machine>(slots: &[Option<Rc<Held<M>>>], others: &[Option<Rc<Held<M>>>]) -> bool
+    ensures { result ≡ false → AreApart (map slot_of slots.now) (map slot_of others.now) }
+{
+    for number in 0..slots.len().max(others.len()) {
+        if !same_at(slots, others, number) {
             return false;
         }
     }
@@ -115,7 +130,7 @@ impl<M: Machine> Look<M> {
     ghost use Rattle.order_model.specs.Anyhow.{bare_table};
     ghost use Rattle.order_search.specs.Under.{AreRenumberedParts};
     ghost use Rattle.order_model.specs.Closes.{IsClosedAtOnce, NobodyElseWrites};
-    ghost use Rattle.fd_table.specs.Entries.{entry_at};
+    ghost use Rattle.fd_table.specs.Entries.{entry_at, free_count};
     ghost use Rattle.kernel_model.specs.KernelState.{fds_at};
     ghost use Rattle.order_search.specs.Giving.{AreClosedAtOnce, HasZombieChild, IsGiving};
     ghost use Rattle.order_search.specs.Shown.{IsOpenAs};
@@ -161,9 +176,13 @@ impl<M: Machine> Look<M> {
         ensures slots { result ≡ true → map woke_slot self.now.table ≡ map woke_slot other.now.table }
         ensures entries { result ≡ true → self.now.entries ≡ other.now.entries }
     {
-        self.entries.digest() == other.entries.digest()
-            && are_slots_awake(&self.slots, &other.slots)
-            && self.entries.same(&other.entries)
+        if self.entries.digest != other.entries.digest {
+            return false;
+        }
+        if !are_slots_awake(&self.slots, &other.slots) {
+            return false;
+        }
+        self.entries.same(&other.entries)
     }
 
     // Whether all but the slots and the entries is equal.
@@ -192,12 +211,22 @@ impl<M: Machine> Look<M> {
         if !are_entries_under(&numbers.to, &self.entries.slots, &other.entries.slots) {
             return false;
         }
-        free_entries(&self.entries.slots) == free_entries(&other.entries.slots)
+        self.has_as_many_free(other)
+    }
+
+    // Whether as many entries are free.
+    fn has_as_many_free(&self, other: &Look<M>) -> bool
+        ensures { result ≡ true → free_count self.now.entries ≡ free_count other.now.entries }
+    {
+        match (self.entries.free_count(), other.entries.free_count()) {
+            (Some(count), Some(others)) => count == others,
+            _ => false,
+        }
     }
 
     // Whether the slots are equal, but for who sleeps or runs and for what descriptors hold.
     pub fn has_same_slots(&self, other: &Look<M>) -> bool
-        ensures { IsTrue result ↔ (bare_table self.now.table ≡ bare_table other.now.table) }
+        ensures { result ≡ false → bare_table self.now.table ≢ bare_table other.now.table }
     {
         same_slots(&self.slots, &other.slots)
     }

@@ -34,6 +34,8 @@ pub struct Origin<'t, M: Machine, C: Allocator> {
     pub stdin: &'t [u8],
     pub files: &'t Files<C>,
     pub ahead: Ahead,
+    // Whether every turn is tried in every state, where some turn gives way to nobody's too.
+    pub is_full: bool,
 }
 
 impl<'t, M: Machine, C: Allocator> Origin<'t, M, C> {

@@ -1,6 +1,6 @@
 //! What of a kernel is read, part by part.
 
-ghost use Rattle.std.specs.Prelude.{◌≡◌, ◌⊎◌, ℕ, ◌<◌, ◌++◌, ◌∷◌, [], None, Some, IfOk, IfSome, IsSome, OnOk, length, map, take};
+ghost use Rattle.std.specs.Prelude.{◌≡◌, ◌⊎◌, ℕ, ◌<◌, ◌≤◌, ◌++◌, ◌∷◌, [], None, Some, IfOk, IfSome, IsSome, OnOk, length, map, take};
 ghost use Rattle.byte_pipe.specs.PipeState.{PipeState};
 ghost use Rattle.fd_table.specs.Descriptors.{entry_of};
 ghost use Rattle.fd_table.specs.Entries.{entry_at, count_of};
@@ -10,7 +10,7 @@ ghost use Rattle.proc_table.specs.Slots.{at, state_by};
 ghost use Rattle.kernel_model.specs.KernelState.{fds_of};
 ghost use Rattle.kernel_model.specs.Sound.{IsSound};
 ghost use Rattle.order_model.specs.Idle.{idle_status, idle_slot, renamed_object, renamed_entry, renamed_pipe};
-ghost use Rattle.order_search.specs.Places.{place_among, names_in, IsOrderly, AreNumbers, IsNextNumber};
+ghost use Rattle.order_search.specs.Places.{place_among, names_in, IsOrderly, AreNumbers, AreNumbersOf, IsNextNumber};
 
 use crate::fault::ExploreFault;
 use crate::kept::{Entries, Held, Opened, Piped, Pipes};
@@ -162,20 +162,45 @@ fn open_next(entries: &mut OpenFiles, numbers: &mut Vec<Entry>) -> Result<(), Al
     }
 }
 
-// All entries.
+// How many entries there are up to the last one that is in use.
+fn entries_in_use(numbers: &[Entry], entries: &OpenFiles) -> usize
+    requires numbers { AreNumbers numbers.now }
+    requires all { length entries.now ≡ 100 }
+    requires counted { (e : ℕ) → (entry_at entries.now e ≡ None) ⊎ (0 < count_of (entry_at entries.now e)) }
+    ensures within { result ≤ 100 }
+    ensures free { (e : ℕ) → result ≤ e → entry_at entries.now e ≡ None }
+{
+    let mut count: usize = 100;
+    while count > 0 && entries.count(numbers[count - 1]) == 0 {
+        count -= 1;
+    }
+    count
+}
+
+// The numbers of the entries up to the last one that is in use, of the numbers of all.
+pub fn numbers_in_use<'n>(numbers: &'n [Entry], entries: &OpenFiles) -> &'n [Entry]
+    requires numbers { AreNumbers numbers.now }
+    requires all { length entries.now ≡ 100 }
+    requires counted { (e : ℕ) → (entry_at entries.now e ≡ None) ⊎ (0 < count_of (entry_at entries.now e)) }
+    ensures { AreNumbersOf entries.now result.now }
+{
+    &numbers[..entries_in_use(numbers, entries)]
+}
+
+// All entries, of which these are the numbers up to the last one that is in use.
 pub fn read_entries(
     alloc: Global,
     names: &[u64],
     numbers: &[Entry],
     entries: &OpenFiles,
 ) -> Result<Entries, ExploreFault>
-    requires numbers { AreNumbers numbers.now }
+    requires numbers { AreNumbersOf entries.now numbers.now }
     requires all { length entries.now ≡ 100 }
     requires counted { (e : ℕ) → (entry_at entries.now e ≡ None) ⊎ (0 < count_of (entry_at entries.now e)) }
     ensures { IfOk result (λ read. read ≡ map (renamed_entry (place_among names.now)) entries.now) }
 {
     let mut slots = Vec::with_capacity(alloc, numbers.len())?;
-    for number in 0..100usize {
+    for number in 0..numbers.len() {
         let entry = read_entry(names, entries, numbers[number])?;
         push_entry(&mut slots, entry)?;
     }

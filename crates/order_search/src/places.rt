@@ -1,9 +1,8 @@
 //! Pipes by their places.
 
-ghost use Rattle.std.specs.Prelude.{◌≡◌, ◌++◌, ◌∷◌, [], if◌then◌else◌, is_some, IfOk, OnOk};
-ghost use Rattle.kernel_model.specs.Pipes.{pipe_of};
+ghost use Rattle.std.specs.Prelude.{◌≡◌, IfOk};
 ghost use Rattle.order_model.specs.Idle.{renamed_channel};
-ghost use Rattle.order_search.specs.Places.{names_in, place_among, IsOrderly};
+ghost use Rattle.order_search.specs.Places.{names_in, place_among};
 
 use crate::fault::ExploreFault;
 use kernel_state::State;
@@ -16,28 +15,13 @@ pub fn names_of<M: Machine, A: Allocator>(
     alloc: Global,
     state: &State<M, A>,
 ) -> Result<Vec<u64>, AllocError>
-    requires orderly { IsOrderly state.now }
     ensures { IfOk result (λ names. names.items ≡ names_in state.now.pipes) }
 {
     let mut names = Vec::new(alloc);
-    for before in 0..state.events {
-        note_name(&mut names, state, before + 1)?;
+    for at in 0..state.pipes.count() {
+        names.push(state.pipes.name(at))?;
     }
     Ok(names)
-}
-
-// The name is noted if a pipe has it.
-fn note_name<M: Machine, A: Allocator>(
-    names: &mut Vec<u64>,
-    state: &State<M, A>,
-    name: u64,
-) -> Result<(), AllocError>
-    ensures { OnOk result (names.new.items ≡ names.old.items ++ (if is_some (pipe_of state.now.pipes name) then name ∷ [] else [])) }
-{
-    if state.pipes.status(name).is_some() {
-        names.push(name)?;
-    }
-    Ok(())
 }
 
 // The place of the pipe of that name; one past all places where there is none.

@@ -1,6 +1,6 @@
 //! A kernel is read.
 
-ghost use Rattle.std.specs.Prelude.{◌≡◌, ◌++◌, ◌∷◌, [], IfOk, IfSome, OnOk, Some, map};
+ghost use Rattle.std.specs.Prelude.{◌≡◌, ℕ, ◌≤◌, ◌++◌, ◌∷◌, [], IfOk, IfSome, OnOk, Some, None, true, map};
 ghost use Rattle.proc_table.specs.Slots.{at};
 ghost use Rattle.kernel_model.specs.Sound.{IsSound};
 ghost use Rattle.order_model.specs.Idle.{idle_slot};
@@ -11,7 +11,7 @@ use crate::fault::ExploreFault;
 use crate::kept::{AllFiles, Bytes, Entries, Held, Pipes};
 use crate::looks::Look;
 use crate::numbers::Numbers;
-use crate::parts::{read_entries, read_pipes, read_slot};
+use crate::parts::{numbers_in_use, read_entries, read_pipes, read_slot};
 use crate::places::names_of;
 use crate::pools::Pool;
 use crate::seen::{SeenEntries, SeenSlots, sketch_of, sketch_of_entries};
@@ -19,7 +19,7 @@ use crate::unchanged::{are_entries, is_held};
 use fd_table::OpenFiles;
 use kernel_state::{State, Unread};
 use mem_files::Files;
-use proc_table::{PROCS, Pid};
+use proc_table::Pid;
 use std::alloc::{AllocError, Allocator, Global};
 use std::rc::Rc;
 use user_calls::{CallSlot, Machine};
@@ -44,7 +44,7 @@ impl<M: Machine> Reader<M> {
     ghost use Rattle.kernel_model.specs.Sound.{IsSound};
     ghost use Rattle.order_model.specs.Idle.{idle_slot, renamed_entry};
     ghost use Rattle.order_model.specs.Key.{key};
-    ghost use Rattle.order_search.specs.Shown.{slot_of};
+    ghost use Rattle.order_search.specs.Shown.{filled, slot_of};
     ghost use Rattle.order_search.specs.Places.{IsOrderly, names_in, place_among};
 
     pub fn new(alloc: Global) -> Result<Reader<M>, AllocError> {
@@ -154,10 +154,11 @@ impl<M: Machine> Reader<M> {
     ) -> Result<Vec<Option<Rc<Held<M>>>>, ExploreFault>
         requires orderly { IsOrderly state.now }
         requires sound { IsSound state.now.table state.now.entries }
-        ensures { IfOk result (λ slots. map slot_of slots.items ≡ map (idle_slot (place_among names.now)) state.now.table) }
+        ensures { IfOk result (λ slots. filled 64 (map slot_of slots.items) ≡ map (idle_slot (place_among names.now)) state.now.table) }
     {
-        let mut slots = Vec::with_capacity(self.alloc, PROCS)?;
-        for number in 0..PROCS {
+        let count = slots_in_use(state);
+        let mut slots = Vec::with_capacity(self.alloc, count)?;
+        for number in 0..count {
             let slot = self.read_slot(state, names, number, before)?;
             push_slot(&mut slots, slot)?;
         }
@@ -174,15 +175,15 @@ impl<M: Machine> Reader<M> {
         requires counted { (e : ℕ) → (entry_at entries.now e ≡ None) ⊎ (0 < count_of (entry_at entries.now e)) }
         ensures { IfOk result (λ kept. kept.value ≡ map (renamed_entry (place_among names.now)) entries.now) }
     {
-        if are_entries(names, self.numbers.as_slice(), entries, before)? {
+        let numbers = numbers_in_use(self.numbers.as_slice(), entries);
+        if are_entries(names, numbers, entries, before)? {
             return Ok(before.clone()?);
         }
-        let sketch = sketch_of_entries(self.numbers.as_slice(), entries);
-        let numbers = self.numbers.as_slice();
+        let sketch = sketch_of_entries(numbers, entries);
         if let Some(kept) = self.entries.find(names, numbers, entries, sketch)? {
             return Ok(kept);
         }
-        let entries = read_entries(self.alloc, names, self.numbers.as_slice(), entries)?;
+        let entries = read_entries(self.alloc, names, numbers, entries)?;
         Ok(self.entries.keep(self.alloc, entries, sketch)?)
     }
 
@@ -220,6 +221,29 @@ impl<M: Machine> Reader<M> {
         };
         look.digest = look.digest_of();
         Ok(look)
+    }
+}
+
+// How many slots there are up to the last one that is in use.
+fn slots_in_use<M: Machine, A: Allocator>(state: &State<M, A>) -> usize
+    requires { IsSound state.now.table state.now.entries }
+    ensures within { result ≤ 64 }
+    ensures free { (pid : ℕ) → result ≤ pid → at state.now.table pid ≡ None }
+{
+    let mut count: usize = 64;
+    while count > 0 && is_free(state, count - 1) {
+        count -= 1;
+    }
+    count
+}
+
+// Whether the slot of this number is free.
+fn is_free<M: Machine, A: Allocator>(state: &State<M, A>, number: usize) -> bool
+    ensures { result ≡ true → at state.now.table number ≡ None }
+{
+    match Pid::new(number) {
+        Some(pid) => !state.procs.is_used(pid),
+        None => false,
     }
 }
 

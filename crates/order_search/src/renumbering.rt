@@ -144,10 +144,11 @@ fn is_entry_under(
 ) -> bool
     ensures { result ≡ true → entry_at others.now other ≡ entry_at entries.now number }
 {
-    if number < entries.len() && other < others.len() {
-        same_entry(&entries[number], &others[other])
-    } else {
-        entries.len() <= number && others.len() <= other
+    match (entries.get(number), others.get(other)) {
+        (Some(entry), Some(other)) => same_entry(entry, other),
+        (Some(entry), None) => entry.is_none(),
+        (None, Some(other)) => other.is_none(),
+        (None, None) => true,
     }
 }
 

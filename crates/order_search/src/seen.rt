@@ -88,7 +88,7 @@ impl SeenEntries {
     ghost use Rattle.std.specs.Prelude.{◌≡◌, ◌⊎◌, ℕ, ◌<◌, None, IfOk, IfSome, length, map};
     ghost use Rattle.fd_table.specs.Entries.{entry_at, count_of};
     ghost use Rattle.order_model.specs.Idle.{renamed_entry};
-    ghost use Rattle.order_search.specs.Places.{AreNumbers, place_among};
+    ghost use Rattle.order_search.specs.Places.{AreNumbersOf, place_among};
 
     pub fn new(alloc: Global) -> SeenEntries {
         SeenEntries {
@@ -97,7 +97,7 @@ impl SeenEntries {
         }
     }
 
-    // What was kept of the entries, if anything was.
+    // What was kept of the entries, of which these are the numbers up to the last one that is in use, if anything was.
     pub fn find(
         &self,
         names: &[u64],
@@ -105,7 +105,7 @@ impl SeenEntries {
         entries: &OpenFiles,
         sketch: u64,
     ) -> Result<Option<Rc<Entries>>, ExploreFault>
-        requires numbers { AreNumbers numbers.now }
+        requires numbers { AreNumbersOf entries.now numbers.now }
         requires all { length entries.now ≡ 100 }
         requires counted { (e : ℕ) → (entry_at entries.now e ≡ None) ⊎ (0 < count_of (entry_at entries.now e)) }
         ensures { IfOk result (λ found. IfSome found (λ kept. kept.value ≡ map (renamed_entry (place_among names.now)) entries.now)) }

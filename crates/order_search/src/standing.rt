@@ -11,7 +11,6 @@ use closed_search::Node;
 use kernel_state::State;
 use proc_table::PROCS;
 use std::alloc::{AllocError, Allocator, Global};
-use std::collections::HashMap;
 use std::marker::Model;
 use std::snapshot::Snapshot;
 use user_calls::{CallSlot, Machine};
@@ -23,7 +22,6 @@ pub struct Tools<'t, M: Machine, C: Allocator> {
     reader: Reader<M>,
     trail: Trail<'t, M, C>,
     call: CallSlot,
-    moved: HashMap<u64, u8>,
 }
 
 impl<'t, M: Machine, C: Allocator> Tools<'t, M, C> {
@@ -33,25 +31,7 @@ impl<'t, M: Machine, C: Allocator> Tools<'t, M, C> {
             reader: Reader::new(alloc)?,
             trail: Trail::new(alloc),
             call: CallSlot::new(),
-            moved: HashMap::new(alloc),
         })
-    }
-
-    // Notes a process whose turn leads from the look to the next one, where the slots differ. It is tried first where such a
-    // process is looked for.
-    fn note_moved(&mut self, look: &Look<M>, pid: u8, next: &Look<M>) -> Result<(), AllocError> {
-        if self.moved.get(&look.digest).is_none() && !look.has_same_slots(next) {
-            self.moved.insert(look.digest, pid)?;
-        }
-        Ok(())
-    }
-
-    // The number of a process whose turn may lead from the look to other slots.
-    fn moved_at(&self, look: &Look<M>) -> usize {
-        match self.moved.get(&look.digest).copied() {
-            Some(pid) => usize::from(pid),
-            None => 0,
-        }
     }
 
     // Makes the stop where turns of these processes lead.
@@ -67,6 +47,8 @@ pub struct Standing<'t, M: Machine, C: Allocator> {
     pub pids: Vec<u8>,
     pub look: Look<M>,
     kernel: Snapshot<State<M, Global>>,
+    // Whether a turn was taken that led to other slots.
+    is_busy: bool,
 }
 
 impl<'t, M: Machine, C: Allocator> Model for Standing<'t, M, C> {
@@ -81,7 +63,7 @@ impl<'t, M: Machine, C: Allocator> Model for Standing<'t, M, C> {
       now = n.kernel.value;
     } };
 
-    ghost invariant = { λ n. IsLed M.call_of M.next_of (start_kernel (M.view n.origin.now.init) (M.view n.origin.now.shell) n.origin.now.stdin.now n.origin.now.files.now) n.origin.now.ahead n.pids.items n.kernel.value n.look };
+    ghost invariant = { λ n. IsLed M.call_of M.next_of (start_kernel (M.view n.origin.now.init) (M.view n.origin.now.shell) n.origin.now.stdin.now n.origin.now.files.now) n.origin.now.ahead n.pids.items n.kernel.value n.look n.is_busy };
 }
 
 impl<'t, M: Machine, C: Allocator> Standing<'t, M, C> {
@@ -108,6 +90,7 @@ impl<'t, M: Machine, C: Allocator> Standing<'t, M, C> {
             pids: taken,
             look,
             kernel: Snapshot::of(&state),
+            is_busy: false,
         })
     }
 }
@@ -123,8 +106,7 @@ impl<'t, M: Machine, C: Allocator> Standing<'t, M, C> {
         if self.look.is_finished() {
             return Ok(false);
         }
-        let likely = tools.moved_at(&self.look);
-        if self.is_moved(tools, likely)? {
+        if self.is_busy {
             return Ok(false);
         }
         for number in 0..PROCS {
@@ -139,7 +121,7 @@ impl<'t, M: Machine, C: Allocator> Standing<'t, M, C> {
     fn is_moved(&self, tools: &mut Tools<'t, M, C>, number: usize) -> Result<bool, ExploreFault>
         ensures { result ≡ Ok true → IsBusy M.call_of M.next_of self.now.now }
     {
-        match self.after(tools, number)? {
+        match self.next(tools, number)? {
             None => Ok(false),
             Some(node) => Ok(!self.look.has_same_slots(&node.look)),
         }
@@ -158,8 +140,32 @@ impl<'t, M: Machine, C: Allocator> Standing<'t, M, C> {
 }
 
 impl<'t, M: Machine, C: Allocator> Standing<'t, M, C> {
-    ghost use Rattle.std.specs.Prelude.{◌≡◌, Some, IfOk};
+    ghost use Rattle.std.specs.Prelude.{◌≡◌, ℕ, Some, IfOk, option_map};
     ghost use Rattle.order_model.specs.Turns.{after_turn};
+    ghost use Rattle.order_search.specs.Led.{kernel_of};
+
+    // The node after a turn of the process in the slot of this number; `None` where it can't take one.
+    fn next(&self, tools: &mut Tools<'t, M, C>, number: usize) -> Result<Option<Self>, ExploreFault>
+        ensures { IfOk result (λ found. option_map kernel_of found ≡ after_turn M.call_of M.next_of self.now.now number) }
+    {
+        if !self.look.is_runnable(number) {
+            return Ok(None);
+        }
+        let Ok(pid) = u8::try_from(number) else {
+            return Err(ExploreFault::TooLong);
+        };
+        Ok(Some(self.turned(tools, pid)?))
+    }
+
+    // Notes whether the slots differ at the node after a turn of the process in the slot of this number.
+    fn note(&mut self, number: usize, next: &Self)
+        requires { after_turn M.call_of M.next_of self.old.now number ≡ Some next.now.now }
+        ensures { self.new ≡ self.old }
+    {
+        if !self.is_busy && !self.look.has_same_slots(&next.look) {
+            self.is_busy = true;
+        }
+    }
 
     // The node after a turn of this process.
     fn turned(&self, tools: &mut Tools<'t, M, C>, pid: u8) -> Result<Self, ExploreFault>
@@ -176,6 +182,7 @@ impl<'t, M: Machine, C: Allocator> Standing<'t, M, C> {
             pids,
             look,
             kernel,
+            is_busy: false,
         })
     }
 }
@@ -215,24 +222,28 @@ impl<'t, M: Machine, C: Allocator> Node for Standing<'t, M, C> {
 
     type Fault = ExploreFault;
 
+    fn leads_nowhere(&self, step_number: usize) -> bool {
+        !self.look.is_runnable(step_number)
+    }
+
     fn after(
-        &self,
+        &mut self,
         tools: &mut Tools<'t, M, C>,
         step_number: usize,
     ) -> Result<Option<Self>, ExploreFault> {
-        if !self.look.is_runnable(step_number) {
-            return Ok(None);
+        let found = self.next(tools, step_number)?;
+        if let Some(next) = &found {
+            self.note(step_number, next);
         }
-        let Ok(pid) = u8::try_from(step_number) else {
-            return Err(ExploreFault::TooLong);
-        };
-        let node = self.turned(tools, pid)?;
-        tools.note_moved(&self.look, pid, &node.look)?;
-        Ok(Some(node))
+        Ok(found)
     }
 
     fn private_move(&self) -> Option<usize> {
-        self.look.giving_pid(self.origin.ahead)
+        if self.origin.is_full {
+            None
+        } else {
+            self.look.giving_pid(self.origin.ahead)
+        }
     }
 
     fn is_like(&self, other: &Self) -> bool {

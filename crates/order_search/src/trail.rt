@@ -10,8 +10,11 @@ use std::boxed::Box;
 use std::marker::Model;
 use user_calls::{CallSlot, Machine};
 
-// How many stops there are at most on the way to a kernel: each is half the way from the one before, or more.
+// How many stops are made at most on the way to a kernel: each is half the way from the one before, or more.
 const MAX_STOPS: usize = 64;
+
+// With how many stops it is looked whether some stand close together.
+const MANY_STOPS: usize = 32;
 
 // The most events of a run, two a turn.
 const MAX_EVENTS: u64 = 2_000_000_000;
@@ -146,6 +149,9 @@ impl<'t, M: Machine, C: Allocator> Trail<'t, M, C> {
             return self.go_one_turn(pids, call);
         }
         self.turn_back(pids)?;
+        if self.stops.len() > MANY_STOPS {
+            self.thin_out(pids.len())?;
+        }
         for _stop in 0..MAX_STOPS {
             let done = self.done();
             if done >= pids.len() {
@@ -214,6 +220,35 @@ impl<'t, M: Machine, C: Allocator> Trail<'t, M, C> {
             }
         }
         Ok(())
+    }
+
+    // Gives up stops that stand close together, as seen from where so many turns lead, so that few are left: some two for each half of
+    // the way, of the rest of it, and so on.
+    fn thin_out(&mut self, end: usize) -> Result<(), AllocError> {
+        let mut before: usize = 0;
+        while before.saturating_add(2) < self.stops.len() {
+            if self.stands_close(before, end) {
+                let stop = self.stops.remove(before + 1);
+                self.spare.push(stop)?;
+            } else {
+                before += 1;
+            }
+        }
+        Ok(())
+    }
+
+    // Whether the stop at the place and the second one after it are nearer to one another than that one is to where so many turns lead.
+    fn stands_close(&self, before: usize, end: usize) -> bool {
+        match (
+            self.stops.get(before),
+            self.stops.get(before.saturating_add(2)),
+        ) {
+            (Some(before), Some(after)) => {
+                let between = after.pids.len().saturating_sub(before.pids.len());
+                between < end.saturating_sub(after.pids.len())
+            }
+            _ => false,
+        }
     }
 
     // Whether the last stop is on the way to where turns of these processes lead.

@@ -5,7 +5,7 @@ ghost use Rattle.fd_table.specs.Entries.{entry_at, count_of};
 ghost use Rattle.proc_table.specs.Slots.{at};
 ghost use Rattle.kernel_model.specs.Sound.{IsSound};
 ghost use Rattle.order_model.specs.Idle.{idle_slot, renamed_entry, renamed_object};
-ghost use Rattle.order_search.specs.Places.{place_among, IsOrderly, AreNumbers};
+ghost use Rattle.order_search.specs.Places.{place_among, IsOrderly, AreNumbersOf};
 
 use crate::fault::ExploreFault;
 use crate::kept::{Entries, Held, Opened};
@@ -98,22 +98,22 @@ fn is_entry(
     }
 }
 
-// Whether the entries were kept as these.
+// Whether the entries, of which these are the numbers up to the last one that is in use, were kept as these.
 pub fn are_entries(
     names: &[u64],
     numbers: &[Entry],
     entries: &OpenFiles,
     kept: &Entries,
 ) -> Result<bool, ExploreFault>
-    requires numbers { AreNumbers numbers.now }
+    requires numbers { AreNumbersOf entries.now numbers.now }
     requires all { length entries.now ≡ 100 }
     requires counted { (e : ℕ) → (entry_at entries.now e ≡ None) ⊎ (0 < count_of (entry_at entries.now e)) }
     ensures { result ≡ Ok true → kept.now ≡ map (renamed_entry (place_among names.now)) entries.now }
 {
-    if kept.slots.len() != 100 {
+    if kept.slots.len() != numbers.len() {
         return Ok(false);
     }
-    for number in 0..100usize {
+    for number in 0..numbers.len() {
         if !is_entry(names, entries, numbers[number], &kept.slots[number])? {
             return Ok(false);
         }

@@ -191,6 +191,18 @@ impl<A: Allocator> Page<A> {
         self.put(mark.as_bytes());
     }
 
+    /// Writes what another page has, behind what there is.
+    pub fn append(&mut self, other: Self)
+        ensures kept { self.old ≡ true → self.new ≡ true }
+        ensures passed_on { other ≡ true → self.new ≡ true }
+    {
+        let Page { text, is_refused } = other;
+        if is_refused {
+            self.is_refused = true;
+        }
+        self.put(text.as_slice());
+    }
+
     fn add_one(&mut self, piece: Piece<'_>)
         ensures kept { self.old ≡ true → self.new ≡ true }
     {

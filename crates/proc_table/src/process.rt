@@ -83,11 +83,13 @@ impl<M: Machine> Process<M> {
         twin
     }
 
-    // Becomes equal to the other.
+    // Becomes equal to the other. A machine in the same state stays: that is looked at sooner than a twin is made.
     fn copy_from(&mut self, other: &Process<M>)
         ensures { self.new ≡ other.now }
     {
-        self.machine = other.machine.twin();
+        if !self.machine.same(&other.machine) {
+            self.machine = other.machine.twin();
+        }
         self.copy_rest(other);
     }
 

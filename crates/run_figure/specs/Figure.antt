@@ -1,5 +1,5 @@
 -- What of a run's events stands in its figure.
-use Rattle.std.specs.Prelude.{◌≢◌, ℕ, ◌<◌, ◌-◌, ◌/◌, ◌%◌, ◌^◌, ◌&&◌, ◌==◌, nat_lt, Bool, false, cond, List, [], ◌∷◌, AllPairs, Option, Some, None, option_map, find, drop, slice_get}
+use Rattle.std.specs.Prelude.{◌≡◌, ◌≢◌, ℕ, ◌<◌, ◌-◌, ◌/◌, ◌%◌, ◌^◌, ◌&&◌, ◌==◌, nat_lt, Bool, true, false, cond, List, [], ◌∷◌, AllPairs, not, is_some, Option, Some, None, option_map, find, drop, slice_get}
 use Rattle.std.specs.Option.{option_and_then}
 use Rattle.trace_data.specs.declared.trace.Channel.{Channel}
 use Rattle.trace_data.specs.declared.trace.Child.{Child}
@@ -114,3 +114,23 @@ made_by pid (Some event) = makes pid event
 -- a process was made by one of the first so many events, or it is init or the first shell
 abbrev pub is_made : List Event → ℕ → Process → Bool
 is_made events count process = cond (process.born == 0) (nat_lt process.pid 2) (cond (nat_lt count process.born) false (made_by process.pid (slice_get events (process.born - 1))))
+
+-- whether two processes are the same, and two events are of the same kind, on the same hart, of the same process
+abbrev pub is_same_process : Process → Process → Bool
+is_same_process one other = one.pid == other.pid && one.born == other.born
+
+abbrev pub is_same_turn : Event → Event → Bool
+is_same_turn one other = cond (is_some one.trap) (is_some other.trap) (not (is_some other.trap)) && (one.hart == other.hart && is_same_process one.process other.process)
+
+abbrev pub are_same_turns : Option Event → Option Event → Bool
+are_same_turns (Some one) (Some other) = is_same_turn one other
+are_same_turns _ _ = false
+
+-- whether both have an event of this place, and these are the same
+abbrev pub is_same_at : List Event → List Event → ℕ → Bool
+is_same_at one other place = are_same_turns (slice_get one place) (slice_get other place)
+
+-- with so many same events both begin, and not with more
+pub record BeginAlike (one other : List Event) (count : ℕ) : Type 0 where
+  pub same : (place : ℕ) → place < count → is_same_at one other place ≡ true
+  pub parted : is_same_at one other count ≡ false

@@ -2,7 +2,7 @@
 
 ghost use Rattle.std.specs.Prelude.{◌≡◌, ◌++◌, ◌-◌, IfOk, position, not};
 ghost use Rattle.std.specs.List.{filter_map};
-ghost use Rattle.run_figure.specs.Figure.{lane_of, first_lane, first_lanes, AreApart, Rise, bar_of, band_of, asleep_on, child_of, read_end_of, wakes, wake_of, is_made};
+ghost use Rattle.run_figure.specs.Figure.{BeginAlike, is_same_at, is_same_turn, lane_of, first_lane, first_lanes, AreApart, Rise, bar_of, band_of, asleep_on, child_of, read_end_of, wakes, wake_of, is_made};
 
 use std::alloc::{AllocError, Allocator};
 use trace_data::{Channel, Event, Process, Reply, State, Trap};
@@ -235,4 +235,36 @@ pub fn first_stranger(events: &[Event]) -> Option<usize>
     events.iter().position(|event| {
         !is_made(events, event.number.saturating_sub(1), event.process)
     })
+}
+
+// Whether the two events are of the same kind, on the same hart, of the same process.
+fn is_same_turn(one: &Event, other: &Event) -> bool
+    ensures { result ≡ is_same_turn one.now other.now }
+{
+    one.trap.is_some() == other.trap.is_some()
+        && one.hart == other.hart
+        && one.process == other.process
+}
+
+// Whether both runs have an event of this place, counted from 0, and these are the same.
+fn is_same_at(one: &[Event], other: &[Event], place: usize) -> bool
+    ensures { result ≡ is_same_at one.now other.now place }
+{
+    match (one.get(place), other.get(place)) {
+        (Some(one), Some(other)) => is_same_turn(one, other),
+        _ => false,
+    }
+}
+
+/// With how many same events both runs begin: events are the same that are of the same kind, on the same hart and of the same
+/// process. Own.
+pub fn common_events(one: &[Event], other: &[Event]) -> usize
+    ensures { BeginAlike one.now other.now result }
+{
+    for place in 0..one.len() {
+        if !is_same_at(one, other, place) {
+            return place;
+        }
+    }
+    one.len()
 }

@@ -4,4 +4,4 @@
 
 mod figure;
 
-pub use figure::{Band, Bar, Lane, bands, bars, first_stranger, lanes};
+pub use figure::{Band, Bar, Lane, bands, bars, common_events, first_stranger, lanes};

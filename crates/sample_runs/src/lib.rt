@@ -73,6 +73,7 @@ fn left_named<N: Naming, B: Allocator, C: Allocator>(
             entries: false,
             slots: false,
         },
+        is_full: false,
     };
     let mut found = explore_after(alloc, &origin, pids, 1, &mut Unwatched)?;
     Ok(found.outcomes.pop())

@@ -4,7 +4,7 @@ use Rattle.std.specs.List.{list_any}
 use Rattle.std.specs.Str.{bytes_eq}
 use Rattle.sh_lexer.specs.declared.token.Token.{Token}
 use Rattle.mem_files.specs.Name.{Bytes}
-use Rattle.script_notes.specs.declared.kind.NoteKind.TheVariants.{ByteOrderMark, CarriageReturn, NoComment, NoQuote}
+use Rattle.script_notes.specs.declared.kind.NoteKind.TheVariants.{ByteOrderMark, CarriageReturn, NoComment, NoQuote, NoBackQuote}
 use Rattle.script_notes.specs.Notes.{Note, note_where}
 
 -- the three bytes of a byte order mark
@@ -33,15 +33,19 @@ abbrev pub begins_comment : Bytes → Bool
 begins_comment [] = false
 begins_comment (byte ∷ bytes) = byte == 35
 
--- the bytes " ' \ and `
+-- the bytes " ' and \
 abbrev pub is_quote : ℕ → Bool
-is_quote byte = byte == 34 || byte == 39 || byte == 92 || byte == 96
+is_quote byte = byte == 34 || byte == 39 || byte == 92
 
--- of a token, that it is no comment, and that it is not quoted
+abbrev pub is_back_quote : ℕ → Bool
+is_back_quote byte = byte == 96
+
+-- of a token, that it is no comment, that it is not quoted, and that no command in it runs
 abbrev pub letters_of : Bytes → Token → List Note
 letters_of text t =
     note_where (begins_comment (text_of text t)) NoComment t.first t.past
-    ++ note_where (list_any is_quote (text_of text t)) NoQuote t.first t.past
+    ++ (note_where (list_any is_quote (text_of text t)) NoQuote t.first t.past
+    ++ note_where (list_any is_back_quote (text_of text t)) NoBackQuote t.first t.past)
 
 abbrev pub letter_notes : Bytes → List Token → List Note
 letter_notes text ts = flat_map (letters_of text) ts

@@ -3,7 +3,7 @@ use Rattle.std.specs.Prelude.{Bool, ◌||◌, if◌then◌else◌, codes}
 use Rattle.std.specs.Str.{bytes_eq}
 use Rattle.mem_files.specs.Name.{Bytes}
 use Rattle.script_notes.specs.declared.kind.NoteKind.{NoteKind}
-use Rattle.script_notes.specs.declared.kind.NoteKind.TheVariants.{NoProgram, NoListing, NoCopy, NoRemoval, NoFolder, NoFilter, NoProcess, NoPrinter, NoShellWord}
+use Rattle.script_notes.specs.declared.kind.NoteKind.TheVariants.{NoProgram, NoListing, NoCopy, NoRemoval, NoFolder, NoFilter, NoProcess, NoPrinter, NoShellWord, NoFunction, NoCase, NoExport, NoAlias}
 
 abbrev pub is_listing : Bytes → Bool
 is_listing word = bytes_eq word (codes "ls") || bytes_eq word (codes "dir") || bytes_eq word (codes "find")
@@ -30,7 +30,17 @@ abbrev pub is_block_word : Bytes → Bool
 is_block_word word = bytes_eq word (codes "if") || bytes_eq word (codes "then") || bytes_eq word (codes "else") || bytes_eq word (codes "fi") || bytes_eq word (codes "for") || bytes_eq word (codes "while") || bytes_eq word (codes "do") || bytes_eq word (codes "done")
 
 abbrev pub is_setting_word : Bytes → Bool
-is_setting_word word = bytes_eq word (codes "case") || bytes_eq word (codes "test") || bytes_eq word (codes "exit") || bytes_eq word (codes "export") || bytes_eq word (codes "set") || bytes_eq word (codes "read") || bytes_eq word (codes "sh") || bytes_eq word (codes "bash")
+is_setting_word word = bytes_eq word (codes "test") || bytes_eq word (codes "exit") || bytes_eq word (codes "set") || bytes_eq word (codes "read") || bytes_eq word (codes "sh") || bytes_eq word (codes "bash")
+
+abbrev pub is_defining_word : Bytes → Bool
+is_defining_word word = bytes_eq word (codes "function") || bytes_eq word (codes "case") || bytes_eq word (codes "export") || bytes_eq word (codes "alias")
+
+-- of such a word
+abbrev pub defining_kind : Bytes → NoteKind
+defining_kind word =
+    if bytes_eq word (codes "function") then NoFunction
+    else (if bytes_eq word (codes "case") then NoCase
+    else (if bytes_eq word (codes "export") then NoExport else NoAlias))
 
 -- the kind of the note of a name that no program has
 abbrev pub lacking_kind : Bytes → NoteKind
@@ -43,4 +53,5 @@ lacking_kind word =
     else (if is_process word then NoProcess
     else (if is_printer word then NoPrinter
     else (if is_block_word word || is_setting_word word then NoShellWord
-    else NoProgram)))))))
+    else (if is_defining_word word then defining_kind word
+    else NoProgram))))))))

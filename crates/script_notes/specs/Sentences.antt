@@ -2,20 +2,27 @@
 use Rattle.std.specs.Prelude.{codes}
 use Rattle.mem_files.specs.Name.{Bytes}
 use Rattle.script_notes.specs.declared.kind.NoteKind.{NoteKind}
-use Rattle.script_notes.specs.declared.kind.NoteKind.TheVariants.{ByteOrderMark, CarriageReturn, NoComment, NoQuote, NoOr, NoAnd, NoCommand, LastBar, NoNumber, NoVariable, NoPattern, NoOption, HeadOption, TeeOption, GrepOption, EchoOption, NoProgram, NoFileName, Background, WritesOver, InputUnread, OutputEmptied, OutputUnwritten, NoDirectories, MissingName, OpenParen, TenthWord, LateParen, StrayParen, LeftOver, PipeClash, RedirectionClash, NoListing, NoCopy, NoRemoval, NoFolder, NoFilter, NoProcess, NoPrinter, NoShellWord}
+use Rattle.script_notes.specs.declared.kind.NoteKind.TheVariants.{ByteOrderMark, CarriageReturn, NoComment, NoQuote, NoOr, NoAnd, NoCommand, LastBar, NoNumber, NoVariable, NoPattern, NoOption, HeadOption, TeeOption, GrepOption, EchoOption, NoProgram, NoFileName, Background, WritesOver, InputUnread, OutputEmptied, OutputUnwritten, NoDirectories, MissingName, OpenParen, TenthWord, LateParen, StrayParen, LeftOver, PipeClash, RedirectionClash, NoListing, NoCopy, NoRemoval, NoFolder, NoFilter, NoProcess, NoPrinter, NoShellWord, NoBackQuote, NoMessagePipe, NoHereText, NoHereWord, NoSubstitution, NoHome, NoBraces, NoFunction, NoCase, NoExport, NoAlias}
 
 abbrev pub sentence : NoteKind → Bytes
 sentence ByteOrderMark = codes "the file begins with a byte order mark, which the shell takes for a part of the first word"
 sentence CarriageReturn = codes "the line ends in a carriage return, as in files from Windows: to a command it is white space"
 sentence NoComment = codes "there are no comments here: this and what follows is read like the rest of the line"
 sentence NoQuote = codes "quotes and backslashes mean nothing here: they are a part of the word, and white space or a sign ends it"
+sentence NoBackQuote = codes "back quotes run no command here: they are a part of the word; a pipe, or a file, brings what one command writes to another"
 sentence NoOr = codes "|| is no 'or' here but two pipes with an empty command between them: what the left side writes is lost"
 sentence NoAnd = codes "&& is no 'and' here: each & lets the command before it run in the background, so put what comes next on a line of its own"
+sentence NoMessagePipe = codes "|& is no pipe for messages here: no command stands between the pipe and the &, and messages go through no pipe"
 sentence NoCommand = codes "no command stands between this ; and the one before it"
 sentence LastBar = codes "no command stands behind the last |, so what its left side writes is lost"
+sentence NoHereText = codes "<< brings no lines of the script to a command here: behind each < stands a file's name, so write the lines into a file by echo and >"
+sentence NoHereWord = codes "<<< brings no word to a command here: behind each < stands a file's name; echo WORD | COMMAND does it"
 sentence NoNumber = codes "the number before this sign is a word of the command: its output goes to the file, and its messages don't, for there is no 2> and no 2>&1"
 sentence NoVariable = codes "there are no variables here: $ is a letter like others"
+sentence NoSubstitution = codes "$( runs no command here whose output stands in its place: $ is a letter, and ( begins a group; a pipe, or a file, brings what one command writes to another"
 sentence NoPattern = codes "names of files have no patterns here: * and [ are letters like others"
+sentence NoHome = codes "there is no home directory here: ~ is a letter like others"
+sentence NoBraces = codes "braces make no words here: { , and } are letters like others, so write each word out"
 sentence NoOption = codes "there is no such option here: the word is taken for a file's name"
 sentence HeadOption = codes "head has the option -N, for N lines, and no other: it tells how it is used, and reads nothing"
 sentence TeeOption = codes "tee has no options: it makes a file of this name"
@@ -45,3 +52,7 @@ sentence NoFilter = codes "there is no such filter here: the command does nothin
 sentence NoProcess = codes "there is no program here for processes or time: the command does nothing but tell that it can't run, and the shell waits for each command without & by itself"
 sentence NoPrinter = codes "there is no such program here: the command does nothing but tell that it can't run, and echo writes words"
 sentence NoShellWord = codes "this is no word of the shell here, which has no conditions, loops or settings: it is taken for a command's name, and no program has it"
+sentence NoFunction = codes "there are no functions here: the word is taken for a command's name, and no program has it"
+sentence NoCase = codes "there is no choice between cases here: the word is taken for a command's name, and no program has it"
+sentence NoExport = codes "there are no variables here, so none is exported: the word is taken for a command's name, and no program has it"
+sentence NoAlias = codes "a command can't get another name here: the word is taken for a command's name, and no program has it"

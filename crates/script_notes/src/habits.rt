@@ -1,8 +1,8 @@
 //! Notes on habits from other shells and systems.
-ghost use Rattle.std.specs.Prelude.{◌≡◌, ◌++◌, ◌≤◌, ◌∷◌, [], List, OnOk, length};
+ghost use Rattle.std.specs.Prelude.{◌≡◌, ◌++◌, ◌≤◌, ◌∷◌, [], List, None, OnOk, Some, if◌then◌else◌, length};
 ghost use Rattle.sh_lexer.specs.declared.token.Token.{Token};
 ghost use Rattle.sh_lexer.specs.Tokens.{IsToken, IsTokenList};
-ghost use Rattle.script_notes.specs.Habits.{after_word, begins_option, habit_notes, habits_of, has_glob, has_variable, is_argument, is_bar, is_digit, is_grep, is_numbered, is_option, is_pattern, note_if, option_kind, pair_kind, said_of, token_notes, word_habits};
+ghost use Rattle.script_notes.specs.Habits.{after_word, begins_option, behind, ends_in_dollar, habit_notes, habits_of, has_braces, has_glob, has_variable, here_kind, is_argument, is_bar, is_digit, is_grep, is_home, is_less, is_less_byte, is_numbered, is_option, is_pattern, known_notes, made_notes, note_if, option_kind, pair_kind, said_of, token_notes, word_habits};
 ghost use Rattle.script_notes.specs.Letters.{text_of};
 ghost use Rattle.script_notes.specs.Notes.{notes_text};
 ghost use Rattle.script_notes.specs.Written.{written};
@@ -20,8 +20,12 @@ use std::alloc::{AllocError, Global};
 pub struct Said {
     /// The kind of the nearest.
     pub last: Option<Kind>,
-    /// Where that ends, if it is a word of one digit.
+    /// The kind of the one before that.
+    pub before: Option<Kind>,
+    /// Where the nearest ends, if it is a word of one digit.
     pub number_end: Option<usize>,
+    /// Where the nearest ends, if it is a word that ends in `$`.
+    pub dollar_end: Option<usize>,
     /// A word here is a file's name.
     pub names_file: bool,
     /// The command has its name.
@@ -35,7 +39,9 @@ pub struct Said {
 // At a line's beginning.
 const NOTHING: Said = Said {
     last: None,
+    before: None,
     number_end: None,
+    dollar_end: None,
     names_file: false,
     has_name: false,
     has_argument: false,
@@ -52,25 +58,39 @@ fn is_digit(word: &[u8]) -> bool
     }
 }
 
+fn ends_in_dollar(word: &[u8]) -> bool
+    ensures { result ≡ ends_in_dollar word.now }
+{
+    match word.last() {
+        Some(byte) => *byte == b'$',
+        None => false,
+    }
+}
+
+// Where a word ends, if that is told.
+fn end_where(is_told: bool, past: usize) -> Option<usize>
+    ensures { result ≡ (if is_told then Some past else None) }
+{
+    if is_told { Some(past) } else { None }
+}
+
 impl Said {
     // What is said after this word too.
     fn after_word(self, word: &[u8], past: usize) -> Said
         ensures { result ≡ after_word self word.now past }
     {
-        let number_end = if is_digit(word) { Some(past) } else { None };
-        let last = Some(Kind::Word);
+        let next = Said {
+            last: Some(Kind::Word),
+            before: self.last,
+            number_end: end_where(is_digit(word), past),
+            dollar_end: end_where(ends_in_dollar(word), past),
+            names_file: false,
+            ..self
+        };
         if self.names_file {
-            return Said {
-                last,
-                number_end,
-                names_file: false,
-                ..self
-            };
+            return next;
         }
         Said {
-            last,
-            number_end,
-            names_file: false,
             has_name: true,
             has_argument: self.has_name,
             program: if self.has_name {
@@ -78,6 +98,7 @@ impl Said {
             } else {
                 Program::named(word)
             },
+            ..next
         }
     }
 
@@ -90,12 +111,15 @@ impl Said {
             Kind::Word => self.after_word(text_of(text, token), token.past),
             Kind::Less | Kind::More | Kind::MoreMore => Said {
                 last: Some(token.kind),
+                before: self.last,
                 number_end: None,
+                dollar_end: None,
                 names_file: true,
                 ..self
             },
             Kind::Bar | Kind::Amp | Kind::Semi | Kind::LeftParen | Kind::RightParen => Said {
                 last: Some(token.kind),
+                before: self.last,
                 ..NOTHING
             },
         }
@@ -135,6 +159,38 @@ fn has_glob(word: &[u8]) -> bool
     word.iter().any(|byte| *byte == b'*' || *byte == b'[')
 }
 
+fn is_home(word: &[u8]) -> bool
+    ensures { result ≡ is_home word.now }
+{
+    match word {
+        [byte] => *byte == b'~',
+        [byte, next, ..] => *byte == b'~' && *next == b'/',
+        _ => false,
+    }
+}
+
+// What stands behind the first such byte.
+fn behind(byte: u8, bytes: &[u8]) -> &[u8]
+    ensures { result.now ≡ behind byte bytes.now }
+{
+    let mut rest = bytes;
+    while let Some((first, after)) = rest.split_first() {
+        if *first == byte {
+            return after;
+        }
+        rest = after;
+    }
+    &[]
+}
+
+fn has_braces(word: &[u8]) -> bool
+    ensures { result ≡ has_braces word.now }
+{
+    behind(b',', behind(b'{', word))
+        .iter()
+        .any(|byte| *byte == b'}')
+}
+
 fn begins_option(byte: u8) -> bool
     ensures { result ≡ begins_option byte }
 {
@@ -171,6 +227,7 @@ fn pair_kind(last: Option<Kind>, kind: Kind) -> Option<NoteKind>
     match (last, kind) {
         (Some(Kind::Bar), Kind::Bar) => Some(NoteKind::NoOr),
         (Some(Kind::Amp), Kind::Amp) => Some(NoteKind::NoAnd),
+        (Some(Kind::Bar), Kind::Amp) => Some(NoteKind::NoMessagePipe),
         (Some(Kind::Semi), Kind::Semi) => Some(NoteKind::NoCommand),
         _ => None,
     }
@@ -182,6 +239,32 @@ fn is_numbered(number_end: Option<usize>, first: usize) -> bool
     match number_end {
         Some(past) => past == first,
         None => false,
+    }
+}
+
+fn is_less(kind: Option<Kind>) -> bool
+    ensures { result ≡ is_less kind }
+{
+    matches!(kind, Some(Kind::Less))
+}
+
+fn is_less_byte(byte: Option<u8>) -> bool
+    ensures { result ≡ is_less_byte byte }
+{
+    match byte {
+        Some(byte) => byte == b'<',
+        None => false,
+    }
+}
+
+// The kind of the note of a `<` behind another, before this byte.
+fn here_kind(next: Option<u8>) -> NoteKind
+    ensures { result ≡ here_kind next }
+{
+    if is_less_byte(next) {
+        NoteKind::NoHereWord
+    } else {
+        NoteKind::NoHereText
     }
 }
 
@@ -205,8 +288,8 @@ fn add_if(
     }
 }
 
-// Adds the notes of a word.
-fn add_word(
+// Adds the notes of a word for what other shells know: variables and files.
+fn add_known(
     alloc: Global,
     number: usize,
     text: &[u8],
@@ -215,7 +298,7 @@ fn add_word(
     told: &mut Vec<LineNote>,
 ) -> Result<(), AllocError>
     requires { IsToken text.now token.now }
-    ensures { OnOk result (written told.new.items ≡ written told.old.items ++ notes_text number text.now (word_habits said (text_of text.now token.now) token.now)) }
+    ensures { OnOk result (written told.new.items ≡ written told.old.items ++ notes_text number text.now (known_notes said (text_of text.now token.now) token.now)) }
 {
     let word = text_of(text, token);
     let span = span_of(token);
@@ -238,7 +321,53 @@ fn add_word(
         NoteKind::NoPattern,
         span,
         told,
-    )?;
+    )
+}
+
+// Adds the notes of a word for what other shells make of it: a path, and words.
+fn add_made(
+    alloc: Global,
+    number: usize,
+    text: &[u8],
+    said: Said,
+    token: &Token,
+    told: &mut Vec<LineNote>,
+) -> Result<(), AllocError>
+    requires { IsToken text.now token.now }
+    ensures { OnOk result (written told.new.items ≡ written told.old.items ++ notes_text number text.now (made_notes said (text_of text.now token.now) token.now)) }
+{
+    let word = text_of(text, token);
+    let span = span_of(token);
+    let is_home = is_home(word) && !said.is_pattern();
+    add_where(alloc, number, text, is_home, NoteKind::NoHome, span, told)?;
+    let is_braced = has_braces(word) && !said.is_pattern();
+    add_where(
+        alloc,
+        number,
+        text,
+        is_braced,
+        NoteKind::NoBraces,
+        span,
+        told,
+    )
+}
+
+// Adds the notes of a word.
+fn add_word(
+    alloc: Global,
+    number: usize,
+    text: &[u8],
+    said: Said,
+    token: &Token,
+    told: &mut Vec<LineNote>,
+) -> Result<(), AllocError>
+    requires { IsToken text.now token.now }
+    ensures { OnOk result (written told.new.items ≡ written told.old.items ++ notes_text number text.now (word_habits said (text_of text.now token.now) token.now)) }
+{
+    add_known(alloc, number, text, said, token, told)?;
+    add_made(alloc, number, text, said, token, told)?;
+    let word = text_of(text, token);
+    let span = span_of(token);
     let is_option = is_option(word) && said.is_argument();
     let kind = option_kind(said.program, !said.has_argument);
     add_if(alloc, number, text, is_option, kind, span, told)
@@ -264,7 +393,15 @@ fn add_habits(
             (holds, Some(NoteKind::NoNumber))
         }
         Kind::Bar | Kind::Amp | Kind::Semi => (true, pair_kind(said.last, token.kind)),
-        Kind::Less | Kind::LeftParen | Kind::RightParen => return Ok(()),
+        Kind::Less => {
+            let holds = is_less(said.last) && !is_less(said.before);
+            (holds, Some(here_kind(text.get(token.past).copied())))
+        }
+        Kind::LeftParen => {
+            let holds = is_numbered(said.dollar_end, token.first);
+            (holds, Some(NoteKind::NoSubstitution))
+        }
+        Kind::RightParen => return Ok(()),
     };
     add_if(alloc, number, text, holds, kind, span, told)
 }

@@ -9,22 +9,36 @@ pub enum NoteKind {
     CarriageReturn,
     /// A word begins with `#`.
     NoComment,
-    /// A word holds a quote, a backslash or a back quote.
+    /// A word holds a quote or a backslash.
     NoQuote,
+    /// A word holds a back quote.
+    NoBackQuote,
     /// A `|` right behind another: `||`.
     NoOr,
     /// A `&` right behind another: `&&`.
     NoAnd,
+    /// A `&` right behind a `|`: `|&`.
+    NoMessagePipe,
     /// A `;` right behind another: `;;`.
     NoCommand,
     /// A `|` at the end of the line.
     LastBar,
+    /// A `<` right behind another: `<<`.
+    NoHereText,
+    /// A `<` right behind another, and before a third: `<<<`.
+    NoHereWord,
     /// A `>` or `>>` right behind a number: `2>`.
     NoNumber,
     /// A word holds a `$` before its end, and isn't grep's pattern.
     NoVariable,
+    /// A `(` right behind a `$`: `$(`.
+    NoSubstitution,
     /// A word holds a `*` or a `[`, and isn't grep's pattern.
     NoPattern,
+    /// A word is `~` or begins with `~/`, and isn't grep's pattern.
+    NoHome,
+    /// A word holds a `{`, behind it a `,` and behind that a `}`, and isn't grep's pattern.
+    NoBraces,
     /// An option of `cat` or `wc`, or behind the first argument of `grep` or `head`.
     NoOption,
     /// A first argument of `head` that is an option, and no number of lines.
@@ -83,6 +97,14 @@ pub enum NoteKind {
     NoPrinter,
     /// A word of other shells.
     NoShellWord,
+    /// The word `function` of other shells.
+    NoFunction,
+    /// The word `case` of other shells.
+    NoCase,
+    /// The word `export` of other shells.
+    NoExport,
+    /// The word `alias` of other shells.
+    NoAlias,
 }
 
 impl NoteKind {
@@ -101,20 +123,34 @@ impl NoteKind {
                 b"there are no comments here: this and what follows is read like the rest of the line".as_slice(),
             NoteKind::NoQuote =>
                 b"quotes and backslashes mean nothing here: they are a part of the word, and white space or a sign ends it".as_slice(),
+            NoteKind::NoBackQuote =>
+                b"back quotes run no command here: they are a part of the word; a pipe, or a file, brings what one command writes to another".as_slice(),
             NoteKind::NoOr =>
                 b"|| is no 'or' here but two pipes with an empty command between them: what the left side writes is lost".as_slice(),
             NoteKind::NoAnd =>
                 b"&& is no 'and' here: each & lets the command before it run in the background, so put what comes next on a line of its own".as_slice(),
+            NoteKind::NoMessagePipe =>
+                b"|& is no pipe for messages here: no command stands between the pipe and the &, and messages go through no pipe".as_slice(),
             NoteKind::NoCommand =>
                 b"no command stands between this ; and the one before it".as_slice(),
             NoteKind::LastBar =>
                 b"no command stands behind the last |, so what its left side writes is lost".as_slice(),
+            NoteKind::NoHereText =>
+                b"<< brings no lines of the script to a command here: behind each < stands a file's name, so write the lines into a file by echo and >".as_slice(),
+            NoteKind::NoHereWord =>
+                b"<<< brings no word to a command here: behind each < stands a file's name; echo WORD | COMMAND does it".as_slice(),
             NoteKind::NoNumber =>
                 b"the number before this sign is a word of the command: its output goes to the file, and its messages don't, for there is no 2> and no 2>&1".as_slice(),
             NoteKind::NoVariable =>
                 b"there are no variables here: $ is a letter like others".as_slice(),
+            NoteKind::NoSubstitution =>
+                b"$( runs no command here whose output stands in its place: $ is a letter, and ( begins a group; a pipe, or a file, brings what one command writes to another".as_slice(),
             NoteKind::NoPattern =>
                 b"names of files have no patterns here: * and [ are letters like others".as_slice(),
+            NoteKind::NoHome =>
+                b"there is no home directory here: ~ is a letter like others".as_slice(),
+            NoteKind::NoBraces =>
+                b"braces make no words here: { , and } are letters like others, so write each word out".as_slice(),
             NoteKind::NoOption =>
                 b"there is no such option here: the word is taken for a file's name".as_slice(),
             NoteKind::HeadOption =>
@@ -171,6 +207,14 @@ impl NoteKind {
                 b"there is no such program here: the command does nothing but tell that it can't run, and echo writes words".as_slice(),
             NoteKind::NoShellWord =>
                 b"this is no word of the shell here, which has no conditions, loops or settings: it is taken for a command's name, and no program has it".as_slice(),
+            NoteKind::NoFunction =>
+                b"there are no functions here: the word is taken for a command's name, and no program has it".as_slice(),
+            NoteKind::NoCase =>
+                b"there is no choice between cases here: the word is taken for a command's name, and no program has it".as_slice(),
+            NoteKind::NoExport =>
+                b"there are no variables here, so none is exported: the word is taken for a command's name, and no program has it".as_slice(),
+            NoteKind::NoAlias =>
+                b"a command can't get another name here: the word is taken for a command's name, and no program has it".as_slice(),
         }
     }
 }

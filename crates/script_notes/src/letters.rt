@@ -2,7 +2,7 @@
 ghost use Rattle.std.specs.Prelude.{◌≡◌, ◌++◌, ◌≤◌, length, OnOk, IsTrue};
 ghost use Rattle.std.specs.List.{list_any};
 ghost use Rattle.sh_lexer.specs.Tokens.{IsToken, IsTokenList};
-ghost use Rattle.script_notes.specs.Letters.{begins_with_mark, ends_in_return, mark_notes, return_notes, byte_notes, text_of, begins_comment, is_quote, letters_of, letter_notes};
+ghost use Rattle.script_notes.specs.Letters.{begins_with_mark, ends_in_return, mark_notes, return_notes, byte_notes, text_of, begins_comment, is_back_quote, is_quote, letters_of, letter_notes};
 ghost use Rattle.script_notes.specs.Notes.{note_where, notes_text};
 ghost use Rattle.script_notes.specs.Written.{written};
 
@@ -125,13 +125,25 @@ fn begins_comment(word: &[u8]) -> bool
 fn is_quote(byte: u8) -> bool
     ensures { result ≡ is_quote byte }
 {
-    byte == b'"' || byte == b'\'' || byte == b'\\' || byte == b'`'
+    byte == b'"' || byte == b'\'' || byte == b'\\'
 }
 
 fn has_quote(word: &[u8]) -> bool
     ensures { result ≡ list_any is_quote word.now }
 {
     word.iter().any(|byte| is_quote(*byte))
+}
+
+fn is_back_quote(byte: u8) -> bool
+    ensures { result ≡ is_back_quote byte }
+{
+    byte == b'`'
+}
+
+fn has_back_quote(word: &[u8]) -> bool
+    ensures { result ≡ list_any is_back_quote word.now }
+{
+    word.iter().any(|byte| is_back_quote(*byte))
 }
 
 fn add_letters(
@@ -163,6 +175,16 @@ fn add_letters(
         text,
         is_quoted,
         NoteKind::NoQuote,
+        span,
+        told,
+    )?;
+    let is_run = has_back_quote(word);
+    add_where(
+        alloc,
+        number,
+        text,
+        is_run,
+        NoteKind::NoBackQuote,
         span,
         told,
     )

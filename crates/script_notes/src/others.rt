@@ -1,6 +1,6 @@
 //! Names that other systems give to programs, and that no program has here.
 ghost use Rattle.std.specs.Prelude.{◌≡◌};
-ghost use Rattle.script_notes.specs.Others.{is_block_word, is_copy, is_filter, is_folder, is_listing, is_printer, is_process, is_removal, is_setting_word, lacking_kind};
+ghost use Rattle.script_notes.specs.Others.{defining_kind, is_block_word, is_copy, is_defining_word, is_filter, is_folder, is_listing, is_printer, is_process, is_removal, is_setting_word, lacking_kind};
 
 use crate::kind::NoteKind;
 
@@ -77,14 +77,36 @@ fn is_block_word(word: &[u8]) -> bool
 fn is_setting_word(word: &[u8]) -> bool
     ensures { result ≡ is_setting_word word.now }
 {
-    word == b"case".as_slice()
-        || word == b"test".as_slice()
+    word == b"test".as_slice()
         || word == b"exit".as_slice()
-        || word == b"export".as_slice()
         || word == b"set".as_slice()
         || word == b"read".as_slice()
         || word == b"sh".as_slice()
         || word == b"bash".as_slice()
+}
+
+fn is_defining_word(word: &[u8]) -> bool
+    ensures { result ≡ is_defining_word word.now }
+{
+    word == b"function".as_slice()
+        || word == b"case".as_slice()
+        || word == b"export".as_slice()
+        || word == b"alias".as_slice()
+}
+
+// The kind of the note of such a word.
+fn defining_kind(word: &[u8]) -> NoteKind
+    ensures { result ≡ defining_kind word.now }
+{
+    if word == b"function".as_slice() {
+        NoteKind::NoFunction
+    } else if word == b"case".as_slice() {
+        NoteKind::NoCase
+    } else if word == b"export".as_slice() {
+        NoteKind::NoExport
+    } else {
+        NoteKind::NoAlias
+    }
 }
 
 /// The kind of the note of a command's name that no program has, by what programs of that name do on other systems.
@@ -107,6 +129,8 @@ pub fn lacking_kind(word: &[u8]) -> NoteKind
         NoteKind::NoPrinter
     } else if is_block_word(word) || is_setting_word(word) {
         NoteKind::NoShellWord
+    } else if is_defining_word(word) {
+        defining_kind(word)
     } else {
         NoteKind::NoProgram
     }

@@ -95,6 +95,7 @@ pub fn outcomes_from<M: Machine, C: Allocator, W: Watch>(
             entries: false,
             slots: false,
         },
+        is_full: false,
     };
     let found = explore_after(alloc, &origin, pids.as_slice(), states, watch)?;
     if !go_on(found.outcomes.as_slice(), pids.as_slice()) {

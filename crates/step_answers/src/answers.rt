@@ -16,6 +16,18 @@ use step_commands::{Command, Mistake, NAMES, Name, nearest};
 use trace_lines::Line;
 use user_calls::Machine;
 
+// With this byte begins what a terminal sends for an arrow.
+const ESCAPE: u8 = 0x1b;
+
+// That an arrow does nothing.
+const ARROWS: &str = "the arrows work in `rlwrap xvsh step ..`";
+
+// What stands behind the list of commands.
+const MORE_HELP: &str =
+    "a command may be cut short where no other begins so; `undo` is `back`, `?` is `help`, and `exit` is `quit`
+on a terminal an empty line takes the last turns again, and `rlwrap xvsh step ..` has a history and the arrows
+";
+
 // The object of an answer begins.
 fn begin(alloc: Global, name: &str, text: Vec<u8>) -> Result<Line, AllocError> {
     let mut line = Line::begin(alloc, text)?;
@@ -49,6 +61,19 @@ fn no_process(alloc: Global, number: u64) -> Result<Vec<u8>, AllocError> {
     sentence.end()
 }
 
+// The commands that begin so.
+fn add_begun(sentence: &mut Text, word: &[u8]) {
+    let mut before = " may be `";
+    for name in NAMES {
+        if name.begins_with(word) {
+            sentence.add(before);
+            sentence.add(name.word());
+            before = "` or `";
+        }
+    }
+    sentence.byte(b'`');
+}
+
 // Which command was meant, if one is near.
 fn add_nearest(sentence: &mut Text, word: &[u8]) {
     match nearest(sentence.alloc(), word) {
@@ -68,7 +93,15 @@ fn add_mistake(sentence: &mut Text, mistake: &Mistake<'_>) {
         Mistake::Unknown(word) => {
             add_quoted(sentence, word, 40);
             sentence.add(" is no command; ");
-            add_nearest(sentence, word);
+            if word.first() == Some(&ESCAPE) {
+                sentence.add(ARROWS);
+            } else {
+                add_nearest(sentence, word);
+            }
+        }
+        Mistake::Ambiguous(word) => {
+            add_quoted(sentence, word, 40);
+            add_begun(sentence, word);
         }
         Mistake::Misused(name) => {
             sentence.add("the command is `");
@@ -93,6 +126,13 @@ fn no_rest(fault: RestFault) -> &'static str {
     }
 }
 
+// What the answer to `watch` is, and why there is none as an object.
+const WATCHED: &str = "after each turn comes what can still come out";
+
+const UNWATCHED: &str = "what can still come out is told by `answers` alone";
+
+const NO_WATCH: &str = "`watch` is for a session without --json: ask `answers` after a turn";
+
 // The commands with what they do.
 fn add_help(text: &mut Text) {
     text.add("N: a turn of process N\n");
@@ -102,6 +142,7 @@ fn add_help(text: &mut Text) {
         text.add(name.help());
         text.byte(b'\n');
     }
+    text.add(MORE_HELP);
 }
 
 fn write_help(line: &mut Line) -> Result<(), AllocError> {
@@ -150,10 +191,11 @@ impl<M: Machine> Play<'_, M> {
                 let told = self.take_turns(Pace::Until(*goal))?;
                 self.answer_told(told, text)
             }
-            Command::Back(turns) => self.answer_back(*turns, text),
+            Command::Back(turns) => self.answer_back(turns.unwrap_or(1), text),
             Command::Fds(number) => self.answer_fds(*number, text),
             Command::Why(number) => self.answer_why(*number, text),
             Command::Answers(states) => self.answer_rest(*states, text),
+            Command::Watch(is_on) => self.answer_watch(*is_on, text),
             other => self.answer_view(other, text),
         }
     }
@@ -268,7 +310,13 @@ impl<M: Machine> Play<'_, M> {
         } else {
             " can be taken back, and no more"
         });
-        self.fault(text, sentence.end()?.as_slice())
+        let text = self.fault(text, sentence.end()?.as_slice())?;
+        if !is_back || self.is_json {
+            return Ok(text);
+        }
+        let mut text = Text::behind(alloc, text);
+        self.add_watched(&mut text);
+        Ok(text.end()?)
     }
 
     // The process of this number, if there is one.
@@ -293,7 +341,7 @@ impl<M: Machine> Play<'_, M> {
             return Ok(line.end()?);
         }
         let mut text = Text::behind(alloc, text);
-        add_fds(&mut text, self.kernel(), pid);
+        add_fds(&mut text, &self.teller, pid);
         Ok(text.end()?)
     }
 
@@ -331,6 +379,30 @@ impl<M: Machine> Play<'_, M> {
         Ok(text.end()?)
     }
 
+    // The answers are told after each turn from now on, or no more.
+    fn answer_watch(&mut self, is_on: bool, text: Vec<u8>) -> Result<Vec<u8>, PlayFault> {
+        if self.is_json {
+            return self.fault(text, NO_WATCH.as_bytes());
+        }
+        self.watches = is_on;
+        self.fault(text, if is_on { WATCHED } else { UNWATCHED }.as_bytes())
+    }
+
+    // What can still come out after a turn, where that is watched.
+    pub(crate) fn add_watched(&self, text: &mut Text) {
+        if !self.watches {
+            return;
+        }
+        let taken = self.turns();
+        match self.rest(states_after(taken, None)) {
+            Ok(found) => add_rest(text, &found, taken),
+            Err(fault) => {
+                text.add(no_rest(fault));
+                text.byte(b'\n');
+            }
+        }
+    }
+
     // What is looked at, and nothing is done.
     fn answer_view(&self, command: &Command<'_>, text: Vec<u8>) -> Result<Vec<u8>, PlayFault> {
         if self.is_json {
@@ -338,8 +410,8 @@ impl<M: Machine> Play<'_, M> {
         }
         let mut text = Text::behind(self.alloc, text);
         match command {
-            Command::Ps => add_ps(&mut text, &self.teller),
-            Command::Pipes => add_pipes(&mut text, self.kernel())?,
+            Command::Ps => add_ps(&mut text, &self.teller)?,
+            Command::Pipes => add_pipes(&mut text, &self.teller)?,
             Command::Files => add_files(&mut text, self.kernel()),
             Command::Out => add_out(&mut text, self.kernel()),
             Command::Schedule => text.bytes(self.schedule()?.as_slice()),
@@ -374,7 +446,7 @@ impl<M: Machine> Play<'_, M> {
     /// Adds the processes to the text, of more lines than so many the first and how many are left out.
     pub fn add_view(&self, most: usize, text: Vec<u8>) -> Result<Vec<u8>, PlayFault> {
         let mut whole = Text::new(self.alloc);
-        add_ps(&mut whole, &self.teller);
+        add_ps(&mut whole, &self.teller)?;
         let mut text = Text::behind(self.alloc, text);
         add_first_lines(&mut text, whole.end()?.as_slice(), most);
         Ok(text.end()?)

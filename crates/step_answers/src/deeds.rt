@@ -2,7 +2,7 @@
 
 use crate::teller::Teller;
 use crate::text::Text;
-use crate::words::{add_data, add_name, add_process, add_short, add_thing, purpose};
+use crate::words::{add_data, add_name, add_pipe, add_process, add_short, add_thing, purpose};
 use proc_table::{PROCS, Pid};
 use std::alloc::{AllocError, Global};
 use user_calls::{CallKind, CallSlot, Machine, Mode, ReplyKind};
@@ -23,7 +23,7 @@ pub struct Plan {
 fn add_thing_of<M: Machine>(text: &mut Text, teller: &Teller<'_, M>, pid: Pid, call: CallKind) {
     match call {
         CallKind::Read(fd, _) | CallKind::Write(fd) | CallKind::Close(fd) | CallKind::Dup(fd) => {
-            add_thing(text, teller.kernel(), pid, fd);
+            add_thing(text, teller, pid, fd);
         }
         _ => {}
     }
@@ -172,13 +172,13 @@ fn add_wait<M: Machine>(text: &mut Text, teller: &Teller<'_, M>, pid: Pid) {
 }
 
 // The pipe that was made has the number of this event.
-fn add_pipe<M: Machine>(text: &mut Text, teller: &Teller<'_, M>, pid: Pid) {
+fn add_made<M: Machine>(text: &mut Text, teller: &Teller<'_, M>, pid: Pid) {
     if !teller.is_done(pid) {
         text.add("couldn't make a pipe");
         return;
     }
-    text.add("made pipe ");
-    text.number(teller.kernel().schedule().len() as u64);
+    text.add("made ");
+    add_pipe(text, teller, teller.kernel().schedule().len() as u64);
     add_descriptors(text, teller, pid);
 }
 
@@ -214,7 +214,7 @@ fn add_call<M: Machine>(text: &mut Text, teller: &Teller<'_, M>, pid: Pid, plan:
         CallKind::Exec(false) => around(text, "found no program ", plan.program.as_slice(), ""),
         CallKind::Exit => text.add("exited"),
         CallKind::Wait => add_wait(text, teller, pid),
-        CallKind::MakePipe => add_pipe(text, teller, pid),
+        CallKind::MakePipe => add_made(text, teller, pid),
         CallKind::Read(_, _) => add_read(text, teller, pid, thing),
         CallKind::Write(_) => add_write(text, teller, pid, plan),
         CallKind::OpenFile(mode) => add_open(text, teller, pid, plan, mode),

@@ -18,6 +18,22 @@ pub(crate) fn all_pids(alloc: Global) -> Result<Vec<Pid>, AllocError> {
     Ok(pids)
 }
 
+// The slots with a process, in order.
+pub(crate) fn live_pids<M: Machine>(
+    alloc: Global,
+    kernel: &Kernel<M, Global>,
+) -> Result<Vec<Pid>, AllocError> {
+    let mut pids = Vec::new(alloc);
+    for index in 0..PROCS {
+        if let Some(pid) = Pid::new(index) {
+            if kernel.parent(pid).is_some() {
+                pids.push(pid)?;
+            }
+        }
+    }
+    Ok(pids)
+}
+
 // Whether the process holds this end of the pipe.
 pub(crate) fn holds<M: Machine>(kernel: &Kernel<M, Global>, pid: Pid, name: u64, end: End) -> bool {
     for fd in 0..DESCRIPTORS {
@@ -75,10 +91,7 @@ pub(crate) fn names_of<M: Machine>(
     Ok(names)
 }
 
-// Whether the process in this slot is a child of the parent.
-pub(crate) fn is_child<M: Machine>(kernel: &Kernel<M, Global>, index: usize, parent: Pid) -> bool {
-    match Pid::new(index) {
-        Some(pid) => pid != parent && kernel.parent(pid) == Some(parent),
-        None => false,
-    }
+// Whether the process is a child of the parent.
+pub(crate) fn is_child<M: Machine>(kernel: &Kernel<M, Global>, pid: Pid, parent: Pid) -> bool {
+    pid != parent && kernel.parent(pid) == Some(parent)
 }

@@ -2,7 +2,7 @@
 
 use crate::teller::Teller;
 use crate::text::Text;
-use crate::words::{add_command, add_short, add_thing, purpose};
+use crate::words::{add_short, add_thing, purpose};
 use command_text::{Doing, append_command};
 use proc_table::Pid;
 use script_load::{Line, Script};
@@ -15,7 +15,7 @@ fn add_on<M: Machine>(text: &mut Text, verb: &str, teller: &Teller<'_, M>, pid: 
     text.add(" descriptor ");
     text.number(fd as u64);
     text.add(" (");
-    add_thing(text, teller.kernel(), pid, fd);
+    add_thing(text, teller, pid, fd);
     text.byte(b')');
 }
 
@@ -88,7 +88,7 @@ fn add_script_line(text: &mut Text, script: &Script<Global>, number: usize) {
     text.byte(b'`');
 }
 
-// The line of the script, and the command of it, that a process carries out; of the first shell only the line that it forks for.
+// The line of the script that a process carries out a command of; of the first shell only the line that it forks for.
 fn add_line<M: Machine>(text: &mut Text, teller: &Teller<'_, M>, pid: Pid, call: CallKind) {
     let doing = teller.doing(pid);
     if let Doing::Script(number) = doing {
@@ -100,8 +100,6 @@ fn add_line<M: Machine>(text: &mut Text, teller: &Teller<'_, M>, pid: Pid, call:
     if let Some(line) = doing.line() {
         text.add(" for line ");
         text.number(line as u64);
-        text.byte(b' ');
-        let _has_command = add_command(text, doing);
     }
 }
 

@@ -60,6 +60,8 @@ pub struct Play<'t, M: Machine> {
     session: Session<'t, M, Global>,
     pub(crate) teller: Teller<'t, M>,
     pub(crate) is_json: bool,
+    // Whether the answers are told after each turn.
+    pub(crate) watches: bool,
 }
 
 impl<'t, M: Machine> Play<'t, M> {
@@ -78,6 +80,7 @@ impl<'t, M: Machine> Play<'t, M> {
             session,
             teller,
             is_json,
+            watches: false,
         })
     }
 
@@ -178,6 +181,7 @@ impl<'t, M: Machine> Play<'t, M> {
         }
         add_deed(&mut told.text, &self.teller, pid, &plan);
         told.text.byte(b'\n');
+        self.add_watched(&mut told.text);
         Ok(())
     }
 

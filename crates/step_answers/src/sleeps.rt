@@ -1,33 +1,32 @@
-//! Why a process can't take a turn, in words.
+//! Why a process can't take a turn, and who can wake it, in words.
 
 use crate::ends::{holds, is_child};
 use crate::teller::Teller;
 use crate::text::Text;
-use crate::words::add_process;
-use kernel_events::Kernel;
+use crate::words::{add_listed, add_pipe, add_process};
 use proc_table::{Channel, PROCS, Pid, State};
 use run_trace::End;
-use std::alloc::Global;
 use user_calls::Machine;
 
-// The number of a process behind those that stand there already.
-fn add_pid(text: &mut Text, before: &str, index: usize) {
-    text.add(before);
-    text.number(index as u64);
-}
-
-// The processes that hold this end of a pipe, by their numbers; `nobody` where there is none.
-pub(crate) fn add_holders<M: Machine>(
+// The processes that pass the test, by their numbers and, where that is asked for, their commands; `nobody` where there is none.
+fn add_those<M: Machine, F: Fn(Pid) -> bool>(
     text: &mut Text,
-    kernel: &Kernel<M, Global>,
-    name: u64,
-    end: End,
-) {
+    teller: &Teller<'_, M>,
+    is_named: bool,
+    test: F,
+)
+    requires { F.IsAlwaysCallable test }
+{
     let mut before = "";
     for index in 0..PROCS {
         if let Some(pid) = Pid::new(index) {
-            if holds(kernel, pid, name, end) {
-                add_pid(text, before, index);
+            if test(pid) {
+                text.add(before);
+                text.number(index as u64);
+                if is_named {
+                    text.byte(b' ');
+                    add_listed(text, teller.doing(pid));
+                }
                 before = ", ";
             }
         }
@@ -37,48 +36,94 @@ pub(crate) fn add_holders<M: Machine>(
     }
 }
 
-// The children of a process, in the same way.
-fn add_children<M: Machine>(text: &mut Text, kernel: &Kernel<M, Global>, parent: Pid) {
-    let mut before = "";
-    for index in 0..PROCS {
-        if is_child(kernel, index, parent) {
-            add_pid(text, before, index);
-            before = ", ";
-        }
-    }
-    if before.is_empty() {
-        text.add("nobody");
-    }
+// The processes that hold this end of a pipe, with their commands.
+pub(crate) fn add_holders<M: Machine>(
+    text: &mut Text,
+    teller: &Teller<'_, M>,
+    name: u64,
+    end: End,
+) {
+    let kernel = teller.kernel();
+    add_those(text, teller, true, |pid| holds(kernel, pid, name, end));
 }
 
-// What a process sleeps on.
+// What a process sleeps on, in a few words, with the numbers of the others.
 pub(crate) fn add_sleep<M: Machine>(
     text: &mut Text,
-    kernel: &Kernel<M, Global>,
+    teller: &Teller<'_, M>,
     pid: Pid,
     channel: Channel,
 ) {
+    let kernel = teller.kernel();
     match channel {
         Channel::Children(_) => {
             text.add("waits until a child exits: ");
-            add_children(text, kernel, pid);
+            add_those(text, teller, false, |child| is_child(kernel, child, pid));
         }
         Channel::PipeBytes(name) => {
-            text.add("reads pipe ");
-            text.number(name);
+            text.add("reads ");
+            add_pipe(text, teller, name);
             text.add(", empty, written by ");
-            add_holders(text, kernel, name, End::Write);
+            add_those(text, teller, false, |other| {
+                holds(kernel, other, name, End::Write)
+            });
         }
         Channel::PipeRoom(name) => {
-            text.add("writes pipe ");
-            text.number(name);
+            text.add("writes ");
+            add_pipe(text, teller, name);
             text.add(", full, read by ");
-            add_holders(text, kernel, name, End::Read);
+            add_those(text, teller, false, |other| {
+                holds(kernel, other, name, End::Read)
+            });
         }
     }
 }
 
-// Adds a sentence on why the process in this slot can't take a turn, or that it can.
+// Who else holds this end of the pipe, and so can wake the process.
+fn add_wakers<M: Machine>(text: &mut Text, teller: &Teller<'_, M>, pid: Pid, name: u64, end: End) {
+    let kernel = teller.kernel();
+    add_pipe(text, teller, name);
+    text.add(match end {
+        End::Write => ", which is empty; ",
+        End::Read => ", which is full; ",
+    });
+    add_those(text, teller, true, |other| {
+        other != pid && holds(kernel, other, name, end)
+    });
+    text.add(match end {
+        End::Write => " can wake it, by a write there or the last close of the write end",
+        End::Read => " can wake it, by a read there or the last close of the read end",
+    });
+}
+
+// The process waits for a child, and each of its children can wake it; and init, who inherits children.
+fn add_parents<M: Machine>(text: &mut Text, teller: &Teller<'_, M>, pid: Pid) {
+    let kernel = teller.kernel();
+    text.add("it waits until a child exits; ");
+    add_those(text, teller, true, |child| is_child(kernel, child, pid));
+    text.add(" can wake it, by an exit");
+    if pid == Pid::init() {
+        text.add(", and so can a process that exits and leaves it a zombie");
+    }
+}
+
+// What a process sleeps on, and who can wake it.
+fn add_sleeper<M: Machine>(text: &mut Text, teller: &Teller<'_, M>, pid: Pid, channel: Channel) {
+    text.add(" sleeps: ");
+    match channel {
+        Channel::Children(_) => add_parents(text, teller, pid),
+        Channel::PipeBytes(name) => {
+            text.add("it reads ");
+            add_wakers(text, teller, pid, name, End::Write);
+        }
+        Channel::PipeRoom(name) => {
+            text.add("it writes to ");
+            add_wakers(text, teller, pid, name, End::Read);
+        }
+    }
+}
+
+// Adds a sentence on why the process in this slot can't take a turn, and who can wake it, or that it can.
 pub(crate) fn add_why<M: Machine>(text: &mut Text, teller: &Teller<'_, M>, pid: Pid) {
     let kernel = teller.kernel();
     if let State::Free = kernel.state(pid) {
@@ -89,12 +134,9 @@ pub(crate) fn add_why<M: Machine>(text: &mut Text, teller: &Teller<'_, M>, pid: 
     add_process(text, pid, teller.doing(pid));
     match kernel.state(pid) {
         State::Free => {}
-        State::Runnable => text.add(" is runnable"),
+        State::Runnable => text.add(" can go on: it is runnable"),
         State::Running(_) => text.add(" is running"),
-        State::Asleep(channel) => {
-            text.add(" sleeps: ");
-            add_sleep(text, kernel, pid, channel);
-        }
+        State::Asleep(channel) => add_sleeper(text, teller, pid, channel),
         State::Zombie => {
             text.add(" is a zombie: it has exited, and process ");
             text.number(kernel.parent(pid).unwrap_or(Pid::init()).index() as u64);

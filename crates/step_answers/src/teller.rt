@@ -19,6 +19,8 @@ pub struct Teller<'t, M: Machine> {
     followed: Followed<'t>,
     // The machine of each slot's process.
     machines: Vec<Option<M>>,
+    // The pipes that were made, each named by its event, in order.
+    pipes: Vec<u64>,
 }
 
 // The lowest slot that passes the test.
@@ -57,6 +59,7 @@ impl<'t, M: Machine> Teller<'t, M> {
             lines: TraceLines::new(alloc, scene.script),
             followed: Followed::new(scene.script),
             machines: first_machines(alloc, scene)?,
+            pipes: Vec::new(alloc),
         })
     }
 
@@ -117,6 +120,15 @@ impl<'t, M: Machine> Teller<'t, M> {
 
     // The process on hart 0 makes its call. The record of that is added to the lines; `None` where it doesn't run there.
     pub(crate) fn trap(&mut self, pid: Pid, lines: Vec<u8>) -> Result<Option<Vec<u8>>, AllocError> {
+        let Some(lines) = self.make_call(pid, lines)? else {
+            return Ok(None);
+        };
+        self.note_pipe(pid)?;
+        Ok(Some(lines))
+    }
+
+    // The same, but for the names of pipes.
+    fn make_call(&mut self, pid: Pid, lines: Vec<u8>) -> Result<Option<Vec<u8>>, AllocError> {
         let after = self.machine_after(pid);
         let event = Event::Trap(0, pid.index() as u32);
         let Some(lines) = self.lines.happen(&mut self.tracer, event, lines)? else {
@@ -131,6 +143,25 @@ impl<'t, M: Machine> Teller<'t, M> {
         self.followed.follow(pid, kind, is_done, child);
         self.keep(pid, child, after);
         Ok(Some(lines))
+    }
+
+    // Whether the process made a pipe by the last call.
+    fn has_made_pipe(&self, pid: Pid) -> bool {
+        matches!(self.tracer.call().kind(), CallKind::MakePipe) && self.is_done(pid)
+    }
+
+    // Keeps the name of the pipe that the process made by the last call, if it made one: the number of its event.
+    fn note_pipe(&mut self, pid: Pid) -> Result<(), AllocError> {
+        if self.has_made_pipe(pid) {
+            let name = self.kernel().schedule().len() as u64;
+            self.pipes.push(name)?;
+        }
+        Ok(())
+    }
+
+    // How many pipes were made before the one of this name; `None` where none has it.
+    pub(crate) fn place_of_pipe(&self, name: u64) -> Option<usize> {
+        self.pipes.iter().position(|made| *made == name)
     }
 
     // Keeps the machine after a call, unless the process sleeps and makes the call again; a child has the same.

@@ -1,21 +1,29 @@
 //! What there is of processes, pipes, descriptors and files, as text.
 
-use crate::ends::names_of;
+use crate::ends::{live_pids, names_of};
 use crate::plans::add_plan;
 use crate::sleeps::{add_holders, add_sleep};
 use crate::teller::Teller;
 use crate::text::Text;
-use crate::words::{add_column, add_name, add_object, add_quoted};
+use crate::words::{add_blanks, add_listed, add_name, add_object, add_pipe, add_quoted};
 use fd_table::{DESCRIPTORS, Object};
 use kernel_events::Kernel;
 use mem_files::Files;
-use proc_table::{PROCS, Pid, State};
+use proc_table::{Pid, State};
 use run_trace::End;
 use std::alloc::{AllocError, Global};
 use user_calls::Machine;
 
 // How many bytes a pipe holds at most.
 const PIPE_SIZE: &str = " of 512 bytes";
+
+// Where the commands of processes begin, on lines of these, how many blanks stand behind the widest, and how wide a program is with the
+// blanks behind it.
+const COMMAND_COLUMN: usize = 3;
+
+const GAP: usize = 2;
+
+const PROGRAM_SIZE: usize = 6;
 
 // The state of a process, with what it does next or sleeps on.
 fn add_state<M: Machine>(text: &mut Text, teller: &Teller<'_, M>, pid: Pid) {
@@ -25,7 +33,7 @@ fn add_state<M: Machine>(text: &mut Text, teller: &Teller<'_, M>, pid: Pid) {
         State::Zombie => text.add("zombie"),
         State::Asleep(channel) => {
             text.add("asleep     ");
-            add_sleep(text, kernel, pid, channel);
+            add_sleep(text, teller, pid, channel);
         }
         State::Runnable | State::Running(_) => {
             text.add("runnable   next: ");
@@ -34,57 +42,74 @@ fn add_state<M: Machine>(text: &mut Text, teller: &Teller<'_, M>, pid: Pid) {
     }
 }
 
-// A process, on a line.
-fn add_process_line<M: Machine>(text: &mut Text, teller: &Teller<'_, M>, pid: Pid) {
+// A process, on a line: its number, its command, of which the widest has so many columns, its program and its state.
+fn add_process_line<M: Machine>(text: &mut Text, teller: &Teller<'_, M>, pid: Pid, wide: usize) {
     let begin = text.len();
     text.number(pid.index() as u64);
-    add_column(text, begin, 3);
+    add_blanks(text, begin.saturating_add(COMMAND_COLUMN));
+    let program = text.len().saturating_add(wide).saturating_add(GAP);
+    add_listed(text, teller.doing(pid));
+    add_blanks(text, program);
     text.bytes(teller.doing(pid).program());
-    add_column(text, begin, 13);
+    add_blanks(text, program.saturating_add(PROGRAM_SIZE));
     add_state(text, teller, pid);
     text.byte(b'\n');
 }
 
-// The processes, a line each.
-pub(crate) fn add_ps<M: Machine>(text: &mut Text, teller: &Teller<'_, M>) {
-    for index in 0..PROCS {
-        if let Some(pid) = Pid::new(index) {
-            if teller.kernel().parent(pid).is_some() {
-                add_process_line(text, teller, pid);
-            }
-        }
+// How many columns the widest command of these processes has.
+fn width_of<M: Machine>(alloc: Global, teller: &Teller<'_, M>, pids: &[Pid]) -> usize {
+    let mut widest = 0;
+    for pid in pids {
+        let mut text = Text::new(alloc);
+        add_listed(&mut text, teller.doing(*pid));
+        widest = text.len().max(widest);
     }
+    widest
+}
+
+// The processes, a line each.
+pub(crate) fn add_ps<M: Machine>(
+    text: &mut Text,
+    teller: &Teller<'_, M>,
+) -> Result<(), AllocError> {
+    let pids = live_pids(text.alloc(), teller.kernel())?;
+    let wide = width_of(text.alloc(), teller, pids.as_slice());
+    for pid in &pids {
+        add_process_line(text, teller, *pid, wide);
+    }
+    Ok(())
 }
 
 // The holders of the ends of a pipe, and how full it is, on a line.
-fn add_pipe<M: Machine>(text: &mut Text, kernel: &Kernel<M, Global>, name: u64) {
-    let held = match kernel.pipe(name) {
+fn add_pipe_line<M: Machine>(text: &mut Text, teller: &Teller<'_, M>, name: u64) {
+    let held = match teller.kernel().pipe(name) {
         Some(status) => status.held,
         None => 0,
     };
-    text.add("pipe ");
+    add_pipe(text, teller, name);
+    text.add(", made by event ");
     text.number(name);
     text.add(": ");
     text.number(held as u64);
     text.add(PIPE_SIZE);
     text.add(", read by ");
-    add_holders(text, kernel, name, End::Read);
+    add_holders(text, teller, name, End::Read);
     text.add(", written by ");
-    add_holders(text, kernel, name, End::Write);
+    add_holders(text, teller, name, End::Write);
     text.byte(b'\n');
 }
 
 // The pipes, a line each.
 pub(crate) fn add_pipes<M: Machine>(
     text: &mut Text,
-    kernel: &Kernel<M, Global>,
+    teller: &Teller<'_, M>,
 ) -> Result<(), AllocError> {
-    let names = names_of(text.alloc(), kernel)?;
+    let names = names_of(text.alloc(), teller.kernel())?;
     if names.is_empty() {
         text.add("there is no pipe\n");
     }
     for name in &names {
-        add_pipe(text, kernel, *name);
+        add_pipe_line(text, teller, *name);
     }
     Ok(())
 }
@@ -98,13 +123,14 @@ fn add_offset(text: &mut Text, object: &Object, offset: Option<u64>) {
 }
 
 // The open descriptors of a process, a line each.
-pub(crate) fn add_fds<M: Machine>(text: &mut Text, kernel: &Kernel<M, Global>, pid: Pid) {
+pub(crate) fn add_fds<M: Machine>(text: &mut Text, teller: &Teller<'_, M>, pid: Pid) {
+    let kernel = teller.kernel();
     let begin = text.len();
     for fd in 0..DESCRIPTORS {
         if let Some(object) = kernel.object(pid, fd) {
             text.number(fd as u64);
             text.add(": ");
-            add_object(text, object);
+            add_object(text, teller, object);
             add_offset(text, object, kernel.offset(pid, fd));
             text.byte(b'\n');
         }

@@ -1,30 +1,39 @@
 //! Words for processes, for what they have open, and for bytes.
 
+use crate::teller::Teller;
 use crate::text::Text;
 use command_text::Doing;
 use fd_table::Object;
-use kernel_events::Kernel;
 use proc_table::Pid;
-use std::alloc::Global;
 use user_calls::{Machine, Mode};
 
 // How many bytes of a command, or of what is written, are told.
 const SHOWN: usize = 60;
 
-// Blanks up to a column, and at least one, after so many bytes of a line.
-pub(crate) fn add_column(text: &mut Text, begin: usize, column: usize) {
-    text.byte(b' ');
-    for _ in text.len().saturating_sub(begin)..column {
+// How many bytes of a command are told where processes are listed.
+const LISTED: usize = 24;
+
+// The letters of pipes.
+const LETTERS: [u8; 26] = *b"ABCDEFGHIJKLMNOPQRSTUVWXYZ";
+
+// Blanks until the text has so many bytes.
+pub(crate) fn add_blanks(text: &mut Text, size: usize) {
+    for _ in text.len()..size {
         text.byte(b' ');
     }
 }
 
-// Adds the bytes on one line, of more than 60 the first 60 and `..`.
-pub(crate) fn add_short(text: &mut Text, bytes: &[u8]) {
-    text.shown(&bytes[..bytes.len().min(SHOWN)]);
-    if SHOWN < bytes.len() {
+// Adds the bytes on one line, of more than `most` the first and `..`.
+fn add_first(text: &mut Text, bytes: &[u8], most: usize) {
+    text.shown(&bytes[..bytes.len().min(most)]);
+    if most < bytes.len() {
         text.add("..");
     }
+}
+
+// The same of 60 bytes.
+pub(crate) fn add_short(text: &mut Text, bytes: &[u8]) {
+    add_first(text, bytes, SHOWN);
 }
 
 // Adds the name of a file: as it is where each byte is a printable one and no space, else between quotes.
@@ -56,14 +65,14 @@ pub(crate) fn add_data(text: &mut Text, bytes: &[u8]) {
     add_quoted(text, bytes, SHOWN);
 }
 
-// The command that is carried out, between grave accents, if there is one; and whether there is.
-pub(crate) fn add_command(text: &mut Text, doing: Doing<'_>) -> bool {
+// The command that is carried out, its first bytes, between grave accents, if there is one; and whether there is.
+fn add_doing(text: &mut Text, doing: Doing<'_>, most: usize) -> bool {
     let mut command = Vec::new(text.alloc());
     match doing.append_text(&mut command) {
         Ok(false) => return false,
         Ok(true) => {
             text.byte(b'`');
-            add_short(text, command.as_slice());
+            add_first(text, command.as_slice(), most);
             text.byte(b'`');
         }
         Err(_) => text.refuse(),
@@ -71,48 +80,66 @@ pub(crate) fn add_command(text: &mut Text, doing: Doing<'_>) -> bool {
     true
 }
 
+// What is carried out by a process that has no command.
+fn own_word(doing: Doing<'_>) -> &'static str {
+    match doing {
+        Doing::Init => "(init)",
+        _ => "(the shell)",
+    }
+}
+
 // A process with the command that it carries out.
 pub(crate) fn add_process(text: &mut Text, pid: Pid, doing: Doing<'_>) {
     text.add("process ");
     text.number(pid.index() as u64);
     text.byte(b' ');
-    if add_command(text, doing) {
-        return;
+    if !add_doing(text, doing, SHOWN) {
+        text.add(own_word(doing));
     }
-    text.add(match doing {
-        Doing::Init => "(init)",
-        _ => "(the shell)",
-    });
+}
+
+// The command that a process carries out, where processes are listed.
+pub(crate) fn add_listed(text: &mut Text, doing: Doing<'_>) {
+    if !add_doing(text, doing, LISTED) {
+        text.add(own_word(doing));
+    }
+}
+
+// A pipe, by its letter: A is the first that was made, and behind the first 26 a number stands too, as on the page of a run.
+pub(crate) fn add_pipe<M: Machine>(text: &mut Text, teller: &Teller<'_, M>, name: u64) {
+    text.add("pipe ");
+    let Some(place) = teller.place_of_pipe(name) else {
+        text.number(name);
+        return;
+    };
+    text.byte(LETTERS[place % 26]);
+    if place >= 26 {
+        text.number((place / 26) as u64);
+    }
 }
 
 // An end of a pipe.
-fn add_pipe_end(text: &mut Text, name: u64, end: &str) {
-    text.add("pipe ");
-    text.number(name);
+fn add_pipe_end<M: Machine>(text: &mut Text, teller: &Teller<'_, M>, name: u64, end: &str) {
+    add_pipe(text, teller, name);
     text.add(end);
 }
 
 // What is open, in words.
-pub(crate) fn add_object(text: &mut Text, object: &Object) {
+pub(crate) fn add_object<M: Machine>(text: &mut Text, teller: &Teller<'_, M>, object: &Object) {
     match object {
         Object::Input => text.add("the standard input"),
         Object::Out => text.add("the output"),
         Object::Diag => text.add("the diagnostics"),
         Object::File(name, _) => add_name(text, name.as_slice()),
-        Object::PipeRead(name) => add_pipe_end(text, *name, "'s read end"),
-        Object::PipeWrite(name) => add_pipe_end(text, *name, "'s write end"),
+        Object::PipeRead(name) => add_pipe_end(text, teller, *name, "'s read end"),
+        Object::PipeWrite(name) => add_pipe_end(text, teller, *name, "'s write end"),
     }
 }
 
 // What a descriptor of the process has open, in words.
-pub(crate) fn add_thing<M: Machine>(
-    text: &mut Text,
-    kernel: &Kernel<M, Global>,
-    pid: Pid,
-    fd: usize,
-) {
-    match kernel.object(pid, fd) {
-        Some(object) => add_object(text, object),
+pub(crate) fn add_thing<M: Machine>(text: &mut Text, teller: &Teller<'_, M>, pid: Pid, fd: usize) {
+    match teller.kernel().object(pid, fd) {
+        Some(object) => add_object(text, teller, object),
         None => {
             text.add("descriptor ");
             text.number(fd as u64);

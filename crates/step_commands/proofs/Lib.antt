@@ -1,2 +1,4 @@
 mod Beginning
 mod Placing
+mod Searched
+mod Spelling

@@ -24,8 +24,8 @@ pub enum Command<'a> {
     Turn(u64),
     /// Turns of this process, until it sleeps or exits.
     Go(u64),
-    /// To take so many turns back.
-    Back(u64),
+    /// To take so many turns back, or the last one, if no number is given.
+    Back(Option<u64>),
     /// Turns in the kernel's own order, until this.
     Until(Goal),
     /// All processes.
@@ -42,6 +42,8 @@ pub enum Command<'a> {
     Why(u64),
     /// The outcomes to which the run can still come, tried through so many states, if a number is given.
     Answers(Option<u64>),
+    /// To tell these outcomes after each turn, or no more.
+    Watch(bool),
     /// The schedule so far.
     Schedule,
     /// To write the schedule so far to the file at this path.
@@ -55,8 +57,10 @@ pub enum Command<'a> {
 /// Why a line asks for nothing.
 #[derive(Clone, Copy, Debug, PartialEq, Eq)]
 pub enum Mistake<'a> {
-    /// Its first word, which is this, names no command and is no number.
+    /// Its first word, which is this, stands for no command and is no number.
     Unknown(&'a [u8]),
+    /// Its first word, which is this, is a beginning of the words of several commands.
+    Ambiguous(&'a [u8]),
     /// Behind this name stand other words than the command takes.
     Misused(Name),
     /// Behind a number stand more words.

@@ -12,10 +12,7 @@ const MOST_WRONG: usize = 2;
 const LONGEST: usize = 12;
 
 // Words for a command that others have, such as debuggers.
-const OTHERS: [(&str, Name); 7] = [
-    ("?", Name::Help),
-    ("undo", Name::Back),
-    ("exit", Name::Quit),
+const OTHERS: [(&str, Name); 4] = [
     ("end", Name::Quit),
     ("run", Name::Until),
     ("continue", Name::Until),
@@ -30,20 +27,6 @@ fn other(word: &[u8]) -> Option<Name> {
         }
     }
     None
-}
-
-// The one name that begins with the word, which isn't empty.
-fn begun(word: &[u8]) -> Option<Name> {
-    let mut found = None;
-    for name in NAMES {
-        if !word.is_empty() && name.word().as_bytes().starts_with(word) {
-            if found.is_some() {
-                return None;
-            }
-            found = Some(name);
-        }
-    }
-    found
 }
 
 // The first of the names to which the fewest changes of a letter lead, at most two, and fewer than the name has letters.
@@ -66,11 +49,11 @@ fn like(alloc: Global, word: &[u8]) -> Result<Option<Name>, AllocError> {
     Ok(best)
 }
 
-/// The name that the word was most likely meant as, if it is like one (own): that of what others call so, such as `undo`; else the only one
-/// that begins so, as `back` with `b`; else the first of those to which the fewest changes of a letter lead, at most two, and fewer than
-/// the name has letters. The error is that memory was refused.
+/// The name that the word, which stands for none, was most likely meant as, if it is like one (own): that of what others call so, such as
+/// `continue`; else the first of those to which the fewest changes of a letter lead, at most two, and fewer than the name has letters. The
+/// error is that memory was refused.
 pub fn nearest(alloc: Global, word: &[u8]) -> Result<Option<Name>, AllocError> {
-    match other(word).or(begun(word)) {
+    match other(word) {
         Some(name) => Ok(Some(name)),
         None => like(alloc, word),
     }

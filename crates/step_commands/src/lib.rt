@@ -4,6 +4,7 @@
 mod command;
 mod cutting;
 mod guessing;
+mod meaning;
 mod name;
 mod reading;
 

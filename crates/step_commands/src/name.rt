@@ -1,7 +1,7 @@
 //! The names of commands.
 
-ghost use Rattle.std.specs.Prelude.{◌≡◌, ◌≢◌, ℕ, IfSome, IfNone, Contains, string_bytes};
-ghost use Rattle.step_commands.specs.Commands.{word_of};
+ghost use Rattle.std.specs.Prelude.{◌≡◌, ◌↔◌, IsTrue};
+ghost use Rattle.step_commands.specs.Commands.{IsBeginning, word_of};
 
 /// The names of commands, but for a turn, whose command is a number.
 #[derive(Clone, Copy, Debug, PartialEq, Eq)]
@@ -16,6 +16,7 @@ pub enum Name {
     Out,
     Why,
     Answers,
+    Watch,
     Schedule,
     Save,
     Help,
@@ -23,7 +24,7 @@ pub enum Name {
 }
 
 /// All names.
-pub const NAMES: [Name; 14] = [
+pub const NAMES: [Name; 15] = [
     Name::Go,
     Name::Back,
     Name::Until,
@@ -34,6 +35,7 @@ pub const NAMES: [Name; 14] = [
     Name::Out,
     Name::Why,
     Name::Answers,
+    Name::Watch,
     Name::Schedule,
     Name::Save,
     Name::Help,
@@ -56,6 +58,7 @@ impl Name {
             Name::Out => "out",
             Name::Why => "why",
             Name::Answers => "answers",
+            Name::Watch => "watch",
             Name::Schedule => "schedule",
             Name::Save => "save",
             Name::Help => "help",
@@ -67,11 +70,12 @@ impl Name {
     pub fn usage(self) -> &'static str {
         match self {
             Name::Go => "go N",
-            Name::Back => "back N",
+            Name::Back => "back, back N",
             Name::Until => "until out, until sleep N, until exit N, until end",
             Name::Fds => "fds N",
             Name::Why => "why N",
             Name::Answers => "answers, answers N",
+            Name::Watch => "watch answers, watch off",
             Name::Save => "save FILE",
             other => other.word(),
         }
@@ -81,7 +85,7 @@ impl Name {
     pub fn help(self) -> &'static str {
         match self {
             Name::Go => "turns of process N, until it sleeps or exits",
-            Name::Back => "takes the last N turns back",
+            Name::Back => "takes the last turn back, or the last N",
             Name::Until =>
                 "turns in the kernel's own order until the output grows, or N sleeps or exits",
             Name::Ps => "the processes, and what each does next",
@@ -89,26 +93,21 @@ impl Name {
             Name::Fds => "what process N has open",
             Name::Files => "the files",
             Name::Out => "the output and the diagnostics so far",
-            Name::Why => "why process N can't go on",
+            Name::Why => "why process N can't go on, and who could wake it; or that it can",
             Name::Answers =>
                 "what can still come out from here, by every order, through N states at most",
+            Name::Watch => "prints these answers after each turn, or no more",
             Name::Schedule => "what happened so far, as `xvsh replay` takes it",
             Name::Save => "writes that to FILE",
             Name::Help => "the commands",
             Name::Quit => "ends the program",
         }
     }
-}
 
-// The name that is this word.
-pub(crate) fn name_of(word: &[u8]) -> Option<Name>
-    ensures some { IfSome result (λ name. word.now ≡ word_of name) }
-    ensures none { IfNone result ((name : Name) → word.now ≢ word_of name) }
-{
-    for name in NAMES {
-        if name.word().as_bytes() == word {
-            return Some(name);
-        }
+    /// Whether the bytes are a beginning of the word, or all of it.
+    pub fn begins_with(self, bytes: &[u8]) -> bool
+        ensures { IsTrue result ↔ IsBeginning bytes.now (word_of self) }
+    {
+        self.word().as_bytes().starts_with(bytes)
     }
-    None
 }

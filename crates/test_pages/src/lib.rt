@@ -1,4 +1,4 @@
-//! Tests of a page that draws a trace: each request for memory is refused in turn.
+//! Tests of a page and a picture that draw a trace: each request for memory is refused in turn.
 #![tactic(auto)]
 
 #[cfg(test)]

@@ -1,10 +1,12 @@
-//! A page for which one request for memory is refused, each in turn: that is told, or the page is whole without it, and no memory
-//! is kept.
+//! A page and a picture for which one request for memory is refused, each in turn: that is told, or both are whole without it, and no
+//! memory is kept.
 
 use crate::given::TRACE;
-use figure_page::{Bounds, pair_page};
+use figure_page::pair_page;
+use figure_strips::Bounds;
+use figure_svg::pair_svg;
 use linked_list_allocator::LocalHeap;
-use std::alloc::{Allocator, Global};
+use std::alloc::{AllocError, Allocator, Global};
 use std::test::Fail;
 use test_heap::RefusingHeap;
 use trace_read::{TraceFault, read_trace};
@@ -20,25 +22,37 @@ const ALL: Bounds = Bounds {
     to: None,
 };
 
-// Whether the page is made that is wanted; `None` where another one is, or something else than want of memory is told.
-fn is_drawn<A: Allocator + Copy>(memory: A, wanted: &[u8]) -> Option<bool> {
+// Whether a text is made that is wanted; `None` where another one is.
+fn is_made<A: Allocator>(made: Result<Vec<u8, A>, AllocError>, wanted: &[u8]) -> Option<bool> {
+    match made {
+        Ok(text) if text.as_slice() == wanted => Some(true),
+        Ok(_) => None,
+        Err(_) => Some(false),
+    }
+}
+
+// Whether the page and then the picture are made that are wanted; `None` where others are, or something else than want of memory is
+// told.
+fn is_drawn<A: Allocator + Copy>(memory: A, page: &[u8], picture: &[u8]) -> Option<bool> {
     match read_trace(memory, TRACE.as_bytes()) {
-        Ok(trace) => match pair_page(memory, &trace, &trace, ALL) {
-            Ok(page) if page.as_slice() == wanted => Some(true),
-            Ok(_) => None,
-            Err(_) => Some(false),
-        },
+        Ok(trace) => {
+            let has_page = is_made(pair_page(memory, &trace, &trace, ALL), page)?;
+            let has_picture = is_made(pair_svg(memory, &trace, &trace, ALL), picture)?;
+            Some(has_page && has_picture)
+        }
         Err(TraceFault::Memory) => Some(false),
         Err(_) => None,
     }
 }
 
 // Whether more requests are made than so many; the one after these is refused.
-fn is_refused(alloc: Global, granted: u64, wanted: &[u8]) -> Result<bool, Fail> {
+fn is_refused(alloc: Global, granted: u64, page: &[u8], picture: &[u8]) -> Result<bool, Fail> {
     let room = LocalHeap::new(alloc, ROOM)?;
     let heap = RefusingHeap::new(&room);
     heap.refuse_after(granted);
-    let is_drawn = is_drawn(&heap, wanted).ok_or("another page, or another fault")?;
+    let is_drawn = is_drawn(&heap, page, picture).ok_or(
+        "another page or picture, or another fault",
+    )?;
     if !is_drawn && heap.is_due() {
         return Err(Fail::from("want of memory is told where none was"));
     }
@@ -51,10 +65,11 @@ fn is_refused(alloc: Global, granted: u64, wanted: &[u8]) -> Result<bool, Fail> 
 #[test]
 fn each_request_is_refused_in_turn(rt: HostRuntime) -> Result<(), Fail> {
     let trace = read_trace(rt.alloc(), TRACE.as_bytes())?;
-    let wanted = pair_page(rt.alloc(), &trace, &trace, ALL)?;
+    let page = pair_page(rt.alloc(), &trace, &trace, ALL)?;
+    let picture = pair_svg(rt.alloc(), &trace, &trace, ALL)?;
     let mut refused: u64 = 0;
     for granted in 0..MOST {
-        if !is_refused(rt.alloc(), granted, wanted.as_slice())? {
+        if !is_refused(rt.alloc(), granted, page.as_slice(), picture.as_slice())? {
             break;
         }
         refused = refused.saturating_add(1);

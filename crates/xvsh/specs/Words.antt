@@ -160,6 +160,7 @@ pub record IsExploreOf (found : Found) (request : ExploreRequest) : Type 0 where
   pub source : IsSourceOf found request.source
   pub states : IsNumber 64 STATES found (codes "states") request.states
   pub all : IsFlag found (codes "all") request.is_thorough
+  pub full : IsFlag found (codes "full") request.is_full
   pub witness : IsWord found (codes "witness") request.witness
   pub draw : IsWord found (codes "draw") request.draw
   pub pair : IsWord found (codes "pair") request.pair
@@ -170,6 +171,9 @@ pub record IsExploreOf (found : Found) (request : ExploreRequest) : Type 0 where
 pub record IsDrawOf (found : Found) (request : DrawRequest) : Type 0 where
   pub trace : IsPath found (codes "trace") request.trace.now
   pub other : IsWord found (codes "other") request.other
+  pub from : IsNumberOrNone found (codes "from") request.bounds.from
+  pub to : IsNumberOrNone found (codes "to") request.bounds.to
+  pub svg : IsFlag found (codes "svg") request.is_svg
 
 -- the words name a command, and this was found in those of it
 pub record Names (matches : ArgMatches) (name : List ℕ) (found : Found) : Type 0 where

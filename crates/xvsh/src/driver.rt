@@ -193,8 +193,8 @@ fn hint_at_bad<H: Hints>(alloc: Global, ending: &Ending, status: u8, host: &mut 
 /// outcomes whose difference is easiest to see, or which `--pair` names, to FILE, as `run --trace` writes a trace; no page where no outcome was found. With `--json` it
 /// writes one object instead, also of a fault.
 ///
-/// `draw [--from N] [--to N] TRACE [OTHER]` reads a trace that `run --trace` wrote, or two of one script, and writes a page of HTML
-/// that draws them, or the events between these numbers alone.
+/// `draw [--from N] [--to N] [--svg] TRACE [OTHER]` reads a trace that `run --trace` wrote, or two of one script, and writes a page of
+/// HTML that draws them, or the events between these numbers alone; with `--svg` the picture alone.
 ///
 /// With `-c` before SCRIPT that word is the script itself, and words that begin with `-c` are those of `plain`. With `--input FILE`
 /// the script's standard input is what that file holds, which is read first, and with `--input none` it is empty; then `-` is

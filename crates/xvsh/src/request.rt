@@ -264,6 +264,7 @@ fn explore_of<'m>(words: &'m ArgMatches<'_>) -> ExploreRequest<'m>
         source: source_of(words),
         states: states_of(words),
         is_thorough: flag_of(words, "all"),
+        is_full: flag_of(words, "full"),
         witness: witness_of(words),
         draw: page_of(words),
         pair: pair_of(words),
@@ -274,7 +275,9 @@ fn explore_of<'m>(words: &'m ArgMatches<'_>) -> ExploreRequest<'m>
 }
 
 // The number of an event, if there is one; at most as large as a place can be.
-fn event_in(words: &ArgMatches<'_>, name: &str) -> Option<usize> {
+fn event_in(words: &ArgMatches<'_>, name: &str) -> Option<usize>
+    ensures { IsNumberOrNone (found_of words.now) name.now result }
+{
     let number = words.get_one::<u64>(name)?;
     Some(usize::try_from(number).unwrap_or(usize::MAX))
 }
@@ -289,6 +292,7 @@ fn draw_of<'m>(words: &'m ArgMatches<'_>) -> DrawRequest<'m>
             from: event_in(words, "from"),
             to: event_in(words, "to"),
         },
+        is_svg: flag_of(words, "svg"),
     }
 }
 

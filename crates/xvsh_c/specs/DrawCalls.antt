@@ -12,7 +12,7 @@ use Rattle.xvsh_c.specs.declared.answer.Answer.{Answer}
 use Rattle.xvsh_c.specs.Answers.{TellsFault}
 use Rattle.xvsh_c.specs.RunCalls.{full_number}
 
--- the answer tells what a run leaves, and the page that draws it
+-- the answer tells what a run leaves, and what draws it
 pub record TellsDrawn (answer : Answer) (told : DrawAnswer) : Type 0 where
   pub status : answer.status ≡ 0
   pub out : answer.out.now ≡ told.run.out.items
@@ -22,13 +22,14 @@ pub record TellsDrawn (answer : Answer) (told : DrawAnswer) : Type 0 where
   pub block : answer.block.now ≡ told.run.files.block.items
   pub full : answer.full ≡ full_number told.run.full
 
--- a call of `xvsh_draw_call` left this answer: there is no such order, or what its run tells
+-- a call of `xvsh_draw_call` or `xvsh_draw_svg_call` left this answer: there is no such order, or what its run tells
 pub data DrawCall (task : Task) (turns order number : ℕ) (answer : Answer) : Type 0 where
   no_order : order_by order number ≡ None → TellsFault answer BadOrder → DrawCall task turns order number answer
   drawn : (told : DrawAnswer) → IsRunAnswer task told.run → TellsDrawn answer told → DrawCall task turns order number answer
   failed : (fault : EmbedFault) → IsRunFault task turns fault → TellsFault answer fault → DrawCall task turns order number answer
 
--- a call of `xvsh_draw_two_call` left this answer: what the run by the first schedule leaves, and a page, where both can be replayed
+-- a call of `xvsh_draw_two_call` or `xvsh_draw_two_svg_call` left this answer: what the run by the first schedule leaves, and what draws both,
+-- where both can be replayed
 abbrev pub DrawTwoCall : Task → Bytes → Bytes → Answer → Type 0
 DrawTwoCall task one other answer =
     ((told : DrawAnswer) × IsReplayAnswer task one told.run × CanReplay task other × TellsDrawn answer told) ⊎ ((fault : EmbedFault) × IsPairFault task one other fault × TellsFault answer fault)

@@ -1,15 +1,15 @@
-//! Pages of runs.
+//! Pages and pictures of runs.
 ghost use Rattle.xvsh_c.specs.DrawCalls.{DrawCall, DrawTwoCall, TellsDrawn};
 
 use crate::answer::{Answer, put_fault};
 use crate::handing::{given_out, table_out};
 use crate::runs::full_number;
-use embed_draws::{DrawAnswer, draw_of, draw_two_of};
+use embed_draws::{DrawAnswer, Form, draw_of, draw_two_of};
 use embed_runs::order_by;
 use embed_task::{EmbedFault, Task};
 use std::alloc::Global;
 
-// Puts what a run leaves into an answer, with its page for its events.
+// Puts what a run leaves into an answer, with its page or picture for its events.
 fn put_drawn(told: DrawAnswer, answer: &mut Answer)
     ensures { TellsDrawn answer.new told }
 {
@@ -39,7 +39,7 @@ pub extern "C" fn xvsh_draw_call(
         put_fault(EmbedFault::BadOrder, answer);
         return;
     };
-    match draw_of(alloc, task, turns, order) {
+    match draw_of(alloc, task, turns, order, Form::Page) {
         Ok(told) => put_drawn(told, answer),
         Err(fault) => put_fault(fault, answer),
     }
@@ -56,7 +56,46 @@ pub extern "C" fn xvsh_draw_two_call(
 )
     ensures { DrawTwoCall task.now one.now other.now answer.new }
 {
-    match draw_two_of(alloc, task, one, other) {
+    match draw_two_of(alloc, task, one, other, Form::Page) {
+        Ok(told) => put_drawn(told, answer),
+        Err(fault) => put_fault(fault, answer),
+    }
+}
+
+/// `xvsh_draw_svg_call`: runs a script as `xvsh_run_call`, and draws the run as a picture.
+#[unsafe(no_mangle)]
+pub extern "C" fn xvsh_draw_svg_call(
+    alloc: Global,
+    task: &Task<'_>,
+    turns: u64,
+    order: u32,
+    number: u64,
+    answer: &mut Answer,
+)
+    ensures { DrawCall task.now turns order number answer.new }
+{
+    let Some(order) = order_by(order, number) else {
+        put_fault(EmbedFault::BadOrder, answer);
+        return;
+    };
+    match draw_of(alloc, task, turns, order, Form::Picture) {
+        Ok(told) => put_drawn(told, answer),
+        Err(fault) => put_fault(fault, answer),
+    }
+}
+
+/// `xvsh_draw_two_svg_call`: runs a script by the lines of two schedules, and draws both runs in one picture.
+#[unsafe(no_mangle)]
+pub extern "C" fn xvsh_draw_two_svg_call(
+    alloc: Global,
+    task: &Task<'_>,
+    one: &[u8],
+    other: &[u8],
+    answer: &mut Answer,
+)
+    ensures { DrawTwoCall task.now one.now other.now answer.new }
+{
+    match draw_two_of(alloc, task, one, other, Form::Picture) {
         Ok(told) => put_drawn(told, answer),
         Err(fault) => put_fault(fault, answer),
     }

@@ -1,8 +1,8 @@
 //! What `draw` is asked for.
 
-use figure_page::Bounds;
+use figure_strips::Bounds;
 
-/// A page of a trace, or of two traces of one script.
+/// A page or a picture of a trace, or of two traces of one script.
 #[derive(Clone, Copy, Debug)]
 pub struct DrawRequest<'a> {
     /// The path of the trace; `-` is standard input.
@@ -11,4 +11,6 @@ pub struct DrawRequest<'a> {
     pub other: Option<&'a str>,
     /// Which events are drawn.
     pub bounds: Bounds,
+    /// Whether the picture alone is asked for, in SVG, and not the page.
+    pub is_svg: bool,
 }

@@ -1,10 +1,11 @@
-//! What `draw` does: it reads traces, and returns a page.
+//! What `draw` does: it reads traces, and returns a page or a picture.
 
 use crate::fault::DrawFault;
 use crate::request::DrawRequest;
 use figure_page::{pair_page, run_page};
+use figure_svg::{pair_svg, run_svg};
 use run_figure::first_stranger;
-use std::alloc::Global;
+use std::alloc::{AllocError, Global};
 use trace_data::Trace;
 use trace_read::{TraceFault, read_trace};
 use xvsh_read::{Host, read};
@@ -34,8 +35,35 @@ fn trace_at<'a, H: Host>(
     }
 }
 
-/// `draw`: reads the traces, and returns the page of one, or of both: `run_page` and `pair_page` of `figure_page`. Nothing is
-/// written. Own.
+// What is drawn of one trace.
+fn drawn(
+    alloc: Global,
+    request: &DrawRequest<'_>,
+    trace: &Trace<Global>,
+) -> Result<Vec<u8>, AllocError> {
+    if request.is_svg {
+        run_svg(alloc, trace, request.bounds)
+    } else {
+        run_page(alloc, trace, request.bounds)
+    }
+}
+
+// What is drawn of two.
+fn both_drawn(
+    alloc: Global,
+    request: &DrawRequest<'_>,
+    trace: &Trace<Global>,
+    other: &Trace<Global>,
+) -> Result<Vec<u8>, AllocError> {
+    if request.is_svg {
+        pair_svg(alloc, trace, other, request.bounds)
+    } else {
+        pair_page(alloc, trace, other, request.bounds)
+    }
+}
+
+/// `draw`: reads the traces, and returns the page of one, or of both: `run_page` and `pair_page` of `figure_page`; or the picture alone
+/// where it is asked for: `run_svg` and `pair_svg` of `figure_svg`. Nothing is written. Own.
 ///
 /// `Read` where a trace can't be read, is too long, or memory is refused; `NoTrace` where a text is no trace, or has an event of
 /// a process that no event before it made; `OtherScript` where the two scripts differ.
@@ -46,11 +74,11 @@ pub fn run_draw<'a, H: Host>(
 ) -> Result<Vec<u8>, DrawFault<'a>> {
     let trace = trace_at(alloc, host, request.trace)?;
     let Some(path) = request.other else {
-        return Ok(run_page(alloc, &trace, request.bounds)?);
+        return Ok(drawn(alloc, request, &trace)?);
     };
     let other = trace_at(alloc, host, path)?;
     if trace.text(trace.head.script) != other.text(other.head.script) {
         return Err(DrawFault::OtherScript);
     }
-    Ok(pair_page(alloc, &trace, &other, request.bounds)?)
+    Ok(both_drawn(alloc, request, &trace, &other)?)
 }

@@ -1,7 +1,8 @@
 //! Pages of runs that are made again by their schedules.
 
 use crate::running::trace_of;
-use figure_page::{Bounds, pair_page, run_page};
+use figure_page::{pair_page, run_page};
+use figure_strips::Bounds;
 use kernel_model::Event;
 use std::alloc::{AllocError, Global};
 use trace_data::Trace;

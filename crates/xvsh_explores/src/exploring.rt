@@ -129,9 +129,9 @@ fn show(
     })
 }
 
-// Whether something is asked for that only trying orders shows: a schedule of each outcome, a page, or a pair.
+// Whether something is asked for that only trying orders shows: every turn, a schedule of each outcome, a page, or a pair.
 fn needs_orders(request: &ExploreRequest<'_>) -> bool {
-    request.witness.is_some() || request.draw.is_some() || request.pair.is_some()
+    request.is_full || request.witness.is_some() || request.draw.is_some() || request.pair.is_some()
 }
 
 // How far to search: a settled script too where a schedule of its outcome is to be shown.
@@ -159,6 +159,7 @@ fn find<'a, W: Watch>(
         script: &start.script,
         stdin: start.stdin.as_slice(),
         files: &start.files,
+        is_full: request.is_full,
     };
     match outcomes_of(alloc, &setting, limits_of(request), watch) {
         Ok(found) => Ok(found),

@@ -13,6 +13,8 @@ pub struct ExploreRequest<'a> {
     pub states: u64,
     /// Explore a settled script too, whose one output is known without.
     pub is_thorough: bool,
+    /// Try every turn in every state, for comparing. For it a settled script is explored too.
+    pub is_full: bool,
     /// The folder for a schedule of each outcome. For these a settled script is explored too.
     pub witness: Option<&'a str>,
     /// The path of the page that draws two outcomes, if there is to be one. For it a settled script is explored too.

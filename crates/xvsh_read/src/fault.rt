@@ -50,7 +50,12 @@ impl<'a> Fault<'a> {
             Fault::TooLong(_) => {
                 "a script and a standard input have at most 1048576 bytes, and a file at most 274432"
             }
-            Fault::LineTooLong(_) => "a line has at most 511 bytes",
+            Fault::LineTooLong(_) => {
+                "a line of a script has at most 511 bytes: is this file a script?"
+            }
+            Fault::ByteZero(_) => {
+                "a script is text, which holds no zero byte: is this file a script?"
+            }
             Fault::BadName(_) => {
                 "a file's name, the part of its path after the last `/`, has 1 to 14 bytes"
             }
@@ -59,7 +64,7 @@ impl<'a> Fault<'a> {
             Fault::TooLarge => {
                 "the script makes a file of more than 274432 bytes, or more than 200 files, or too much output"
             }
-            Fault::Unreadable(_) | Fault::ByteZero(_) | Fault::Memory => "",
+            Fault::Unreadable(_) | Fault::Memory => "",
         }
     }
 

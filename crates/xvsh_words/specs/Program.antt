@@ -65,7 +65,7 @@ check_shape = record (new_shape (codes "check")) {
 -- `explore` by the most states that it may keep
 abbrev pub explore_shape : ℕ → Shape
 explore_shape states = record (new_shape (codes "explore")) {
-  rules = number_rule (codes "states") states ∷ flag_rule (codes "all") ∷ path_rule (codes "witness") ∷ path_rule (codes "draw") ∷ path_rule (codes "pair") ∷ flag_rule (codes "json") ∷ flag_rule (codes "append") ∷ input_rule ∷ text_rule ∷ word_rule (codes "script") ∷ files_rule ∷ [];
+  rules = number_rule (codes "states") states ∷ flag_rule (codes "all") ∷ flag_rule (codes "full") ∷ path_rule (codes "witness") ∷ path_rule (codes "draw") ∷ path_rule (codes "pair") ∷ flag_rule (codes "json") ∷ flag_rule (codes "append") ∷ input_rule ∷ text_rule ∷ word_rule (codes "script") ∷ files_rule ∷ [];
 }
 
 abbrev pub explain_shape : Shape
@@ -76,7 +76,7 @@ explain_shape = record (new_shape (codes "explain")) {
 -- `draw` by the most events that a run may have
 abbrev pub draw_shape : ℕ → Shape
 draw_shape turns = record (new_shape (codes "draw")) {
-  rules = number_rule (codes "from") turns ∷ number_rule (codes "to") turns ∷ word_rule (codes "trace") ∷ other_rule (codes "other") ∷ [];
+  rules = number_rule (codes "from") turns ∷ number_rule (codes "to") turns ∷ flag_rule (codes "svg") ∷ word_rule (codes "trace") ∷ other_rule (codes "other") ∷ [];
 }
 
 abbrev pub step_shape : Shape

@@ -429,6 +429,9 @@ const STATES_HELP: &str = "Keep at most so many states, 1 to 10000000; 200000 wi
 
 const ALL_HELP: &str = "Try every order of a settled script too";
 
+const FULL_HELP: &str =
+    "Try every turn in every state, where one would do: the same outcomes of more states, to compare";
+
 const WITNESS_HELP: &str =
     "Write a schedule for each outcome to DIR/1.schedule and so on, for `xvsh replay`";
 
@@ -446,6 +449,7 @@ fn explore_command<'a>(alloc: Global, most_states: u64) -> Result<Command<'a>, A
     let args = vec![in alloc;
         number_option(alloc, "states", STATES_HELP, most_states),
         flag(alloc, "all", ALL_HELP),
+        flag(alloc, "full", FULL_HELP),
         path_option(alloc, "witness", "DIR", WITNESS_HELP),
         path_option(alloc, "draw", "FILE", DRAW_HELP),
         path_option(alloc, "pair", "N,M", PAIR_HELP),
@@ -461,7 +465,9 @@ fn explore_command<'a>(alloc: Global, most_states: u64) -> Result<Command<'a>, A
         .args(args)
 }
 
-const DRAW_ABOUT: &str = "Draws a trace, or two, as a page of HTML";
+const DRAW_ABOUT: &str = "Draws a trace, or two, as a page of HTML or as a picture";
+
+const SVG_HELP: &str = "Write the picture alone, in SVG";
 
 const FROM_HELP: &str = "The first event that is drawn; 1 without it";
 
@@ -490,6 +496,7 @@ fn draw_command<'a>(alloc: Global, most_turns: u64) -> Result<Command<'a>, Alloc
     let args = vec![in alloc;
         number_option(alloc, "from", FROM_HELP, most_turns),
         number_option(alloc, "to", TO_HELP, most_turns),
+        flag(alloc, "svg", SVG_HELP),
         needed_word(
             alloc,
             "trace",

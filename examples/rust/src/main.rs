@@ -1,7 +1,7 @@
-//! Grades students' scripts: what each prints, and whether it prints that every time.
+//! Grades students' scripts: what each prints, and whether it prints that every time; and draws a run of the first.
 //!
 //!     cargo run --offline --manifest-path examples/rust/Cargo.toml
-use xvsh::Task;
+use xvsh::{Order, Task};
 
 fn main() {
     let wanted = b"apple pie\n2 3 15 \n";
@@ -20,5 +20,10 @@ fn main() {
             }
             Err(error) => println!("  refused: {} (fault {}, line {})", error.fault.text(), error.fault.number(), error.place),
         }
+    }
+    // a picture in SVG, for a page or a report: its second line is its title
+    match Task::new(scripts[0]).file("fruit", "apple pie\nplum\nfig\n").draw_svg(100_000, Order::Kernel) {
+        Ok(run) => println!("drawn: {}", String::from_utf8_lossy(run.events()).lines().nth(1).unwrap_or("nothing")),
+        Err(error) => println!("not drawn: {}", error.fault.text()),
     }
 }

@@ -1,4 +1,4 @@
-use Rattle.std.proofs.Common.{ap, rules}
+use Rattle.std.proofs.Common.{rules}
 use Rattle.order_search.proofs.Renumbered.{parts_same, same_by}
 use Rattle.order_search.proofs.looks.Look.is_like.Goals as goal
 

@@ -30,4 +30,5 @@ invariant_of-result g c =
       turns = subst (λ (l : List ℕ). after_turns g.M.Machine.call_of g.M.Machine.next_of start l ≡ Some c.in_ok-state.state) (sym c.in_ok-taken.ensures.items) c.in_ok-state.ensures.turns ∙ ap Some (sym c.of.ensures);
       look = c.in_ok-look.ensures ∙ ap key (sym c.of.ensures);
       idle = ap (λ (k : KernelState g.row.M-State.Denot). count_by is_running k.table) c.of.ensures ∙ c.in_ok-state.ensures.idle;
+      busy = λ yes. absurd (let z : ⊥ = cc in z);
     }

@@ -6,7 +6,7 @@ use Rattle.kernel_model.specs.KernelState.{KernelState}
 use Rattle.order_model.specs.Anyhow.{bare_table}
 use Rattle.order_search.specs.Led.{Led, kernel_of}
 use Rattle.order_search.proofs.Leading.{bare_key}
-use Rattle.order_search.proofs.Looking.{never, not_said}
+use Rattle.order_search.proofs.Looking.{not_said}
 use Rattle.order_search.proofs.standing.Standing.is_moved.Goals as goal
 
 pub returns-in-Some : goal.returns-in-Some
@@ -20,6 +20,6 @@ returns-in-Some g c = λ is.
     record {
       pid = c.args.number;
       now = now;
-      turn = sym c.in_ok-after.ensures ∙ ap (option_map kernel_of) c.in-Some.is;
-      other = λ same. never c.has_same_slots.result (c.has_same_slots.ensures.1 (mine ∙ sym same ∙ sym its)) (not_said c.has_same_slots.result is);
+      turn = sym c.in_ok-next.ensures ∙ ap (option_map kernel_of) c.in-Some.is;
+      other = λ same. c.has_same_slots.ensures (not_said c.has_same_slots.result is) (mine ∙ sym same ∙ sym its);
     }

@@ -32,6 +32,7 @@ invariant_of-result g c =
       turns = subst (λ (l : List ℕ). after_turns g.M.Machine.call_of g.M.Machine.next_of start l ≡ Some c.in_ok-stop.stop.now.now) c.deref-3.ensures.value c.in_ok-stop.ensures.turns ∙ ap Some (sym same);
       look = c.in_ok-look.ensures ∙ ap key (sym c.of-kernel.ensures);
       idle = ap (λ (k : KernelState g.row.M-State.Denot). count_by is_running k.table) same ∙ c.in_ok-stop.ensures.idle;
+      busy = λ yes. absurd (let z : ⊥ = cc in z);
     }
 
 pub returns : goal.returns

@@ -6,8 +6,8 @@ use Rattle.order_search.proofs.Leading.{key_gives, ahead_led}
 use Rattle.order_search.proofs.Looking.{if_some_more}
 use Rattle.order_search.proofs.standing.StandingNode.private_move.Goals as goal
 
-pub returns : goal.returns
-returns g c =
+pub returns-else-self : goal.returns-else-self
+returns-else-self g c =
     let S = g.row.M-State.Denot in
     let of = g.M.Machine.call_of in
     let on = g.M.Machine.next_of in

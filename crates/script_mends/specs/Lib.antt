@@ -1,0 +1,4 @@
+pub mod Lines
+pub mod Mends
+pub mod Mended
+pub mod Rounds
