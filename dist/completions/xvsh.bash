@@ -11,7 +11,7 @@ _xvsh() {
         replay) flags='--files-to --trace --lines --append --files --json --input -c -h --help' ;;
         plain) flags='--files-to --diagnostics --strict --append --files --json --input -c -h --help' ;;
         check) flags='--turns --room --strict --json --input -c -h --help' ;;
-        explain) flags='--why --append --json --input -c -h --help' ;;
+        explain) flags='--why --fix --append --json --input -c -h --help' ;;
         explore) flags='--states --all --witness --draw --pair --json --append --input -c -h --help' ;;
         draw) flags='--from --to --svg -h --help' ;;
         step) flags='--schedule --append --json --input -c -h --help' ;;

@@ -55,6 +55,7 @@ complete -c xvsh -n '__fish_seen_subcommand_from check' -l input -x -a '(__fish_
 complete -c xvsh -n '__fish_seen_subcommand_from check' -s c -d 'SCRIPT is the script itself, and no path'
 complete -c xvsh -n '__fish_seen_subcommand_from check' -s h -l help -d 'Print help'
 complete -c xvsh -n '__fish_seen_subcommand_from explain' -l why -d 'Tell why the script is settled or isn\'t on its input, as with FILEs; without both, nothing is run'
+complete -c xvsh -n '__fish_seen_subcommand_from explain' -l fix -d 'Print the script mended by rules so that it is settled on its input and the FILEs, and no notes'
 complete -c xvsh -n '__fish_seen_subcommand_from explain' -l append -d '`>>` writes at a file\'s end; without it, from its beginning, as xv6 does'
 complete -c xvsh -n '__fish_seen_subcommand_from explain' -l json -d 'Write one object of JSON in place of the text, and nothing to standard error'
 complete -c xvsh -n '__fish_seen_subcommand_from explain' -l input -x -a '(__fish_complete_path; echo none)' -d 'The script\'s standard input is FILE\'s bytes, or nothing with `none`; without it, that of xvsh'

@@ -14,7 +14,7 @@ import time
 
 HERE = os.path.dirname(os.path.abspath(__file__))
 # the bound on states that a test has which says none
-STATES = 10_000
+STATES = 40_000
 # the seconds that a script has where neither the call nor the suite says
 SECONDS = 10
 # with so many, what says most is the 64 runs that come before a search, and it is quick

@@ -40,6 +40,7 @@ pub fn explain_of(alloc: Global, task: &Task<'_>) -> Result<AskAnswer, EmbedFaul
             files: &[],
         },
         tells_why: false,
+        fixes: false,
         is_json: true,
     };
     let mut host = ScriptHost {

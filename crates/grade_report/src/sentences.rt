@@ -3,6 +3,7 @@
 use grade_verdicts::{Difference, Place, Race, Refusal, Verdict};
 use kernel_model::Full;
 use result_json::full_word;
+use script_notes::NoteKind;
 use shown::add_shown;
 use std::alloc::{AllocError, Global};
 
@@ -136,6 +137,39 @@ pub fn sentence_of(alloc: Global, verdict: Option<&Verdict>) -> Result<Vec<u8>, 
         None => add(&mut text, NOT_JUDGED)?,
     }
     Ok(text)
+}
+
+// Why a line is no command, in a few words.
+fn brief_of(kind: NoteKind) -> &'static str {
+    match kind {
+        NoteKind::MissingName => "a file's name is missing",
+        NoteKind::OpenParen => "a ( is open",
+        NoteKind::TenthWord => "a command has ten words",
+        NoteKind::LateParen => "a ( stands behind a word",
+        NoteKind::StrayParen => "a ) closes nothing",
+        _ => "the line can't go on like this",
+    }
+}
+
+/// The same in a report that told the sentences of these kinds before, of lines that are no command: such a sentence stands once, and
+/// then a few words for it.
+///
+/// `AllocError` where memory is refused.
+pub fn sentence_beside(
+    alloc: Global,
+    verdict: Option<&Verdict>,
+    told: &mut Vec<NoteKind>,
+) -> Result<Vec<u8>, AllocError> {
+    let Some(Verdict::Refused(Refusal::Line(line, kind))) = verdict else {
+        return sentence_of(alloc, verdict);
+    };
+    if told.contains(kind) {
+        let brief = brief_of(*kind);
+        let text = format!(in alloc; "line {line}: {brief}, as above")?;
+        return Ok(text.into_bytes());
+    }
+    told.push(*kind)?;
+    sentence_of(alloc, verdict)
 }
 
 const UNFINISHED: &str =

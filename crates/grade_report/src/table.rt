@@ -1,7 +1,8 @@
 //! The report for people.
 
 use crate::rows::{Row, Sum, script_end, scripts_of, sum_of};
-use crate::sentences::{sentence_of, word_of};
+use crate::sentences::{sentence_beside, word_of};
+use script_notes::NoteKind;
 use shown::add_name;
 use std::alloc::{AllocError, Global};
 
@@ -40,6 +41,7 @@ fn add_row(
     text: &mut Vec<u8>,
     row: &Row<'_>,
     is_coloured: bool,
+    told: &mut Vec<NoteKind>,
 ) -> Result<(), AllocError> {
     add(text, "  ")?;
     add_word(text, row, is_coloured)?;
@@ -51,7 +53,7 @@ fn add_row(
     add(text, "  ")?;
     add_name(text, row.test)?;
     add(text, "\n")?;
-    let sentence = sentence_of(alloc, row.verdict)?;
+    let sentence = sentence_beside(alloc, row.verdict, told)?;
     if !sentence.is_empty() {
         add(text, "      ")?;
         text.extend_from_slice(sentence.as_slice())?;
@@ -79,6 +81,7 @@ fn add_script(
     text: &mut Vec<u8>,
     rows: &[Row<'_>],
     is_coloured: bool,
+    told: &mut Vec<NoteKind>,
 ) -> Result<(), AllocError> {
     match rows.first() {
         Some(
@@ -92,13 +95,13 @@ fn add_script(
     add(text, ": ")?;
     add_sum(alloc, text, sum_of(rows))?;
     for row in rows {
-        add_row(alloc, text, row, is_coloured)?;
+        add_row(alloc, text, row, is_coloured, told)?;
     }
     Ok(())
 }
 
 /// The report as a text (own): a line for each script, a line for each test below it, with its verdict and points, and a line why
-/// a test isn't passed; of several scripts a last line with the sum. Names have escapes for what isn't printable.
+/// a test isn't passed, of a line that is no command in full where its reason comes first in the report; of several scripts a last line with the sum. Names have escapes for what isn't printable.
 ///
 /// `AllocError` where memory is refused.
 pub fn table_text(
@@ -107,6 +110,7 @@ pub fn table_text(
     is_coloured: bool,
 ) -> Result<Vec<u8>, AllocError> {
     let mut text = Vec::new(alloc);
+    let mut told = Vec::new(alloc);
     let mut from = 0;
     for _ in 0..rows.len() {
         if from >= rows.len() {
@@ -114,7 +118,7 @@ pub fn table_text(
         }
         let end = script_end(rows, from);
         let own = rows.get(from..end).unwrap_or(&[]);
-        add_script(alloc, &mut text, own, is_coloured)?;
+        add_script(alloc, &mut text, own, is_coloured, &mut told)?;
         from = end;
     }
     let scripts = scripts_of(rows);

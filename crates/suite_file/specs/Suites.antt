@@ -17,7 +17,7 @@ test_keys = codes "append" ∷ codes "bytes" ∷ codes "every_way" ∷ codes "ex
 
 -- the limits where neither the suite nor the test says any; no turns: as many as it takes
 abbrev pub first_limits : Limits
-first_limits = record { appends = false; bytes = 1048576; states = 10000; turns = 0; every_way = false }
+first_limits = record { appends = false; bytes = 1048576; states = 40000; turns = 0; every_way = false }
 
 -- the limits are those that the table says, and each of which it says nothing is that of the others
 pub record AreLimits (said : Members) (others limits : Limits) : Type 0 where

@@ -7,7 +7,7 @@ pub const MOST_BYTES: usize = 1_048_576;
 pub const MOST_STATES: usize = 10_000_000;
 
 /// The most states through which orders are tried, where neither the test nor the suite says (own).
-pub const STATES: usize = 10_000;
+pub const STATES: usize = 40_000;
 
 /// The most events that a test may allow a run (own).
 pub const MOST_TURNS: u64 = 1_000_000_000;

@@ -41,10 +41,17 @@ pub data IsDueGiven (input : Option (List ℕ)) (file : Path → Option (List �
   due : (sight : Sight) → Sees input file inputs sight → IsDue sight.input sight.file (asked request) ending → IsDueGiven input file inputs request ending
   ungiven : {path : Bor Path} → inputs.input ≡ Some path → IsDue input file (unread_asked request path.now) ending → IsDueGiven input file inputs request ending
 
--- the words with the command that they leave out: that of `-c TEXT` is `plain`
+-- the words behind `help` as a call for the help of the command that they name, or of the program
+abbrev pub help_words : List (List ℕ) → List (List ℕ)
+help_words [] = codes "--help" ∷ []
+help_words (word ∷ words) = word ∷ (codes "--help" ∷ words)
+
+-- the words as they are meant: the command that `-c TEXT` leaves out is `plain`, and `help COMMAND` is `COMMAND --help`
 abbrev pub completed : List (List ℕ) → List (List ℕ)
 completed [] = []
-completed (word ∷ words) = if bytes_eq word (codes "-c") then codes "plain" ∷ (word ∷ words) else word ∷ words
+completed (word ∷ words) =
+    if bytes_eq word (codes "-c") then codes "plain" ∷ (word ∷ words)
+    else (if bytes_eq word (codes "help") then help_words words else word ∷ words)
 
 -- what comes of words: what is asked for, by what a command sees, gives it; or memory was refused
 pub data ComesOf (input : Option (List ℕ)) (file : Path → Option (List ℕ)) (words : List (List ℕ)) (Gives : Sight → Asked → Type 0) (Lacks : Type 0) : Type 0 where

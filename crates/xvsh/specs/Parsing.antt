@@ -34,7 +34,7 @@ abbrev pub is_without : List Row → List ℕ → Bool
 is_without rows one = is_alone rows one (codes "turns") && not (is_given (codes "room") rows)
 
 -- of each command, whether words stand beside each other that can't: a number of harts, a seed and an order; lines' numbers, or
--- diagnostics, and an object; turns and room of a check, or files or an input of one without both; two forms of a report
+-- diagnostics, or a mended script, and an object; turns and room of a check, or files or an input of one without both; two forms of a report
 abbrev pub run_conflicts : List Row → Bool
 run_conflicts rows = are_given rows (codes "harts") (codes "seed") || (are_given rows (codes "harts") (codes "order") || (are_given rows (codes "seed") (codes "order") || are_given rows (codes "lines") (codes "json")))
 
@@ -50,7 +50,8 @@ conflicts name rows =
     else (if bytes_eq name (codes "replay") then are_given rows (codes "lines") (codes "json")
     else (if bytes_eq name (codes "plain") then are_given rows (codes "diagnostics") (codes "json")
     else (if bytes_eq name (codes "check") then check_conflicts rows
-    else (if bytes_eq name (codes "grade") then grade_conflicts rows else false))))
+    else (if bytes_eq name (codes "explain") then are_given rows (codes "fix") (codes "json")
+    else (if bytes_eq name (codes "grade") then grade_conflicts rows else false)))))
 
 -- the words of the command, if there is one, conflict
 abbrev pub are_apart : Option (List ℕ × List Row) → Bool

@@ -154,6 +154,7 @@ pub record IsExplainOf (found : Found) (request : ExplainRequest) : Type 0 where
   pub input : Option (Bor Path)
   pub given : IsWord found (codes "input") input
   pub tells : request.tells_why ≡ tells_why asked input request.source.files.now
+  pub fixes : IsFlag found (codes "fix") request.fixes
   pub json : IsFlag found (codes "json") request.is_json
 
 pub record IsExploreOf (found : Found) (request : ExploreRequest) : Type 0 where

@@ -3,7 +3,7 @@ ghost use Rattle.xvsh_read.specs.Console.{known};
 ghost use Rattle.xvsh_read.specs.Writing.{out_text};
 ghost use Rattle.xvsh_ends.specs.Ends.{Asked, IsDue, asks_plain};
 ghost use Rattle.xvsh_ends.specs.Requests.{EndsAt};
-ghost use Rattle.xvsh.specs.Drive.{EndsOn, IsAskedBy, IsDueGiven, IsDueOn, WritesMeaning, completed};
+ghost use Rattle.xvsh.specs.Drive.{EndsOn, IsAskedBy, IsDueGiven, IsDueOn, WritesMeaning, completed, help_words};
 ghost use Rattle.xvsh_given.specs.Given.{Sight};
 
 use crate::parsing::parsed_words;
@@ -105,7 +105,20 @@ fn no_words_ending<R: Threads + Wait + Clock + Sync, H: Host + Traces + Watch>(
     ending_of(rt, alloc, &request, host)
 }
 
-// The words with the command that they leave out: that of `-c TEXT` is `plain`.
+// The words behind `help` as a call for the help of the command that they name, or of the program.
+fn help_words(alloc: Global, mut words: Vec<String>) -> Result<Vec<String>, AllocError>
+    ensures { IfOk result (λ all. map string_bytes all.items ≡ help_words (map string_bytes words.items)) }
+{
+    let flag = String::from_str(alloc, "--help")?;
+    if words.is_empty() {
+        words.push(flag)?;
+    } else {
+        words.insert(1, flag)?;
+    }
+    Ok(words)
+}
+
+// The words as they are meant: the command that `-c TEXT` leaves out is `plain`, and `help COMMAND` is `COMMAND --help`.
 fn completed(alloc: Global, mut words: Vec<String>) -> Result<Vec<String>, AllocError>
     ensures { IfOk result (λ all. map string_bytes all.items ≡ completed (map string_bytes words.items)) }
 {
@@ -115,6 +128,10 @@ fn completed(alloc: Global, mut words: Vec<String>) -> Result<Vec<String>, Alloc
             all.push(String::from_str(alloc, "plain")?)?;
             all.append(&mut words)?;
             Ok(all)
+        }
+        Some(first) if first.as_str() == "help" => {
+            words.remove(0);
+            help_words(alloc, words)
         }
         _ => Ok(words),
     }

@@ -106,6 +106,8 @@ fn conflicts(name: &str, words: &ArgMatches<'_>) -> bool
         are_given(words, "diagnostics", "json")
     } else if name == "check" {
         check_conflicts(words)
+    } else if name == "explain" {
+        are_given(words, "fix", "json")
     } else if name == "grade" {
         grade_conflicts(words)
     } else {
@@ -126,10 +128,6 @@ fn are_apart(matches: &ArgMatches<'_>) -> bool
 // How `clap` begins what it says of a word that is like a command.
 const CLAP_TIP: &str = "\n  tip: ";
 
-// What is said last of such a word.
-const LIKE_TIP: &str =
-    "\n`xvsh plain SCRIPT` runs the script at a path, and `xvsh run SCRIPT` by its processes.\n";
-
 // What is said first of the word `help`, which is no command.
 const HELP_TIP: &str =
     "`xvsh --help` shows the help, and `xvsh COMMAND --help` that of a command\n\n";
@@ -137,14 +135,35 @@ const HELP_TIP: &str =
 // What is reported of words that conflict, where nothing else is.
 const CONFLICT: &str = "error: some of these words can't stand beside each other\n";
 
-// What is said first of a word that is no command, nor like one, and may be the path of a script.
+// What is said last of such a word, where a script may stand behind it.
+const LIKE_TIP: &str =
+    "\n`xvsh plain SCRIPT` runs the script at a path, and `xvsh run SCRIPT` by its processes.\n";
+
+// What is said of a word that is no command, and may be the path of a script.
+fn script_tip(alloc: Global, word: &str) -> Result<String, AllocError> {
+    format!(in alloc;
+        "`xvsh plain {word}` runs the script at the path {word}, and `xvsh run {word}` by its processes\n"
+    )
+}
+
+// What is said first of such a word that is like no command.
 fn tip_of(alloc: Global, word: &str) -> Result<String, AllocError> {
     if word == "help" {
         return String::from_str(alloc, HELP_TIP);
     }
-    format!(in alloc;
-        "`xvsh plain {word}` runs the script at the path {word}, and `xvsh run {word}` by its processes\n\n"
-    )
+    let tip = script_tip(alloc, word)?;
+    format!(in alloc; "{tip}\n")
+}
+
+// The text of an error of these words, of which the first is no command, but like one.
+fn like_text(alloc: Global, words: &[String], text: &str) -> Result<String, AllocError> {
+    match words {
+        [word] => {
+            let tip = script_tip(alloc, word.as_str())?;
+            format!(in alloc; "{text}\n{tip}")
+        }
+        _ => format!(in alloc; "{text}{LIKE_TIP}"),
+    }
 }
 
 // The text of an error of these words, of which the first may be no command.
@@ -157,7 +176,7 @@ fn text_of(alloc: Global, words: &[String], error: &clap::Error) -> Result<Strin
         return Ok(text);
     }
     if memmem::find(text.as_bytes(), CLAP_TIP.as_bytes()).is_some() {
-        return format!(in alloc; "{text}{LIKE_TIP}");
+        return like_text(alloc, words, text.as_str());
     }
     let tip = tip_of(alloc, word.as_str())?;
     format!(in alloc; "{tip}{text}")

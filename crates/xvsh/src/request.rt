@@ -253,6 +253,7 @@ fn explain_of<'m>(words: &'m ArgMatches<'_>) -> ExplainRequest<'m>
     ExplainRequest {
         source,
         tells_why: tells_why(flag_of(words, "why"), input_of(words), source.files),
+        fixes: flag_of(words, "fix"),
         is_json: flag_of(words, "json"),
     }
 }

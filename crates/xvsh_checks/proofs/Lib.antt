@@ -4,3 +4,4 @@ pub mod Sentences
 pub mod Telling
 pub mod Reasoned
 mod RoomTold
+pub mod Fixed

@@ -5,3 +5,4 @@ pub mod Room
 pub mod Turns
 pub mod Values
 pub mod Whys
+pub mod Fixes

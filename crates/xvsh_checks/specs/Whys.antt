@@ -1,6 +1,7 @@
 -- What `explain` reports of a script on its files and its input (own).
-use Rattle.std.specs.Prelude.{◌≡◌, ◌↔◌, Bool, false, IsTrue, List, [], ◌++◌, Option, None}
+use Rattle.std.specs.Prelude.{◌≡◌, ◌↔◌, Bool, false, IsTrue, List, [], ◌++◌, Option, None, map}
 use Rattle.std.specs.Borrow.{Bor}
+use Rattle.std.specs.Global.{Global}
 use Rattle.mem_files.specs.Name.{Name, Bytes}
 use Rattle.mem_files.specs.Files.{files}
 use Rattle.script_load.specs.declared.profile.Profile.{Profile}
@@ -10,7 +11,9 @@ use Rattle.missing_names.specs.Missing.{missing_names}
 use Rattle.missing_names.specs.Texts.{missing_texts}
 use Rattle.meaning_model.specs.Settled.{IsSettledScript}
 use Rattle.room_bounds.specs.declared.lack.Lack.{Lack}
-use Rattle.reason_sentences.specs.Sentences.{why_text}
+use Rattle.plain_run.specs.declared.reason.Reason.{Reason}
+use Rattle.reason_sentences.specs.Sentences.{reason_text, why_text}
+use Rattle.reason_sentences.specs.Ways.{ways_text}
 use Rattle.reason_sentences.specs.Whys.{AreReasonTexts}
 use Rattle.xvsh_plain.specs.Running.{IsMeaningFault}
 use Rattle.xvsh_read.specs.declared.fault.Fault.{Fault}
@@ -23,7 +26,7 @@ use Rattle.xvsh_checks.specs.Lacks.{IsLackNoted, lack_noted}
 -- and on the files at these paths
 module _ (input : Option Bytes) (file : Path → Option Bytes) (profile : Profile) (script : Path) (paths : List (Bor Path)) where
   -- these are the notes on the script, behind them the names that no file has, with which line first it may not have room, and then
-  -- its reasons, or that there is none; and whether there is none of these
+  -- its reasons, or that there is none, and what mends each; and whether there is none of these
   pub record RanWhys (is_fine : Bool) (text : Bytes) : Type 0 where
     pub lines : List ScriptLine
     pub given : List (Name × Bytes)
@@ -33,9 +36,9 @@ module _ (input : Option Bytes) (file : Path → Option Bytes) (profile : Profil
     pub explained : IsExplained starts.loaded.bytes notes
     pub lack : Option Lack
     pub room : IsLackNoted lines lack
-    pub reasons : List Bytes
-    pub are : AreReasonTexts profile lines stdin (files given) reasons
-    pub prints : text ≡ notes ++ (missing_texts (missing_names lines given) ++ (lack_noted lack ++ why_text reasons))
+    pub reasons : List (Reason Global)
+    pub are : AreReasonTexts profile lines stdin (files given) (map reason_text reasons)
+    pub prints : text ≡ notes ++ (missing_texts (missing_names lines given) ++ (lack_noted lack ++ (why_text (map reason_text reasons) ++ ways_text reasons)))
     pub fine : IsTrue is_fine ↔ (HasNothingToTell starts.loaded.bytes × (missing_names lines given ≡ []) × (lack ≡ None) × IsSettledScript profile lines stdin (files given))
 
   -- why nothing is reported: there is no script or it can't begin, its meaning passes a limit, or there is no memory for the report

@@ -26,6 +26,8 @@ pub struct ExplainRequest<'a> {
     pub source: Source<'a>,
     /// Tell last why the script is settled on its files and its input, or why it isn't.
     pub tells_why: bool,
+    /// Print in place of the notes the script mended by rules, so that it is settled on its files and its input.
+    pub fixes: bool,
     /// Print one object of JSON in place of the text.
     pub is_json: bool,
 }

@@ -8,6 +8,7 @@ ghost use Rattle.xvsh_plain.specs.Running.{IsMeaningFault};
 ghost use Rattle.missing_names.specs.Missing.{missing_names};
 ghost use Rattle.missing_names.specs.Texts.{missing_texts, shown};
 ghost use Rattle.reason_sentences.specs.Sentences.{reason_text, why_text};
+ghost use Rattle.reason_sentences.specs.Ways.{ways_text};
 ghost use Rattle.reason_sentences.specs.Whys.{AreReasonTexts};
 ghost use Rattle.xvsh_checks.specs.Lacks.{IsLackNoted, lack_noted};
 ghost use Rattle.xvsh_checks.specs.Whys.{RanWhys, IsWhysFault};
@@ -18,7 +19,7 @@ use crate::noting::is_told_nothing;
 use crate::request::ExplainRequest;
 use missing_names::{Missing, missing_names, text_of_missing};
 use plain_run::{Reason, plain_with_reasons};
-use reason_sentences::why;
+use reason_sentences::{ways, why};
 use room_bounds::Lack;
 use script_notes::{LineNote, explain, notes_of};
 use std::alloc::{AllocError, Global};
@@ -50,18 +51,20 @@ fn lack_at(start: &Start) -> Option<Lack>
     lack_of(&start.script)
 }
 
-// The sentence of a lack, and behind it these reasons or that there is none.
+// The sentence of a lack, and behind it these reasons or that there is none, and what mends each.
 fn lack_and_why(
     alloc: Global,
     lack: &Option<Lack>,
     reasons: &[Reason<Global>],
 ) -> Result<Vec<u8>, AllocError>
-    ensures { IfOk result (λ text. text.items ≡ lack_noted lack.now ++ why_text (map reason_text reasons.now)) }
+    ensures { IfOk result (λ text. text.items ≡ lack_noted lack.now ++ (why_text (map reason_text reasons.now) ++ ways_text reasons.now)) }
 {
     let mut text = Vec::new(alloc);
     add_lack_note(alloc, lack, &mut text)?;
     let told = why(alloc, reasons)?;
     text.extend_from_slice(told.as_slice())?;
+    let mends = ways(alloc, reasons)?;
+    text.extend_from_slice(mends.as_slice())?;
     Ok(text)
 }
 
@@ -72,7 +75,7 @@ fn names_and_why(
     lack: &Option<Lack>,
     reasons: &[Reason<Global>],
 ) -> Result<Vec<u8>, AllocError>
-    ensures { IfOk result (λ text. text.items ≡ missing_texts (map shown missing.now) ++ (lack_noted lack.now ++ why_text (map reason_text reasons.now))) }
+    ensures { IfOk result (λ text. text.items ≡ missing_texts (map shown missing.now) ++ (lack_noted lack.now ++ (why_text (map reason_text reasons.now) ++ ways_text reasons.now))) }
 {
     let mut text = text_of_missing(alloc, missing)?;
     let told = lack_and_why(alloc, lack, reasons)?;
@@ -88,7 +91,7 @@ fn with_why(
     lack: &Option<Lack>,
     reasons: &[Reason<Global>],
 ) -> Result<Explained, AllocError>
-    ensures text { IfOk result (λ explained. explained.text.items ≡ notes.items ++ (missing_texts (map shown missing.now) ++ (lack_noted lack.now ++ why_text (map reason_text reasons.now)))) }
+    ensures text { IfOk result (λ explained. explained.text.items ≡ notes.items ++ (missing_texts (map shown missing.now) ++ (lack_noted lack.now ++ (why_text (map reason_text reasons.now) ++ ways_text reasons.now)))) }
     ensures fine { IfOk result (λ explained. IsTrue explained.is_fine ↔ ((notes.items ≡ []) × (missing.now ≡ []) × (lack.now ≡ None) × (reasons.now ≡ []))) }
 {
     let mut text = notes;
@@ -101,7 +104,7 @@ fn with_why(
 
 /// `explain` with files: reads the script, the files in order, and standard input unless that is the script, and returns its notes
 /// on the lines in sentences, behind them the first name of each line that no file has when the line runs, with which line first the
-/// script may need more processes, open files or descriptors than xv6 has, and then each reason why it isn't settled on these files and this input, or why it is
+/// script may need more processes, open files or descriptors than xv6 has, and then each reason why it isn't settled on these files and this input and what mends each, or why it is
 /// (own); and whether there is no note, no such name, no such line and no reason. The script is run by its meaning to find that
 /// out. Nothing is written.
 pub fn run_whys<'a, H: Host>(
@@ -156,7 +159,7 @@ pub fn run_note_whys<'a, H: Host>(
     request: &ExplainRequest<'a>,
     host: &mut H,
 ) -> Result<NotedWhys, Fault<'a>>
-    ensures ran { IfOk result (λ noted. RanWhys (H.input host.old) (H.file host.old) request.now.source.profile request.now.source.script.now request.now.source.files.now noted.is_fine (written noted.notes.items ++ (missing_texts (map shown noted.missing.items) ++ (lack_noted noted.lack ++ why_text (map reason_text noted.reasons.items))))) }
+    ensures ran { IfOk result (λ noted. RanWhys (H.input host.old) (H.file host.old) request.now.source.profile request.now.source.script.now request.now.source.files.now noted.is_fine (written noted.notes.items ++ (missing_texts (map shown noted.missing.items) ++ (lack_noted noted.lack ++ (why_text (map reason_text noted.reasons.items) ++ ways_text noted.reasons.items))))) }
     ensures fault { IfErr result (IsWhysFault (H.input host.old) (H.file host.old) request.now.source.profile request.now.source.script.now request.now.source.files.now) }
 {
     let bytes = read(alloc, host, request.source.script, MAX_INPUT)?;

@@ -15,7 +15,7 @@ use Rattle.xvsh_runs.specs.declared.fault.ProcessFault.TheVariants.{Common, BadH
 use Rattle.xvsh_runs.specs.Status.{run_status}
 use Rattle.script_outcomes.specs.declared.concluding.Conclusion.{Conclusion}
 use Rattle.script_outcomes.specs.declared.concluding.Conclusion.TheVariants.{OneOutput, SeveralOutputs, Stuck, Full as Filled, Part}
-use Rattle.xvsh_ends.specs.Ends.{Asked, asks_plain, asks_diagnosed, asks_run, asks_strict, asks_check, asks_turns, asks_room, asks_explain, asks_whys, asks_explore, help, misuse, verdict_status, check_status, explore_status, full_status, told_text, Due, plain_ran, no_plain, diagnosed, not_diagnosed, ran, no_run, ran_strict, no_strict, checked, no_check, counted, not_counted, room_told, no_room_told, explained, not_explained, whys_told, no_whys_told, explored, not_explored, helped, misused, no_memory, IsDue, Tells, TellsOr, tells, lacks_memory, asks_traced, traced, untraced, beside_trace, asks_witnessed, asks_paired, asks_filed, asks_lined, asks_json, asks_draw, drawn, undrawn, asks_input, unread, witnessed, unwitnessed, paired, unpaired, filed, unfiled, lined, valued, unvalued, IsObjectStatus, PrintsAlone}
+use Rattle.xvsh_ends.specs.Ends.{Asked, asks_plain, asks_diagnosed, asks_run, asks_strict, asks_check, asks_turns, asks_room, asks_explain, asks_whys, asks_fix, asks_explore, help, misuse, verdict_status, check_status, explore_status, full_status, told_text, Due, plain_ran, no_plain, diagnosed, not_diagnosed, ran, no_run, ran_strict, no_strict, checked, no_check, counted, not_counted, room_told, no_room_told, explained, not_explained, whys_told, no_whys_told, fixed, unfixed, no_fix, explored, not_explored, helped, misused, no_memory, IsDue, Tells, TellsOr, tells, lacks_memory, asks_traced, traced, untraced, beside_trace, asks_witnessed, asks_paired, asks_filed, asks_lined, asks_json, asks_draw, drawn, undrawn, asks_input, unread, witnessed, unwitnessed, paired, unpaired, filed, unfiled, lined, valued, unvalued, IsObjectStatus, PrintsAlone}
 use Rattle.std.specs.Borrow.{Bor}
 use Rattle.xvsh_ends.specs.Requests.{UnlessPrinted, witnessed_asked, paired_asked, json_asked}
 use Rattle.xvsh_ends.specs.declared.ending.Ending.{Ending}
@@ -111,6 +111,7 @@ unless (asks_turns script paths strict) status same is = λ some three. is
 unless (asks_room script paths strict) status same is = λ some three. is
 unless (asks_explain script) status same is = λ some three. is
 unless (asks_whys profile script paths) status same is = λ some three. is
+unless (asks_fix profile script paths) status same is = λ some. is
 unless (asks_explore profile script paths states all) status same is = λ some three four. is
 unless (asks_traced what path) status same is = unless what status same is
 unless (asks_witnessed what path) status same is = unless what status same is
@@ -133,6 +134,7 @@ unless_implied (asks_turns script paths strict) status same other implies is = �
 unless_implied (asks_room script paths strict) status same other implies is = λ some three. implies (is some three)
 unless_implied (asks_explain script) status same other implies is = λ some three. implies (is some three)
 unless_implied (asks_whys profile script paths) status same other implies is = λ some three. implies (is some three)
+unless_implied (asks_fix profile script paths) status same other implies is = λ some. implies (is some)
 unless_implied (asks_explore profile script paths states all) status same other implies is = λ some three four. implies (is some three four)
 unless_implied (asks_traced what path) status same other implies is = unless_implied what status same other implies is
 unless_implied (asks_witnessed what path) status same other implies is = unless_implied what status same other implies is
@@ -156,6 +158,7 @@ unless_any (asks_turns script paths strict) status same is some one three four =
 unless_any (asks_room script paths strict) status same is some one three four = is some three
 unless_any (asks_explain script) status same is some one three four = is some three
 unless_any (asks_whys profile script paths) status same is some one three four = is some three
+unless_any (asks_fix profile script paths) status same is some one three four = is some
 unless_any (asks_explore profile script paths states all) status same is some one three four = is some three four
 unless_any (asks_traced what path) status same is some one three four = unless_any what status same is some one three four
 unless_any (asks_witnessed what path) status same is some one three four = unless_any what status same is some one three four
@@ -201,6 +204,9 @@ module _ (input : Option Bytes) (file : Path → Option Bytes) where
   nothing_due asked text told status (not_explained fault why) = λ some three. refl
   nothing_due asked text told status (whys_told is_fine gave) = λ some three. check_prints is_fine some three
   nothing_due asked text told status (no_whys_told fault why) = λ some three. refl
+  nothing_due asked text told status (fixed gave) = λ some. absurd (some refl)
+  nothing_due asked text told status (unfixed gave) = λ some. refl
+  nothing_due asked text told status (no_fix fault why) = λ some. refl
   nothing_due asked text told status (explored found conclusion gave concludes) = λ some three four. explore_prints conclusion some three four
   nothing_due asked text told status (not_explored fault why) = λ some three four. refl
   nothing_due asked text told status (traced {what = what} {path = path} {text = inner} due) = unless_implied what status (inner ≡ []) (beside_trace path inner ≡ []) (beside_nothing (bytes_eq path (codes "-")) inner) (nothing_due what inner told status due)

@@ -29,6 +29,7 @@ use Rattle.xvsh_checks.specs.Explain.{RanExplain}
 use Rattle.xvsh_checks.specs.Turns.{RanTurns, IsTurnsFault}
 use Rattle.xvsh_checks.specs.Room.{RanRoom, IsRoomFault}
 use Rattle.xvsh_checks.specs.Whys.{RanWhys, IsWhysFault}
+use Rattle.xvsh_checks.specs.Fixes.{RanFix, RanNoFix}
 use Rattle.script_outcomes.specs.declared.concluding.Conclusion.{Conclusion}
 use Rattle.script_outcomes.specs.declared.concluding.Conclusion.TheVariants.{OneOutput, SeveralOutputs, Stuck, Full as Filled, Part}
 use Rattle.script_outcomes.specs.declared.finding.Found.{Found}
@@ -49,7 +50,7 @@ pub data How : Type 0 where
 -- what the words of the command line ask for: a run of the script at a path under a profile, on the files at these paths,
 -- by its meaning, with a list of the files or without, and strictly or not, or by its processes, with lists or without, or
 -- strictly on so many harts in at most so many turns, if a number is asked for; a check of the script at a path, or one that reports its turns on these
--- files too; notes on the script at a path in sentences, or these and why it is settled on these files or isn't; its outcomes in every order, found among at most so many states, with every
+-- files too; notes on the script at a path in sentences, or these and why it is settled on these files or isn't, or the script mended so that it is; its outcomes in every order, found among at most so many states, with every
 -- order tried of a settled script too or not; the help; or no command
 pub data Asked : Type 0 where
   asks_plain : Profile → Path → List (Bor Path) → Bool → Bool → Asked
@@ -63,6 +64,7 @@ pub data Asked : Type 0 where
   asks_room : Path → List (Bor Path) → Bool → Asked
   asks_explain : Path → Asked
   asks_whys : Profile → Path → List (Bor Path) → Asked
+  asks_fix : Profile → Path → List (Bor Path) → Asked
   asks_explore : Profile → Path → List (Bor Path) → ℕ → Bool → Asked
   -- the same, with a trace of the run at a path
   asks_traced : Asked → Path → Asked
@@ -99,6 +101,10 @@ verdict_status true false = 3
 abbrev pub check_status : Bool → ℕ
 check_status true = 0
 check_status false = 3
+
+-- what is reported where no mends make a script settled
+abbrev pub unmended_told : Bytes
+unmended_told = codes "xvsh: no mend by rule makes this script settled\n"
 
 -- the status of an exploration, by what was found as a whole: 0 where each order leaves one output and one set of files and ends with
 -- nothing full
@@ -185,6 +191,10 @@ module _ (input : Option Bytes) (file : Path → Option Bytes) where
     -- the same with why the script is settled, or isn't, after its notes
     whys_told : {profile : Profile} {script : Path} {paths : List (Bor Path)} {text : Bytes} (is_fine : Bool) → RanWhys input file profile script paths is_fine text → Due (asks_whys profile script paths) text [] (check_status is_fine)
     no_whys_told : {profile : Profile} {script : Path} {paths : List (Bor Path)} (fault : Fault) → IsWhysFault input file profile script paths fault → Due (asks_whys profile script paths) [] (fault_told fault) (status_of fault)
+    -- the script mended by rules, so that it is settled; that no mends make it so; or why that isn't known
+    fixed : {profile : Profile} {script : Path} {paths : List (Bor Path)} {text : Bytes} → RanFix input file profile script paths text → Due (asks_fix profile script paths) text [] 0
+    unfixed : {profile : Profile} {script : Path} {paths : List (Bor Path)} → RanNoFix input file profile script paths → Due (asks_fix profile script paths) [] unmended_told 1
+    no_fix : {profile : Profile} {script : Path} {paths : List (Bor Path)} (fault : Fault) → IsWhysFault input file profile script paths fault → Due (asks_fix profile script paths) [] (fault_told fault) (status_of fault)
     -- the outcomes in every order; or why none is told
     explored : {profile : Profile} {script : Path} {paths : List (Bor Path)} {states : ℕ} {all : Bool} {text : Bytes} (found : Found) (conclusion : Conclusion) → RanExplore input file profile script paths states all found → Concludes found conclusion → Due (asks_explore profile script paths states all) text [] (explore_status conclusion)
     not_explored : {profile : Profile} {script : Path} {paths : List (Bor Path)} {states : ℕ} {all : Bool} (fault : Fault) → IsExploreFault input file script paths fault → Due (asks_explore profile script paths states all) [] (fault_told fault) (status_of fault)

@@ -11,7 +11,7 @@ use Rattle.xvsh_checks.specs.declared.request.ExplainRequest.{ExplainRequest}
 use Rattle.xvsh_explores.specs.declared.request.ExploreRequest.{ExploreRequest}
 use Rattle.xvsh_ends.specs.declared.request.Request.{Request}
 use Rattle.xvsh_ends.specs.declared.request.Request.TheVariants.{Run, Replay, Plain, Check, Explain, Explore, Draw}
-use Rattle.xvsh_ends.specs.Ends.{Asked, asks_plain, asks_diagnosed, asks_run, asks_strict, asks_check, asks_turns, asks_room, asks_explain, asks_whys, asks_explore, help, misuse, on_harts, by_schedule, Ends, asks_traced, asks_witnessed, asks_paired, asks_filed, asks_lined, asks_json, asks_draw, asks_input}
+use Rattle.xvsh_ends.specs.Ends.{Asked, asks_plain, asks_diagnosed, asks_run, asks_strict, asks_check, asks_turns, asks_room, asks_explain, asks_whys, asks_fix, asks_explore, help, misuse, on_harts, by_schedule, Ends, asks_traced, asks_witnessed, asks_paired, asks_filed, asks_lined, asks_json, asks_draw, asks_input}
 
 -- a run by processes, strictly or not
 abbrev pub run_asked : Bool → RunRequest → Asked
@@ -48,6 +48,10 @@ check_asked true room request = asks_turns request.script.now request.files.now 
 abbrev pub explain_asked : Bool → ExplainRequest → Asked
 explain_asked false request = asks_explain request.source.script.now
 explain_asked true request = asks_whys request.source.profile request.source.script.now request.source.files.now
+
+-- the script mended by rules
+abbrev pub fix_asked : ExplainRequest → Asked
+fix_asked request = asks_fix request.source.profile request.source.script.now request.source.files.now
 
 -- the same, with schedules in a folder, if there is to be one
 abbrev pub witnessed_asked : Option (Bor Path) → Asked → Asked
@@ -92,13 +96,18 @@ traced_asked (Some path) what = asks_traced what path.now
 abbrev pub explore_asked : ExploreRequest → Asked
 explore_asked request = traced_asked request.draw (json_asked request.is_json (explore_told_asked request))
 
+-- notes, as an object or as a text; or the script mended in their place
+abbrev pub explain_told_asked : Bool → ExplainRequest → Asked
+explain_told_asked false request = json_asked request.is_json (explain_asked request.tells_why request)
+explain_told_asked true request = fix_asked request
+
 -- what a request asks for
 abbrev pub asked : Request → Asked
 asked (Run request) = traced_asked request.trace (traced_asked request.schedule_to (filed_asked request.files_to (lined_asked request.is_lined (json_asked request.is_json (run_asked request.is_strict request)))))
 asked (Replay request) = traced_asked request.trace (filed_asked request.files_to (lined_asked request.is_lined (json_asked request.is_json (replay_asked request))))
 asked (Plain request) = filed_asked request.files_to (plain_told_asked request.is_json request)
 asked (Check request) = json_asked request.is_json (check_asked request.counts_turns request.tells_room request)
-asked (Explain request) = json_asked request.is_json (explain_asked request.tells_why request)
+asked (Explain request) = explain_told_asked request.fixes request
 asked (Explore request) = explore_asked request
 asked (Draw request) = asks_draw
 
@@ -129,6 +138,7 @@ UnlessPrinted (asks_turns script paths strict) status same = status ≢ 0 → st
 UnlessPrinted (asks_room script paths strict) status same = status ≢ 0 → status ≢ 3 → same
 UnlessPrinted (asks_explain script) status same = status ≢ 0 → status ≢ 3 → same
 UnlessPrinted (asks_whys profile script paths) status same = status ≢ 0 → status ≢ 3 → same
+UnlessPrinted (asks_fix profile script paths) status same = status ≢ 0 → same
 UnlessPrinted (asks_explore profile script paths states all) status same = status ≢ 0 → status ≢ 3 → status ≢ 4 → same
 UnlessPrinted (asks_traced what path) status same = UnlessPrinted what status same
 UnlessPrinted (asks_witnessed what path) status same = UnlessPrinted what status same

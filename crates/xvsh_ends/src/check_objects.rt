@@ -1,9 +1,9 @@
 //! Checks and explanations as objects of JSON.
 ghost use Rattle.std.specs.Prelude.{◌≡◌, Bool, true, false};
 ghost use Rattle.xvsh_ends.specs.Ends.{IsDue, asks_json, check_status};
-ghost use Rattle.xvsh_ends.specs.Requests.{check_asked, explain_asked, json_asked};
+ghost use Rattle.xvsh_ends.specs.Requests.{check_asked, explain_asked, explain_told_asked, json_asked};
 
-use crate::checks::{check_ending, explain_ending};
+use crate::checks::{check_ending, explain_ending, fix_ending};
 use crate::ending::Ending;
 use crate::values::print_made;
 use result_json::{
@@ -158,9 +158,11 @@ pub fn check_told<H: Host>(alloc: Global, request: &CheckRequest<'_>, host: &mut
 /// Returns the notes on a script in sentences, and why it is settled or isn't if that is requested, or why there are none; as one
 /// object of JSON, if that is requested.
 pub fn explain_told<H: Host>(alloc: Global, request: &ExplainRequest<'_>, host: &mut H) -> Ending
-    ensures { IsDue (H.input host.old) (H.file host.old) (json_asked request.now.is_json (explain_asked request.now.tells_why request.now)) result }
+    ensures { IsDue (H.input host.old) (H.file host.old) (explain_told_asked request.now.fixes request.now) result }
 {
-    if request.is_json {
+    if request.fixes {
+        fix_ending(alloc, request, host)
+    } else if request.is_json {
         explain_json(alloc, request, host)
     } else {
         explain_ending(alloc, request, host)

@@ -2,13 +2,13 @@
 ghost use Rattle.std.specs.Prelude.{◌≡◌, [], Bool, true, false};
 ghost use Rattle.xvsh_read.specs.Writing.{out_text};
 ghost use Rattle.xvsh_ends.specs.Ends.{IsDue, check_status, told_text};
-ghost use Rattle.xvsh_ends.specs.Requests.{check_asked, explain_asked};
+ghost use Rattle.xvsh_ends.specs.Requests.{check_asked, explain_asked, fix_asked};
 
-use crate::ending::{Ending, Line, no_output, report_fault};
+use crate::ending::{Ending, Line, no_output, report, report_fault};
 use sh_lexer::Bytes;
 use std::alloc::Global;
 use xvsh_checks::{
-    CheckRequest, ExplainRequest, run_check, run_explain, run_room, run_turns, run_whys,
+    CheckRequest, ExplainRequest, run_check, run_explain, run_fix, run_room, run_turns, run_whys,
 };
 use xvsh_read::{Host, Output};
 
@@ -103,5 +103,20 @@ pub fn explain_ending<H: Host>(alloc: Global, request: &ExplainRequest<'_>, host
         whys_ending(alloc, request, host)
     } else {
         notes_ending(alloc, request, host)
+    }
+}
+
+/// Returns a script mended by rules so that it is settled, or why there is none.
+pub fn fix_ending<H: Host>(alloc: Global, request: &ExplainRequest<'_>, host: &mut H) -> Ending
+    ensures { IsDue (H.input host.old) (H.file host.old) (fix_asked request.now) result }
+{
+    match run_fix(alloc, request, host) {
+        Ok(Some(text)) => prints(alloc, text, true),
+        Ok(None) => report(
+            alloc,
+            Line::Fixed("xvsh: no mend by rule makes this script settled\n"),
+            1,
+        ),
+        Err(fault) => report_fault(alloc, fault),
     }
 }

@@ -70,7 +70,7 @@ explore_shape states = record (new_shape (codes "explore")) {
 
 abbrev pub explain_shape : Shape
 explain_shape = record (new_shape (codes "explain")) {
-  rules = flag_rule (codes "why") ∷ flag_rule (codes "append") ∷ flag_rule (codes "json") ∷ input_rule ∷ text_rule ∷ word_rule (codes "script") ∷ files_rule ∷ [];
+  rules = flag_rule (codes "why") ∷ flag_rule (codes "fix") ∷ flag_rule (codes "append") ∷ flag_rule (codes "json") ∷ input_rule ∷ text_rule ∷ word_rule (codes "script") ∷ files_rule ∷ [];
 }
 
 -- `draw` by the most events that a run may have

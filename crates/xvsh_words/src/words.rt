@@ -13,7 +13,8 @@ const ABOUT: &str = "Runs scripts of xv6's shell";
 
 const AFTER_HELP: &str = "\
 Without any words xvsh reads a script from standard input, as `xvsh plain -`
-does. `xvsh -c TEXT` runs the script TEXT, as `xvsh plain -c TEXT` does.
+does. `xvsh -c TEXT` runs the script TEXT, as `xvsh plain -c TEXT` does. `xvsh
+help COMMAND` shows the help of a command, as `xvsh COMMAND --help` does.
 
 A script is lines of at most 511 bytes. A line is commands joined by `|` (the
 left side's output is the right side's input) and `;` (one after the other); `(
@@ -81,7 +82,8 @@ that is a letter here, a command that is no program, a name that no file can
 have, a `>>` that writes over. Each of these comes with its line and marks
 under the place. It names the first line that may need more than xv6 has, too.
 With FILEs, or `--why`, it reads standard input too, and tells which names no
-file has, and each reason why the script isn't settled on them.
+file has, each reason why the script isn't settled on them, and what mends it.
+`explain --fix` prints the script mended by rules, so that it is settled.
 
 `xvsh explore SCRIPT [FILE]..` tries every order in which the script's
 processes can take their turns, and writes a line for each output that the
@@ -406,11 +408,17 @@ const EXPLAIN_ABOUT: &str = "Tells in sentences what is wrong or unexpected in a
 const WHY_HELP: &str =
     "Tell why the script is settled or isn't on its input, as with FILEs; without both, nothing is run";
 
-fn explain_command<'a>(alloc: Global) -> Result<Command<'a>, AllocError>
-    ensures { IfOk result (IsCommand explain_shape) }
+const FIX_HELP: &str =
+    "Print the script mended by rules so that it is settled on its input and the FILEs, and no notes";
+
+fn explain_command<'a>(alloc: Global, is_strict: bool) -> Result<Command<'a>, AllocError>
+    ensures { is_strict ≡ false → IfOk result (IsCommand explain_shape) }
 {
+    let flagged = flag(alloc, "fix", FIX_HELP);
+    let fix = apart(flagged, "json", is_strict)?;
     let args = vec![in alloc;
         flag(alloc, "why", WHY_HELP),
+        fix,
         flag(alloc, "append", APPEND_HELP),
         flag(alloc, "json", JSON_HELP),
         input_option(alloc),
@@ -623,7 +631,7 @@ pub fn command_line<'a>(
     let two = with_command(one, replay_command(alloc, is_strict));
     let three = with_command(two, plain_command(alloc, is_strict));
     let four = with_command(three, check_command(alloc, is_strict));
-    let five = with_command(four, explain_command(alloc));
+    let five = with_command(four, explain_command(alloc, is_strict));
     let six = with_command(five, explore_command(alloc, most.states));
     let seven = with_command(six, draw_command(alloc, most.turns));
     let eight = with_command(seven, step_command(alloc));

@@ -9,5 +9,6 @@ returns c =
       input = c.input_of.result;
       given = c.input_of.ensures;
       tells = c.tells_why.ensures;
-      json = c.flag_of-2.ensures;
+      fixes = c.flag_of-2.ensures;
+      json = c.flag_of-3.ensures;
     }

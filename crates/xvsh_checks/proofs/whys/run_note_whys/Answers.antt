@@ -7,6 +7,7 @@ use Rattle.script_notes.specs.Explained.{IsExplained}
 use Rattle.script_notes.specs.Written.{written}
 use Rattle.missing_names.specs.Texts.{missing_texts, shown}
 use Rattle.reason_sentences.specs.Sentences.{reason_text, why_text}
+use Rattle.reason_sentences.specs.Ways.{ways_text}
 use Rattle.reason_sentences.specs.Whys.{AreReasonTexts}
 use Rattle.xvsh_plain.specs.Running.{IsMeaningFault}
 use Rattle.xvsh_read.specs.Reading.{Agree, told_at}
@@ -59,7 +60,7 @@ returns-clause-ran g c =
     let reasons = c.in_ok-reasons.reasons.items in
     let starts = c.in_ok-start.ensures.prepared input file c.read.ensures.files_stay c.read.ensures.input_stays (subst (Agree (told_at input file source.script.now)) (sym c.as_slice-2.ensures.value) c.in_ok-bytes.ensures.bytes) in
     let lack = c.lack_at-lack.result in
-    ran_whys input file source.profile source.script.now source.files.now lines start.files start.stdin.items bytes notes (notes ++ (missing_texts (map shown missing) ++ (lack_noted lack ++ why_text (map reason_text reasons)))) missing lack reasons c.is_nothing-is_fine.result
+    ran_whys input file source.profile source.script.now source.files.now lines start.files start.stdin.items bytes notes (notes ++ (missing_texts (map shown missing) ++ (lack_noted lack ++ (why_text (map reason_text reasons) ++ ways_text reasons)))) missing lack reasons c.is_nothing-is_fine.result
     (starts.0, starts.1 ∙ c.as_slice-2.ensures.value)
     (subst (λ b. IsExplained b notes) c.as_slice.ensures.value c.in_ok-notes.ensures.told)
     c.lack_at-lack.ensures

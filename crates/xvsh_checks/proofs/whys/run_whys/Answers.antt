@@ -6,6 +6,7 @@ use Rattle.script_load.specs.Script.{HasLoadFault}
 use Rattle.script_notes.specs.Explained.{IsExplained}
 use Rattle.missing_names.specs.Texts.{missing_texts, shown}
 use Rattle.reason_sentences.specs.Sentences.{reason_text, why_text}
+use Rattle.reason_sentences.specs.Ways.{ways_text}
 use Rattle.reason_sentences.specs.Whys.{AreReasonTexts}
 use Rattle.xvsh_plain.specs.Running.{IsMeaningFault}
 use Rattle.xvsh_read.specs.Reading.{Agree, told_at}
@@ -69,7 +70,7 @@ returns-clause-ran g c =
     c.lack_at-lack.ensures
     (subst (λ profile. AreReasonTexts profile lines start.stdin.items (files start.files) (map reason_text reasons)) c.in_ok-start.ensures.profile c.in_ok-reasons.ensures.reasons)
     c.in_ok-missing.ensures
-    (subst (λ rs. explained.text.items ≡ notes ++ (missing_texts (map shown missing) ++ (lack_noted lack ++ why_text (map reason_text rs)))) c.as_slice-4.ensures.value
-    (subst (λ ms. explained.text.items ≡ notes ++ (missing_texts (map shown ms) ++ (lack_noted lack ++ why_text (map reason_text c.as_slice-4.result.now)))) c.as_slice-3.ensures.value c.in_ok-explained.ensures.text))
+    (subst (λ rs. explained.text.items ≡ notes ++ (missing_texts (map shown missing) ++ (lack_noted lack ++ (why_text (map reason_text rs) ++ ways_text rs)))) c.as_slice-4.ensures.value
+    (subst (λ ms. explained.text.items ≡ notes ++ (missing_texts (map shown ms) ++ (lack_noted lack ++ (why_text (map reason_text c.as_slice-4.result.now) ++ ways_text c.as_slice-4.result.now)))) c.as_slice-3.ensures.value c.in_ok-explained.ensures.text))
     (subst (λ rs. IsTrue explained.is_fine ↔ ((notes ≡ []) × (missing ≡ []) × (lack ≡ None) × (rs ≡ []))) c.as_slice-4.ensures.value
     (subst (λ ms. IsTrue explained.is_fine ↔ ((notes ≡ []) × (ms ≡ []) × (lack ≡ None) × (c.as_slice-4.result.now ≡ []))) c.as_slice-3.ensures.value c.in_ok-explained.ensures.fine))

@@ -1,7 +1,7 @@
 use Rattle.std.proofs.Common.{◌≡◌, [], sym, subst}
 use Rattle.xvsh_read.specs.Writing.{out_text}
 use Rattle.xvsh_ends.specs.Ends.{asks_draw}
-use Rattle.xvsh_ends.specs.Requests.{UnlessPrinted, asked, check_asked, explain_asked, explore_asked, filed_asked, json_asked, lined_asked, plain_told_asked, run_asked, replay_asked, traced_asked}
+use Rattle.xvsh_ends.specs.Requests.{UnlessPrinted, asked, check_asked, explain_told_asked, explore_asked, filed_asked, json_asked, lined_asked, plain_told_asked, run_asked, replay_asked, traced_asked}
 use Rattle.xvsh_ends.proofs.Dues.{nothing_due}
 use Rattle.xvsh_ends.proofs.request.ending_of.Goals as goal
 
@@ -59,7 +59,7 @@ returns-in-Explain-clause-nothing g c =
     let request = c.in-Explain.explain in
     let ending = c.explain_told.result in
     subst (λ r. UnlessPrinted (asked r) ending.status (out_text ending.output ≡ [])) (sym c.in-Explain.is)
-    (nothing_due (g.H.Host.input c.args.host.now) (g.H.Host.file c.args.host.now) (json_asked request.is_json (explain_asked request.tells_why request)) _ _ _ c.explain_told.ensures)
+    (nothing_due (g.H.Host.input c.args.host.now) (g.H.Host.file c.args.host.now) (explain_told_asked request.fixes request) _ _ _ c.explain_told.ensures)
 
 pub returns-in-Draw-clause-nothing : goal.returns-in-Draw-clause-nothing
 returns-in-Draw-clause-nothing g c =
