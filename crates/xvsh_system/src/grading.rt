@@ -1,10 +1,10 @@
 //! `grade`: the tests of a suite on scripts.
 
+use crate::colours::has_colours;
 use crate::system::System;
 use crate::terminal::Terminal;
 use crate::usage::report;
 use clap::ArgMatches;
-use std::env::{self, VarError};
 use std::io::{self, Write};
 use std::rt::{Env, Files};
 use std::sync::Wait;
@@ -36,15 +36,6 @@ fn threads_of(rt: &impl Threads, words: &ArgMatches<'_>) -> usize {
     match thread::available_parallelism(rt) {
         Ok(count) => count.get(),
         Err(_) => 1,
-    }
-}
-
-// Whether the environment asks for no colours: it has a `NO_COLOR` that isn't empty.
-fn is_plain(rt: &(impl Env + AllocGlobal)) -> bool {
-    match env::var(rt, "NO_COLOR") {
-        Ok(value) => !value.is_empty(),
-        Err(VarError::NotPresent) => false,
-        Err(_) => true,
     }
 }
 
@@ -84,7 +75,7 @@ where
     E: Write,
     T: Write + Drop,
 {
-    let is_coloured = terminal.writes && !is_plain(rt);
+    let is_coloured = has_colours(rt, terminal.writes);
     let request = request_of(words, threads_of(rt, words), is_coloured);
     let mut console = Console {
         host: System::new(rt, terminal, None),

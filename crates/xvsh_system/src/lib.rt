@@ -1,6 +1,7 @@
 //! Runs scripts of xv6's shell on the system: all of the program but its `main`.
 #![tactic(auto)]
 
+mod colours;
 mod grading;
 mod program;
 mod stepping;

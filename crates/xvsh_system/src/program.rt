@@ -2,6 +2,7 @@
 
 ghost use Rattle.std.specs.Thread.{IsSync};
 
+use crate::colours::{Coloured, lines_beside, lines_of_output};
 use crate::grading::grades;
 use crate::stepping::steps;
 use crate::system::System;
@@ -32,21 +33,29 @@ fn run_whole<R, E, T>(
     ticker: Option<&Ticker>,
 ) -> u8
 where
-    R: AllocGlobal + Input + Files + Print + Eprint + Threads + Wait + Clock + Sync,
+    R: Env + AllocGlobal + Input + Files + Print + Eprint + Threads + Wait + Clock + Sync,
     E: Write,
     T: Write + Drop,
 {
+    let beside = lines_beside(rt, &terminal);
+    let lines = lines_of_output(rt, &terminal, words.as_slice());
     let mut console = Console {
         host: System::new(rt, terminal, ticker),
-        out: Quieting {
-            rt,
-            ticker,
-            writer: io::writer(rt),
+        out: Coloured {
+            lines,
+            writer: Quieting {
+                rt,
+                ticker,
+                writer: io::writer(rt),
+            },
         },
-        err: Quieting {
-            rt,
-            ticker,
-            writer: err,
+        err: Coloured {
+            lines: beside,
+            writer: Quieting {
+                rt,
+                ticker,
+                writer: err,
+            },
         },
     };
     drive(rt, rt.alloc(), words, &mut console)
@@ -55,7 +64,7 @@ where
 // The same, while a thread shows on the terminal that it goes on.
 fn run_shown<R, E, T>(rt: &R, words: Vec<String>, err: &mut E, terminal: Terminal<T>) -> u8
 where
-    R: AllocGlobal + Input + Files + Print + Eprint + Threads + Wait + Clock + Sync,
+    R: Env + AllocGlobal + Input + Files + Print + Eprint + Threads + Wait + Clock + Sync,
     E: Write,
     T: Write + Drop,
 {

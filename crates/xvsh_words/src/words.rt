@@ -107,7 +107,7 @@ is no schedule of a whole run; 2 usage; 3 `check` told of a clash or a `&`,
 test that isn't passed, or `--strict` ran a script that isn't settled; 4 not
 every order was tried, full, spent, too large, or no memory.";
 
-const VERSION: &str = "0.1.0 (rattle logic dac8208d650f15bf)";
+const VERSION: &str = "0.3.0 (rattle logic dac8208d650f15bf)";
 
 // A flag: `--` and its name.
 fn flag<'a>(alloc: Global, name: &'static str, help: &'static str) -> Arg<'a>
