@@ -33,15 +33,15 @@ pub fix_by : {T : Type 0} (profile : Profile) (stdin : Bytes) (F : FileMap) (byt
     IfSome found (λ t. IsSettledText profile stdin F (text t)) → IfSome found (λ t. (count : ℕ) × AreMends profile stdin F count bytes (text t)) →
     (IsSettledText profile stdin F bytes → MatchOption found ⊥ (λ t. text t ≡ bytes)) → IfNone found (IsUnmended profile stdin F most_mends bytes) →
     MatchOption found (HasNoFix profile stdin F bytes) (λ t. IsFix profile stdin F bytes (text t))
-fix_by profile stdin F bytes None text settled mends same none = record { unsettled = same; unmended = none; }
-fix_by profile stdin F bytes (Some t) text settled mends same none = record { settled = settled; count = mends.0; mends = mends.1; same = same; }
+fix_by profile stdin F bytes None text settled mends same none = record { unsettled = same; unmended = none }
+fix_by profile stdin F bytes (Some t) text settled mends same none = record { settled = settled; count = mends.0; mends = mends.1; same = same }
 
 module _ (input : Option Bytes) (file : Path → Option Bytes) (profile : Profile) (script : Path) (paths : List (Bor Path)) (lines : List ScriptLine) (given : List (Name × Bytes)) (stdin bytes : Bytes) where
   pub ran_by : {T : Type 0} (text : T → Bytes) (found : Option T) → ((starts : Starts input file false script paths lines given stdin) × (starts.loaded.bytes ≡ bytes)) →
       MatchOption found (HasNoFix profile stdin (files given) bytes) (λ t. IsFix profile stdin (files given) bytes (text t)) →
       MatchOption found (RanNoFix input file profile script paths) (λ t. RanFix input file profile script paths (text t))
-  ran_by text None (starts, same) is = record { lines = lines; given = given; stdin = stdin; starts = starts; none = subst (HasNoFix profile stdin (files given)) (sym same) is; }
-  ran_by text (Some t) (starts, same) is = record { lines = lines; given = given; stdin = stdin; starts = starts; fix = subst (λ b. IsFix profile stdin (files given) b (text t)) (sym same) is; }
+  ran_by text None (starts, same) is = record { lines = lines; given = given; stdin = stdin; starts = starts; none = subst (HasNoFix profile stdin (files given)) (sym same) is }
+  ran_by text (Some t) (starts, same) is = record { lines = lines; given = given; stdin = stdin; starts = starts; fix = subst (λ b. IsFix profile stdin (files given) b (text t)) (sym same) is }
 
   pub fault_by : (fault : Fault) → Agree (told_at input file script) bytes → ((starts : Starts input file false script paths lines given stdin) × (starts.loaded.bytes ≡ bytes)) →
       IsFixFault profile stdin (files given) bytes fault → IsWhysFault input file profile script paths fault

@@ -11,11 +11,7 @@ use xvsh_plain::of_plain;
 use xvsh_read::{Fault, Host, MAX_INPUT, Start, prepare_read, read};
 
 // The script of these bytes, mended on what was read, if mends make it settled.
-fn mended<'a>(
-    alloc: Global,
-    bytes: &[u8],
-    start: &Start,
-) -> Result<Option<Vec<u8>>, Fault<'a>>
+fn mended<'a>(alloc: Global, bytes: &[u8], start: &Start) -> Result<Option<Vec<u8>>, Fault<'a>>
     ensures found { IfOk result (λ found. MatchOption found
         (HasNoFix start.now.script.profile start.now.stdin.items (files start.now.files) bytes.now)
         (λ text. IsFix start.now.script.profile start.now.stdin.items (files start.now.files) bytes.now text.items)) }

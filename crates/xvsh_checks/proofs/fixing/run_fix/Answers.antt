@@ -21,7 +21,6 @@ returns-in_err-start-clause-fault g c =
     at_fault c.from_residual-in_err-start.result _ _ c.from_residual-in_err-start.ensures.1 (no_whys_start (c.in_err-start.ensures.fault input file c.read.ensures.files_stay c.read.ensures.input_stays
     (subst (Agree (told_at input file c.args.request.now.source.script.now)) (sym c.as_slice.ensures.value) c.in_ok-bytes.ensures.bytes)))
 
-
 pub returns-clause-ran : goal.returns-clause-ran
 returns-clause-ran g c =
     let input = g.H.Host.input c.args.host.now in
