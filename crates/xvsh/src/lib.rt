@@ -7,7 +7,7 @@ mod request;
 
 pub use driver::drive;
 pub use parsing::{MAX_JOBS, parsed_words};
-pub use request::{OWN_INPUT, inputs_of, request_of};
+pub use request::{OWN_INPUT, STATES, inputs_of, request_of};
 pub use xvsh_ends::Request;
 pub use xvsh_explores::Watch;
 pub use xvsh_given::{Inputs, NOTHING};

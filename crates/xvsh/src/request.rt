@@ -16,7 +16,7 @@ use xvsh_read::{STDIN, Source, profile_of};
 const HARTS: u8 = 4;
 
 /// The most states of an exploration, if the words name none (own).
-const STATES: u64 = 200_000;
+pub const STATES: u64 = 200_000;
 
 // Whether a flag is among the words.
 fn flag_of(words: &ArgMatches<'_>, name: &str) -> bool

@@ -8,6 +8,7 @@ use crate::stepping::steps;
 use crate::system::System;
 use crate::terminal::Terminal;
 use crate::ticking::{Quieting, Ticker};
+use std::alloc::Global;
 use std::fs::File;
 use std::io::{self, ErrorKind, Write};
 use std::process::ExitCode;
@@ -16,12 +17,23 @@ use std::sync::Wait;
 use std::thread::Threads;
 use std::time::Clock;
 use std::{env, thread};
-use xvsh::drive;
+use xvsh::{STATES, drive, parsed_words};
 use xvsh_read::Console;
 
 // The words after the program's own name.
 fn words_of(rt: &(impl Env + AllocGlobal)) -> io::Result<Vec<String>> {
     Ok(env::args(rt)?.skip(1).collect(rt.alloc())?)
+}
+
+// How many states the search keeps at most that these words ask for, if they do.
+fn most_states(alloc: Global, words: &[String]) -> Option<usize> {
+    match words.first() {
+        Some(name) if name.as_str() == "explore" => {}
+        _ => return None,
+    }
+    let matches = parsed_words(alloc, words).ok()?;
+    let words = matches.subcommand_matches("explore")?;
+    usize::try_from(words.get_one::<u64>("states").unwrap_or(STATES)).ok()
 }
 
 // Runs a command whose output is written once it is done.
@@ -37,10 +49,11 @@ where
     E: Write,
     T: Write + Drop,
 {
+    let most = most_states(rt.alloc(), words.as_slice());
     let beside = lines_beside(rt, &terminal);
     let lines = lines_of_output(rt, &terminal, words.as_slice());
     let mut console = Console {
-        host: System::new(rt, terminal, ticker),
+        host: System::new(rt, terminal, ticker).with_most(most),
         out: Coloured {
             lines,
             writer: Quieting {

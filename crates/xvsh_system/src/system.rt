@@ -29,6 +29,8 @@ pub struct System<'t, R: Files, E> {
     sink: Sink<R::File>,
     terminal: Terminal<E>,
     progress: Progress,
+    // How many states a search keeps at most, if it is known.
+    most: Option<usize>,
     // What shows that a run goes on, if anything does.
     ticker: Option<&'t Ticker>,
     // Why the path that was read last can't be read, in a sentence; empty where that isn't known.
@@ -64,9 +66,16 @@ impl<'t, R: Files, E: Write> System<'t, R, E> {
             sink: Sink::Nowhere,
             terminal,
             progress: Progress::new(),
+            most: None,
             ticker,
             unread: "",
         }
+    }
+
+    /// The same, whose searches keep so many states at most, if that is known.
+    pub fn with_most(mut self, most: Option<usize>) -> Self {
+        self.most = most;
+        self
     }
 
     // Says on a terminal that standard input is read.
@@ -164,8 +173,9 @@ impl<R: Files + Clock, E: Write> Watch for System<'_, R, E> {
     fn found(&mut self, count: usize) {
         self.show_progress(Step {
             count,
-            of: None,
+            of: self.most,
             what: "states",
+            has_pace: true,
         });
     }
 
@@ -180,6 +190,7 @@ impl<R: Input + Files + Wait + Clock + Eprint, E: Write> Grading for System<'_, 
             count: done,
             of: Some(of),
             what: "verdicts",
+            has_pace: false,
         });
     }
 

@@ -1,6 +1,6 @@
 //! What whoever sits at a terminal is told while the program works.
 
-use std::io::Write;
+use std::io::{self, Write};
 use std::time::Duration;
 
 /// A terminal, if there is one.
@@ -33,11 +33,15 @@ pub struct Step<'w> {
     pub count: usize,
     pub of: Option<usize>,
     pub what: &'w str,
+    /// Whether it is shown at which pace it goes on.
+    pub has_pace: bool,
 }
 
 /// Shows on a terminal how far a search is.
 #[derive(Drop)]
 pub struct Progress {
+    // When it was seen first, if that is known.
+    begun: Option<Duration>,
     // When it is shown next, if that is known.
     due: Option<Duration>,
     // At how many states the clock is read next.
@@ -46,9 +50,34 @@ pub struct Progress {
     is_shown: bool,
 }
 
+// How many of so many there are in a second of the time that was taken.
+fn pace(count: usize, taken: Duration) -> u64 {
+    let seconds = taken.as_secs();
+    if seconds == 0 {
+        count as u64
+    } else {
+        count as u64 / seconds
+    }
+}
+
+// Writes how far something is, and at which pace it goes on, where that says something.
+fn write_step<E: Write>(err: &mut E, step: Step<'_>, pace: u64) -> io::Result<()> {
+    let Step { count, of, what } = step;
+    write!(err, "\r{count}")?;
+    if let Some(of) = of {
+        write!(err, " of {of}")?;
+    }
+    if step.has_pace {
+        write!(err, " {what}, {pace} a second\x1b[K")
+    } else {
+        write!(err, " {what}\x1b[K")
+    }
+}
+
 impl Progress {
     pub fn new() -> Progress {
         Progress {
+            begun: None,
             due: None,
             next: 0,
             is_shown: false,
@@ -62,8 +91,9 @@ impl Progress {
 
     // Shows how far something is, if it is time to.
     pub fn show<E: Write>(&mut self, err: &mut E, step: Step<'_>, now: Duration) {
-        let Step { count, of, what } = step;
-        self.next = count.saturating_add(STEP);
+        self.next = step.count.saturating_add(STEP);
+        let begun = self.begun.unwrap_or(now);
+        self.begun = Some(begun);
         let Some(due) = self.due else {
             self.due = next_after(now);
             return;
@@ -71,10 +101,7 @@ impl Progress {
         if now >= due {
             self.is_shown = true;
             self.due = next_after(now);
-            let _ = match of {
-                None => write!(err, "\r{count} {what}\x1b[K"),
-                Some(of) => write!(err, "\r{count} of {of} {what}\x1b[K"),
-            };
+            let _ = write_step(err, step, pace(step.count, now.saturating_sub(begun)));
         }
     }
 
