@@ -52,11 +52,15 @@ impl<'t, A: Allocator> Pair<'_, 't, A> {
     }
 
     // Whether two calls of one thing are of two processes, and their order matters.
-    fn is_parted(&self, first: Option<&Event>, second: Option<&Event>) -> bool {
+    fn is_parted(
+        &self,
+        thing: Thing<'t>,
+        (first, second): (Option<&Event>, Option<&Event>),
+    ) -> bool {
         match (first, second) {
             (Some(first), Some(second)) => {
                 self.twin(first.process) != Some(second.process)
-                    && (is_weighty(first) || is_weighty(second))
+                    && are_weighty(thing, is_weighty(first), is_weighty(second))
             }
             (Some(event), None) | (None, Some(event)) => is_weighty(event),
             (None, None) => false,
@@ -70,7 +74,7 @@ impl<'t, A: Allocator> Pair<'_, 't, A> {
         for _call in 0..self.one.trace.events.len().saturating_add(1) {
             let first = next_touch(self.one, one_from, thing);
             let second = next_touch(self.other, other_from, other_thing);
-            if self.is_parted(first, second) {
+            if self.is_parted(thing, (first, second)) {
                 return Some(Cause {
                     thing,
                     other_thing,
@@ -88,6 +92,14 @@ impl<'t, A: Allocator> Pair<'_, 't, A> {
 // The number behind that of an event.
 fn behind(event: &Event) -> usize {
     event.number.saturating_add(1)
+}
+
+// Whether the order of two calls of a thing matters, of which each does or doesn't: in the table of processes both have to.
+fn are_weighty(thing: Thing<'_>, one: bool, other: bool) -> bool {
+    match thing {
+        Thing::Table => one && other,
+        _ => one || other,
+    }
 }
 
 // Whether the order of the event's call and others of its thing matters.

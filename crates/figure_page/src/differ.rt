@@ -49,16 +49,25 @@ fn line_past(bytes: &[u8]) -> usize {
     }
 }
 
-// Bytes that differ: the end of their first line is seen too.
+// Lines, of which the ends are seen too.
+fn add_lines<A: Allocator>(page: &mut Page<A>, bytes: &[u8]) {
+    let mut rest = bytes;
+    for _line in 0..bytes.len() {
+        let past = line_past(rest);
+        page.add(&[Text(rest.get(..past).unwrap_or(rest))]);
+        rest = rest.get(past..).unwrap_or(&[]);
+        if rest.is_empty() {
+            break;
+        }
+        page.mark("\n");
+    }
+}
+
+// Bytes that differ.
 fn add_other<A: Allocator>(page: &mut Page<A>, other: &[u8]) {
     let shown = other.get(..MARKED).unwrap_or(other);
-    let past = line_past(shown);
-    let line = shown.get(..past).unwrap_or(shown);
-    page.add(&[Mark("<mark>"), Text(line)]);
-    let lines = shown.get(past..).unwrap_or(&[]);
-    if !lines.is_empty() {
-        page.add(&[Mark("\n"), Lines(lines)]);
-    }
+    page.mark("<mark>");
+    add_lines(page, shown);
     page.mark("</mark>");
     if shown.len() < other.len() {
         page.add(&[
@@ -92,15 +101,15 @@ fn same_of(one: &[u8], other: &[u8]) -> usize {
     character_at(one, same).min(character_at(other, same))
 }
 
-// What both runs wrote to one place, if that differs; returns whether it does.
+// What both runs wrote to one place, if that differs.
 fn add_written<A: Allocator>(
     page: &mut Page<A>,
     name: &'static str,
     one: &[u8],
     other: &[u8],
-) -> bool {
+) {
     if one == other {
-        return false;
+        return;
     }
     let same = same_of(one, other);
     page.add(&[
@@ -112,7 +121,6 @@ fn add_written<A: Allocator>(
     page.mark("</td><td>");
     add_bytes(page, other, same);
     page.mark("</td></tr>\n");
-    true
 }
 
 // The files that a run left.
@@ -223,12 +231,32 @@ fn add_more_files<A: Allocator>(page: &mut Page<A>, more: usize) {
     }
 }
 
+// Whether a file differs that the second run left, or the first where it is the owner.
+fn has_other_file<A: Allocator>(one: &Trace<A>, other: &Trace<A>, owner: &Trace<A>) -> bool {
+    files_left(owner)
+        .iter()
+        .any(|file| is_other_file(one, other, owner.text(file.name)))
+}
+
+// Whether two runs leave the same, as far as the traces tell.
+fn are_same<A: Allocator>(one: &Trace<A>, other: &Trace<A>) -> bool {
+    one.text(one.end.out) == other.text(other.end.out)
+        && one.text(one.end.diag) == other.text(other.end.diag)
+        && !has_other_file(one, other, one)
+        && !has_other_file(one, other, other)
+}
+
 /// What two runs leave that differs: their outputs, their messages, and the files, as far as the traces tell, each in a row.
 pub(crate) fn add_differences<A: Allocator>(page: &mut Page<A>, one: &Trace<A>, other: &Trace<A>) {
-    page.mark("<h2>What differs</h2>\n<table class=\"differ\"><thead><tr><td></td><th scope=\"col\">Run 1</th><th scope=\"col\">Run 2</th></tr></thead>\n<tbody>\n");
+    page.mark("<h2>What differs</h2>\n");
+    if are_same(one, other) {
+        page.mark("<p>Nothing: both print the same, and their files are the same as far as the traces tell.</p>\n");
+        return;
+    }
+    page.mark("<table class=\"differ\"><thead><tr><td></td><th scope=\"col\">Run 1</th><th scope=\"col\">Run 2</th></tr></thead>\n<tbody>\n");
     let (out, diag) = (one.text(one.end.out), one.text(one.end.diag));
-    let has_out = add_written(page, "Output", out, other.text(other.end.out));
-    let has_diag = add_written(page, "Messages", diag, other.text(other.end.diag));
+    add_written(page, "Output", out, other.text(other.end.out));
+    add_written(page, "Messages", diag, other.text(other.end.diag));
     let first = add_files_of(page, one, other, false);
     let second = add_files_of(page, one, other, true);
     let more = first
@@ -236,7 +264,4 @@ pub(crate) fn add_differences<A: Allocator>(page: &mut Page<A>, one: &Trace<A>, 
         .saturating_add(second.saturating_sub(FILES));
     add_more_files(page, more);
     page.mark("</tbody></table>\n");
-    if !has_out && !has_diag && first == 0 && second == 0 {
-        page.mark("<p>Nothing: both print the same, and their files are the same as far as the traces tell.</p>\n");
-    }
 }

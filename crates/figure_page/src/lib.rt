@@ -11,6 +11,7 @@ mod header;
 mod page;
 mod pair;
 mod parting;
+mod phases;
 mod side;
 mod story;
 mod style;

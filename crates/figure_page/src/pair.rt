@@ -2,7 +2,7 @@
 
 use crate::differ::add_differences;
 use crate::header::{add_files, add_head, add_printed, add_size};
-use crate::page::{add_figure, add_left_out};
+use crate::page::{Limits, add_figure, add_left_out};
 use crate::parting::add_where;
 use crate::story::add_story;
 use crate::style::KEY;
@@ -15,6 +15,22 @@ use page_markup::{Page, Piece};
 use run_figure::common_events;
 use std::alloc::{AllocError, Allocator};
 use trace_data::Trace;
+
+// How large the page may be where each of its parts ends.
+const BEGINNING: Limits = Limits {
+    figure: 110_000,
+    table: 160_000,
+};
+
+const RUN_1: Limits = Limits {
+    figure: 200_000,
+    table: 250_000,
+};
+
+const RUN_2: Limits = Limits {
+    figure: 290_000,
+    table: 350_000,
+};
 
 // What a run told as diagnostics, if it told something.
 fn add_messages<A: Allocator + Copy>(page: &mut Page<A>, name: &'static str, trace: &Trace<A>) {
@@ -50,7 +66,7 @@ fn add_rest<A: Allocator + Copy>(
     alloc: A,
     page: &mut Page<A>,
     run: &mut Run<'_, A>,
-    title: &'static str,
+    (title, limits): (&'static str, Limits),
     span: Span,
 ) -> Result<(), AllocError> {
     page.add(&[
@@ -62,8 +78,8 @@ fn add_rest<A: Allocator + Copy>(
     ]);
     add_story(page, run, span);
     run.pass(1, span.first);
-    add_figure(alloc, page, run, span)?;
-    add_table(page, run, span);
+    add_figure(alloc, page, run, span, limits.figure)?;
+    add_table(alloc, page, run, span, limits.table)?;
     page.mark("</details>\n");
     Ok(())
 }
@@ -79,8 +95,9 @@ fn add_beginning<A: Allocator + Copy>(
     add_left_out(page, span, run.trace.events.len());
     page.mark(KEY);
     run.pass(1, span.first);
-    add_figure(alloc, page, run, span.before(parting))?;
-    add_table(page, run, span.before(parting));
+    let span = span.before(parting);
+    add_figure(alloc, page, run, span, BEGINNING.figure)?;
+    add_table(alloc, page, run, span, BEGINNING.table)?;
     page.mark("</details>\n");
     Ok(())
 }
@@ -110,9 +127,9 @@ pub fn pair_page<A: Allocator + Copy>(
     let span = bounds.span(one.events.len());
     add_beginning(alloc, &mut page, &mut first, (span, parting))?;
     let rest = span.from(parting);
-    add_rest(alloc, &mut page, &mut first, "Run 1", rest)?;
+    add_rest(alloc, &mut page, &mut first, ("Run 1", RUN_1), rest)?;
     let rest = bounds.span(other.events.len()).from(parting);
-    add_rest(alloc, &mut page, &mut second, "Run 2", rest)?;
+    add_rest(alloc, &mut page, &mut second, ("Run 2", RUN_2), rest)?;
     page.mark("</main>\n</body>\n</html>\n");
     page.end()
 }

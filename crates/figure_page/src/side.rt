@@ -16,7 +16,7 @@ const BEFORE: usize = 8;
 
 const BEHIND: usize = 14;
 
-const FOLDED: usize = 40;
+const FOLDED: usize = 20;
 
 /// A run of two: what the two processes share, as it has it, these two, and its call that decides, where it has one.
 #[derive(Clone, Copy)]

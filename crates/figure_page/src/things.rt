@@ -75,11 +75,13 @@ pub(crate) fn touches<A: Allocator>(run: &Run<'_, A>, trap: &Trap, thing: Thing<
     }
 }
 
-/// Whether it matters that a call comes before another one of the same thing: all do but those that only read a file.
+/// Whether it matters that a call comes before another one of the same thing: all do but those that only read a file, and waits that
+/// take no process out.
 pub(crate) fn matters(trap: &Trap) -> bool {
     match (trap.call, trap.object) {
         (Call::Open(_, Mode::Input), _) => false,
         (Call::Read(_, _), Some(Object::File(_, _))) => false,
+        (Call::Wait, _) => trap.reaped.is_some(),
         _ => true,
     }
 }

@@ -123,7 +123,7 @@ pub fn add_place<A: Allocator>(page: &mut Page<A>, run: &Run<'_, A>, event: &Eve
         stage => page.fill("stage %, ", &[Num(stage)]),
     }
     let again = if is_again(run, event.process) {
-        " again"
+        ", a number used before"
     } else {
         ""
     };
