@@ -88,7 +88,7 @@ fn add_sides<A: Allocator + Copy>(
     let (twin, other_second) = other.actors;
     add_actor(page, "first", (one.run, first), (other.run, twin));
     add_actor(page, "second", (one.run, second), (other.run, other_second));
-    page.mark("</ul>\n<p class=\"note\">◆ decides; ◇ is the other one’s next call on it, which comes later here. The numbers are those of events.</p>\n<div class=\"why\">\n<h3>Run 1</h3>\n<h3>Run 2</h3>\n");
+    page.mark("</ul>\n<p class=\"note\">◆ is the first call on it that comes in another order, and ◇ the other one’s next call on it, which comes later here. The numbers are those of events.</p>\n<div class=\"why\">\n<h3>Run 1</h3>\n<h3>Run 2</h3>\n");
     add_before(page, one);
     add_before(page, other);
     add_turn(page, one);
