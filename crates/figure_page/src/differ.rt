@@ -102,12 +102,7 @@ fn same_of(one: &[u8], other: &[u8]) -> usize {
 }
 
 // What both runs wrote to one place, if that differs.
-fn add_written<A: Allocator>(
-    page: &mut Page<A>,
-    name: &'static str,
-    one: &[u8],
-    other: &[u8],
-) {
+fn add_written<A: Allocator>(page: &mut Page<A>, name: &'static str, one: &[u8], other: &[u8]) {
     if one == other {
         return;
     }
@@ -145,7 +140,12 @@ fn held_of<'t, A: Allocator>(trace: &'t Trace<A>, file: Option<&FileState>) -> (
 }
 
 // What a file holds, of which so many bytes are the same in both runs.
-fn add_held<A: Allocator>(page: &mut Page<A>, is_there: bool, (head, length): (&[u8], usize), same: usize) {
+fn add_held<A: Allocator>(
+    page: &mut Page<A>,
+    is_there: bool,
+    (head, length): (&[u8], usize),
+    same: usize,
+) {
     if !is_there {
         page.mark("<td><mark class=\"ends\">no such file</mark></td>");
         return;
@@ -250,10 +250,14 @@ fn are_same<A: Allocator>(one: &Trace<A>, other: &Trace<A>) -> bool {
 pub(crate) fn add_differences<A: Allocator>(page: &mut Page<A>, one: &Trace<A>, other: &Trace<A>) {
     page.mark("<h2>What differs</h2>\n");
     if are_same(one, other) {
-        page.mark("<p>Nothing: both print the same, and their files are the same as far as the traces tell.</p>\n");
+        page.mark(
+            "<p>Nothing: both print the same, and their files are the same as far as the traces tell.</p>\n",
+        );
         return;
     }
-    page.mark("<table class=\"differ\"><thead><tr><td></td><th scope=\"col\">Run 1</th><th scope=\"col\">Run 2</th></tr></thead>\n<tbody>\n");
+    page.mark(
+        "<table class=\"differ\"><thead><tr><td></td><th scope=\"col\">Run 1</th><th scope=\"col\">Run 2</th></tr></thead>\n<tbody>\n",
+    );
     let (out, diag) = (one.text(one.end.out), one.text(one.end.diag));
     add_written(page, "Output", out, other.text(other.end.out));
     add_written(page, "Messages", diag, other.text(other.end.diag));

@@ -119,7 +119,12 @@ fn groups_of<'t, A: Allocator + Copy>(
 }
 
 // How often a call was made, and what it moved.
-fn add_times<A: Allocator + Copy>(page: &mut Page<A>, run: &Run<'_, A>, group: &Group<'_>, trap: &Trap) {
+fn add_times<A: Allocator + Copy>(
+    page: &mut Page<A>,
+    run: &Run<'_, A>,
+    group: &Group<'_>,
+    trap: &Trap,
+) {
     let word = match trap.call {
         Call::Read(_, _) => "reads ",
         _ => "writes ",
@@ -139,7 +144,12 @@ fn add_times<A: Allocator + Copy>(page: &mut Page<A>, run: &Run<'_, A>, group: &
 }
 
 // What the calls of a group did.
-fn add_deeds<A: Allocator + Copy>(page: &mut Page<A>, run: &Run<'_, A>, group: &Group<'_>, trap: &Trap) {
+fn add_deeds<A: Allocator + Copy>(
+    page: &mut Page<A>,
+    run: &Run<'_, A>,
+    group: &Group<'_>,
+    trap: &Trap,
+) {
     if group.count > 0 {
         add_times(page, run, group, trap);
     }

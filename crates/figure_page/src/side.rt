@@ -2,8 +2,8 @@
 
 use crate::things::{Thing, is_seen, touches};
 use Piece::{Mark, Num};
-use figure_words::{Run, add_command, add_place, add_sentence, events_of};
 use figure_strips::Span;
+use figure_words::{Run, add_command, add_place, add_sentence, events_of};
 use page_markup::{Page, Piece};
 use std::alloc::Allocator;
 use trace_data::{Event, Process, Trap};
@@ -285,7 +285,11 @@ pub(crate) fn add_behind<A: Allocator + Copy>(page: &mut Page<A>, side: &Side<'_
     let count = side.count(behind, LISTED);
     page.mark("<div class=\"behind\">\n");
     add_items(page, side, behind, LISTED, (0, BEHIND));
-    add_more(page, skipped(count, BEHIND), " more such calls, in the table below");
+    add_more(
+        page,
+        skipped(count, BEHIND),
+        " more such calls, in the table below",
+    );
     add_fold(page, side, behind, true, " goes on: ");
     add_fold(page, side, behind, false, " goes on: ");
     page.mark("</div>\n");

@@ -15,7 +15,8 @@ const ROOM: usize = 32;
 const ROWS: usize = 200;
 
 // What stands above the rows.
-const HEAD: &str = "<thead><tr><th scope=\"col\">Event</th><th scope=\"col\">Since</th><th scope=\"col\">Hart</th><th scope=\"col\">Process</th><th scope=\"col\">Call</th><th scope=\"col\">What happened</th></tr></thead>\n<tbody>\n";
+const HEAD: &str =
+    "<thead><tr><th scope=\"col\">Event</th><th scope=\"col\">Since</th><th scope=\"col\">Hart</th><th scope=\"col\">Process</th><th scope=\"col\">Call</th><th scope=\"col\">What happened</th></tr></thead>\n<tbody>\n";
 
 // How far a table has come: how many rows it has, in which phase it is, by its first event, and how many calls are left out.
 #[derive(Clone, Copy)]
@@ -59,7 +60,9 @@ fn phase_at(phases: &[Fold], number: usize) -> Option<Fold> {
 // Where a table has all rows that are seen, the others open.
 fn open_rows<A: Allocator>(page: &mut Page<A>, before: usize, rows: usize) {
     if before < ROWS && rows >= ROWS {
-        page.mark("</tbody></table></div>\n<details><summary>The calls behind these</summary>\n<div class=\"wide\"><table>");
+        page.mark(
+            "</tbody></table></div>\n<details><summary>The calls behind these</summary>\n<div class=\"wide\"><table>",
+        );
         page.mark(HEAD);
     }
 }
@@ -99,7 +102,9 @@ fn end_table<A: Allocator>(page: &mut Page<A>, progress: Progress) {
         page.add(&[
             Mark("<p class=\"note\"><b>The table ends here</b>: "),
             Num(progress.left),
-            Mark(" calls more are left out. <code>--from</code> and <code>--to</code> draw others.</p>\n"),
+            Mark(
+                " more calls are left out. <code>--from</code> and <code>--to</code> draw others.</p>\n",
+            ),
         ]);
     }
     if progress.rows >= ROWS {

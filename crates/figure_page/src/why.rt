@@ -28,11 +28,7 @@ fn add_thing<A: Allocator>(page: &mut Page<A>, run: &Run<'_, A>, thing: Thing<'_
         Thing::Out => page.mark("the output"),
         Thing::Diag => page.mark("the messages"),
         Thing::Table => page.mark("the table of processes"),
-        Thing::File(name) => page.add(&[
-            Mark("file <code>"),
-            Short(name, ROOM),
-            Mark("</code>"),
-        ]),
+        Thing::File(name) => page.add(&[Mark("file <code>"), Short(name, ROOM), Mark("</code>")]),
         Thing::Pipe(maker) => page.add(&[Mark("pipe "), Pipe(pipe_of(run, maker))]),
     }
 }
@@ -88,7 +84,9 @@ fn add_sides<A: Allocator + Copy>(
     let (twin, other_second) = other.actors;
     add_actor(page, "first", (one.run, first), (other.run, twin));
     add_actor(page, "second", (one.run, second), (other.run, other_second));
-    page.mark("</ul>\n<p class=\"note\">◆ is the first call on it that comes in another order, and ◇ the other one’s next call on it, which comes later here. The numbers are those of events.</p>\n<div class=\"why\">\n<h3>Run 1</h3>\n<h3>Run 2</h3>\n");
+    page.mark(
+        "</ul>\n<p class=\"note\">◆ is the first call on it that comes in another order, and ◇ the other one’s next call on it, which comes later here. The numbers are those of events.</p>\n<div class=\"why\">\n<h3>Run 1</h3>\n<h3>Run 2</h3>\n",
+    );
     add_before(page, one);
     add_before(page, other);
     add_turn(page, one);
@@ -152,7 +150,9 @@ pub(crate) fn add_why<A: Allocator + Copy>(
     };
     match cause_of(alloc, pair, number)? {
         Some(cause) => add_cause(page, pair, cause),
-        None => page.mark("<p class=\"note\">No two calls on what processes share come in another order.</p>\n"),
+        None => page.mark(
+            "<p class=\"note\">No two calls on what processes share come in another order.</p>\n",
+        ),
     }
     Ok(())
 }

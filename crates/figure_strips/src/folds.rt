@@ -99,11 +99,7 @@ fn is_notable<A: Allocator>(run: &Run<'_, A>, folded: Folded, trap: &Trap) -> bo
         Folded::Figure => ends_line(run, trap.out) || trap.files.first < trap.files.past,
         Folded::Table => false,
     };
-    is_seen
-        || trap.is_at_end
-        || closes_end(pipes)
-        || trap.diag.is_some()
-        || trap.full.is_some()
+    is_seen || trap.is_at_end || closes_end(pipes) || trap.diag.is_some() || trap.full.is_some()
 }
 
 // Whether so many of its kind were drawn; counts it.
@@ -165,12 +161,7 @@ fn dull_events<A: Allocator + Copy>(
     let mut seen: Vec<Seen, A> = Vec::new(alloc);
     let mut dull: Vec<bool, A> = Vec::new(alloc);
     dull.resize(past.saturating_sub(first), false)?;
-    mark_all(
-        (run, folded),
-        &mut seen,
-        dull.as_mut_slice(),
-        (first, past),
-    )?;
+    mark_all((run, folded), &mut seen, dull.as_mut_slice(), (first, past))?;
     Ok(dull)
 }
 
