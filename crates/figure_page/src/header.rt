@@ -9,7 +9,7 @@ use std::alloc::Allocator;
 use trace_data::{FileState, Part, Trace};
 
 // How many bytes of a script or an output are shown, and how many files.
-const SHOWN: usize = 4096;
+const SHOWN: usize = 2048;
 
 const FILES: usize = 40;
 

@@ -5,11 +5,23 @@ use crate::story::add_story;
 use crate::style::KEY;
 use crate::table::add_table;
 use Piece::{Mark, Num};
-use figure_strips::{Bounds, Fold, Sheet, Span, Window, add_strips, folds_of};
+use figure_strips::{Bounds, Fold, Span, Window, add_strips_within, folds_of};
 use figure_words::Run;
 use page_markup::{Page, Piece};
 use std::alloc::{AllocError, Allocator};
 use trace_data::Trace;
+
+/// How many bytes a page has when no strip more is begun, and when no row more is, so that it stays below 400,000.
+#[derive(Clone, Copy)]
+pub(crate) struct Limits {
+    pub(crate) figure: usize,
+    pub(crate) table: usize,
+}
+
+const LIMITS: Limits = Limits {
+    figure: 170_000,
+    table: 330_000,
+};
 
 // Says which events are left out, if some are.
 pub(crate) fn add_left_out<A: Allocator>(page: &mut Page<A>, span: Span, events: usize) {
@@ -51,28 +63,45 @@ fn add_folded<A: Allocator>(page: &mut Page<A>, folds: &[Fold]) {
         Mark("<p class=\"note\"><b>"),
         Num(folded),
         Mark(
-            " events are folded</b>, in shaded columns with how many there are: reads and writes like those before them. The table has each.</p>\n",
+            " events are folded</b>, in shaded columns with how many there are: reads and writes like those before them. The table says what they moved.</p>\n",
         ),
     ]);
 }
 
-// The figure of these events, which the run passes.
+// Says which events the figure leaves out, if some are.
+fn add_undrawn<A: Allocator>(page: &mut Page<A>, first: usize, past: usize) {
+    if first < past {
+        page.add(&[
+            Mark("<p class=\"note\"><b>The figure ends here</b>: events "),
+            Num(first),
+            Mark(" to "),
+            Num(past.saturating_sub(1)),
+            Mark(" aren’t drawn. <code>--from</code> draws them.</p>\n"),
+        ]);
+    }
+}
+
+/// The figure of these events, which the run passes, until the page has so many bytes.
+///
+/// `AllocError` where memory is refused.
 pub(crate) fn add_figure<A: Allocator + Copy>(
     alloc: A,
     page: &mut Page<A>,
     run: &mut Run<'_, A>,
     span: Span,
+    most: usize,
 ) -> Result<(), AllocError> {
     let folds = folds_of(alloc, run, (span.first, span.past))?;
     add_folded(page, folds.as_slice());
     let window = Window::new(span.first, span.past, folds.as_slice());
-    let _page = add_strips(alloc, page, run, window, Sheet::Page)?;
+    let first = add_strips_within(alloc, page, run, window, most)?;
+    add_undrawn(page, first, span.past);
     Ok(())
 }
 
 /// The page of a run, in HTML: its script, what it printed and left, what happened in sentences, its figure, and a table of its
-/// calls. Of more than
-/// `MOST_EVENTS` events the first so many of those in the bounds are drawn, and the page says which are left out. Own.
+/// calls, in which calls that are alike are told together. Of more than `MOST_EVENTS` events the first so many of those in the bounds
+/// are drawn, and the page says which are left out; it also says so where it would have more than some 400,000 bytes. Own.
 ///
 /// `AllocError` where memory is refused.
 pub fn run_page<A: Allocator + Copy>(
@@ -97,9 +126,9 @@ pub fn run_page<A: Allocator + Copy>(
     add_left_out(&mut page, span, trace.events.len());
     page.mark(KEY);
     run.pass(1, span.first);
-    add_figure(alloc, &mut page, &mut run, span)?;
+    add_figure(alloc, &mut page, &mut run, span, LIMITS.figure)?;
     page.mark("<h2>Each call</h2>\n");
-    add_table(&mut page, &run, span);
+    add_table(alloc, &mut page, &run, span, LIMITS.table)?;
     page.mark("</main>\n</body>\n</html>\n");
     page.end()
 }

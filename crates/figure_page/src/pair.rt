@@ -1,94 +1,36 @@
 //! The page of two runs of one script.
 
+use crate::differ::add_differences;
 use crate::header::{add_files, add_head, add_printed, add_size};
-use crate::page::{add_figure, add_left_out};
+use crate::page::{Limits, add_figure, add_left_out};
+use crate::parting::add_where;
 use crate::story::add_story;
 use crate::style::KEY;
 use crate::table::add_table;
+use crate::why::add_why;
 use Piece::{Mark, Num};
 use figure_strips::{Bounds, Span};
-use figure_words::{Run, add_parting, add_process, add_sentence};
+use figure_words::Run;
 use page_markup::{Page, Piece};
 use run_figure::common_events;
 use std::alloc::{AllocError, Allocator};
-use trace_data::{Event, Trace};
+use trace_data::Trace;
 
-// How many columns a command takes.
-const ROOM: usize = 40;
+// How large the page may be where each of its parts ends.
+const BEGINNING: Limits = Limits {
+    figure: 110_000,
+    table: 160_000,
+};
 
-// The call that the process of the event makes then: at the event, or at the first one to which it runs from there.
-fn deed_of(events: &[Event], number: usize) -> Option<&Event> {
-    events
-        .iter()
-        .skip(number.saturating_sub(1))
-        .find(|event| match event.trap {
-            Some(trap) => event.number == number || trap.from == number,
-            None => false,
-        })
-}
+const RUN_1: Limits = Limits {
+    figure: 200_000,
+    table: 250_000,
+};
 
-// What comes at an event in a run.
-fn add_deed<A: Allocator + Copy>(page: &mut Page<A>, run: &Run<'_, A>, number: usize) {
-    let events = run.trace.events.as_slice();
-    if let Some(event) = deed_of(events, number) {
-        page.mark("<p>Process ");
-        add_process(page, run, event, ROOM);
-        page.mark("</p>");
-        if let Some(trap) = &event.trap {
-            page.mark("<p>");
-            add_sentence(page, run, event, trap);
-            page.mark("</p>");
-        }
-        return;
-    }
-    match events.get(number.wrapping_sub(1)) {
-        None => page.mark("<p>The run has ended.</p>"),
-        Some(event) => {
-            page.mark("<p>Process ");
-            add_process(page, run, event, ROOM);
-            page.mark(" begins to run</p>")
-        }
-    }
-}
-
-// A card of a run: what comes in it at an event.
-fn add_card<A: Allocator + Copy>(
-    page: &mut Page<A>,
-    run: &Run<'_, A>,
-    name: &'static str,
-    number: usize,
-) {
-    page.add(&[
-        Mark("<div class=\"card\"><b>In "),
-        Mark(name),
-        Mark(", event "),
-        Num(number),
-        Mark("</b>"),
-    ]);
-    add_deed(page, run, number);
-    page.mark("</div>\n");
-}
-
-// Where the two part, in a sentence, and what comes then in each.
-fn add_where<A: Allocator + Copy>(
-    page: &mut Page<A>,
-    one: &Run<'_, A>,
-    other: &Run<'_, A>,
-    count: usize,
-) {
-    page.mark("<h2>Where they part</h2>\n");
-    if count == one.trace.events.len() && count == other.trace.events.len() {
-        page.mark("<p>Nowhere: the events of both are the same.</p>\n");
-        return;
-    }
-    let number = count.saturating_add(1);
-    page.mark("<p>");
-    add_parting(page, count);
-    page.mark("</p>\n<div class=\"two\">\n");
-    add_card(page, one, "run 1", number);
-    add_card(page, other, "run 2", number);
-    page.mark("</div>\n");
-}
+const RUN_2: Limits = Limits {
+    figure: 290_000,
+    table: 350_000,
+};
 
 // What a run told as diagnostics, if it told something.
 fn add_messages<A: Allocator + Copy>(page: &mut Page<A>, name: &'static str, trace: &Trace<A>) {
@@ -119,30 +61,50 @@ fn add_both_facts<A: Allocator + Copy>(page: &mut Page<A>, one: &Run<'_, A>, oth
     page.mark("</dl>\n");
 }
 
-// The figure and the table of a run from an event on.
+// The figure and the table of a run from an event on, which open.
 fn add_rest<A: Allocator + Copy>(
     alloc: A,
     page: &mut Page<A>,
     run: &mut Run<'_, A>,
-    title: &'static str,
+    (title, limits): (&'static str, Limits),
     span: Span,
 ) -> Result<(), AllocError> {
     page.add(&[
-        Mark("<h2>"),
+        Mark("<details class=\"whole\"><summary><h2>"),
         Mark(title),
         Mark(", from event "),
         Num(span.first),
-        Mark(" on</h2>\n"),
+        Mark(" on</h2></summary>\n"),
     ]);
     add_story(page, run, span);
     run.pass(1, span.first);
-    add_figure(alloc, page, run, span)?;
-    add_table(page, run, span);
+    add_figure(alloc, page, run, span, limits.figure)?;
+    add_table(alloc, page, run, span, limits.table)?;
+    page.mark("</details>\n");
     Ok(())
 }
 
-/// The page of two runs of one script: what both printed and left, the event at which they part, what both begin with once, and
-/// then the rest of each. The bounds are as of `run_page`, of each run. Own.
+// The figure and the table of what both runs begin with, which open.
+fn add_beginning<A: Allocator + Copy>(
+    alloc: A,
+    page: &mut Page<A>,
+    run: &mut Run<'_, A>,
+    (span, parting): (Span, usize),
+) -> Result<(), AllocError> {
+    page.mark("<details class=\"whole\"><summary><h2>What both begin with</h2></summary>\n");
+    add_left_out(page, span, run.trace.events.len());
+    page.mark(KEY);
+    run.pass(1, span.first);
+    let span = span.before(parting);
+    add_figure(alloc, page, run, span, BEGINNING.figure)?;
+    add_table(alloc, page, run, span, BEGINNING.table)?;
+    page.mark("</details>\n");
+    Ok(())
+}
+
+/// The page of two runs of one script: what they leave that differs, the event at which they part, and the calls whose order decides
+/// it, side by side; then, each behind a line that opens, what both begin with, once, and the rest of each. The bounds are as of
+/// `run_page`, of each run. Own.
 ///
 /// `AllocError` where memory is refused.
 pub fn pair_page<A: Allocator + Copy>(
@@ -157,19 +119,17 @@ pub fn pair_page<A: Allocator + Copy>(
     let count = common_events(one.events.as_slice(), other.events.as_slice());
     let parting = count.saturating_add(1);
     add_head(&mut page, "Two runs of a script", one.text(one.head.script));
-    add_both_facts(&mut page, &first, &second);
+    add_differences(&mut page, one, other);
     add_where(&mut page, &first, &second, count);
+    add_why(alloc, &mut page, &first, &second, parting)?;
+    page.mark("<h2>All of both runs</h2>\n");
+    add_both_facts(&mut page, &first, &second);
     let span = bounds.span(one.events.len());
-    page.mark("<h2>What both begin with</h2>\n");
-    add_left_out(&mut page, span, one.events.len());
-    page.mark(KEY);
-    first.pass(1, span.first);
-    add_figure(alloc, &mut page, &mut first, span.before(parting))?;
-    add_table(&mut page, &first, span.before(parting));
+    add_beginning(alloc, &mut page, &mut first, (span, parting))?;
     let rest = span.from(parting);
-    add_rest(alloc, &mut page, &mut first, "Run 1", rest)?;
+    add_rest(alloc, &mut page, &mut first, ("Run 1", RUN_1), rest)?;
     let rest = bounds.span(other.events.len()).from(parting);
-    add_rest(alloc, &mut page, &mut second, "Run 2", rest)?;
+    add_rest(alloc, &mut page, &mut second, ("Run 2", RUN_2), rest)?;
     page.mark("</main>\n</body>\n</html>\n");
     page.end()
 }

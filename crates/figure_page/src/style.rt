@@ -78,10 +78,32 @@ caption{text-align:left;color:var(--faint);padding-bottom:6px}
 th,td{text-align:left;vertical-align:top;padding:3px 10px 3px 0;border-bottom:1px solid var(--line);overflow-wrap:anywhere}
 th{white-space:nowrap}
 td:nth-child(-n+3),th:nth-child(-n+3){white-space:nowrap}
+mark{background:var(--t1);color:inherit;border-bottom:2px solid var(--alert)}
+mark.ends{font-style:italic;font-family:system-ui,sans-serif}
+.differ{table-layout:fixed}
+.differ td:first-child,.differ th:first-child{width:110px}
+.differ td,.differ th{white-space:normal}
+.who{list-style:none;margin:6px 0;padding:0}
+.first{border-left:6px solid var(--h0);padding-left:8px}
+.second{border-left:6px double var(--h5);padding-left:8px}
+.why{display:grid;grid-template-columns:1fr 1fr;gap:0 20px;font-size:14px}
+.why>*{min-width:0}
+.why h3{margin:4px 0}
+.why ol{list-style:none;margin:0;padding:0}
+.why li,.who li,.why details{margin:0 0 4px;overflow-wrap:anywhere}
+.why li li,.why details li{margin-top:4px}
+.before{align-self:end}
+.turn{border:2px solid var(--alert);padding:8px;margin:4px 0 8px;overflow-wrap:anywhere}
+.turn.first{border-left:6px solid var(--h0)}
+.turn.second{border-left:6px double var(--h5)}
+.turn b{color:var(--alert)}
+summary{cursor:pointer}
+summary h2{display:inline}
+.whole{border-top:1px solid var(--line);padding:10px 0}
 .two{display:grid;grid-template-columns:repeat(auto-fit,minmax(300px,1fr));gap:12px}
 .card{border:1px solid var(--line);border-radius:4px;padding:10px 12px;overflow-wrap:anywhere}
 .card p{margin:6px 0 0}
-@media (max-width:700px){body{padding:14px 10px}pre.script{font-size:17px}.side{flex-basis:124px;overflow:hidden}table{min-width:640px}}
+@media (max-width:700px){body{padding:14px 10px}pre.script{font-size:17px}.side{flex-basis:124px;overflow:hidden}table{min-width:640px}table.differ{min-width:0}.differ td:first-child,.differ th:first-child{width:72px}.why{gap:0 8px;font-size:12px}}
 @media print{@page{size:A4 landscape;margin:10mm}body{padding:0;max-width:none;font-size:11px}.strip{display:flex}.side{flex:222 0 0;min-width:0}.time{flex:1120 0 0;min-width:0;overflow:visible}.strip svg{width:100%;height:auto}h2{break-after:avoid}tr{break-inside:avoid}table{font-size:9px}}
 </style>
 </head>

@@ -81,3 +81,26 @@ pub fn add_strips<A: Allocator + Copy>(
     }
     Ok(left)
 }
+
+/// Adds strips of these events to the page, as `add_strips`, until it has so many bytes; returns the number of the first event that
+/// isn't drawn. Own.
+///
+/// `AllocError` where memory is refused.
+pub fn add_strips_within<A: Allocator + Copy>(
+    alloc: A,
+    page: &mut Page<A>,
+    run: &mut Run<'_, A>,
+    window: Window<'_>,
+    most: usize,
+) -> Result<usize, AllocError> {
+    let mut rest = window;
+    for _strip in window.first..window.past {
+        if rest.first >= rest.past || page.size() >= most {
+            return Ok(rest.first);
+        }
+        let strip = first_strip(rest);
+        let _sheet = add_strip(alloc, page, run, strip, Sheet::Page)?;
+        rest = rest_of(rest, strip);
+    }
+    Ok(rest.first)
+}

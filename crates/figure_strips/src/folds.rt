@@ -5,10 +5,20 @@ use figure_words::{Run, events_of};
 use std::alloc::{AllocError, Allocator};
 use trace_data::{Call, Event, Object, Part, PipeState, Process, Reply, State, Trap};
 
-// How often a read or a write of a kind is drawn before it is dull, and how many dull events in a row are folded.
+// How often a read or a write of a kind is drawn before it is dull, and how many dull events in a row are folded in a figure, and in
+// a table.
 const DRAWN: usize = 3;
 
 const FEWEST: usize = 12;
+
+const FEWEST_ROWS: usize = 6;
+
+// Whether a figure or a table is folded.
+#[derive(Clone, Copy)]
+enum Folded {
+    Figure,
+    Table,
+}
 
 // What reads or writes that are alike have in common.
 #[derive(Clone, Copy, PartialEq, Eq)]
@@ -80,17 +90,16 @@ fn closes_end(states: &[PipeState]) -> bool {
     false
 }
 
-// Whether a call is always drawn: it meets the end of a file, ends a line of the output, tells a diagnostic, changes a file, closes
-// an end of a pipe, or finds something full.
-fn is_notable<A: Allocator>(run: &Run<'_, A>, trap: &Trap) -> bool {
+// Whether a call is always drawn: it meets the end of a file, tells a diagnostic, closes an end of a pipe, or finds something full; in
+// a figure also where it ends a line of the output or changes a file.
+fn is_notable<A: Allocator>(run: &Run<'_, A>, folded: Folded, trap: &Trap) -> bool {
     let pipes = run.trace.pipes.as_slice();
     let pipes = pipes.get(trap.pipes.first..trap.pipes.past).unwrap_or(&[]);
-    trap.is_at_end
-        || ends_line(run, trap.out)
-        || closes_end(pipes)
-        || trap.diag.is_some()
-        || trap.full.is_some()
-        || trap.files.first < trap.files.past
+    let is_seen = match folded {
+        Folded::Figure => ends_line(run, trap.out) || trap.files.first < trap.files.past,
+        Folded::Table => false,
+    };
+    is_seen || trap.is_at_end || closes_end(pipes) || trap.diag.is_some() || trap.full.is_some()
 }
 
 // Whether so many of its kind were drawn; counts it.
@@ -114,27 +123,27 @@ fn mark(dull: &mut [bool], first: usize, event: usize) {
 
 // Whether a call is like others before it, and isn't always drawn.
 fn is_dull<A: Allocator>(
-    run: &Run<'_, A>,
+    (run, folded): (&Run<'_, A>, Folded),
     seen: &mut Vec<Seen, A>,
     event: &Event,
     trap: &Trap,
 ) -> Result<bool, AllocError> {
     match kind_of(event, trap) {
-        Some(kind) => Ok(is_seen(seen, kind)? && !is_notable(run, trap)),
+        Some(kind) => Ok(is_seen(seen, kind)? && !is_notable(run, folded, trap)),
         None => Ok(false),
     }
 }
 
 // Marks the calls that are like others, and the dispatches before them.
 fn mark_all<A: Allocator>(
-    run: &Run<'_, A>,
+    (run, folded): (&Run<'_, A>, Folded),
     seen: &mut Vec<Seen, A>,
     dull: &mut [bool],
     (first, past): (usize, usize),
 ) -> Result<(), AllocError> {
     for event in events_of(run.trace, first, past) {
         if let Some(trap) = &event.trap {
-            if is_dull(run, seen, event, trap)? {
+            if is_dull((run, folded), seen, event, trap)? {
                 mark(dull, first, event.number);
                 mark(dull, first, trap.from);
             }
@@ -146,24 +155,28 @@ fn mark_all<A: Allocator>(
 // Which events from the first on are dull: the calls that are like others, and the dispatches before them.
 fn dull_events<A: Allocator + Copy>(
     alloc: A,
-    run: &Run<'_, A>,
+    (run, folded): (&Run<'_, A>, Folded),
     (first, past): (usize, usize),
 ) -> Result<Vec<bool, A>, AllocError> {
     let mut seen: Vec<Seen, A> = Vec::new(alloc);
     let mut dull: Vec<bool, A> = Vec::new(alloc);
     dull.resize(past.saturating_sub(first), false)?;
-    mark_all(run, &mut seen, dull.as_mut_slice(), (first, past))?;
+    mark_all((run, folded), &mut seen, dull.as_mut_slice(), (first, past))?;
     Ok(dull)
 }
 
 // Adds the fold of these events, if they are enough.
 fn add_fold<A: Allocator>(
     folds: &mut Vec<Fold, A>,
-    first: usize,
-    past: usize,
+    folded: Folded,
+    (first, past): (usize, usize),
 ) -> Result<(), AllocError> {
     let fold = Fold { first, past };
-    if fold.count() >= FEWEST {
+    let fewest = match folded {
+        Folded::Figure => FEWEST,
+        Folded::Table => FEWEST_ROWS,
+    };
+    if fold.count() >= fewest {
         folds.push(fold)?;
     }
     Ok(())
@@ -172,6 +185,7 @@ fn add_fold<A: Allocator>(
 // Adds the folds of events, of which the first has this number.
 fn add_folds<A: Allocator>(
     folds: &mut Vec<Fold, A>,
+    folded: Folded,
     dull: &[bool],
     first: usize,
 ) -> Result<(), AllocError> {
@@ -179,12 +193,24 @@ fn add_folds<A: Allocator>(
     let mut event = first;
     for is_dull in dull {
         if !*is_dull {
-            add_fold(folds, begin, event)?;
+            add_fold(folds, folded, (begin, event))?;
             begin = event.saturating_add(1);
         }
         event = event.saturating_add(1);
     }
-    add_fold(folds, begin, event)
+    add_fold(folds, folded, (begin, event))
+}
+
+// Which of the events are folded in a figure or a table.
+fn folds_by<A: Allocator + Copy>(
+    alloc: A,
+    (run, folded): (&Run<'_, A>, Folded),
+    (first, past): (usize, usize),
+) -> Result<Vec<Fold, A>, AllocError> {
+    let dull = dull_events(alloc, (run, folded), (first, past))?;
+    let mut folds: Vec<Fold, A> = Vec::new(alloc);
+    add_folds(&mut folds, folded, dull.as_slice(), first)?;
+    Ok(folds)
 }
 
 /// Which of the events from a number on, and before another, are folded, in order: twelve or more in a row that are dull. Dull is a
@@ -198,10 +224,19 @@ pub fn folds_of<A: Allocator + Copy>(
     run: &Run<'_, A>,
     (first, past): (usize, usize),
 ) -> Result<Vec<Fold, A>, AllocError> {
-    let dull = dull_events(alloc, run, (first, past))?;
-    let mut folds: Vec<Fold, A> = Vec::new(alloc);
-    add_folds(&mut folds, dull.as_slice(), first)?;
-    Ok(folds)
+    folds_by(alloc, (run, Folded::Figure), (first, past))
+}
+
+/// Which of the events from a number on, and before another, are folded in a table, in order: six or more in a row that are dull, as of
+/// `folds_of`, also where they end lines of the output or change files. Own.
+///
+/// `AllocError` where memory is refused.
+pub fn phases_of<A: Allocator + Copy>(
+    alloc: A,
+    run: &Run<'_, A>,
+    (first, past): (usize, usize),
+) -> Result<Vec<Fold, A>, AllocError> {
+    folds_by(alloc, (run, Folded::Table), (first, past))
 }
 
 /// The events of the strip that begins where the window does: as many as have room, with whole folds, and at least one or one fold.

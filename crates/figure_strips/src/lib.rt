@@ -25,8 +25,8 @@ mod span;
 mod strip;
 mod written;
 
-pub use drawing::add_strips;
-pub use folds::folds_of;
+pub use drawing::{add_strips, add_strips_within};
+pub use folds::{folds_of, phases_of};
 pub use geometry::{Fold, NAMES, TIME, Window};
 pub use labels::begin_text;
 pub use patterns::PATTERNS;

@@ -69,7 +69,7 @@ pub fn begin_time<A: Allocator>(
     let last = window.past.saturating_sub(1);
     page.fill("<title>Events % to %", &[Num(window.first), Num(last)]);
     page.mark(match sheet {
-        Sheet::Page => "; the table below has each of them</title>",
+        Sheet::Page => "; the table below tells of them</title>",
         Sheet::Picture(_) => "</title>",
     });
 }

@@ -30,6 +30,16 @@ fn object_words<'a, A: Allocator>(
     }
 }
 
+/// What a descriptor has open, in words.
+pub fn add_object<A: Allocator + Copy>(
+    page: &mut Page<A>,
+    run: &Run<'_, A>,
+    object: Option<Object>,
+) {
+    let (what, name) = object_words(run, object);
+    page.add(&[what, name]);
+}
+
 // What a process waits for that sleeps.
 fn add_reason<A: Allocator>(page: &mut Page<A>, run: &Run<'_, A>, channel: Channel) {
     match channel {

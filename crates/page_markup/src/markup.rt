@@ -153,6 +153,11 @@ impl<A: Allocator> Page<A> {
         Ok(self.text)
     }
 
+    /// How many bytes it has so far.
+    pub fn size(&self) -> usize {
+        self.text.len()
+    }
+
     fn put(&mut self, bytes: &[u8])
         ensures kept { self.old ≡ true → self.new ≡ true }
     {

@@ -2,6 +2,8 @@
 //! events of a trace.
 #![tactic(auto)]
 
+mod bytes;
 mod figure;
 
+pub use bytes::common_bytes;
 pub use figure::{Band, Bar, Lane, bands, bars, common_events, first_stranger, lanes};
