@@ -62,12 +62,17 @@ fn pace(count: usize, taken: Duration) -> u64 {
 
 // Writes how far something is, and at which pace it goes on, where that says something.
 fn write_step<E: Write>(err: &mut E, step: Step<'_>, pace: u64) -> io::Result<()> {
-    let Step { count, of, what } = step;
+    let Step {
+        count,
+        of,
+        what,
+        has_pace,
+    } = step;
     write!(err, "\r{count}")?;
     if let Some(of) = of {
         write!(err, " of {of}")?;
     }
-    if step.has_pace {
+    if has_pace {
         write!(err, " {what}, {pace} a second\x1b[K")
     } else {
         write!(err, " {what}\x1b[K")
