@@ -1,5 +1,6 @@
 /* A kernel as this repository defines it (crates/kernel_model/specs): its state, and its system calls, each of them one step. The programs
-   that make these calls are in pipeline.pml and lines.pml, and bench/explore counts their states.
+   that make these calls are in pipeline.pml and lines.pml, and bench/explore counts their states, which are those of explore --full.
+   SPIN has to be told -o1 -o2 -o3: else it drops what is only written, as the output, and makes one step of two.
 
    A slot of the table of processes is a Promela process, whose _pid is the slot's number. Where it stands in its program is what it did last
    and how that was answered, so two such places are kept apart even if the next call is the same, as they are where explore keeps states.

@@ -1,5 +1,5 @@
 /* So many lines `echo X &`, each with a letter of its own, as init, the shell and echo run them (crates/sh_machine/specs/Turn.antt and
-   crates/user_progs/specs/Turn.antt): spin -a -DLINES=2 lines.pml. */
+   crates/user_progs/specs/Turn.antt): spin -a -o1 -o2 -o3 -DLINES=2 lines.pml. */
 
 #ifndef LINES
 #define LINES 2

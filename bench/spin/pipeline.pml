@@ -1,5 +1,5 @@
 /* `echo a | cat | .. | cat` of so many stages, as init, the shell, echo and cat run it (crates/sh_machine/specs/Turn.antt and
-   crates/user_progs/specs/Turn.antt): spin -a -DSTAGES=3 pipeline.pml. */
+   crates/user_progs/specs/Turn.antt): spin -a -o1 -o2 -o3 -DSTAGES=3 pipeline.pml. */
 
 #ifndef STAGES
 #define STAGES 2
