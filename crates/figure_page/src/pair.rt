@@ -107,10 +107,10 @@ fn add_beginning<A: Allocator + Copy>(
 /// `run_page`, of each run. Own.
 ///
 /// `AllocError` where memory is refused.
-pub fn pair_page<A: Allocator + Copy>(
+pub fn pair_page<'t, A: Allocator + Copy>(
     alloc: A,
-    one: &Trace<A>,
-    other: &Trace<A>,
+    one: &'t Trace<A>,
+    other: &'t Trace<A>,
     bounds: Bounds,
 ) -> Result<Vec<u8, A>, AllocError> {
     let mut page = Page::new(alloc);

@@ -135,11 +135,11 @@ fn add_cause<A: Allocator + Copy>(page: &mut Page<A>, pair: Pair<'_, '_, A>, cau
 /// Why two runs differ that part at this event, where the order of two calls of one thing does.
 ///
 /// `AllocError` where memory is refused.
-pub(crate) fn add_why<A: Allocator + Copy>(
+pub(crate) fn add_why<'p, 't, A: Allocator + Copy>(
     alloc: A,
     page: &mut Page<A>,
-    one: &Run<'_, A>,
-    other: &Run<'_, A>,
+    one: &'p Run<'t, A>,
+    other: &'p Run<'t, A>,
     number: usize,
 ) -> Result<(), AllocError> {
     let twins = twins_of(alloc, one, other)?;
