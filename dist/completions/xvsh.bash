@@ -12,7 +12,7 @@ _xvsh() {
         plain) flags='--files-to --diagnostics --strict --append --files --json --input -c -h --help' ;;
         check) flags='--turns --room --strict --json --input -c -h --help' ;;
         explain) flags='--why --fix --append --json --input -c -h --help' ;;
-        explore) flags='--states --all --witness --draw --pair --json --append --input -c -h --help' ;;
+        explore) flags='--states --all --full --witness --draw --pair --json --append --input -c -h --help' ;;
         draw) flags='--from --to --svg -h --help' ;;
         step) flags='--schedule --append --json --input -c -h --help' ;;
         grade) flags='--json --tap --gradescope --jobs --states -h --help' ;;

@@ -63,6 +63,7 @@ complete -c xvsh -n '__fish_seen_subcommand_from explain' -s c -d 'SCRIPT is the
 complete -c xvsh -n '__fish_seen_subcommand_from explain' -s h -l help -d 'Print help'
 complete -c xvsh -n '__fish_seen_subcommand_from explore' -l states -x -d 'Keep at most so many states, 1 to 10000000; 200000 without it'
 complete -c xvsh -n '__fish_seen_subcommand_from explore' -l all -d 'Try every order of a settled script too'
+complete -c xvsh -n '__fish_seen_subcommand_from explore' -l full -d 'Try every turn in every state, where one would do: the same outcomes of more states, to compare'
 complete -c xvsh -n '__fish_seen_subcommand_from explore' -l witness -x -a '(__fish_complete_directories)' -d 'Write a schedule for each outcome to DIR/1.schedule and so on, for `xvsh replay`'
 complete -c xvsh -n '__fish_seen_subcommand_from explore' -l draw -r -F -d 'Write a page of HTML that draws runs to two outcomes to FILE; for `-` to standard output, and nothing else there'
 complete -c xvsh -n '__fish_seen_subcommand_from explore' -l pair -x -d 'Tell apart, and draw, the outcomes N and M; without it, those whose difference is easiest to see'
