@@ -47,7 +47,7 @@ held_by_dup t (Some e) None = t
 held_by_dup t (Some e) (Some place) = held t e
 
 -- the result of a close, by the entry of its descriptor, with the object where the entry counts no other holder. In every run it
--- counts the descriptors of all processes that hold it (`an_entry_is_open_while_a_descriptor_holds_it` of law_kernel/src/laws.rt)
+-- counts the descriptors of all processes that hold it (`an_entry_is_open_while_a_descriptor_holds_it` of law_kernel/src/kernel.rt)
 abbrev pub close_answer : Entries → Option ℕ → Result (Option Object) FdFault
 close_answer t None = Err BadFd
 close_answer t (Some e) = Ok (last_object (entry_at t e))

@@ -58,7 +58,7 @@ fn lines_left<A: Allocator>(lines: &[Line<A>]) -> Option<u64>
 
 /// Whether init, the shell and all processes that a script, with `&` or without, forks in all are no more than there are slots: two,
 /// and one for each line, for each `;` and for each `&` in a line, and two for each `|`. Then each fork finds a free slot, in whatever
-/// order its processes go on (a law of `law_few_forks`).
+/// order its processes go on (a law of `law_limits`).
 ///
 /// Takes no memory, and time linear in the script. It recurses as deep as the highest tree of the script is high.
 pub fn has_few_forks<A: Allocator>(script: &Script<A>) -> bool

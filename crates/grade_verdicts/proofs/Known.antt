@@ -25,8 +25,8 @@ use Rattle.order_search.specs.Told.{outcome_by, IsReplayed, LeadsToSleep}
 use Rattle.order_search.specs.declared.outcomes.Outcome.{Outcome}
 use Rattle.order_search.proofs.Telling.{some_of}
 use Rattle.run_room.specs.Room.{HasRoom}
-use Rattle.law_standing.proofs.RunsEnd.{finished_means}
-use Rattle.law_trees.proofs.Short.{small_short}
+use Rattle.law_runs.proofs.standing.RunsEnd.{finished_means}
+use Rattle.law_trees.proofs.trees.Short.{small_short}
 use Rattle.grade_verdicts.specs.Agrees.{Agrees, AgreesIn, AgreesWith, HasFile}
 use Rattle.grade_verdicts.specs.Judged.{Ends, HasNoRoom, InEveryRun, IsKnown, IsMeant, IsPassedInEveryOrder, IsSettledOn, IsInTime, IsJudged, IsNotRight, IsPass, IsSpent, IsVerdict, IsWrong, IsWrongSoFar, asleep, by_meaning, in_every_order, judged, meaning_of, start_of}
 use Rattle.grade_verdicts.specs.declared.expected.Expected.{Expected}

@@ -11,12 +11,12 @@ use Rattle.script_load.specs.Limits.{are_small}
 use Rattle.kernel_events.specs.declared.report.Report.{Report}
 use Rattle.meaning_model.specs.Meaning.{script_meaning}
 use Rattle.kernel_model.specs.declared.events.Full.TheVariants.{Memory}
-use Rattle.law_room.proofs.Roomy.{only_memory}
+use Rattle.law_runs.proofs.room.Roomy.{only_memory}
 use Rattle.kernel_core.specs.Answer.{IsAnswer, IsAnswerIfRoomy, IsAnswerIfSettled}
 use Rattle.kernel_events.specs.Reports.{IsRunFrom}
 use Rattle.run_model.specs.ScriptRun.{script_kernel}
-use Rattle.law_standing.proofs.RunsEnd.{finished_means}
-use Rattle.law_trees.proofs.Short.{small_short}
+use Rattle.law_runs.proofs.standing.RunsEnd.{finished_means}
+use Rattle.law_trees.proofs.trees.Short.{small_short}
 
 pub answer : {A : _} (profile : Profile) (lines : List ScriptLine) (input : Bytes) (list : List (Name × Bytes)) (report : Report A) → are_small lines ≡ true → AreFiles list → IsRunFrom (script_kernel profile lines input list) report → IsAnswerIfSettled profile lines input list report
 answer profile lines input list report small are ran settled quiet =

@@ -8,13 +8,13 @@ use Rattle.script_load.specs.Limits.{are_small}
 use Rattle.script_load.specs.Line.{ScriptLine}
 use Rattle.script_load.specs.declared.profile.Profile.{Profile}
 use Rattle.meaning_model.specs.Meaning.{script_tree}
-use Rattle.law_trees.proofs.Short.{small_short}
+use Rattle.law_trees.proofs.trees.Short.{small_short}
 use Rattle.run_model.specs.ScriptRun.{IsSpentFrom, script_kernel}
 use Rattle.step_bounds.specs.Most.{most_events}
-use Rattle.law_bounds.proofs.Ending.{few_turns}
+use Rattle.law_runs.proofs.bounds.Ending.{few_turns}
 use Rattle.kernel_model.specs.declared.events.Full.TheVariants.{Memory}
 use Rattle.room_model.specs.Roomy.{IsRoomyScript}
-use Rattle.law_room.proofs.Roomy.{only_memory}
+use Rattle.law_runs.proofs.room.Roomy.{only_memory}
 use Rattle.kernel_core.specs.Filled.{IsFilledFrom, IsRefusedFrom}
 
 pub filled : (profile : Profile) (lines : List ScriptLine) (input : Bytes) (list : List (Name × Bytes)) (turns : ℕ) → AreFiles list → are_small lines ≡ true → has_back (script_tree lines) ≡ false → IsClear (script_tree lines)

@@ -14,17 +14,17 @@ use Rattle.kernel_model.specs.Sound.{IsSound}
 use Rattle.law_kernel.specs.Ends.{EndsAgree, read_end_open, reads_pipe, write_end_open, writes_pipe}
 use Rattle.law_kernel.specs.Held.{IsHeld}
 use Rattle.law_kernel.specs.Sleeping.{Rests}
-use Rattle.law_kernel.proofs.EndsRuns.{every_run_in_step}
-use Rattle.law_kernel.proofs.Held.{open_while_held}
-use Rattle.law_kernel.proofs.OnePipe.{small_found}
-use Rattle.law_kernel.proofs.Runs.{every_run_rests}
-use Rattle.law_kernel.proofs.SoundRuns.{every_run_is_sound}
+use Rattle.law_kernel.proofs.kernel.EndsRuns.{every_run_in_step}
+use Rattle.law_kernel.proofs.kernel.Held.{open_while_held}
+use Rattle.law_kernel.proofs.kernel.OnePipe.{small_found}
+use Rattle.law_kernel.proofs.kernel.Runs.{every_run_rests}
+use Rattle.law_kernel.proofs.kernel.SoundRuns.{every_run_is_sound}
 use Rattle.law_kernel.specs.Asking.{AllAsk}
 use Rattle.law_kernel.specs.Flow.{put_by, taken_by, all_moved}
 use Rattle.law_kernel.specs.Limits.{IsWithin}
-use Rattle.law_kernel.proofs.AskRuns.{every_run_asks}
-use Rattle.law_kernel.proofs.EntriesLong.{every_run_has_entries}
-use Rattle.law_kernel.proofs.FlowRuns.{put_is_taken_and_held}
+use Rattle.law_kernel.proofs.kernel.AskRuns.{every_run_asks}
+use Rattle.law_kernel.proofs.kernel.EntriesLong.{every_run_has_entries}
+use Rattle.law_kernel.proofs.kernel.FlowRuns.{put_is_taken_and_held}
 
 module _ {S : Type 0} (call : S → Reply → Call) (next : S → Reply → S) (boot now : KernelState S) (events : List Event) (notes : List Bool) (replays : run call next (Some boot) events notes ≡ Some now) (booted : IsBooted boot) where
   abbrev start : KernelState S

@@ -9,7 +9,7 @@ ghost use Rattle.proc_table.specs.Slots.{is_runnable, is_running};
 ghost use Rattle.kernel_model.specs.Events.{IsFinished};
 ghost use Rattle.run_model.specs.Plain.{IsPlainRun};
 ghost use Rattle.step_bounds.specs.Most.{most_events};
-ghost use Rattle.law_never_stuck.specs.Awake.{IsAwake};
+ghost use Rattle.law_runs.specs.Awake.{IsAwake};
 ghost use Rattle.byte_pipe.specs.PipeState.{PipeState};
 ghost use Rattle.kernel_model.specs.Pipes.{pipe_of};
 ghost use Rattle.law_kernel.specs.Ends.{read_end_open, reads_pipe, write_end_open, writes_pipe};

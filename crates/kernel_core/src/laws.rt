@@ -18,18 +18,18 @@ ghost use Rattle.run_model.specs.ScriptRun.{script_kernel};
 ghost use Rattle.kernel_core.specs.Alike.{AreAlike};
 
 use kernel_events::Report;
-pub use law_bounds::laws::{
+pub use law_runs::bounds::{
     every_run_ends_with_the_meaning, every_run_is_finished_after_so_many_events,
 };
-pub use law_kernel::laws::{
+pub use law_kernel::kernel::{
     an_entry_is_open_while_a_descriptor_holds_it, an_exit_closes_every_descriptor,
     no_wake_up_is_lost,
 };
-pub use law_never_stuck::laws::no_run_is_stuck;
-pub use law_standing::laws::{
+pub use law_runs::never_stuck::no_run_is_stuck;
+pub use law_runs::standing::{
     a_finished_run_gives_the_meaning, every_run_stands_for_the_tree_machine,
 };
-pub use law_trees::laws::{each_step_keeps_the_final_value, steps_of_the_two_sides_commute};
+pub use law_trees::trees::{each_step_keeps_the_final_value, steps_of_the_two_sides_commute};
 use script_load::Script;
 use std::alloc::Allocator;
 

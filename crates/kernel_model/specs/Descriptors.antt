@@ -54,7 +54,7 @@ close_reply (Ok object) = Done
 close_reply (Err fault) = Refused
 
 -- close: the entry is let go with its last descriptor. That its count is the number of descriptors that hold it is the law
--- `an_entry_is_open_while_a_descriptor_holds_it` of law_kernel/src/laws.rt
+-- `an_entry_is_open_while_a_descriptor_holds_it` of law_kernel/src/kernel.rt
 abbrev pub close : {S : Type 0} → KernelState S → ℕ → S → ℕ → KernelState S
 close k pid after fd = answered (closed k pid fd) pid after (close_reply (close_answer k.entries (entry_of (fds_at k pid) fd)))
 

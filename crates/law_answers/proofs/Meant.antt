@@ -9,18 +9,18 @@ use Rattle.script_load.specs.Line.{ScriptLine}
 use Rattle.meaning_model.specs.Meaning.{script_tree, script_meaning}
 use Rattle.meaning_model.specs.Settled.{IsSettledScript}
 use Rattle.tree_model.specs.Tidy.{HasShortCommands}
-use Rattle.law_trees.proofs.Short.{script_short}
+use Rattle.law_trees.proofs.trees.Short.{script_short}
 use Rattle.sh_machine.specs.State.{init, shell, top}
 use Rattle.sh_machine.specs.Turn.{call_of, next_of}
 use Rattle.sh_machine.specs.declared.state.Phase.TheVariants.{Starts as Begins}
 use Rattle.kernel_model.specs.declared.events.Event.{Event}
-use Rattle.law_kernel.proofs.SoundRuns.{every_run_has_files}
-use Rattle.law_standing.proofs.RunsEnd.{finished_means}
+use Rattle.law_kernel.proofs.kernel.SoundRuns.{every_run_has_files}
+use Rattle.law_runs.proofs.standing.RunsEnd.{finished_means}
 use Rattle.run_model.specs.ScriptRun.{script_kernel}
 use Rattle.kernel_model.specs.declared.events.Full.{Full}
 use Rattle.kernel_model.specs.declared.events.Full.TheVariants.{Memory}
 use Rattle.room_model.specs.Roomy.{IsRoomyScript}
-use Rattle.law_room.proofs.Roomy.{only_memory}
+use Rattle.law_runs.proofs.room.Roomy.{only_memory}
 use Rattle.xvsh_read.specs.Path.{Path}
 use Rattle.xvsh_read.specs.Starting.{Starts}
 use Rattle.xvsh_runs.specs.Lists.{Prints, run_text}

@@ -4,7 +4,7 @@ use Rattle.mem_files.specs.Name.{Bytes}
 use Rattle.mem_files.specs.Listing.{AreFiles}
 use Rattle.script_load.specs.Line.{ScriptLine}
 use Rattle.script_load.specs.Script.{IsScript}
-use Rattle.law_trees.proofs.Short.{script_short}
+use Rattle.law_trees.proofs.trees.Short.{script_short}
 use Rattle.sh_machine.specs.State.{User}
 use Rattle.sh_machine.specs.Turn.{call_of, next_of}
 use Rattle.kernel_model.specs.declared.events.Event.{Event}
@@ -13,7 +13,7 @@ use Rattle.kernel_model.specs.Events.{run, IsFinished}
 use Rattle.kernel_model.specs.KernelState.{KernelState}
 use Rattle.order_model.specs.Outcome.{outcome_of}
 use Rattle.room_model.specs.Roomy.{IsRoomyScript}
-use Rattle.law_room.proofs.Roomy.{only_memory}
+use Rattle.law_runs.proofs.room.Roomy.{only_memory}
 use Rattle.grade_verdicts.specs.Agrees.{AgreesIn}
 use Rattle.grade_verdicts.specs.Judged.{IsPassed, start_of}
 use Rattle.grade_verdicts.specs.declared.expected.Task.{Task}

@@ -12,13 +12,13 @@ use Rattle.script_load.specs.declared.profile.Profile.{Profile}
 use Rattle.meaning_model.specs.Meaning.{script_tree}
 use Rattle.meaning_model.specs.Settled.{IsSettledScript}
 use Rattle.tree_model.specs.Tidy.{HasShortCommands, IsClearScript}
-use Rattle.law_trees.proofs.Short.{script_short}
+use Rattle.law_trees.proofs.trees.Short.{script_short}
 use Rattle.kernel_model.specs.declared.events.Full.TheVariants.{Memory}
 use Rattle.run_model.specs.ScriptRun.{IsSpentFrom, script_kernel}
 use Rattle.room_model.specs.Roomy.{IsRoomyScript}
 use Rattle.step_bounds.specs.Most.{most_events}
-use Rattle.law_bounds.proofs.Ending.{few_turns}
-use Rattle.law_room.proofs.Roomy.{only_memory}
+use Rattle.law_runs.proofs.bounds.Ending.{few_turns}
+use Rattle.law_runs.proofs.room.Roomy.{only_memory}
 use Rattle.kernel_core.specs.Filled.{IsRefusedFrom}
 use Rattle.xvsh_read.specs.Starting.{Starts}
 use Rattle.xvsh_runs.specs.declared.fault.ProcessFault.{ProcessFault}

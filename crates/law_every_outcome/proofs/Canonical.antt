@@ -15,12 +15,12 @@ use Rattle.proc_table.specs.Slots.{Slot, Table, tally}
 use Rattle.kernel_model.specs.Pipes.{Pipes, pipe_of}
 use Rattle.kernel_model.specs.KernelState.{KernelState}
 use Rattle.law_kernel.specs.Ends.{reads_pipe, writes_pipe, has_object, read_end_open, write_end_open, EndsAgree}
-use Rattle.law_kernel.proofs.EndsRuns.{every_run_in_step}
+use Rattle.law_kernel.proofs.kernel.EndsRuns.{every_run_in_step}
 use Rattle.order_model.specs.Idle.{renamed_object, renamed_entry, renamed_pipe, idle_status, idle_slot, idle_kernel}
 use Rattle.order_model.specs.Alike.{IsOneToOne}
 use Rattle.order_model.specs.Key.{place_in, key}
 use Rattle.order_model.specs.Turns.{quiet_turns, turn_events, turn_notes}
-use Rattle.law_orders.proofs.Tables.{same_eq}
+use Rattle.law_turns.proofs.orders.Tables.{same_eq}
 use Rattle.order_model.specs.Woke.{woke_status, woke_slot, woke_table, woke, AlikeAwake, SameKeyAwake}
 use Rattle.order_model.specs.Begun.{IsBegun}
 

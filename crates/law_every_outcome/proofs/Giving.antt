@@ -11,8 +11,8 @@ use Rattle.proc_table.specs.Slots.{Process, at, is_zombie_child_of}
 use Rattle.kernel_model.specs.KernelState.{KernelState}
 use Rattle.order_model.specs.Privately.{IsPrivateCall, executes, dups, closes}
 use Rattle.order_model.specs.Giving.{GivesWay, privately, closes as closes_in_room, forks, reaps, exits}
-use Rattle.law_slot_numbers.proofs.Slots.{zombie_is}
-use Rattle.law_waits.proofs.Turned.{other_slot}
+use Rattle.law_turns.proofs.slot_numbers.Slots.{zombie_is}
+use Rattle.law_turns.proofs.waits.Turned.{other_slot}
 
 -- the call never puts its process to sleep
 abbrev pub Sleepless : Call → Type 0

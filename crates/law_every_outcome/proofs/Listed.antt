@@ -17,13 +17,13 @@ use Rattle.order_model.specs.Giving.{GivesWay, GivesWayBegun}
 use Rattle.order_model.specs.Anyhow.{SameKeyAnyhow}
 use Rattle.order_model.specs.Linked.{then_slots, CanDo, itself, likened}
 use Rattle.order_model.specs.Explored.{AreEnough, Explored, AreAllOutcomes}
-use Rattle.law_orders.proofs.Matching.{quiet_matched}
-use Rattle.law_private_turns.proofs.Begun.{begun_on, begun_still}
-use Rattle.law_last_closes.proofs.Anyhow.{anyhow_back, key_anyhow, outcome_on}
-use Rattle.law_slot_numbers.proofs.Same.{same_itself}
-use Rattle.law_giving_way.proofs.Linked.{can_outcome}
-use Rattle.law_giving_way.proofs.Following.{following}
-use Rattle.law_giving_way.proofs.Safe.{giving_safe}
+use Rattle.law_turns.proofs.orders.Matching.{quiet_matched}
+use Rattle.law_turns.proofs.private_turns.Begun.{begun_on, begun_still}
+use Rattle.law_turns.proofs.last_closes.Anyhow.{anyhow_back, key_anyhow, outcome_on}
+use Rattle.law_turns.proofs.slot_numbers.Same.{same_itself}
+use Rattle.law_turns.proofs.giving_way.Linked.{can_outcome}
+use Rattle.law_turns.proofs.giving_way.Following.{following}
+use Rattle.law_turns.proofs.giving_way.Safe.{giving_safe}
 use Rattle.law_every_outcome.proofs.Moved.{of_all, any_more, every_ending}
 use Rattle.law_every_outcome.proofs.Runs.{folded, of_run}
 use Rattle.law_every_outcome.proofs.Giving.{giver}

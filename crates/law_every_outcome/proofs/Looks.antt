@@ -8,8 +8,8 @@ use Rattle.kernel_model.specs.KernelState.{KernelState}
 use Rattle.order_model.specs.Idle.{idle_slot, idle_status}
 use Rattle.order_model.specs.Alike.{Alike}
 use Rattle.order_model.specs.Outcome.{SameOutcome}
-use Rattle.law_orders.proofs.Follow.{slots_alike}
-use Rattle.law_orders.proofs.Booted.{same_outcome}
+use Rattle.law_turns.proofs.orders.Follow.{slots_alike}
+use Rattle.law_turns.proofs.orders.Booted.{same_outcome}
 
 abbrev pub awake_status : Status → Bool
 awake_status Runnable = true

@@ -10,14 +10,14 @@ use Rattle.order_model.specs.Outcome.{RunOutcome}
 use Rattle.order_model.specs.Turns.{by_turns, after_turn, quiet_turns, IsReachedFrom}
 use Rattle.order_model.specs.Explored.{FinishesWith, AreOutcomesOf, IsOutcomeByTurns, AreEnough, Explored, IsOutcomeOfRun}
 use Rattle.closed_search.specs.Searched.{IsReached, here, more, IsLed as IsLedTo, listed as listed_to, privately, IsReducedUnder}
-use Rattle.law_orders.proofs.Back.{could_turn}
+use Rattle.law_turns.proofs.orders.Back.{could_turn}
 use Rattle.order_model.specs.Reduced.{IsLed, listed, private_turn}
 use Rattle.order_model.specs.Giving.{GivesWay}
 use Rattle.order_model.specs.Anyhow.{SameKeyAnyhow}
 use Rattle.order_model.specs.Begun.{IsBegun}
 use Rattle.law_every_outcome.proofs.Moved.{of_all}
 use Rattle.law_every_outcome.proofs.Runs.{of_run}
-use Rattle.law_private_turns.proofs.Begun.{begun_on, begun_still}
+use Rattle.law_turns.proofs.private_turns.Begun.{begun_on, begun_still}
 
 -- whoever is Runnable has a slot
 in_table : {S : Type 0} (t : Table S) (pid : ℕ) → is_runnable (at t pid) ≡ true → pid < length t

@@ -18,16 +18,16 @@ use Rattle.law_kernel.specs.Asking.{MaySleep}
 use Rattle.order_model.specs.Turns.{after_turn, callers}
 use Rattle.order_model.specs.Explored.{AreEnough, IsFinishedOrBusy, IsFinishedOrAwake, IsNeverStuck}
 use Rattle.law_kernel.specs.Sleeping.{Waits}
-use Rattle.law_orders.proofs.Matching.{quiet_matched}
+use Rattle.law_turns.proofs.orders.Matching.{quiet_matched}
 use Rattle.order_model.specs.Reduced.{IsEnding}
 use Rattle.order_model.specs.Begun.{IsBegun}
 use Rattle.order_model.specs.Giving.{GivesWayBegun}
 use Rattle.order_model.specs.Linked.{CanDo}
 use Rattle.law_every_outcome.proofs.Moved.{of_all}
 use Rattle.law_every_outcome.proofs.Looks.{looks, awake, awake_status, slot_awake}
-use Rattle.law_private_turns.proofs.Begun.{begun_on, begun_still, begun_settled}
-use Rattle.law_giving_way.proofs.Linked.{can_outcome}
-use Rattle.law_giving_way.proofs.Stalled.{MustSleep, IsStalled, all_asleep, stalled_on, stalled_turn}
+use Rattle.law_turns.proofs.private_turns.Begun.{begun_on, begun_still, begun_settled}
+use Rattle.law_turns.proofs.giving_way.Linked.{can_outcome}
+use Rattle.law_turns.proofs.giving_way.Stalled.{MustSleep, IsStalled, all_asleep, stalled_on, stalled_turn}
 use Rattle.law_every_outcome.proofs.Giving.{Sleepless, FindsZombie, giver}
 use Rattle.law_every_outcome.proofs.Listed.{seen_begun, turns_listed}
 

@@ -10,7 +10,7 @@ use Rattle.proc_table.specs.declared.states.Channel.TheVariants.{PipeBytes, Pipe
 use Rattle.proc_table.specs.declared.states.Status.TheVariants.{Asleep}
 use Rattle.proc_table.specs.Slots.{Process, at}
 use Rattle.kernel_model.specs.KernelState.{KernelState}
-use Rattle.law_outcomes.specs.Outcome.{IsRead, IsWrite}
+use Rattle.law_kernel.specs.Outcome.{IsRead, IsWrite}
 
 -- a call of q, of which so many bytes were put, may sleep on the channel: on a pipe's bytes a read from that pipe, on a pipe's
 -- room a write to that pipe of which some bytes are left, on children a wait for its own

@@ -13,7 +13,7 @@ use Rattle.kernel_model.specs.KernelState.{KernelState}
 use Rattle.kernel_model.specs.Events.{happens}
 use Rattle.kernel_model.specs.KernelRun.{KernelRun, start_of}
 use Rattle.law_kernel.specs.Ends.{reads_pipe, writes_pipe}
-use Rattle.law_outcomes.specs.Outcome.{object_at, left_of}
+use Rattle.law_kernel.specs.Outcome.{object_at, left_of}
 
 -- the bytes of a reply
 abbrev pub bytes_in : Reply → Bytes

@@ -1,3 +1,5 @@
+pub mod Outcome
+pub mod Refused
 pub mod Sleeping
 pub mod Busy
 pub mod Ends
@@ -6,3 +8,4 @@ pub mod Flow
 pub mod Asking
 pub mod Limits
 pub mod Exiting
+pub mod Kinds

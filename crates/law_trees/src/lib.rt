@@ -1,5 +1,6 @@
-//! The tree machine: a script's commands, run step by step in any order that their pipes allow. All of it stands in `specs/`,
-//! and its laws are here.
+//! What scripts come to by their meaning, and by the tree machine: laws, no code. Each module has the laws of one subject.
 #![tactic(auto)]
 
-pub mod laws;
+pub mod programs;
+pub mod tree_ends;
+pub mod trees;

@@ -35,7 +35,7 @@ use Rattle.order_search.specs.Shown.{IsOpenAs, IsPrivateSlot}
 use Rattle.order_search.specs.Giving.{IsGiving, privately as seen_privately, closes as seen_closes, forks as seen_forks, reaps as seen_reaps, exits as seen_exits}
 use Rattle.order_search.specs.Places.{IsOrderly, names_in, place_among}
 use Rattle.order_search.proofs.Placing.{place_is}
-use Rattle.law_kernel.proofs.EntriesLong.{every_run_has_entries}
+use Rattle.law_kernel.proofs.kernel.EntriesLong.{every_run_has_entries}
 use Rattle.order_search.proofs.Orderly.{OrderlyIf, run_orderly, boot_orderly}
 
 pub start_is : {S : Type 0} (init shell : S) (input : Bytes) (list : List (Name × Bytes)) → start_kernel init shell input list ≡ boot_kernel init shell input list

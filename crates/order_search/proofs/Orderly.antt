@@ -28,8 +28,8 @@ use Rattle.kernel_model.specs.Opening.{with_bytes}
 use Rattle.kernel_model.specs.Boot.{boot_kernel, closed_kernel}
 use Rattle.kernel_model.specs.Events.{acted, counted, trapped, can_dispatch, happens, then_happens, run}
 use Rattle.kernel_model.proofs.Along.{acted_along}
-use Rattle.law_outcomes.specs.Outcome.{Outcome, refused, lacks, forks, runs, exits, reaps, waits, opens, opens_empty, closes, dups, pipes, reads_input, reads_file, takes, waits_for_bytes, meets_end, tells, complains, writes_over, appends, puts_all, puts_part}
-use Rattle.law_outcomes.proofs.Outcomes.{every_call_ends}
+use Rattle.law_kernel.specs.Outcome.{Outcome, refused, lacks, forks, runs, exits, reaps, waits, opens, opens_empty, closes, dups, pipes, reads_input, reads_file, takes, waits_for_bytes, meets_end, tells, complains, writes_over, appends, puts_all, puts_part}
+use Rattle.law_kernel.proofs.outcomes.Outcomes.{every_call_ends}
 use Rattle.order_search.specs.Places.{AscendWithin, IsBorn, AreBorn, IsOrderly}
 
 -- ---- pipes

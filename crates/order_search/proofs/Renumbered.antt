@@ -6,7 +6,7 @@ use Rattle.kernel_model.specs.KernelState.{KernelState}
 use Rattle.order_model.specs.Woke.{woke_slot, woke}
 use Rattle.order_model.specs.Numbers.{renumbered_table, SameButNumbers}
 use Rattle.order_search.specs.Under.{number_under, GoBack, AreRenumberedParts}
-use Rattle.law_entry_numbers.proofs.Numberings.{unchanged, table_none}
+use Rattle.law_turns.proofs.entry_numbers.Numberings.{unchanged, table_none}
 
 pub parts_by : {S : Type 0} (to back : List ℕ) (t u : Table S) (E F : Entries) → GoBack to back → GoBack back to → renumbered_table (number_under to) t ≡ u
     → ((e : ℕ) → entry_at F (number_under to e) ≡ entry_at E e) → free_count F ≡ free_count E → AreRenumberedParts t u E F

@@ -198,7 +198,7 @@ fn longer(alloc: Global, pids: &[u8], pid: u8) -> Result<Vec<u8>, AllocError>
 }
 
 impl<'t, M: Machine, C: Allocator> Node for Standing<'t, M, C> {
-    ghost use Rattle.law_entry_numbers.proofs.Numberings.{same_itself};
+    ghost use Rattle.law_turns.proofs.entry_numbers.Numberings.{same_itself};
     ghost use Rattle.order_model.specs.Key.{key};
     ghost use Rattle.kernel_model.specs.KernelState.{KernelState};
     ghost use Rattle.order_model.specs.Woke.{woke};

@@ -168,7 +168,7 @@ fn behind_of_lines<A: Allocator>(lines: &[Line<A>]) -> Behind
 /// there is no `&`; of entries it is all that the script comes to use, whether it is let go before or not.
 ///
 /// That no run lacks one of them where this is within xv6's tables are the laws `no_run_is_out_of_processes`,
-/// `no_run_is_out_of_open_files` and `no_run_is_out_of_descriptors` of `law_room_behind`. Takes no memory, and time linear in the script.
+/// `no_run_is_out_of_open_files` and `no_run_is_out_of_descriptors` of `law_limits`. Takes no memory, and time linear in the script.
 pub fn behind_of<A: Allocator>(script: &Script<A>) -> Behind
     ensures { IsBehind (lines_of script.now.lines) result }
 {

@@ -56,7 +56,7 @@ fn lines_opens<A: Allocator>(lines: &[Line<A>]) -> Option<u64>
 
 /// Whether a script, with `&` or without, comes to use no more open-file entries in all than there are: the three that its run begins
 /// with, one for each redirection and for each file that a program names, and two for each pipe. Then whatever it opens finds a free
-/// entry, in whatever order its processes go on (a law of `law_few_opens`).
+/// entry, in whatever order its processes go on (a law of `law_limits`).
 ///
 /// Takes no memory, and time linear in the script. It recurses as deep as the highest tree of the script is high.
 pub fn has_few_opens<A: Allocator>(script: &Script<A>) -> bool

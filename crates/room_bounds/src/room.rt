@@ -60,7 +60,7 @@ pub fn room_with(lines: Beginning, given: Given) -> Room
 /// What a script needs at most on this standard input and these files, in whatever order its processes go on. Of the input and the
 /// files only the sizes count, and which names have files.
 ///
-/// That nothing but memory is ever full where this is within xv6's tables is the law `nothing_but_memory_is_full` of `law_room`, of
+/// That nothing but memory is ever full where this is within xv6's tables is the law `nothing_but_memory_is_full` of `law_runs`, of
 /// clear scripts. Takes no memory, and time linear in the script, but for its files, each of which is looked up once for each place
 /// that names it. It recurses as deep as the highest tree of the script is high.
 pub fn room_of<A: Allocator, B: Allocator>(

@@ -13,7 +13,7 @@ use std::alloc::Allocator;
 /// As many turns as are enough for a run of the script with this standard input and these files, whatever its schedule: two
 /// more than its most events, `most_events`. `None` where they are more than a run may have (own).
 ///
-/// That they are enough is the law `so_many_turns_are_enough` of `law_bounds`, of clear scripts without `&`. They are far more
+/// That they are enough is the law `so_many_turns_are_enough` of `law_runs`, of clear scripts without `&`. They are far more
 /// than a run takes. Takes no memory.
 pub fn turns_enough<A: Allocator, B: Allocator>(
     script: &Script<A>,

@@ -1,4 +1,4 @@
-use Rattle.law_bounds.proofs.OfKernel.{finished_of}
+use Rattle.law_runs.proofs.bounds.OfKernel.{finished_of}
 use Rattle.kernel_core.proofs.facts.it_is_finished_after_so_many_events.Goals as goal
 
 pub returns : goal.returns

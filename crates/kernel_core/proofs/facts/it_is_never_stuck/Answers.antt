@@ -1,4 +1,4 @@
-use Rattle.law_never_stuck.proofs.Turns.{awake_then}
+use Rattle.law_runs.proofs.never_stuck.Turns.{awake_then}
 use Rattle.kernel_core.proofs.facts.it_is_never_stuck.Goals as goal
 
 pub returns : goal.returns

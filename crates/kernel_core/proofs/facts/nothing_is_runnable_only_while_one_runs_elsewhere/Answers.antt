@@ -1,4 +1,4 @@
-use Rattle.law_never_stuck.proofs.Turns.{one_runs}
+use Rattle.law_runs.proofs.never_stuck.Turns.{one_runs}
 use Rattle.kernel_core.proofs.facts.nothing_is_runnable_only_while_one_runs_elsewhere.Goals as goal
 
 pub returns : goal.returns

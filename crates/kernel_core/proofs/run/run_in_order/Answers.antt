@@ -1,5 +1,5 @@
 use Rattle.script_load.specs.Line.{lines_of}
-use Rattle.law_never_stuck.proofs.Turns.{spends_turns}
+use Rattle.law_runs.proofs.never_stuck.Turns.{spends_turns}
 use Rattle.kernel_core.proofs.run.run_in_order.Goals as goal
 
 pub returns-clause-turns_spent : goal.returns-clause-turns_spent

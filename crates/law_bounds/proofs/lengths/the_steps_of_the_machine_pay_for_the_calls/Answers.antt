@@ -1,5 +1,0 @@
-use Rattle.law_bounds.proofs.CallsCounted.{run_pays}
-use Rattle.law_bounds.proofs.lengths.the_steps_of_the_machine_pay_for_the_calls.Goals as goal
-
-pub returns : goal.returns
-returns c = λ r plain roomy. run_pays r.profile r.lines r.input r.files r.are plain r.schedule r.notes r.last r.runs roomy

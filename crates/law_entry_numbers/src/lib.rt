@@ -1,4 +1,0 @@
-//! The numbers of open-file entries aren't seen: laws, no code.
-#![tactic(auto)]
-
-pub mod laws;

@@ -1,5 +1,0 @@
-use Rattle.law_exits.proofs.Joining.{exits_join}
-use Rattle.law_exits.proofs.laws.an_exit_gives_way_to_nobody_who_frees_no_zombie.Goals as goal
-
-pub returns : goal.returns
-returns g c = exits_join g.M.Machine.call_of g.M.Machine.next_of

@@ -1,5 +1,0 @@
-use Rattle.law_giving_way.proofs.Safe.{giving_safe}
-use Rattle.law_giving_way.proofs.laws.such_turns_give_way_to_nobody.Goals as goal
-
-pub returns : goal.returns
-returns g c = giving_safe g.M.Machine.call_of g.M.Machine.next_of

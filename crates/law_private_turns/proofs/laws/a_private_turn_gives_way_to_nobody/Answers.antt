@@ -1,5 +1,0 @@
-use Rattle.law_private_turns.proofs.Safe.{privates_safe_awake}
-use Rattle.law_private_turns.proofs.laws.a_private_turn_gives_way_to_nobody.Goals as goal
-
-pub returns : goal.returns
-returns g c = privates_safe_awake g.M.Machine.call_of g.M.Machine.next_of

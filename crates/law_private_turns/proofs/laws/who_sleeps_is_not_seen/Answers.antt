@@ -1,5 +1,0 @@
-use Rattle.law_private_turns.proofs.Awake.{following_awake}
-use Rattle.law_private_turns.proofs.laws.who_sleeps_is_not_seen.Goals as goal
-
-pub returns : goal.returns
-returns g c = following_awake g.M.Machine.call_of g.M.Machine.next_of

@@ -1,5 +1,0 @@
-use Rattle.law_programs.proofs.Chunks.{chunks}
-use Rattle.law_programs.proofs.laws.a_program_alone_does_what_its_function_says.Goals as goal
-
-pub returns : goal.returns
-returns c = chunks

@@ -1,8 +1,0 @@
-use Rattle.law_programs.proofs.Exiting.{turn_goes, some_left}
-use Rattle.law_programs.proofs.laws.each_turn_makes_one_call_fewer.Goals as goal
-
-pub returns-clause-turn : goal.returns-clause-turn
-returns-clause-turn c = turn_goes
-
-pub returns-clause-some : goal.returns-clause-some
-returns-clause-some c = some_left

@@ -1,5 +1,0 @@
-use Rattle.law_programs.proofs.Unrefused.{unrefused}
-use Rattle.law_programs.proofs.laws.no_write_of_a_program_alone_is_refused.Goals as goal
-
-pub returns : goal.returns
-returns c = unrefused

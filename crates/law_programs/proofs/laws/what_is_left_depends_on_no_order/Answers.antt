@@ -1,5 +1,0 @@
-use Rattle.law_programs.proofs.Firm.{still_firm}
-use Rattle.law_programs.proofs.laws.what_is_left_depends_on_no_order.Goals as goal
-
-pub returns : goal.returns
-returns c = still_firm

@@ -1,5 +1,0 @@
-use Rattle.law_room.proofs.FewDescriptors.{descriptor_is_free}
-use Rattle.law_room.proofs.laws.no_run_is_out_of_descriptors.Goals as goal
-
-pub returns : goal.returns
-returns c = λ r plain few full. descriptor_is_free r.profile r.lines r.input r.files r.are plain r.schedule r.notes r.last r.runs few full

@@ -1,0 +1,11 @@
+pub mod Parents
+pub mod Alone
+pub mod InitCalls
+pub mod Counted
+pub mod GoingOn
+pub mod Bounded
+pub mod Ending
+pub mod OfKernel
+pub mod OneEvent
+pub mod CallsCounted
+pub mod CallsBounded

@@ -1,0 +1,5 @@
+use Rattle.law_runs.proofs.room.FewEntries.{entry_is_free}
+use Rattle.law_runs.proofs.room.no_run_is_out_of_entries.Goals as goal
+
+pub returns : goal.returns
+returns c = λ r plain few full. entry_is_free r.profile r.lines r.input r.files r.are plain r.schedule r.notes r.last r.runs few full

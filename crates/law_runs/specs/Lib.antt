@@ -1,0 +1,7 @@
+pub mod Consistent
+pub mod Seen
+pub mod Walks
+pub mod Leaving
+pub mod Awake
+pub mod GoingOn
+pub mod Paid

@@ -1,4 +1,0 @@
-//! The numbers of processes' slots aren't seen: laws, no code.
-#![tactic(auto)]
-
-pub mod laws;

@@ -1,0 +1,9 @@
+pub mod Matched
+pub mod Retold
+pub mod Taken
+pub mod TakenToo
+pub mod Either
+pub mod Writers
+pub mod Waits
+pub mod Forks
+pub mod Exits

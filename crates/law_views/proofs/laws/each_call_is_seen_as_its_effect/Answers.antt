@@ -1,5 +1,0 @@
-use Rattle.law_views.proofs.Events.{trap_seen}
-use Rattle.law_views.proofs.laws.each_call_is_seen_as_its_effect.Goals as goal
-
-pub returns : goal.returns
-returns c = λ k l g h p refused up settled shows happened full. trap_seen g k l h p refused up settled shows happened full

@@ -1,5 +1,0 @@
-use Rattle.law_write_ends.proofs.Finding.{finds_or_put_nothing}
-use Rattle.law_write_ends.proofs.laws.a_reader_finds_bytes_or_has_put_nothing.Goals as goal
-
-pub returns : goal.returns
-returns g c = finds_or_put_nothing g.M.Machine.call_of g.M.Machine.next_of
