@@ -11,6 +11,7 @@ use crate::drawing::page_of;
 use crate::fault::ExploringFault;
 use crate::findings::{Findings, findings_of, schedules_of};
 use crate::objects::{object_of, object_of_settled};
+use crate::playing::{Played, played};
 use crate::request::ExploreRequest;
 use crate::telling::{told, told_settled};
 use dead_lines::{bad_lines, dead_lines};
@@ -34,6 +35,8 @@ pub struct Explored {
     pub pair: Option<Pair>,
     /// Where a page is asked for and an outcome was found, the page of these two, or of the only outcome.
     pub page: Option<Vec<u8>>,
+    /// What became of the page to play.
+    pub played: Played,
     /// The numbers, from 1, of the script's lines that are no command.
     pub bad: Vec<usize>,
 }
@@ -45,6 +48,7 @@ struct Shown {
     schedules: Vec<Vec<u8>>,
     pair: Option<Pair>,
     page: Option<Vec<u8>>,
+    played: Played,
 }
 
 // The text or the object of a settled script.
@@ -105,6 +109,7 @@ fn show(
                 schedules: Vec::new(alloc),
                 pair: None,
                 page: None,
+                played: Played::Unasked,
             });
         }
         Found::Tried(tried) => tried,
@@ -126,12 +131,17 @@ fn show(
         schedules: schedules_of(alloc, request, &findings)?,
         pair: findings.pair,
         page: page_of(alloc, start, request, outcomes, &findings)?,
+        played: played(alloc, start, request, tried)?,
     })
 }
 
 // Whether something is asked for that only trying orders shows: every turn, a schedule of each outcome, a page, or a pair.
 fn needs_orders(request: &ExploreRequest<'_>) -> bool {
-    request.is_full || request.witness.is_some() || request.draw.is_some() || request.pair.is_some()
+    request.is_full
+        || request.witness.is_some()
+        || request.draw.is_some()
+        || request.play.is_some()
+        || request.pair.is_some()
 }
 
 // How far to search: a settled script too where a schedule of its outcome is to be shown.
@@ -187,6 +197,7 @@ pub fn explore_start<'a, W: Watch>(
         schedules,
         pair,
         page,
+        played,
     } = show(alloc, start, request, asked, &found)?;
     let bad = bad_lines(alloc, start.script.lines.as_slice())?;
     Ok(Explored {
@@ -195,6 +206,7 @@ pub fn explore_start<'a, W: Watch>(
         schedules,
         pair,
         page,
+        played,
         bad,
     })
 }

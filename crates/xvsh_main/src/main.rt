@@ -3,7 +3,7 @@
 
 use std::io::{self, IsTerminal};
 use std::process::ExitCode;
-use xvsh_system::Terminal;
+use xvsh_system::{Terminal, When};
 
 fn main(rt: HostRuntime) -> io::Result<ExitCode> {
     let terminal = Terminal {
@@ -11,6 +11,7 @@ fn main(rt: HostRuntime) -> io::Result<ExitCode> {
         reads: rt.stdin().is_terminal(),
         writes: rt.stdout().is_terminal(),
         shows: rt.stderr().is_terminal(),
+        colours: When::Auto,
     };
     xvsh_system::run(&rt, &mut rt.stderr(), terminal)
 }

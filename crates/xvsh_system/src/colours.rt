@@ -13,6 +13,50 @@ const RED: &str = "\x1b[31m";
 
 const PLAIN: &str = "\x1b[0m";
 
+/// When there are colours.
+#[derive(Clone, Copy, PartialEq, Eq)]
+pub enum When {
+    /// On a terminal, unless the environment says otherwise.
+    Auto,
+    Always,
+    Never,
+}
+
+// What stands before a command that says when there are colours; alone, and with the time in one word.
+const COLOUR: &str = "--color";
+
+const COLOUR_IS: &[u8] = b"--color=";
+
+// When there are colours, by these bytes.
+fn when_of(word: &[u8]) -> Option<When> {
+    if word == b"auto".as_slice() {
+        Some(When::Auto)
+    } else if word == b"always".as_slice() {
+        Some(When::Always)
+    } else if word == b"never".as_slice() {
+        Some(When::Never)
+    } else {
+        None
+    }
+}
+
+/// When there are colours by the words that stand before a command, and how many such words there are: `--color WHEN` or
+/// `--color=WHEN`, or none (own; the words are those of GNU's `ls`). `None` where WHEN is missing, or is none of `auto`, `always` and `never`.
+pub fn colours_of(words: &[String]) -> Option<(When, usize)> {
+    let Some(first) = words.first() else {
+        return Some((When::Auto, 0));
+    };
+    if first.as_str() == COLOUR {
+        let when = when_of(words.get(1)?.as_bytes())?;
+        return Some((when, 2));
+    }
+    let bytes = first.as_bytes();
+    if !bytes.starts_with(COLOUR_IS) {
+        return Some((When::Auto, 0));
+    }
+    Some((when_of(bytes.get(COLOUR_IS.len()..)?)?, 1))
+}
+
 /// Which lines of a text have a colour.
 #[derive(Clone, Copy, PartialEq, Eq)]
 pub enum Lines {
@@ -43,10 +87,19 @@ fn is_dumb(rt: &(impl Env + AllocGlobal)) -> bool {
     }
 }
 
-/// Whether what goes to a terminal, or to something else, has colours: to a terminal it has, unless `NO_COLOR` is set and not empty, or
-/// `TERM` is `dumb`; to anything else only where `CLICOLOR_FORCE` is set and not empty, and `NO_COLOR` isn't (own; the names are those
-/// of no-color.org and bixense.com/clicolors).
-pub fn has_colours(rt: &(impl Env + AllocGlobal), is_terminal: bool) -> bool {
+/// Whether what goes to a terminal, or to something else, has colours, where the words don't say it: to a terminal it has, unless `NO_COLOR` is
+/// set and not empty, or `TERM` is `dumb`; to anything else only where `CLICOLOR_FORCE` is set and not empty, and `NO_COLOR` isn't (own; the
+/// names are those of no-color.org and bixense.com/clicolors).
+pub fn has_colours(rt: &(impl Env + AllocGlobal), when: When, is_terminal: bool) -> bool {
+    match when {
+        When::Auto => is_coloured(rt, is_terminal),
+        When::Always => true,
+        When::Never => false,
+    }
+}
+
+// The same by the environment alone.
+fn is_coloured(rt: &(impl Env + AllocGlobal), is_terminal: bool) -> bool {
     if is_set(rt, "NO_COLOR") {
         return false;
     }
@@ -55,7 +108,7 @@ pub fn has_colours(rt: &(impl Env + AllocGlobal), is_terminal: bool) -> bool {
 
 /// Which lines have a colour of what stands beside an output.
 pub fn lines_beside<R: Env + AllocGlobal, T>(rt: &R, terminal: &Terminal<T>) -> Lines {
-    if has_colours(rt, terminal.shows) {
+    if has_colours(rt, terminal.colours, terminal.shows) {
         Lines::Beside
     } else {
         Lines::Plain
@@ -73,7 +126,7 @@ pub fn lines_of_output<R: Env + AllocGlobal, T>(
         Some(name) if name.as_str() == "explore" => Lines::Outcomes,
         _ => Lines::Plain,
     };
-    if lines != Lines::Plain && has_colours(rt, terminal.writes) {
+    if lines != Lines::Plain && has_colours(rt, terminal.colours, terminal.writes) {
         lines
     } else {
         Lines::Plain

@@ -75,7 +75,7 @@ where
     E: Write,
     T: Write + Drop,
 {
-    let is_coloured = has_colours(rt, terminal.writes);
+    let is_coloured = has_colours(rt, terminal.colours, terminal.writes);
     let request = request_of(words, threads_of(rt, words), is_coloured);
     let mut console = Console {
         host: System::new(rt, terminal, None),

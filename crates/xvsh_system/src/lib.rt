@@ -10,5 +10,6 @@ mod terminal;
 mod ticking;
 mod usage;
 
+pub use colours::When;
 pub use program::run;
 pub use terminal::Terminal;

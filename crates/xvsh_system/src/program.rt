@@ -2,7 +2,7 @@
 
 ghost use Rattle.std.specs.Thread.{IsSync};
 
-use crate::colours::{Coloured, lines_beside, lines_of_output};
+use crate::colours::{Coloured, colours_of, lines_beside, lines_of_output};
 use crate::grading::grades;
 use crate::stepping::steps;
 use crate::system::System;
@@ -123,7 +123,8 @@ where
 }
 
 /// Runs the program on the words, the input and the files of the system, with this as its standard error, and gives the status
-/// with which it ends. `terminal` is told what the program waits for, and how far it is, where there is one.
+/// with which it ends. `terminal` is told what the program waits for, and how far it is, where there is one. Before a command `--color WHEN`
+/// may stand, which says when there are colours; a WHEN that is none is a misuse.
 pub fn run<R, E, T>(rt: &R, err: &mut E, terminal: Terminal<T>) -> io::Result<ExitCode>
 where
     R: Env + AllocGlobal + Input + Files + Print + Eprint + Threads + Wait + Clock + Sync,
@@ -146,5 +147,20 @@ where
             return Ok(ExitCode::from(4));
         }
     };
-    Ok(ExitCode::from(run_words(rt, words, err, terminal)))
+    let Some((colours, count)) = colours_of(words.as_slice()) else {
+        writeln!(err, "xvsh: --color takes auto, always or never")?;
+        return Ok(ExitCode::from(2));
+    };
+    let terminal = Terminal {
+        colours,
+        ..terminal
+    };
+    let words = words.into_iter().skip(count).collect(rt.alloc());
+    match words {
+        Ok(words) => Ok(ExitCode::from(run_words(rt, words, err, terminal))),
+        Err(_) => {
+            writeln!(err, "xvsh: no memory")?;
+            Ok(ExitCode::from(4))
+        }
+    }
 }

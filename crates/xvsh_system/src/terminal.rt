@@ -1,5 +1,6 @@
 //! What whoever sits at a terminal is told while the program works.
 
+use crate::colours::When;
 use std::io::{self, Write};
 use std::time::Duration;
 
@@ -14,6 +15,8 @@ pub struct Terminal<E> {
     pub writes: bool,
     /// Whether standard error is one.
     pub shows: bool,
+    /// When what is written there has colours.
+    pub colours: When,
 }
 
 // After so many states more the clock is read.
