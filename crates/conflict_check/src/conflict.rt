@@ -1,3 +1,5 @@
+//! How commands of a tree may meet at a file.
+
 /// How commands of a tree may meet at a file (own).
 #[derive(Clone, Copy, Debug, PartialEq, Eq)]
 pub enum ClashKind {

@@ -1,3 +1,5 @@
+//! Why a task isn't run, and why a call gives no answer.
+
 use thiserror::Error;
 
 /// Why nothing of a task is run. Lines of the script and files of the task are counted from 1.

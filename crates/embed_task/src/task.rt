@@ -1,3 +1,5 @@
+//! What a call of the library is about.
+
 ghost use Rattle.std.specs.Prelude.{◌≡◌};
 ghost use Rattle.embed_task.specs.Profiles.{profile_by};
 

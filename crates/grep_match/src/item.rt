@@ -1,3 +1,5 @@
+//! The items of a pattern.
+
 ghost use Rattle.std.specs.Prelude.{◌≡◌, ◌<◌, ◌≤◌, ℕ, [], ◌∷◌, length, IfSome, IfNone};
 ghost use Rattle.grep_match.specs.Pattern.{items_of, is_anchored, pattern_items, stands_for};
 

@@ -1,3 +1,5 @@
+//! Patterns of which a search for bytes decides.
+
 ghost use Rattle.std.specs.Prelude.{◌≡◌, ◌≤◌, ◌++◌, length, take, drop, IfSome};
 ghost use Rattle.grep_match.specs.Pattern.{items_of};
 ghost use Rattle.grep_match.specs.Match.{can_fit_somewhere, matches};

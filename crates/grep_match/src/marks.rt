@@ -1,3 +1,5 @@
+//! Matching by marks on the places of a text.
+
 ghost use Rattle.std.specs.Prelude.{◌≡◌, ◌+◌, ◌<◌, length, false};
 ghost use Rattle.grep_match.specs.Pattern.{items_of};
 ghost use Rattle.grep_match.specs.Match.{matches};

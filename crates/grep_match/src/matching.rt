@@ -1,3 +1,5 @@
+//! Whether a text matches a pattern, by whichever of the ways costs least.
+
 ghost use Rattle.std.specs.Prelude.{◌≡◌, ◌↔◌, ◌<◌, length, IsTrue};
 ghost use Rattle.grep_match.specs.Match.{IsMatch, matches};
 

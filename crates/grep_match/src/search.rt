@@ -1,3 +1,5 @@
+//! Matching as `user/grep.c` does, by trying cut after cut.
+
 ghost use Rattle.std.specs.Prelude.{◌≡◌, ◌∷◌};
 ghost use Rattle.grep_match.specs.Pattern.{items_of};
 ghost use Rattle.grep_match.specs.Match.{can_fit, can_fit_somewhere, matches};

@@ -1,3 +1,5 @@
+//! A file with its name.
+
 ghost use Rattle.std.specs.Prelude.{◌≡◌, ◌+◌, ◌-◌, ◌<◌, ◌≤◌, ◌++◌, ◌↔◌, IsTrue, true, length, take, drop, min, IfOk, OnOk, OnErr};
 ghost use Rattle.mem_files.specs.Name.{is_openable};
 ghost use Rattle.mem_files.specs.Overlay.{overlay, written};
@@ -35,12 +37,14 @@ impl<A: Allocator> Entry<A> {
         })
     }
 
+    /// The file's name.
     pub fn name(&self) -> &[u8]
         ensures { result.now ≡ self.now.0 }
     {
         self.name.as_slice()
     }
 
+    /// The file's bytes.
     pub fn bytes(&self) -> &[u8]
         ensures { result.now ≡ self.now.1 }
     {
@@ -69,6 +73,7 @@ impl<A: Allocator> Entry<A> {
         Ok(())
     }
 
+    /// Adds bytes behind the file's own. Where memory is refused the file is as it was.
     pub fn append(&mut self, bytes: &[u8]) -> Result<(), AllocError>
         ensures ok { OnOk result (self.new ≡ (self.old.0, self.old.1 ++ bytes.now)) }
         ensures err { OnErr result (self.new ≡ self.old) }
@@ -98,6 +103,7 @@ impl<A: Allocator> Entry<A> {
         count
     }
 
+    /// The same file in this allocator.
     pub fn copy_in<B: Allocator>(&self, alloc: B) -> Result<Entry<B>, AllocError>
         ensures { IfOk result (λ copy. copy ≡ self.now) }
     {

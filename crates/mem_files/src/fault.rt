@@ -1,3 +1,5 @@
+//! Why a call on files is refused.
+
 use std::alloc::{AllocError, AllocFailed};
 use thiserror::Error;
 

@@ -1,3 +1,5 @@
+//! Which names files can have.
+
 ghost use Rattle.std.specs.Prelude.{◌≡◌};
 ghost use Rattle.std.specs.List.{list_all};
 ghost use Rattle.mem_files.specs.Name.{is_name_byte, is_openable};

@@ -1,3 +1,5 @@
+//! Where a file stands among sorted names.
+
 ghost use Rattle.std.specs.Prelude.{◌≡◌, ◌≤◌, length, IsTrue, IfSome, IfNone, None};
 ghost use Rattle.std.specs.FinMap.Entries.{is_sorted};
 ghost use Rattle.mem_files.specs.Name.{name_cmp};

@@ -1,3 +1,5 @@
+//! A set of files in memory.
+
 ghost use Rattle.std.specs.Prelude.{◌≡◌, ℕ, ◌+◌, ◌-◌, ◌<◌, ◌≤◌, ◌↔◌, ◌≢◌, true, false, [], ◌++◌, length, take, drop, min, option_copied, option_map, slice_get, None, IsOkUnless, Err, ◌⊎◌, IsErrOf, IsOk, IsSome, IsTrue, IfOk, IfErr, IfSome, IsSomeAnd, OnOk, OnErr};
 ghost use Rattle.mem_files.specs.Name.{Name, is_openable};
 ghost use Rattle.mem_files.specs.Files.{files, with_file, bytes_of};

@@ -293,6 +293,7 @@ impl Opened {
         }
     }
 
+    // Adds what is kept to a digest.
     pub fn add_to(&self, digest: &mut Digest) {
         match &self.object {
             Object::Input => digest.add(1),
@@ -322,6 +323,7 @@ impl Opened {
     }
 }
 
+// Whether both entries are equal.
 pub fn same_entry(entry: &Option<Opened>, other: &Option<Opened>) -> bool
     ensures { IsTrue result ↔ (entry.now ≡ other.now) }
 {

@@ -25,12 +25,14 @@ impl Model for Numbers {
 impl Numbers {
     ghost use Rattle.order_search.specs.Places.{AreNumbers};
 
+    // No numbers.
     pub fn new(alloc: Global) -> Result<Numbers, AllocError> {
         Ok(Numbers {
             numbers: entry_numbers(alloc)?,
         })
     }
 
+    // The numbers, in order.
     pub fn as_slice(&self) -> &[Entry]
         ensures { AreNumbers result.now }
     {

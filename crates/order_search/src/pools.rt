@@ -71,17 +71,20 @@ pub struct Digest {
 }
 
 impl Digest {
+    // The digest of nothing.
     pub fn new() -> Digest {
         Digest {
             so_far: 0xcbf2_9ce4_8422_2325,
         }
     }
 
+    // Adds a number.
     pub fn add(&mut self, number: u64) {
         let mixed = (self.so_far ^ number).wrapping_mul(0x0000_0100_0000_01b3);
         self.so_far = mixed ^ (mixed >> 29);
     }
 
+    // Adds bytes.
     pub fn add_bytes(&mut self, bytes: &[u8]) {
         for byte in bytes {
             self.add(u64::from(*byte));

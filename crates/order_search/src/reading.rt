@@ -47,6 +47,7 @@ impl<M: Machine> Reader<M> {
     ghost use Rattle.order_search.specs.Shown.{filled, slot_of};
     ghost use Rattle.order_search.specs.Places.{IsOrderly, names_in, place_among};
 
+    // A reader that has read nothing.
     pub fn new(alloc: Global) -> Result<Reader<M>, AllocError> {
         Ok(Reader {
             alloc,

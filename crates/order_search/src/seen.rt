@@ -31,6 +31,7 @@ impl<M: Machine> SeenSlots<M> {
     ghost use Rattle.order_model.specs.Idle.{idle_slot};
     ghost use Rattle.order_search.specs.Places.{IsOrderly, place_among};
 
+    // Nothing was seen yet.
     pub fn new(alloc: Global) -> SeenSlots<M> {
         SeenSlots {
             kept: Vec::new(alloc),
@@ -90,6 +91,7 @@ impl SeenEntries {
     ghost use Rattle.order_model.specs.Idle.{renamed_entry};
     ghost use Rattle.order_search.specs.Places.{AreNumbersOf, place_among};
 
+    // Nothing was seen yet.
     pub fn new(alloc: Global) -> SeenEntries {
         SeenEntries {
             kept: Vec::new(alloc),

@@ -25,6 +25,7 @@ pub struct Tools<'t, M: Machine, C: Allocator> {
 }
 
 impl<'t, M: Machine, C: Allocator> Tools<'t, M, C> {
+    // Tools that were not used yet.
     pub fn new(alloc: Global) -> Result<Self, ExploreFault> {
         Ok(Tools {
             alloc,

@@ -1,3 +1,5 @@
+//! Why a script or a command has no outcome.
+
 use std::alloc::{AllocError, AllocFailed};
 use thiserror::Error;
 

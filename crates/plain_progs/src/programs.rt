@@ -1,3 +1,5 @@
+//! The six programs, each on the whole of its input.
+
 ghost use Rattle.std.specs.Prelude.{◌≡◌, ◌++◌, OnOk, IfOk, IfErr};
 ghost use Rattle.mem_files.specs.Files.{files};
 ghost use Rattle.meaning_model.specs.Limits.{WordsOutgrow};

@@ -1,3 +1,5 @@
+//! What a script comes to by its meaning.
+
 use crate::reason::Reason;
 use mem_files::Files;
 use sh_lexer::Bytes;

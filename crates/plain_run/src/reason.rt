@@ -1,3 +1,5 @@
+//! Why a script isn't settled.
+
 use conflict_check::ClashKind;
 use sh_lexer::Bytes;
 use std::alloc::Allocator;

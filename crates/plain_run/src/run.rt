@@ -1,3 +1,5 @@
+//! Runs of scripts by their meaning: each pipe's left side to its end before its right side.
+
 ghost use Rattle.std.specs.Prelude.{IsTrue, ◌≡◌, ◌≢◌, ◌↔◌, ◌||◌, not, map, ℕ, List, [], IfOk, IfErr, false, true, All, Contains};
 ghost use Rattle.std.specs.List.Sorted.{IsStrictlySortedBy};
 ghost use Rattle.sh_tree.specs.declared.tree.Mode.TheVariants.{Input};

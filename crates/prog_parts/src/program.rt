@@ -1,3 +1,5 @@
+//! The six programs by their names.
+
 ghost use Rattle.std.specs.Prelude.{◌≡◌};
 
 /// One of the six programs that a command may run, with the xv6 file that it follows.

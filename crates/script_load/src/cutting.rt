@@ -1,3 +1,5 @@
+//! The lines of a script's bytes.
+
 ghost use Rattle.std.specs.Prelude.{◌≡◌, [], IfNone, IfSome};
 ghost use Rattle.prog_parts.specs.Lines.{IsFirstLine};
 

@@ -1,3 +1,5 @@
+//! The lines of a loaded script.
+
 ghost use Rattle.std.specs.Prelude.{◌≡◌, map};
 ghost use Rattle.script_load.specs.Line.{line_of, lines_of};
 

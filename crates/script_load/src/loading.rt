@@ -1,3 +1,5 @@
+//! Loading a script of its bytes.
+
 ghost use Rattle.std.specs.Prelude.{◌≡◌, ◌↔◌, Contains, IfOk, IfErr, IsTrue, OnOk};
 ghost use Rattle.script_load.specs.Line.{line_of, lines_of};
 ghost use Rattle.script_load.specs.Script.{AllFine, HasLoadFault, IsLineOf, IsScript};

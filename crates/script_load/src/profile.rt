@@ -1,3 +1,5 @@
+//! What `>>` means.
+
 /// What `>>` means in a script.
 #[derive(Clone, Copy, Debug, PartialEq, Eq)]
 pub enum Profile {

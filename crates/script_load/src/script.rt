@@ -1,3 +1,5 @@
+//! A loaded script, and its limits.
+
 ghost use Rattle.std.specs.Prelude.{◌≡◌, true, map, IfNone, IfSome, IfErr, IfOk};
 ghost use Rattle.script_load.specs.Limits.{are_small, is_small_line, IsFirstLarge};
 ghost use Rattle.script_load.specs.Line.{line_of, lines_of};

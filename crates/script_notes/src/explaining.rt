@@ -1,3 +1,5 @@
+//! The notes of a script.
+
 ghost use Rattle.std.specs.Prelude.{◌≡◌, ◌++◌, [], List, IfErr, IfOk, IfNone, IfSome, OnOk};
 ghost use Rattle.prog_parts.specs.Lines.{IsFirstLine};
 ghost use Rattle.script_load.specs.Line.{line_of};

@@ -1,3 +1,5 @@
+//! The kinds of notes.
+
 ghost use Rattle.std.specs.Prelude.{◌≡◌};
 
 /// What a note says of the places that it marks (own).

@@ -1,3 +1,5 @@
+//! Byte strings over any allocator.
+
 ghost use Rattle.std.specs.Prelude.{◌≡◌, IfOk};
 
 use std::alloc::{AllocError, Allocator};

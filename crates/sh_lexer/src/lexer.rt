@@ -1,3 +1,5 @@
+//! Cutting a line into tokens (`user/sh.c`'s `gettoken`).
+
 ghost use Rattle.std.specs.Prelude.{◌≡◌, ◌<◌, ◌≤◌, length, slice_index, IfOk, true, false};
 ghost use Rattle.sh_lexer.specs.Tokens.{is_white, is_word_byte, IsTextOf, IsToken, IsTokenList};
 

@@ -1,3 +1,5 @@
+//! Tokens.
+
 /// The kind of a token: a word, or a sign with this text (`user/sh.c`'s `gettoken`).
 #[derive(Clone, Copy, Debug, PartialEq, Eq)]
 pub enum Kind {

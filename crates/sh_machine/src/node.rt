@@ -84,6 +84,7 @@ impl<'t, A: Allocator, N: Naming> Node<'t, A, N> {
         }
     }
 
+    /// An equal one.
     pub fn twin(&self) -> Self
         ensures tree { node_of result ≡ node_of self.now }
         ensures place { result.place ≡ self.now.place }

@@ -34,6 +34,7 @@ impl<'t, A: Allocator, N: Naming> Rest<'t, A, N> {
         }
     }
 
+    /// The lines that are still to be run.
     pub fn lines(&self) -> &'t [Line<A>]
         ensures { map line_of result.now ≡ rest_of self.now }
     {
@@ -53,6 +54,7 @@ impl<'t, A: Allocator, N: Naming> Rest<'t, A, N> {
         }
     }
 
+    /// An equal one.
     pub fn twin(&self) -> Self
         ensures { rest_of result ≡ rest_of self.now }
     {

@@ -95,6 +95,7 @@ impl<'t, A: Allocator, N: Naming> Turn<'t, A, N> {
     ghost use Rattle.sh_machine.specs.Turn.{calls, exits, tells};
     ghost use Rattle.sh_machine.specs.View.{says_of, shell_of, turn_of};
 
+    /// The machine that makes this call, and stands there.
     pub fn calls(call: Says<'t>, at: At<'t, A, N>) -> Self
         ensures { turn_of result ≡ calls (says_of call.entry) (shell_of at.entry) }
     {
@@ -104,6 +105,7 @@ impl<'t, A: Allocator, N: Naming> Turn<'t, A, N> {
         }
     }
 
+    /// The machine that exits.
     pub fn exits() -> Self
         ensures { turn_of result ≡ exits }
     {
@@ -121,6 +123,7 @@ impl<'t, A: Allocator, N: Naming> Turn<'t, A, N> {
 impl<'t, A: Allocator, N: Naming> Parent<'t, A, N> {
     ghost use Rattle.sh_machine.specs.View.{parent_of};
 
+    /// An equal one.
     pub fn twin(&self) -> Self
         ensures { parent_of result ≡ parent_of self.now }
     {
@@ -144,6 +147,7 @@ impl<'t, A: Allocator, N: Naming> Parent<'t, A, N> {
         }
     }
 
+    /// Whether the two are equal.
     pub fn same(&self, other: &Self) -> bool
         ensures { IsTrue result ↔ (parent_of self.now ≡ parent_of other.now) }
     {
@@ -178,6 +182,7 @@ impl<'t, A: Allocator, N: Naming> Parent<'t, A, N> {
 impl<'t, A: Allocator, N: Naming> At<'t, A, N> {
     ghost use Rattle.sh_machine.specs.View.{shell_of};
 
+    /// An equal one.
     pub fn twin(&self) -> Self
         ensures { shell_of result ≡ shell_of self.now }
     {

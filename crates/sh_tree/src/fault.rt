@@ -1,3 +1,5 @@
+//! Why a line is no command.
+
 use std::alloc::{AllocError, AllocFailed};
 use thiserror::Error;
 

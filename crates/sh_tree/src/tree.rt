@@ -1,3 +1,5 @@
+//! Trees of commands.
+
 ghost use Rattle.std.specs.Prelude.{◌≡◌, ◌↔◌, IsTrue, IfOk};
 ghost use Rattle.sh_tree.specs.Tree.{tree_of};
 

@@ -1,3 +1,5 @@
+//! Lists of words over any allocator.
+
 ghost use Rattle.std.specs.Prelude.{◌≡◌, ◌↔◌, IsTrue, IfOk};
 
 use sh_lexer::Bytes;

@@ -1,3 +1,5 @@
+//! Slots in groups.
+
 use crate::{SLOTS, SlotSet};
 use std::marker::Model;
 

@@ -1,3 +1,5 @@
+//! Lists of slots.
+
 ghost use Rattle.std.specs.Prelude.{◌≡◌, ℕ, ◌<◌, length, slice_index};
 
 use std::marker::Model;

@@ -1,3 +1,5 @@
+//! Sets of slots.
+
 use crate::SLOTS;
 use std::marker::Model;
 

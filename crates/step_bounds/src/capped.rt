@@ -5,12 +5,14 @@ ghost use Rattle.step_bounds.specs.Cost.{IsCapped};
 /// The most steps that are reported (own): as many as the turns that a run may have.
 pub const MAX_STEPS: u64 = 1_000_000_000;
 
+/// The number, unless it is over the bound.
 pub fn capped(n: u64) -> Option<u64>
     ensures { IsCapped n result }
 {
     if n <= MAX_STEPS { Some(n) } else { None }
 }
 
+/// The sum, unless it is over the bound.
 pub fn plus(a: u64, b: u64) -> Option<u64>
     ensures { IsCapped (a + b) result }
 {
@@ -20,6 +22,7 @@ pub fn plus(a: u64, b: u64) -> Option<u64>
     }
 }
 
+/// The product, unless it is over the bound.
 pub fn times(a: u64, b: u64) -> Option<u64>
     ensures { IsCapped (a * b) result }
 {

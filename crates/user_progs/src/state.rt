@@ -143,6 +143,7 @@ impl<'a, 't, A: Allocator> Turn<'a, 't, A> {
     ghost use Rattle.user_progs.specs.Turn.{exits, tells};
     ghost use Rattle.user_progs.specs.View.{turn_of, says_of, plain_of};
 
+    /// The program that makes this call, and stands there.
     pub fn stays(call: Says<'a>, at: Plain<'t, A>) -> Self
         ensures { turn_of result ≡ record { call = says_of call.entry; next = plain_of at.entry } }
     {
@@ -152,6 +153,7 @@ impl<'a, 't, A: Allocator> Turn<'a, 't, A> {
         }
     }
 
+    /// The program that exits.
     pub fn exits() -> Self
         ensures { turn_of result ≡ exits }
     {
@@ -175,6 +177,7 @@ impl<'a, 't, A: Allocator> Turn<'a, 't, A> {
 impl Kept {
     ghost use Rattle.std.specs.Prelude.{◌≡◌};
 
+    /// A program before its first call.
     pub fn new() -> Self {
         Kept {
             fds: Outputs::new(),
@@ -182,6 +185,7 @@ impl Kept {
         }
     }
 
+    /// An equal one.
     pub fn twin(&self) -> Self
         ensures fds { result.fds ≡ self.now.fds }
         ensures bytes { result.block ≡ self.now.block }
@@ -217,6 +221,7 @@ impl<'t, A: Allocator> Source<'t, A> {
         }
     }
 
+    /// An equal one.
     pub fn twin(&self) -> Self
         ensures { source_of_code result ≡ source_of_code self.now }
     {
@@ -226,6 +231,7 @@ impl<'t, A: Allocator> Source<'t, A> {
         }
     }
 
+    /// Whether the two are equal.
     pub fn same(&self, other: &Self) -> bool
         ensures { IsTrue result ↔ (source_of_code self.now ≡ source_of_code other.now) }
     {
@@ -257,6 +263,7 @@ pub fn are_same<A: Allocator>(words: &[Bytes<A>], others: &[Bytes<A>]) -> bool
 impl<'t> Filter<'t> {
     ghost use Rattle.user_progs.specs.View.{filter_of_code};
 
+    /// Whether the two are equal.
     pub fn same(&self, other: &Self) -> bool
         ensures { IsTrue result ↔ (filter_of_code self.now ≡ filter_of_code other.now) }
     {
@@ -289,6 +296,7 @@ impl Work {
         }
     }
 
+    /// Whether the two are equal.
     pub fn same(&self, other: &Self) -> bool
         ensures { IsTrue result ↔ (work_of_code self.now ≡ work_of_code other.now) }
     {
@@ -311,6 +319,7 @@ impl Work {
 impl Search {
     ghost use Rattle.std.specs.Prelude.{◌≡◌, ◌↔◌, IsTrue};
 
+    /// Whether the two are equal.
     pub fn same(self, other: Self) -> bool
         ensures { IsTrue result ↔ (self ≡ other) }
     {
@@ -343,6 +352,7 @@ impl<'t, A: Allocator> Grep<'t, A> {
 impl<'t, A: Allocator> Plain<'t, A> {
     ghost use Rattle.user_progs.specs.View.{plain_of};
 
+    /// An equal one.
     pub fn twin(&self) -> Self
         ensures { plain_of result ≡ plain_of self.now }
     {
@@ -358,6 +368,7 @@ impl<'t, A: Allocator> Plain<'t, A> {
         }
     }
 
+    /// Whether the two are equal.
     pub fn same(&self, other: &Self) -> bool
         ensures { IsTrue result ↔ (plain_of self.now ≡ plain_of other.now) }
     {

@@ -36,6 +36,7 @@ impl Model for Outputs {
 impl Outputs {
     ghost use Rattle.std.specs.Prelude.{◌≡◌, ◌<◌, ◌≤◌, ◌↔◌, ◌++◌, ◌∷◌, [], length, IsTrue};
 
+    /// No descriptors.
     pub fn new() -> Self
         ensures { result ≡ [] }
     {
@@ -44,6 +45,7 @@ impl Outputs {
         }
     }
 
+    /// The descriptors, in order.
     pub fn as_slice(&self) -> &[usize]
         ensures fds { result.now ≡ self.now }
         ensures few { length self.now ≤ 16 }
@@ -51,6 +53,7 @@ impl Outputs {
         self.fds.as_slice()
     }
 
+    /// An equal one.
     pub fn twin(&self) -> Self
         ensures { result ≡ self.now }
     {
@@ -67,6 +70,7 @@ impl Outputs {
         self.fds.push(fd);
     }
 
+    /// Takes all descriptors away.
     pub fn clear(&mut self)
         ensures { self.new ≡ [] }
     {
@@ -87,6 +91,7 @@ pub enum Tee<'t, A: Allocator> {
 }
 
 impl<'t, A: Allocator> Tee<'t, A> {
+    /// An equal one.
     pub fn twin(&self) -> Self
         ensures { result ≡ self.now }
     {

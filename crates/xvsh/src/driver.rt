@@ -1,3 +1,5 @@
+//! The program: its words go in, and what is due comes out, with its status.
+
 ghost use Rattle.std.specs.Prelude.{◌≡◌, ◌≢◌, [], codes, false, map, string_bytes, IfOk};
 ghost use Rattle.xvsh_read.specs.Console.{known};
 ghost use Rattle.xvsh_read.specs.Writing.{out_text};

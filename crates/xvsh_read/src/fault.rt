@@ -1,3 +1,5 @@
+//! Why the program fails.
+
 ghost use Rattle.std.specs.Prelude.{◌≡◌};
 ghost use Rattle.xvsh_read.specs.Status.{status_of, of_host, of_files};
 

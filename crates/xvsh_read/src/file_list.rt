@@ -1,3 +1,5 @@
+//! The list of files that is printed.
+
 ghost use Rattle.std.specs.Prelude.{◌≡◌, ◌++◌, ◌<◌, OnOk, IfOk, slice_get, Some, length};
 ghost use Rattle.prog_parts.specs.NameSets.{among};
 ghost use Rattle.xvsh_read.specs.Listing.{soft_mark, file_text, list_text};

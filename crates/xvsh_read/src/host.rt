@@ -1,3 +1,5 @@
+//! Where the program's input comes from.
+
 ghost use Rattle.std.specs.Prelude.{◌≡◌, ◌<◌, ◌≤◌, Err, None, Option, List, ℕ, IfOk, IfSome, length, vec_len};
 
 use std::alloc::Global;

@@ -1,3 +1,5 @@
+//! The system's standard input and files, as a host.
+
 ghost use Rattle.std.specs.Prelude.{None};
 
 use crate::terminal::{Progress, Step, Terminal};
@@ -60,6 +62,7 @@ fn is_folder(rt: &impl Files, path: &str) -> bool {
 }
 
 impl<'t, R: Files, E: Write> System<'t, R, E> {
+    /// The system, of which nothing was read yet.
     pub fn new(rt: R, terminal: Terminal<E>, ticker: Option<&'t Ticker>) -> Self {
         System {
             rt,

@@ -83,6 +83,7 @@ fn write_step<E: Write>(err: &mut E, step: Step<'_>, pace: u64) -> io::Result<()
 }
 
 impl Progress {
+    /// Nothing is shown yet.
     pub fn new() -> Progress {
         Progress {
             begun: None,
