@@ -3,6 +3,9 @@
 ghost use Rattle.std.specs.Prelude.{◌≡◌, ◌<◌, IfOk, IfSome, None, All, map, true, false};
 ghost use Rattle.script_load.specs.Line.{lines_of};
 ghost use Rattle.sh_machine.specs.Turn.{call_of, next_of};
+ghost use Rattle.kernel_model.specs.Boot.{boot_kernel};
+ghost use Rattle.sh_machine.specs.View.{user_of};
+ghost use Rattle.order_search.specs.Room.{HasAhead};
 ghost use Rattle.run_model.specs.ScriptRun.{script_kernel};
 ghost use Rattle.order_model.specs.Explored.{AreAllOutcomes, IsNeverStuck};
 ghost use Rattle.order_search.specs.Told.{outcome_by, IsReplayed, AreApart, LeadsToSleep};
@@ -83,6 +86,31 @@ pub fn explore_watched<B: Allocator, C: Allocator, W: Watch>(
     explore_named::<Brand, B, C, W>(alloc, setting, states, watch)
 }
 
+/// Where the runs of the script that `N` names begin: its first two machines, and what is known to be free ahead, by bounds of what the
+/// script opens and forks.
+pub fn origin_of<'a, N: Naming, B: Allocator, C: Allocator>(
+    setting: &Setting<'a, B, C>,
+) -> Origin<'a, User<B, N>, C>
+    requires { lines_of setting.now.script.now.lines ≡ N.script }
+    ensures begins { boot_kernel (user_of result.init) (user_of result.shell) result.stdin.now result.files.now ≡ script_kernel setting.now.script.now.profile (lines_of setting.now.script.now.lines) setting.now.stdin.now setting.now.files.now }
+    ensures ahead { HasAhead call_of next_of result.ahead (boot_kernel (user_of result.init) (user_of result.shell) result.stdin.now result.files.now) }
+{
+    are_files(setting.files);
+    a_script_of_few_opens_has_room_ahead();
+    a_script_of_few_forks_has_slots_ahead();
+    Origin {
+        init: User::<B, N>::init(),
+        shell: User::shell(setting.script),
+        stdin: setting.stdin,
+        files: setting.files,
+        ahead: Ahead {
+            entries: has_few_opens(setting.script),
+            slots: has_few_forks(setting.script),
+        },
+        is_full: setting.is_full,
+    }
+}
+
 // Explores the script that `N` names.
 fn explore_named<N: Naming, B: Allocator, C: Allocator, W: Watch>(
     alloc: Global,
@@ -100,21 +128,9 @@ fn explore_named<N: Naming, B: Allocator, C: Allocator, W: Watch>(
 {
     are_files(setting.files);
     a_script_begins_at_a_boot();
-    a_script_of_few_opens_has_room_ahead();
-    a_script_of_few_forks_has_slots_ahead();
     what_a_search_found_is_explored::<User<B, N>>();
     what_was_explored_is_every_outcome::<User<B, N>>();
     no_run_is_stuck_if_each_kernel_can_do_something::<User<B, N>>();
-    let origin = Origin {
-        init: User::<B, N>::init(),
-        shell: User::shell(setting.script),
-        stdin: setting.stdin,
-        files: setting.files,
-        ahead: Ahead {
-            entries: has_few_opens(setting.script),
-            slots: has_few_forks(setting.script),
-        },
-        is_full: setting.is_full,
-    };
+    let origin = origin_of::<N, B, C>(setting);
     explore_from(alloc, &origin, states, watch)
 }

@@ -6,3 +6,4 @@ pub mod Exploring
 pub mod Under
 pub mod Room
 pub mod Giving
+pub mod After

@@ -1,6 +1,7 @@
 //! All orders in which the processes of a kernel can take their turns, for programs that are any machines.
 #![tactic(auto)]
 
+mod after;
 mod fault;
 mod kept;
 mod looks;
@@ -21,6 +22,7 @@ mod trail;
 mod turning;
 mod unchanged;
 
+pub use after::{are_alike, only_after};
 pub use closed_search::{Unwatched, Watch};
 pub use fault::ExploreFault;
 pub use ordering::{Exploration, explore_after, explore_from};

@@ -1,4 +1,4 @@
-use Rattle.std.proofs.Common.{◌≤◌, sym, subst, map, arith}
+use Rattle.std.proofs.Common.{◌≤◌, sym, subst, ◌∙◌, map, arith}
 use Rattle.proc_table.specs.declared.pid.TheConstants.{PROCS}
 use Rattle.std.specs.Prelude.{All, IfSome}
 use Rattle.kernel_model.specs.KernelState.{KernelState}
@@ -10,7 +10,8 @@ use Rattle.run_model.specs.ScriptRun.{script_kernel}
 use Rattle.order_search.specs.Room.{HasAhead}
 use Rattle.order_search.specs.Told.{outcome_by, IsReplayed, LeadsToSleep}
 use Rattle.order_search.specs.Exploring.{Explores}
-use Rattle.every_order.proofs.Passing.{passes, script_starts}
+use Rattle.order_search.proofs.Leading.{start_is}
+use Rattle.every_order.proofs.Passing.{passes}
 use Rattle.every_order.proofs.exploring.explore_named.Goals as goal
 
 enough : PROCS ≤ PROCS
@@ -18,22 +19,15 @@ enough = omega arith
 
 pub explore_from-requires : goal.explore_from-requires
 explore_from-requires g c =
-    let profile = c.args.setting.now.script.now.profile in
-    let lines = lines_of c.args.setting.now.script.now.lines in
-    let same = script_starts profile lines (user_of c.init.result) (user_of c.shell.result) c.args.setting.now.stdin.now c.args.setting.now.files.now c.init.ensures c.shell.ensures in
-    let input = c.args.setting.now.stdin.now in
-    let list = c.args.setting.now.files.now in
-    subst (HasAhead call_of next_of _) (sym same)
-    (record {
-      entries = λ few. c.a_script_of_few_opens_has_room_ahead.ensures profile lines input list c.are_files.ensures (c.has_few_opens.ensures.0 few);
-      slots = λ few. c.a_script_of_few_forks_has_slots_ahead.ensures profile lines input list c.are_files.ensures (c.has_few_forks.ensures.0 few);
-    })
+    let o = c.origin_of-origin.result in
+    subst (HasAhead call_of next_of o.ahead) (sym (start_is (user_of o.init) (user_of o.shell) o.stdin.now o.files.now)) c.origin_of-origin.ensures.ahead
 
 pub returns-clause-sound : goal.returns-clause-sound
 returns-clause-sound g c =
     let profile = c.args.setting.now.script.now.profile in
     let lines = lines_of c.args.setting.now.script.now.lines in
-    let same = script_starts profile lines (user_of c.init.result) (user_of c.shell.result) c.args.setting.now.stdin.now c.args.setting.now.files.now c.init.ensures c.shell.ensures in
+    let o = c.origin_of-origin.result in
+    let same = start_is (user_of o.init) (user_of o.shell) o.stdin.now o.files.now ∙ c.origin_of-origin.ensures.begins in
     passes c.explore_from.result _ _ (λ found e. subst (λ (start : KernelState User). All (IsReplayed call_of next_of start) found.outcomes.items) same e.tells.replayed) c.explore_from.ensures.explores
 
 pub returns-clause-apart : goal.returns-clause-apart
@@ -46,7 +40,8 @@ returns-clause-complete g c =
     let input = c.args.setting.now.stdin.now in
     let list = c.args.setting.now.files.now in
     let start : KernelState User = script_kernel profile lines input list in
-    let same = script_starts profile lines (user_of c.init.result) (user_of c.shell.result) input list c.init.ensures c.shell.ensures in
+    let o = c.origin_of-origin.result in
+    let same = start_is (user_of o.init) (user_of o.shell) o.stdin.now o.files.now ∙ c.origin_of-origin.ensures.begins in
     let search_law = c.what_a_search_found_is_explored.ensures in
     passes c.explore_from.result _ _
     (λ found e whole.
@@ -63,7 +58,8 @@ returns-clause-awake g c =
     let input = c.args.setting.now.stdin.now in
     let list = c.args.setting.now.files.now in
     let start : KernelState User = script_kernel profile lines input list in
-    let same = script_starts profile lines (user_of c.init.result) (user_of c.shell.result) input list c.init.ensures c.shell.ensures in
+    let o = c.origin_of-origin.result in
+    let same = start_is (user_of o.init) (user_of o.shell) o.stdin.now o.files.now ∙ c.origin_of-origin.ensures.begins in
     passes c.explore_from.result _ _
     (λ found e whole none.
     let x : Explores call_of next_of start start found = subst (λ (k : KernelState User). Explores call_of next_of k k found) same e in
@@ -76,5 +72,6 @@ pub returns-clause-asleep : goal.returns-clause-asleep
 returns-clause-asleep g c =
     let profile = c.args.setting.now.script.now.profile in
     let lines = lines_of c.args.setting.now.script.now.lines in
-    let same = script_starts profile lines (user_of c.init.result) (user_of c.shell.result) c.args.setting.now.stdin.now c.args.setting.now.files.now c.init.ensures c.shell.ensures in
+    let o = c.origin_of-origin.result in
+    let same = start_is (user_of o.init) (user_of o.shell) o.stdin.now o.files.now ∙ c.origin_of-origin.ensures.begins in
     passes c.explore_from.result _ _ (λ found e. subst (λ (start : KernelState User). IfSome found.stuck (λ pids. LeadsToSleep call_of next_of start pids.items)) same e.asleep) c.explore_from.ensures.explores
