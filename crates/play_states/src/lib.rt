@@ -9,7 +9,9 @@ mod places;
 mod spots;
 mod telling;
 
-pub use every_order::{Exploration, Origin, Outcome, Setting, Unwatched, Watch, explore_watched};
+pub use every_order::{
+    Exploration, ExploreFault, Outcome, Setting, Unwatched, Watch, explore_watched,
+};
 pub use fault::PlayFault;
 pub use ground::Ground;
 pub use spots::{Play, Shown, Spot, Turn};
