@@ -293,7 +293,10 @@ fn add_touched<M: Machine>(
             let name = book.name(before.call.bytes())?;
             let thing = book.thing(Kind::File, name)?;
             add_item(row, thing);
-            add_item(row, opening(mode, before.is_there, is_refused(follow, pid, call)));
+            add_item(
+                row,
+                opening(mode, before.is_there, is_refused(follow, pid, call)),
+            );
         }
         _ => {}
     }

@@ -95,7 +95,11 @@ impl Making<'_> {
     // How far to walk.
     fn reach(&self, is_full: bool) -> Reach {
         Reach {
-            most: if is_full { FEW_SHOWN } else { self.limits.shown },
+            most: if is_full {
+                FEW_SHOWN
+            } else {
+                self.limits.shown
+            },
             bytes: MOST_BYTES,
             is_full,
         }

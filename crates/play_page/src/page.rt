@@ -153,7 +153,10 @@ fn add_range(row: &mut Text, before: &str, first: usize, last: usize) {
 }
 
 // Where all sleep: what is there then, as an outcome that sleeps for ever.
-fn sleep_of<M: Machine>(book: &mut Book, kernel: &Kernel<M, Global>) -> Result<Vec<u8>, AllocError> {
+fn sleep_of<M: Machine>(
+    book: &mut Book,
+    kernel: &Kernel<M, Global>,
+) -> Result<Vec<u8>, AllocError> {
     let mut row = Text::new(book.alloc);
     row.add("[1");
     add_item(&mut row, book.shown(kernel.out())?);
@@ -207,7 +210,10 @@ fn states_of<M: Machine, C: Allocator>(
     for (node, shown) in walk.nodes.iter().zip(play.shown.iter()) {
         let mut row = Text::new(alloc);
         add_only(&mut row, node);
-        add_item(&mut row, set_of(&mut walk.book, shown, play.outcomes.len())?);
+        add_item(
+            &mut row,
+            set_of(&mut walk.book, shown, play.outcomes.len())?,
+        );
         row.add(",");
         row.bytes(&node.shown);
         for edge in &node.edges {

@@ -74,7 +74,14 @@ fn process_of<M: Machine>(
     let mut row = Text::new(book.alloc);
     row.add("[");
     row.number(pid.index() as u64);
-    add_optional(&mut row, if pid == Pid::init() { None } else { Some(parent.index()) });
+    add_optional(
+        &mut row,
+        if pid == Pid::init() {
+            None
+        } else {
+            Some(parent.index())
+        },
+    );
     add_item(&mut row, name);
     add_item(&mut row, doing.line().unwrap_or(0));
     add_item(&mut row, state_of(follow, pid));
@@ -177,10 +184,7 @@ fn world_of<M: Machine>(book: &mut Book, follow: &Follow<'_, M>) -> Result<usize
 }
 
 // What is shown of a state, as its row has it: the world, how many processes there are, and these.
-pub fn shown_of<M: Machine>(
-    book: &mut Book,
-    follow: &Follow<'_, M>,
-) -> Result<Vec<u8>, PageFault> {
+pub fn shown_of<M: Machine>(book: &mut Book, follow: &Follow<'_, M>) -> Result<Vec<u8>, PageFault> {
     let world = world_of(book, follow)?;
     let mut rest = Text::new(book.alloc);
     let mut count: usize = 0;

@@ -87,11 +87,7 @@ fn are_placed(outcomes: &[Outcome], places: &[usize], found: &[Outcome]) -> bool
 }
 
 // The places of those of the outcomes that were found, ascending.
-fn listed(
-    alloc: Global,
-    outcomes: &[Outcome],
-    found: &[Outcome],
-) -> Result<Vec<usize>, PlayFault> {
+fn listed(alloc: Global, outcomes: &[Outcome], found: &[Outcome]) -> Result<Vec<usize>, PlayFault> {
     let mut places = Vec::new(alloc);
     for place in 0..outcomes.len() {
         if is_found(outcomes, found, place) {
