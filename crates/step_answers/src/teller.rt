@@ -110,11 +110,7 @@ impl<'t, M: Machine> Teller<'t, M> {
     }
 
     /// The process is given to hart 0. The record of that is added to the lines; `None` where it can't be.
-    pub fn dispatch(
-        &mut self,
-        pid: Pid,
-        lines: Vec<u8>,
-    ) -> Result<Option<Vec<u8>>, AllocError> {
+    pub fn dispatch(&mut self, pid: Pid, lines: Vec<u8>) -> Result<Option<Vec<u8>>, AllocError> {
         let event = Event::Dispatch(0, pid.index() as u32);
         self.lines.happen(&mut self.tracer, event, lines)
     }
