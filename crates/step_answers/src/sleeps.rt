@@ -48,16 +48,7 @@ pub(crate) fn add_holders<M: Machine>(
 }
 
 /// Adds what a process sleeps on, in a few words, with the numbers of the others.
-<<<<<<< HEAD
-pub fn add_sleep<M: Machine>(
-    text: &mut Text,
-    teller: &Teller<'_, M>,
-    pid: Pid,
-    channel: Channel,
-) {
-=======
 pub fn add_sleep<M: Machine>(text: &mut Text, teller: &Teller<'_, M>, pid: Pid, channel: Channel) {
->>>>>>> 45fd07e91ff2e402911c6bf8b38f82bad120fffd
     let kernel = teller.kernel();
     match channel {
         Channel::Children(_) => {
