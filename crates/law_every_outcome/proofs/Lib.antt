@@ -7,3 +7,4 @@ pub mod Listed
 pub mod Stuck
 pub mod Searched
 pub mod Scripts
+pub mod Same

@@ -28,7 +28,7 @@ use Rattle.law_every_outcome.proofs.Moved.{of_all, any_more, every_ending}
 use Rattle.law_every_outcome.proofs.Runs.{folded, of_run}
 use Rattle.law_every_outcome.proofs.Giving.{giver}
 
-outcome_back : {S : Type 0} (k l : KernelState S) → SameOutcome k l → SameOutcome l k
+pub outcome_back : {S : Type 0} (k l : KernelState S) → SameOutcome k l → SameOutcome l k
 outcome_back k l a = record { outcome = sym a.outcome; input = sym a.input; finished = (a.finished.1, a.finished.0) }
 
 module _ {S : Type 0} (call : S → Reply → Call) (next : S → Reply → S) where
@@ -41,7 +41,7 @@ module _ {S : Type 0} (call : S → Reply → Call) (next : S → Reply → S) w
       let z : ⊥ = cc in
       z
 
-  finished_ends : (m : KernelState S) → IsFinished m → IsEnding (after_turn call next) (CanDo call next) (GivesWayBegun call next) m
+  pub finished_ends : (m : KernelState S) → IsFinished m → IsEnding (after_turn call next) (CanDo call next) (GivesWayBegun call next) m
   finished_ends m over k p e does = not_over k m p e.gives (can_outcome call next k m does) over
 
   module _ (start : KernelState S) (seen : List (KernelState S)) (begun : IsBegun call next start) (e : AreEnough call next start seen) where

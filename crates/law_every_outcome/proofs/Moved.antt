@@ -19,12 +19,12 @@ module _ {K : Type 0} (turn : K → ℕ → Option K) (does : K → K → Type 0
   no_turns (p ∷ ps) m is = no_turns ps m is
 
   -- these turns, or some of them, lead from k to a state that does what m does
-  record Follows (k m : K) (ps : List ℕ) : Type 0 where
-    rest : List ℕ
-    short : length rest ≤ length ps
-    last : K
-    runs : turns turn (Some k) rest ≡ Some last
-    like : does last m
+  pub record Follows (k m : K) (ps : List ℕ) : Type 0 where
+    pub rest : List ℕ
+    pub short : length rest ≤ length ps
+    pub last : K
+    pub runs : turns turn (Some k) rest ≡ Some last
+    pub like : does last m
 
   follow_by : (k i m : K) (p : ℕ) (ps : List ℕ) → ((j : K) → does j i → Follows j m ps) → ComesTo turn does k i → Follows k m (p ∷ ps)
   follow_by k i m p ps on (inl like) = let f = on k like in record { rest = f.rest; short = omega (arith, f.short); last = f.last; runs = f.runs; like = f.like }
@@ -32,7 +32,7 @@ module _ {K : Type 0} (turn : K → ℕ → Option K) (does : K → K → Type 0
       let f = on s.1 s.3 in
       record { rest = s.0 ∷ f.rest; short = omega (arith, f.short); last = f.last; runs = ap (λ (o : Option K). turns turn o f.rest) s.2 ∙ f.runs; like = f.like }
 
-  followed : (k l m : K) (ps : List ℕ) → does k l → turns turn (Some l) ps ≡ Some m → Follows k m ps
+  pub followed : (k l m : K) (ps : List ℕ) → does k l → turns turn (Some l) ps ≡ Some m → Follows k m ps
   followed k l m [] like is =
       let same : l ≡ m = cc in
       record { rest = []; short = omega arith; last = k; runs = refl; like = subst (λ (n : K). does k n) same like }
@@ -42,12 +42,12 @@ module _ {K : Type 0} (turn : K → ℕ → Option K) (does : K → K → Type 0
     by (Some i) first on rest = follow_by k i m p ps (λ j one. on j i one rest) (can.follows k l i p like first)
 
   -- fewer turns lead from a to a state that does what m does
-  record Front (a m : K) (n : ℕ) : Type 0 where
-    rest : List ℕ
-    less : length rest < n
-    last : K
-    runs : turns turn (Some a) rest ≡ Some last
-    like : does last m
+  pub record Front (a m : K) (n : ℕ) : Type 0 where
+    pub rest : List ℕ
+    pub less : length rest < n
+    pub last : K
+    pub runs : turns turn (Some a) rest ≡ Some last
+    pub like : does last m
 
   -- another turn before the one of p, by what joins them
   joined : (a l m : K) (p n : ℕ) (j : Joins turn does private a l p) → Front j.both m n → ComesTo turn does a j.both → Front a m (suc n)
@@ -65,7 +65,7 @@ module _ {K : Type 0} (turn : K → ℕ → Option K) (does : K → K → Type 0
       }
 
   -- a private turn can be taken first
-  front : (k a m : K) (p : ℕ) (qs : List ℕ) → private k p → turn k p ≡ Some a → turns turn (Some k) qs ≡ Some m → IsEnding turn does private m → Front a m (length qs)
+  pub front : (k a m : K) (p : ℕ) (qs : List ℕ) → private k p → turn k p ≡ Some a → turns turn (Some k) qs ≡ Some m → IsEnding turn does private m → Front a m (length qs)
   front k a m p [] mine first is over =
       let same : k ≡ m = cc in
       absurd (over k p mine (subst (λ (n : K). does k n) same (can.itself k)))

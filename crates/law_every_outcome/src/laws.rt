@@ -1,6 +1,6 @@
 //! Laws: each function's contract is the law, and its body is empty. All but the last one are of any machines.
 
-ghost use Rattle.std.specs.Prelude.{◌≤◌, ℕ, List, All, Any};
+ghost use Rattle.std.specs.Prelude.{◌≡◌, ◌≤◌, ℕ, List, Some, All, Any};
 ghost use Rattle.mem_files.specs.Name.{Bytes, Name};
 ghost use Rattle.mem_files.specs.Listing.{AreFiles};
 ghost use Rattle.script_load.specs.Line.{ScriptLine};
@@ -61,4 +61,16 @@ pub fn what_a_search_found_is_explored<M: Machine>()
 /// A script's start is one to which turns lead from a boot, whatever the script and under either profile; so all this holds of it.
 pub fn a_script_begins_at_a_boot()
     ensures { (profile : Profile) (lines : List ScriptLine) (input : Bytes) (list : List (Name × Bytes)) → AreFiles list → IsBegun call_of next_of (script_kernel profile lines input list) }
+{}
+
+/// Kernels of runs that have the same key, but for who sleeps and for numbers of entries, have the same outcomes.
+pub fn kernels_with_the_same_key_have_the_same_outcomes<M: Machine>()
+    ensures { (k l : KernelState M.State) (outcomes : List RunOutcome) → IsBegun M.call_of M.next_of k → IsBegun M.call_of M.next_of l → SameKeyAnyhow k l
+        → AreAllOutcomes M.call_of M.next_of k outcomes → AreAllOutcomes M.call_of M.next_of l outcomes }
+{}
+
+/// A turn that gives way to nobody's takes no outcome away: those of the kernel after it are those of the kernel before it.
+pub fn a_turn_that_gives_way_keeps_all_outcomes<M: Machine>()
+    ensures { (k now : KernelState M.State) (pid : ℕ) (outcomes : List RunOutcome) → IsBegun M.call_of M.next_of k → GivesWay M.call_of M.next_of k pid
+        → after_turn M.call_of M.next_of k pid ≡ Some now → AreAllOutcomes M.call_of M.next_of now outcomes → AreAllOutcomes M.call_of M.next_of k outcomes }
 {}

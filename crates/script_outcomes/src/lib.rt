@@ -9,3 +9,4 @@ mod sorting;
 pub use concluding::{Conclusion, concluded, is_single, is_whole};
 pub use every_order::{Exploration, ExploreFault, Outcome, Setting, Unwatched, Watch};
 pub use finding::{Found, Limits, Tried, outcomes_of};
+pub use sorting::sorted;

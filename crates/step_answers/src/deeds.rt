@@ -7,7 +7,7 @@ use proc_table::{PROCS, Pid};
 use std::alloc::{AllocError, Global};
 use user_calls::{CallKind, CallSlot, Machine, Mode, ReplyKind};
 
-// What is known of a call before it is carried out.
+/// What is known of a call before it is carried out.
 #[derive(Drop)]
 pub struct Plan {
     call: CallSlot,
@@ -38,8 +38,8 @@ fn add_program<M: Machine>(text: &mut Text, teller: &Teller<'_, M>, pid: Pid) {
     }
 }
 
-// The call that the process on hart 0 makes.
-pub(crate) fn plan_of<M: Machine>(
+/// The call that the process on hart 0 makes, before it is carried out.
+pub fn plan_of<M: Machine>(
     alloc: Global,
     teller: &Teller<'_, M>,
     pid: Pid,
@@ -223,8 +223,8 @@ fn add_call<M: Machine>(text: &mut Text, teller: &Teller<'_, M>, pid: Pid, plan:
     }
 }
 
-// Adds what the call did, whom it woke, and what was full for the first time.
-pub(crate) fn add_deed<M: Machine>(text: &mut Text, teller: &Teller<'_, M>, pid: Pid, plan: &Plan) {
+/// Adds what the process's last call did, which was this one, whom it woke, and whether something was full for the first time.
+pub fn add_deed<M: Machine>(text: &mut Text, teller: &Teller<'_, M>, pid: Pid, plan: &Plan) {
     add_call(text, teller, pid, plan);
     add_woken(text, teller);
     if teller.tracer().full().is_some() {

@@ -18,5 +18,11 @@ mod text;
 mod views;
 mod words;
 
+pub use deeds::{Plan, add_deed, plan_of};
+pub use plans::add_plan;
 pub use play::{MOST_TURNS, Play, PlayFault};
 pub use scene::Scene;
+pub use sleeps::add_sleep;
+pub use teller::Teller;
+pub use text::Text;
+pub use words::{add_command, add_name, add_object, add_pipe};

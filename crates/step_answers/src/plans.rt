@@ -103,8 +103,8 @@ fn add_line<M: Machine>(text: &mut Text, teller: &Teller<'_, M>, pid: Pid, call:
     }
 }
 
-// Adds what the process does by its next call, if there is one.
-pub(crate) fn add_plan<M: Machine>(text: &mut Text, teller: &Teller<'_, M>, pid: Pid) {
+/// Adds what the process does by its next call, if there is one.
+pub fn add_plan<M: Machine>(text: &mut Text, teller: &Teller<'_, M>, pid: Pid) {
     let mut call = CallSlot::new();
     if teller.next_call(pid, &mut call) {
         add_call(text, teller, pid, &call);

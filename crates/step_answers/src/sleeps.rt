@@ -47,13 +47,8 @@ pub(crate) fn add_holders<M: Machine>(
     add_those(text, teller, true, |pid| holds(kernel, pid, name, end));
 }
 
-// What a process sleeps on, in a few words, with the numbers of the others.
-pub(crate) fn add_sleep<M: Machine>(
-    text: &mut Text,
-    teller: &Teller<'_, M>,
-    pid: Pid,
-    channel: Channel,
-) {
+/// Adds what a process sleeps on, in a few words, with the numbers of the others.
+pub fn add_sleep<M: Machine>(text: &mut Text, teller: &Teller<'_, M>, pid: Pid, channel: Channel) {
     let kernel = teller.kernel();
     match channel {
         Channel::Children(_) => {

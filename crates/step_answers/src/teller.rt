@@ -10,7 +10,7 @@ use std::alloc::{AllocError, Global};
 use trace_lines::TraceLines;
 use user_calls::{CallKind, CallSlot, Machine, ReplyKind};
 
-// Follows a session event by event.
+/// Follows a session event by event: a kernel in which each event is made again and told.
 #[derive(Drop)]
 pub struct Teller<'t, M: Machine> {
     script: &'t Script<Global>,
@@ -52,7 +52,8 @@ fn first_machines<M: Machine>(
 }
 
 impl<'t, M: Machine> Teller<'t, M> {
-    pub(crate) fn new(alloc: Global, scene: &Scene<'t, M>) -> Result<Self, AllocError> {
+    /// A teller of a kernel at its start.
+    pub fn new(alloc: Global, scene: &Scene<'t, M>) -> Result<Self, AllocError> {
         Ok(Teller {
             script: scene.script,
             tracer: scene.tracer(alloc)?,
@@ -67,18 +68,18 @@ impl<'t, M: Machine> Teller<'t, M> {
         self.script
     }
 
-    // What the last event did.
-    pub(crate) fn tracer(&self) -> &Tracer<M, Global> {
+    /// What the last event did.
+    pub fn tracer(&self) -> &Tracer<M, Global> {
         &self.tracer
     }
 
-    // The kernel after the last event.
-    pub(crate) fn kernel(&self) -> &Kernel<M, Global> {
+    /// The kernel after the last event.
+    pub fn kernel(&self) -> &Kernel<M, Global> {
         self.tracer.kernel()
     }
 
-    // What the process carries out by its next call.
-    pub(crate) fn doing(&self, pid: Pid) -> Doing<'t> {
+    /// What the process carries out by its next call.
+    pub fn doing(&self, pid: Pid) -> Doing<'t> {
         self.followed.doing(pid)
     }
 
@@ -90,8 +91,8 @@ impl<'t, M: Machine> Teller<'t, M> {
         }
     }
 
-    // Writes the call that the slot's process makes next, and returns whether there is one.
-    pub(crate) fn next_call(&self, pid: Pid, call: &mut CallSlot) -> bool {
+    /// Writes the call that the slot's process makes next, and returns whether there is one.
+    pub fn next_call(&self, pid: Pid, call: &mut CallSlot) -> bool {
         match (self.machine(pid), self.kernel().reply(pid)) {
             (Some(machine), Some(reply)) => {
                 machine.ask(reply, call);
@@ -108,18 +109,14 @@ impl<'t, M: Machine> Teller<'t, M> {
         Some(after)
     }
 
-    // The process is given to hart 0. The record of that is added to the lines; `None` where it can't be.
-    pub(crate) fn dispatch(
-        &mut self,
-        pid: Pid,
-        lines: Vec<u8>,
-    ) -> Result<Option<Vec<u8>>, AllocError> {
+    /// The process is given to hart 0. The record of that is added to the lines; `None` where it can't be.
+    pub fn dispatch(&mut self, pid: Pid, lines: Vec<u8>) -> Result<Option<Vec<u8>>, AllocError> {
         let event = Event::Dispatch(0, pid.index() as u32);
         self.lines.happen(&mut self.tracer, event, lines)
     }
 
-    // The process on hart 0 makes its call. The record of that is added to the lines; `None` where it doesn't run there.
-    pub(crate) fn trap(&mut self, pid: Pid, lines: Vec<u8>) -> Result<Option<Vec<u8>>, AllocError> {
+    /// The process on hart 0 makes its call. The record of that is added to the lines; `None` where it doesn't run there.
+    pub fn trap(&mut self, pid: Pid, lines: Vec<u8>) -> Result<Option<Vec<u8>>, AllocError> {
         let Some(lines) = self.make_call(pid, lines)? else {
             return Ok(None);
         };
@@ -175,25 +172,25 @@ impl<'t, M: Machine> Teller<'t, M> {
         put(&mut self.machines, pid, after);
     }
 
-    // The process that the last event made, if it made one.
-    pub(crate) fn child(&self) -> Option<Pid> {
+    /// The process that the last event made, if it made one.
+    pub fn child(&self) -> Option<Pid> {
         let tracer = &self.tracer;
         found(|pid| tracer.is_made(pid))
     }
 
-    // The process that the last event took away, if it did.
-    pub(crate) fn gone(&self) -> Option<Pid> {
+    /// The process that the last event took away, if it did.
+    pub fn gone(&self) -> Option<Pid> {
         let tracer = &self.tracer;
         found(|pid| tracer.is_gone(pid))
     }
 
-    // Whether the process's last call put it to sleep.
-    pub(crate) fn is_asleep(&self, pid: Pid) -> bool {
+    /// Whether the process's last call put it to sleep.
+    pub fn is_asleep(&self, pid: Pid) -> bool {
         matches!(self.kernel().state(pid), State::Asleep(_))
     }
 
-    // Whether the process's last call is over, and was not refused.
-    pub(crate) fn is_done(&self, pid: Pid) -> bool {
+    /// Whether the process's last call is over, and was not refused.
+    pub fn is_done(&self, pid: Pid) -> bool {
         if !matches!(self.kernel().state(pid), State::Runnable) {
             return false;
         }

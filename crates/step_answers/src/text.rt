@@ -14,7 +14,8 @@ pub struct Text {
 }
 
 impl Text {
-    pub(crate) fn new(alloc: Global) -> Text {
+    /// Text that begins empty.
+    pub fn new(alloc: Global) -> Text {
         Text::behind(alloc, Vec::new(alloc))
     }
 
@@ -40,13 +41,15 @@ impl Text {
         self.is_refused = true;
     }
 
-    pub(crate) fn bytes(&mut self, bytes: &[u8]) {
+    /// Adds bytes as they are.
+    pub fn bytes(&mut self, bytes: &[u8]) {
         if self.bytes.extend_from_slice(bytes).is_err() {
             self.refuse();
         }
     }
 
-    pub(crate) fn add(&mut self, words: &str) {
+    /// Adds words.
+    pub fn add(&mut self, words: &str) {
         self.bytes(words.as_bytes());
     }
 
@@ -54,15 +57,15 @@ impl Text {
         self.bytes(&[byte]);
     }
 
-    // Bytes on one line, as they are shown.
-    pub(crate) fn shown(&mut self, bytes: &[u8]) {
+    /// Adds bytes on one line, as they are shown.
+    pub fn shown(&mut self, bytes: &[u8]) {
         if add_shown(&mut self.bytes, bytes).is_err() {
             self.refuse();
         }
     }
 
-    // A number in decimal.
-    pub(crate) fn number(&mut self, number: u64) {
+    /// Adds a number in decimal.
+    pub fn number(&mut self, number: u64) {
         let mut buffer = Buffer::new();
         self.bytes(buffer.format(number).as_bytes());
     }
@@ -80,7 +83,7 @@ impl Text {
     /// The bytes of the text.
     ///
     /// `AllocError` where memory was refused to one of the pieces.
-    pub(crate) fn end(self) -> Result<Vec<u8>, AllocError> {
+    pub fn end(self) -> Result<Vec<u8>, AllocError> {
         if self.is_refused {
             return Err(AllocError);
         }

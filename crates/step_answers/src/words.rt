@@ -36,8 +36,8 @@ pub(crate) fn add_short(text: &mut Text, bytes: &[u8]) {
     add_first(text, bytes, SHOWN);
 }
 
-// Adds the name of a file: as it is where each byte is a printable one and no space, else between quotes.
-pub(crate) fn add_name(text: &mut Text, name: &[u8]) {
+/// Adds the name of a file: as it is where each byte is a printable one and no space, else between quotes.
+pub fn add_name(text: &mut Text, name: &[u8]) {
     if !name.is_empty() && name.iter().all(|byte| matches!(*byte, b'!'..=b'~')) {
         text.bytes(name);
     } else {
@@ -88,14 +88,19 @@ fn own_word(doing: Doing<'_>) -> &'static str {
     }
 }
 
+/// Adds the command that a process carries out, its first 60 bytes, between grave accents, or `(init)` or `(the shell)`.
+pub fn add_command(text: &mut Text, doing: Doing<'_>) {
+    if !add_doing(text, doing, SHOWN) {
+        text.add(own_word(doing));
+    }
+}
+
 // A process with the command that it carries out.
 pub(crate) fn add_process(text: &mut Text, pid: Pid, doing: Doing<'_>) {
     text.add("process ");
     text.number(pid.index() as u64);
     text.byte(b' ');
-    if !add_doing(text, doing, SHOWN) {
-        text.add(own_word(doing));
-    }
+    add_command(text, doing);
 }
 
 // The command that a process carries out, where processes are listed.
@@ -105,8 +110,8 @@ pub(crate) fn add_listed(text: &mut Text, doing: Doing<'_>) {
     }
 }
 
-// A pipe, by its letter: A is the first that was made, and behind the first 26 a number stands too, as on the page of a run.
-pub(crate) fn add_pipe<M: Machine>(text: &mut Text, teller: &Teller<'_, M>, name: u64) {
+/// Adds a pipe, by its letter: A is the first that was made, and behind the first 26 a number stands too, as on the page of a run.
+pub fn add_pipe<M: Machine>(text: &mut Text, teller: &Teller<'_, M>, name: u64) {
     text.add("pipe ");
     let Some(place) = teller.place_of_pipe(name) else {
         text.number(name);
@@ -124,8 +129,8 @@ fn add_pipe_end<M: Machine>(text: &mut Text, teller: &Teller<'_, M>, name: u64, 
     text.add(end);
 }
 
-// What is open, in words.
-pub(crate) fn add_object<M: Machine>(text: &mut Text, teller: &Teller<'_, M>, object: &Object) {
+/// Adds what is open, in words.
+pub fn add_object<M: Machine>(text: &mut Text, teller: &Teller<'_, M>, object: &Object) {
     match object {
         Object::Input => text.add("the standard input"),
         Object::Out => text.add("the output"),
