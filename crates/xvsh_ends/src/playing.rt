@@ -7,18 +7,16 @@ ghost use Rattle.xvsh_ends.specs.Requests.{played_asked};
 use crate::ending::{Ending, report_made};
 use crate::pages::drawn;
 use std::alloc::Global;
-use xvsh_explores::Played;
+use xvsh_explores::{PageFault, Played};
 use xvsh_traces::Traces;
 
-// Reports that there is no page, since a script has more than so many states.
-fn report_unplayed(alloc: Global, states: u64) -> Ending
+// Reports that there is no page, and why.
+fn report_unplayed(alloc: Global, fault: PageFault) -> Ending
     ensures { (input : Option (List ℕ)) (file : Path → Option (List ℕ)) (what : Asked) → IsDue input file (asks_played what) result }
 {
     report_made(
         alloc,
-        format!(in alloc;
-            "xvsh: no page to play: there are more than {states} states, and not every order was tried (--states)\n"
-        ),
+        format!(in alloc; "xvsh: no page to play: {fault}\n"),
         4,
     )
 }
@@ -36,7 +34,7 @@ fn play_at<T: Traces>(
     match played {
         Played::Unasked => drawn(alloc, ending, None, Some(path), traces),
         Played::Page(page) => drawn(alloc, ending, Some(page), Some(path), traces),
-        Played::Part(states) => report_unplayed(alloc, states),
+        Played::Refused(fault) => report_unplayed(alloc, fault),
     }
 }
 

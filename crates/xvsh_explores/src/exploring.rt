@@ -48,7 +48,6 @@ struct Shown {
     schedules: Vec<Vec<u8>>,
     pair: Option<Pair>,
     page: Option<Vec<u8>>,
-    played: Played,
 }
 
 // The text or the object of a settled script.
@@ -94,7 +93,7 @@ fn text_of(
     }
 }
 
-// What is shown of what was found.
+// What is shown of what was found, but for the page to play.
 fn show(
     alloc: Global,
     start: &Start,
@@ -109,7 +108,6 @@ fn show(
                 schedules: Vec::new(alloc),
                 pair: None,
                 page: None,
-                played: Played::Unasked,
             });
         }
         Found::Tried(tried) => tried,
@@ -131,7 +129,6 @@ fn show(
         schedules: schedules_of(alloc, request, &findings)?,
         pair: findings.pair,
         page: page_of(alloc, start, request, outcomes, &findings)?,
-        played: played(alloc, start, request, tried)?,
     })
 }
 
@@ -197,8 +194,8 @@ pub fn explore_start<'a, W: Watch>(
         schedules,
         pair,
         page,
-        played,
     } = show(alloc, start, request, asked, &found)?;
+    let played = played(alloc, start, request, watch)?;
     let bad = bad_lines(alloc, start.script.lines.as_slice())?;
     Ok(Explored {
         found,

@@ -8,3 +8,4 @@ mod writing;
 
 pub use diagnostics::lined;
 pub use traces::{TraceFault, Traces, trace_run};
+pub use writing::script_text;

@@ -162,8 +162,8 @@ fn add_line(line: &Line<Global>, text: &mut Vec<u8>) -> Result<(), AllocError> {
     Ok(text.push(b'\n')?)
 }
 
-// The lines of a script as text, each with LF.
-fn script_text(alloc: Global, script: &Script<Global>) -> Result<Vec<u8>, AllocError> {
+/// The lines of a script as text, each with LF. A loaded script keeps no bytes of its commands, so these are written anew.
+pub fn script_text(alloc: Global, script: &Script<Global>) -> Result<Vec<u8>, AllocError> {
     let mut text = Vec::new(alloc);
     for line in script.lines.as_slice() {
         add_line(line, &mut text)?;

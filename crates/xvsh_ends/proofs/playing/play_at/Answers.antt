@@ -9,6 +9,6 @@ pub returns-in-Page : goal.returns-in-Page
 returns-in-Page g c input file what due =
     played (c.drawn-in-Page.ensures input file what due)
 
-pub returns-in-Part : goal.returns-in-Part
-returns-in-Part g c input file what due =
+pub returns-in-Refused : goal.returns-in-Refused
+returns-in-Refused g c input file what due =
     c.report_unplayed.ensures input file (asks_traced what c.args.path.now)
