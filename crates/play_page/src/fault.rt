@@ -11,7 +11,7 @@ pub enum PageFault {
     #[error("no memory")]
     Memory,
     /// The script leads to more states than may be kept: so many were found.
-    #[error("there are more than {0} states")]
+    #[error("there are {0} states or more")]
     Many(usize),
     /// A run has more turns than can be counted.
     #[error("a run is too long")]

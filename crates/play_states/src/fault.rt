@@ -14,7 +14,7 @@ pub enum PlayFault {
     #[error("a run is too long")]
     TooLong,
     /// More states can follow than may be kept: so many were found.
-    #[error("there are more than {0} states")]
+    #[error("there are {0} states or more")]
     Many(usize),
     /// What was to be shown isn't so: a turn leads elsewhere, an outcome isn't listed, or a turn that isn't offered adds one.
     #[error("what was to be shown isn't so")]
