@@ -83,10 +83,10 @@ mark.ends{font-style:italic;font-family:system-ui,sans-serif}
 .differ{table-layout:fixed}
 .differ td:first-child,.differ th:first-child{width:110px}
 .differ td,.differ th{white-space:normal}
-.race{overflow-x:auto;padding-bottom:6px}
-.race h3{margin:14px 0 4px}
-.race .note{margin:2px 0}
-.race text{font-size:12px}
+.picture{overflow-x:auto;padding-bottom:6px}
+.picture h3{margin:14px 0 4px}
+.picture .note{margin:2px 0}
+.picture text{font-size:12px}
 .lane summary{display:block;list-style:none;width:max-content}
 .lane summary::-webkit-details-marker{display:none}
 .lane summary:focus-visible{outline:2px solid var(--edge)}

@@ -50,7 +50,7 @@ fn add_ends<A: Allocator>(page: &mut Page<A>, lane: &Lane<'_, '_, A>) {
             }
         }
     }
-    page.mark(if told > 0 { ":" } else { "" });
+    page.mark(":");
 }
 
 // The mark of a bar that is closed or open, and its first word.
@@ -74,19 +74,25 @@ fn add_count<A: Allocator>(page: &mut Page<A>, x: usize, low: usize, count: usiz
 fn add_early<A: Allocator>(page: &mut Page<A>, lane: &Lane<'_, '_, A>, count: usize) {
     let size = (BAR - SET_IN, HIGH - TOP - 6);
     add_rect(page, "folded", (0, TOP), size);
-    add_first_line(
-        page,
-        SET_IN,
-        if sets_up(lane) {
-            "sets up"
-        } else {
-            "gets ready"
-        },
-    );
-    begin_text(page, "left", (SET_IN, TOP + 22 + LINE));
+    let second = TOP + 22 + LINE;
+    let meant = lane.count_meant();
+    if meant > 0 {
+        add_first_line(page, SET_IN, "before:");
+        add_count(page, SET_IN, second, count);
+        let words = [Num(meant), Mark(" like these")];
+        add_text(page, "left", (SET_IN, second + LINE), &words);
+        return;
+    }
+    if !sets_up(lane) {
+        add_first_line(page, SET_IN, "gets ready:");
+        add_count(page, SET_IN, second, count);
+        return;
+    }
+    add_first_line(page, SET_IN, "sets up");
+    begin_text(page, "left", (SET_IN, second));
     add_ends(page, lane);
     page.mark("</text>");
-    add_count(page, SET_IN, TOP + 22 + 2 * LINE, count);
+    add_count(page, SET_IN, second + LINE, count);
 }
 
 // The bar of the calls that are neither shown nor before.
@@ -95,7 +101,7 @@ fn add_late<A: Allocator>(page: &mut Page<A>, lane: &Lane<'_, '_, A>, count: usi
     let size = (REST - SET_IN, HIGH - TOP - 6);
     add_rect(page, "folded", (left, TOP), size);
     let x = left.saturating_add(SET_IN);
-    add_first_line(page, x, "also");
+    add_first_line(page, x, "also:");
     add_count(page, x, TOP + 22 + LINE, count);
 }
 

@@ -88,8 +88,8 @@ fn add_closed<A: Allocator>(page: &mut Page<A>, states: &[PipeState]) {
         .iter()
         .find(|state| state.closes_read || state.closes_write);
     match closing {
-        Some(state) if state.closes_write => page.mark("last write end"),
-        Some(_) => page.mark("last read end"),
+        Some(state) if state.closes_write => page.mark("write end closed"),
+        Some(_) => page.mark("read end closed"),
         None => {}
     }
 }

@@ -41,6 +41,22 @@ impl<'t, A: Allocator> Lane<'_, 't, A> {
         }
     }
 
+    /// The event by whose command the lane is named: that of its first call which is shown, or else its first one.
+    pub(crate) fn named(&self) -> Option<&'t Event> {
+        let first = self.first_shown();
+        let mut events = self.events().iter();
+        events.find(|event| {
+            event.process == self.process && (event.number >= first || !self.has_shown())
+        })
+    }
+
+    // Whether a call of the lane is shown.
+    fn has_shown(&self) -> bool {
+        self.shown
+            .iter()
+            .any(|shown| shown.event.process == self.process)
+    }
+
     /// The events of its run.
     pub(crate) fn events(&self) -> &'t [Event] {
         self.side.run.trace.events.as_slice()
@@ -70,6 +86,18 @@ impl<'t, A: Allocator> Lane<'_, 't, A> {
         let mut count: usize = 0;
         for event in self.events() {
             if self.is_folded(event, first, folded) {
+                count = count.saturating_add(1);
+            }
+        }
+        count
+    }
+
+    /// How many of the calls before those that are shown are on what the two share, or seen.
+    pub(crate) fn count_meant(&self) -> usize {
+        let first = self.first_shown();
+        let mut count: usize = 0;
+        for event in self.events() {
+            if self.side.is_meant(event) && self.is_folded(event, first, Folded::Early) {
                 count = count.saturating_add(1);
             }
         }

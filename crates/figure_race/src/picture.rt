@@ -20,11 +20,7 @@ const PRINTED: usize = 60;
 
 // The name of a lane: the command of its process, its place in the script, and its number.
 fn add_name<A: Allocator + Copy>(page: &mut Page<A>, lane: &Lane<'_, '_, A>) {
-    let named = lane
-        .events()
-        .iter()
-        .find(|event| event.process == lane.process);
-    if let Some(event) = named {
+    if let Some(event) = lane.named() {
         page.mark("<span class=\"who\">");
         add_command(page, lane.run(), event, ROOM);
         page.mark(" <span class=\"note\">");
@@ -159,7 +155,7 @@ pub(crate) fn add_picture<A: Allocator + Copy>(
     other: &Side<'_, '_, A>,
 ) -> Result<(), AllocError> {
     let grid = Grid::of(one, other);
-    page.mark("<div class=\"race\">\n");
+    page.mark("<div class=\"picture\">\n");
     add_run(alloc, page, one, grid, "Run 1")?;
     add_run(alloc, page, other, grid, "Run 2")?;
     page.mark("</div>\n");
