@@ -200,24 +200,29 @@ fn has_row<A: Allocator>(
     is_other_file(one, other, name) && !(is_second && file_named(one, name).is_some())
 }
 
-// The rows of the files of one run that differ, or of those that the second run alone left; returns how many there are.
+// The rows of the files of one run that differ, or of those that the second run alone left, but none more once the page has so many
+// bytes; returns how many have none.
 fn add_files_of<A: Allocator>(
     page: &mut Page<A>,
     one: &Trace<A>,
     other: &Trace<A>,
     is_second: bool,
+    most: usize,
 ) -> usize {
-    let mut count: usize = 0;
+    let mut rows: usize = 0;
+    let mut left: usize = 0;
     let owner = if is_second { other } else { one };
     for file in files_left(owner) {
         if has_row(one, other, file, is_second) {
-            count = count.saturating_add(1);
-            if count <= FILES {
+            if rows < FILES && page.size() < most {
+                rows = rows.saturating_add(1);
                 add_file(page, one, other, owner.text(file.name));
+            } else {
+                left = left.saturating_add(1);
             }
         }
     }
-    count
+    left
 }
 
 // Says how many files more differ.
@@ -246,8 +251,14 @@ fn are_same<A: Allocator>(one: &Trace<A>, other: &Trace<A>) -> bool {
         && !has_other_file(one, other, other)
 }
 
-/// What two runs leave that differs: their outputs, their messages, and the files, as far as the traces tell, each in a row.
-pub(crate) fn add_differences<A: Allocator>(page: &mut Page<A>, one: &Trace<A>, other: &Trace<A>) {
+/// What two runs leave that differs: their outputs, their messages, and the files, as far as the traces tell, each in a row, but no file
+/// more once the page has so many bytes.
+pub(crate) fn add_differences<A: Allocator>(
+    page: &mut Page<A>,
+    one: &Trace<A>,
+    other: &Trace<A>,
+    most: usize,
+) {
     page.mark("<h2>What differs</h2>\n");
     if are_same(one, other) {
         page.mark(
@@ -261,11 +272,8 @@ pub(crate) fn add_differences<A: Allocator>(page: &mut Page<A>, one: &Trace<A>, 
     let (out, diag) = (one.text(one.end.out), one.text(one.end.diag));
     add_written(page, "Output", out, other.text(other.end.out));
     add_written(page, "Messages", diag, other.text(other.end.diag));
-    let first = add_files_of(page, one, other, false);
-    let second = add_files_of(page, one, other, true);
-    let more = first
-        .saturating_sub(FILES)
-        .saturating_add(second.saturating_sub(FILES));
-    add_more_files(page, more);
+    let first = add_files_of(page, one, other, false, most);
+    let second = add_files_of(page, one, other, true, most);
+    add_more_files(page, first.saturating_add(second));
     page.mark("</tbody></table>\n");
 }

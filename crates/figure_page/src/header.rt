@@ -11,7 +11,7 @@ use trace_data::{FileState, Part, Trace};
 // How many bytes of a script or an output are shown, and how many files.
 const SHOWN: usize = 2048;
 
-const FILES: usize = 40;
+const FILES: usize = 16;
 
 // How many columns a title, a file's name and its beginning take.
 const TITLE_ROOM: usize = 60;

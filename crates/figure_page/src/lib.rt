@@ -5,20 +5,14 @@
 //! calls; a page of two traces says where they part, and draws what both begin with once.
 #![tactic(auto)]
 
-mod cause;
 mod differ;
 mod header;
 mod page;
 mod pair;
-mod parting;
 mod phases;
-mod side;
 mod story;
 mod style;
 mod table;
-mod things;
-mod twins;
-mod why;
 
 pub use page::run_page;
 pub use pair::pair_page;

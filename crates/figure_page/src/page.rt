@@ -11,17 +11,15 @@ use page_markup::{Page, Piece};
 use std::alloc::{AllocError, Allocator};
 use trace_data::Trace;
 
-/// How many bytes a page has when no strip more is begun, and when no row more is, so that it stays below 400,000.
-#[derive(Clone, Copy)]
-pub(crate) struct Limits {
-    pub(crate) figure: usize,
-    pub(crate) table: usize,
-}
+// How many bytes a page has when no row and no sentence more is begun, and at most with a strip more: so it stays below 400,000, since
+// none of these, and nothing that has no limit, is as large as what is left.
+const MOST: usize = 370_000;
 
-const LIMITS: Limits = Limits {
-    figure: 170_000,
-    table: 330_000,
-};
+/// How large a page may become by a part that gets so many tenths of what is left.
+pub(crate) fn share<A: Allocator>(page: &Page<A>, tenths: usize) -> usize {
+    let left = MOST.saturating_sub(page.size());
+    page.size().saturating_add(left.saturating_mul(tenths) / 10)
+}
 
 // Says which events are left out, if some are.
 pub(crate) fn add_left_out<A: Allocator>(page: &mut Page<A>, span: Span, events: usize) {
@@ -81,7 +79,7 @@ fn add_undrawn<A: Allocator>(page: &mut Page<A>, first: usize, past: usize) {
     }
 }
 
-/// The figure of these events, which the run passes, until the page has so many bytes.
+/// The figure of these events, which the run passes, as long as the page has at most so many bytes with it.
 ///
 /// `AllocError` where memory is refused.
 pub(crate) fn add_figure<A: Allocator + Copy>(
@@ -101,7 +99,7 @@ pub(crate) fn add_figure<A: Allocator + Copy>(
 
 /// The page of a run, in HTML: its script, what it printed and left, what happened in sentences, its figure, and a table of its
 /// calls, in which calls that are alike are told together. Of more than `MOST_EVENTS` events the first so many of those in the bounds
-/// are drawn, and the page says which are left out; it also says so where it would have more than some 400,000 bytes. Own.
+/// are drawn, and the page says which are left out; so it does where it would have more than 400,000 bytes, which it never has. Own.
 ///
 /// `AllocError` where memory is refused.
 pub fn run_page<A: Allocator + Copy>(
@@ -119,16 +117,18 @@ pub fn run_page<A: Allocator + Copy>(
     );
     add_facts(&mut page, &run);
     page.mark("<h2>What happened</h2>\n");
-    add_story(&mut page, &run, span);
+    let most = share(&page, 3);
+    add_story(&mut page, &run, span, most);
     page.mark(
         "<h2>Processes, pipes and output</h2>\n<p class=\"note\">Events go from left to right.</p>\n",
     );
     add_left_out(&mut page, span, trace.events.len());
     page.mark(KEY);
     run.pass(1, span.first);
-    add_figure(alloc, &mut page, &mut run, span, LIMITS.figure)?;
+    let most = share(&page, 5);
+    add_figure(alloc, &mut page, &mut run, span, most)?;
     page.mark("<h2>Each call</h2>\n");
-    add_table(alloc, &mut page, &run, span, LIMITS.table)?;
+    add_table(alloc, &mut page, &run, span, MOST)?;
     page.mark("</main>\n</body>\n</html>\n");
     page.end()
 }

@@ -2,13 +2,12 @@
 
 use crate::differ::add_differences;
 use crate::header::{add_files, add_head, add_printed, add_size};
-use crate::page::{Limits, add_figure, add_left_out};
-use crate::parting::add_where;
+use crate::page::{add_figure, add_left_out, share};
 use crate::story::add_story;
 use crate::style::KEY;
 use crate::table::add_table;
-use crate::why::add_why;
 use Piece::{Mark, Num};
+use figure_race::{add_turns, add_why};
 use figure_strips::{Bounds, Span};
 use figure_words::Run;
 use page_markup::{Page, Piece};
@@ -16,21 +15,36 @@ use run_figure::common_events;
 use std::alloc::{AllocError, Allocator};
 use trace_data::Trace;
 
-// How large the page may be where each of its parts ends.
-const BEGINNING: Limits = Limits {
-    figure: 110_000,
-    table: 160_000,
+// How many tenths of what is left of the page the story, the figure and the table of a run get.
+#[derive(Clone, Copy)]
+struct Shares {
+    story: usize,
+    figure: usize,
+    table: usize,
+}
+
+const BEGINNING: Shares = Shares {
+    story: 0,
+    figure: 3,
+    table: 2,
 };
 
-const RUN_1: Limits = Limits {
-    figure: 200_000,
-    table: 250_000,
+const RUN_1: Shares = Shares {
+    story: 1,
+    figure: 3,
+    table: 3,
 };
 
-const RUN_2: Limits = Limits {
-    figure: 290_000,
-    table: 350_000,
+const RUN_2: Shares = Shares {
+    story: 2,
+    figure: 6,
+    table: 10,
 };
+
+// How many tenths what differs and why gets.
+const DIFFER: usize = 2;
+
+const WHY: usize = 4;
 
 // What a run told as diagnostics, if it told something.
 fn add_messages<A: Allocator + Copy>(page: &mut Page<A>, name: &'static str, trace: &Trace<A>) {
@@ -61,12 +75,26 @@ fn add_both_facts<A: Allocator + Copy>(page: &mut Page<A>, one: &Run<'_, A>, oth
     page.mark("</dl>\n");
 }
 
+// The figure and the table of these events, within their shares.
+fn add_events<A: Allocator + Copy>(
+    alloc: A,
+    page: &mut Page<A>,
+    run: &mut Run<'_, A>,
+    span: Span,
+    shares: Shares,
+) -> Result<(), AllocError> {
+    let most = share(page, shares.figure);
+    add_figure(alloc, page, run, span, most)?;
+    let most = share(page, shares.table);
+    add_table(alloc, page, run, span, most)
+}
+
 // The figure and the table of a run from an event on, which open.
 fn add_rest<A: Allocator + Copy>(
     alloc: A,
     page: &mut Page<A>,
     run: &mut Run<'_, A>,
-    (title, limits): (&'static str, Limits),
+    (title, shares): (&'static str, Shares),
     span: Span,
 ) -> Result<(), AllocError> {
     page.add(&[
@@ -76,10 +104,10 @@ fn add_rest<A: Allocator + Copy>(
         Num(span.first),
         Mark(" on</h2></summary>\n"),
     ]);
-    add_story(page, run, span);
+    let most = share(page, shares.story);
+    add_story(page, run, span, most);
     run.pass(1, span.first);
-    add_figure(alloc, page, run, span, limits.figure)?;
-    add_table(alloc, page, run, span, limits.table)?;
+    add_events(alloc, page, run, span, shares)?;
     page.mark("</details>\n");
     Ok(())
 }
@@ -95,16 +123,14 @@ fn add_beginning<A: Allocator + Copy>(
     add_left_out(page, span, run.trace.events.len());
     page.mark(KEY);
     run.pass(1, span.first);
-    let span = span.before(parting);
-    add_figure(alloc, page, run, span, BEGINNING.figure)?;
-    add_table(alloc, page, run, span, BEGINNING.table)?;
+    add_events(alloc, page, run, span.before(parting), BEGINNING)?;
     page.mark("</details>\n");
     Ok(())
 }
 
 /// The page of two runs of one script: what they leave that differs, the event at which they part, and the calls whose order decides
 /// it, side by side; then, each behind a line that opens, what both begin with, once, and the rest of each. The bounds are as of
-/// `run_page`, of each run. Own.
+/// `run_page`, of each run, and it has at most as many bytes. Own.
 ///
 /// `AllocError` where memory is refused.
 pub fn pair_page<'t, A: Allocator + Copy>(
@@ -119,10 +145,12 @@ pub fn pair_page<'t, A: Allocator + Copy>(
     let count = common_events(one.events.as_slice(), other.events.as_slice());
     let parting = count.saturating_add(1);
     add_head(&mut page, "Two runs of a script", one.text(one.head.script));
-    add_differences(&mut page, one, other);
-    add_where(&mut page, &first, &second, count);
-    add_why(alloc, &mut page, &first, &second, parting)?;
+    let most = share(&page, DIFFER);
+    add_differences(&mut page, one, other, most);
+    let most = share(&page, WHY);
+    add_why(alloc, &mut page, (&first, &second), count, most)?;
     page.mark("<h2>All of both runs</h2>\n");
+    add_turns(&mut page, &first, &second, count);
     add_both_facts(&mut page, &first, &second);
     let span = bounds.span(one.events.len());
     add_beginning(alloc, &mut page, &mut first, (span, parting))?;

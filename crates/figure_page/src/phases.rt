@@ -180,7 +180,8 @@ fn add_group<A: Allocator + Copy>(page: &mut Page<A>, run: &Run<'_, A>, group: &
     page.mark("</td></tr>\n");
 }
 
-/// The rows of a phase, one for the calls of each process through each descriptor; returns how many there are.
+/// The rows of a phase, one for the calls of each process through each descriptor, but none more once the page has so many bytes;
+/// returns how many rows there are, and how many calls have none.
 ///
 /// `AllocError` where memory is refused.
 pub(crate) fn add_phase<A: Allocator + Copy>(
@@ -188,10 +189,20 @@ pub(crate) fn add_phase<A: Allocator + Copy>(
     page: &mut Page<A>,
     run: &Run<'_, A>,
     phase: Fold,
-) -> Result<usize, AllocError> {
+    most: usize,
+) -> Result<(usize, usize), AllocError> {
     let groups = groups_of(alloc, run, phase)?;
+    let mut rows: usize = 0;
+    let mut left: usize = 0;
     for group in groups.as_slice() {
-        add_group(page, run, group);
+        if page.size() < most {
+            rows = rows.saturating_add(1);
+            add_group(page, run, group);
+        } else {
+            left = left
+                .saturating_add(group.count)
+                .saturating_add(group.sleeps);
+        }
     }
-    Ok(groups.len())
+    Ok((rows, left))
 }

@@ -104,26 +104,34 @@ fn add_item<A: Allocator + Copy>(page: &mut Page<A>, run: &Run<'_, A>, event: &E
 
 /// What happened at these events: the calls that make pipes, run programs, change files, end lines of the output, close ends of
 /// pipes, meet the end of a file, tell diagnostics or find something full, the first sleep of each process on each end of a pipe, and
-/// the first refused call of each process; the first `MOST` of them.
-pub(crate) fn add_story<A: Allocator + Copy>(page: &mut Page<A>, run: &Run<'_, A>, span: Span) {
+/// the first refused call of each process; the first `MOST` of them, and none more once the page has so many bytes.
+pub(crate) fn add_story<A: Allocator + Copy>(
+    page: &mut Page<A>,
+    run: &Run<'_, A>,
+    span: Span,
+    most: usize,
+) {
     page.mark("<ol class=\"story\">\n");
     let mut told: usize = 0;
+    let mut left: usize = 0;
     for event in events_of(run.trace, span.first, span.past) {
         let Some(trap) = &event.trap else {
             continue;
         };
         if is_told(run, event, trap) {
-            told = told.saturating_add(1);
-            if told <= MOST {
+            if told < MOST && page.size() < most {
+                told = told.saturating_add(1);
                 add_item(page, run, event, trap);
+            } else {
+                left = left.saturating_add(1);
             }
         }
     }
     page.mark("</ol>\n");
-    if told > MOST {
+    if left > 0 {
         page.add(&[
             Mark("<p class=\"note\">and "),
-            Num(told.saturating_sub(MOST)),
+            Num(left),
             Mark(" more such calls, in the table below</p>\n"),
         ]);
     }

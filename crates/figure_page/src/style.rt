@@ -83,15 +83,30 @@ mark.ends{font-style:italic;font-family:system-ui,sans-serif}
 .differ{table-layout:fixed}
 .differ td:first-child,.differ th:first-child{width:110px}
 .differ td,.differ th{white-space:normal}
-.who{list-style:none;margin:6px 0;padding:0}
+.picture{overflow-x:auto;padding-bottom:6px}
+.picture h3{margin:14px 0 4px}
+.picture .note{margin:2px 0}
+.picture text{font-size:12px}
+.lane summary{display:block;list-style:none;width:max-content}
+.lane summary::-webkit-details-marker{display:none}
+.lane summary:focus-visible{outline:2px solid var(--edge)}
+.who{display:block;position:sticky;left:0;width:max-content;font-size:14px}
+.who code{font-weight:700}
+.lane[open] .shut,.lane:not([open]) .ajar{display:none}
+.lane summary:hover .folded{stroke:var(--ink)}
+.opened{position:sticky;left:0;max-width:min(100%,94vw);padding:0 0 8px 12px;font-size:13px}
+.opened ol{list-style:none;margin:0;padding:0}
+.decides{fill:var(--line);opacity:.5}
+.turned{stroke:var(--alert);stroke-width:3}
+.later{fill:var(--paper);stroke:var(--alert);stroke-width:2}
+.words{margin:8px 0}
 .first{border-left:6px solid var(--h0);padding-left:8px}
 .second{border-left:6px double var(--h5);padding-left:8px}
 .why{display:grid;grid-template-columns:1fr 1fr;gap:0 20px;font-size:14px}
 .why>*{min-width:0}
 .why h3{margin:4px 0}
 .why ol{list-style:none;margin:0;padding:0}
-.why li,.who li,.why details{margin:0 0 4px;overflow-wrap:anywhere}
-.why li li,.why details li{margin-top:4px}
+.why li{margin:0 0 4px;overflow-wrap:anywhere}
 .before{align-self:end}
 .turn{border:2px solid var(--alert);padding:8px;margin:4px 0 8px;overflow-wrap:anywhere}
 .turn.first{border-left:6px solid var(--h0)}
@@ -103,7 +118,7 @@ summary h2{display:inline}
 .two{display:grid;grid-template-columns:repeat(auto-fit,minmax(300px,1fr));gap:12px}
 .card{border:1px solid var(--line);border-radius:4px;padding:10px 12px;overflow-wrap:anywhere}
 .card p{margin:6px 0 0}
-@media (max-width:700px){body{padding:14px 10px}pre.script{font-size:17px}.side{flex-basis:124px;overflow:hidden}table{min-width:640px}table.differ{min-width:0}.differ td:first-child,.differ th:first-child{width:72px}.why{gap:0 8px;font-size:12px}}
+@media (max-width:700px){.lane svg{zoom:.74}body{padding:14px 10px}pre.script{font-size:17px}.side{flex-basis:124px;overflow:hidden}table{min-width:640px}table.differ{min-width:0}.differ td:first-child,.differ th:first-child{width:72px}.why{gap:0 8px;font-size:12px}}
 @media print{@page{size:A4 landscape;margin:10mm}body{padding:0;max-width:none;font-size:11px}.strip{display:flex}.side{flex:222 0 0;min-width:0}.time{flex:1120 0 0;min-width:0;overflow:visible}.strip svg{width:100%;height:auto}h2{break-after:avoid}tr{break-inside:avoid}table{font-size:9px}}
 </style>
 </head>

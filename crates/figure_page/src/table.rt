@@ -67,32 +67,36 @@ fn open_rows<A: Allocator>(page: &mut Page<A>, before: usize, rows: usize) {
     }
 }
 
-// The rows of a call: its own, those of its phase where it is the first of it, or none.
+// The rows of a call: its own, those of its phase where it is the first of it, or none; none either once the page has so many bytes.
 fn add_rows<A: Allocator + Copy>(
     alloc: A,
     page: &mut Page<A>,
     run: &Run<'_, A>,
     (event, trap, phase): (&Event, &Trap, Option<Fold>),
-    progress: Progress,
+    (progress, most): (Progress, usize),
 ) -> Result<Progress, AllocError> {
-    let before = progress.rows;
-    let progress = match phase {
+    match phase {
+        Some(phase) if phase.first == progress.phase => Ok(progress),
+        _ if page.size() >= most => Ok(Progress {
+            left: progress.left.saturating_add(1),
+            ..progress
+        }),
+        Some(phase) => {
+            let (rows, left) = add_phase(alloc, page, run, phase, most)?;
+            Ok(Progress {
+                rows: progress.rows.saturating_add(rows),
+                phase: phase.first,
+                left: progress.left.saturating_add(left),
+            })
+        }
         None => {
             add_row(page, run, event, trap);
-            Progress {
-                rows: before.saturating_add(1),
+            Ok(Progress {
+                rows: progress.rows.saturating_add(1),
                 ..progress
-            }
+            })
         }
-        Some(phase) if phase.first != progress.phase => Progress {
-            rows: before.saturating_add(add_phase(alloc, page, run, phase)?),
-            phase: phase.first,
-            ..progress
-        },
-        Some(_) => progress,
-    };
-    open_rows(page, before, progress.rows);
-    Ok(progress)
+    }
 }
 
 // Ends a table, and says how many calls are left out of it.
@@ -134,12 +138,10 @@ pub(crate) fn add_table<A: Allocator + Copy>(
     page.mark(HEAD);
     for event in events_of(run.trace, span.first, span.past) {
         if let Some(trap) = &event.trap {
-            if page.size() >= most {
-                progress.left = progress.left.saturating_add(1);
-            } else {
-                let phase = phase_at(phases.as_slice(), event.number);
-                progress = add_rows(alloc, page, run, (event, trap, phase), progress)?;
-            }
+            let before = progress.rows;
+            let phase = phase_at(phases.as_slice(), event.number);
+            progress = add_rows(alloc, page, run, (event, trap, phase), (progress, most))?;
+            open_rows(page, before, progress.rows);
         }
     }
     end_table(page, progress);

@@ -76,7 +76,7 @@ fn add_rail<A: Allocator>(
     is_new: bool,
     (left, right, at): (usize, usize, usize),
 ) {
-    if bits == 0 {
+    if bits == 0 || left >= right {
         return;
     }
     add_line(page, "rail", (left, right), at);
@@ -156,7 +156,7 @@ fn add_state<A: Allocator>(
         0
     };
     let news = news_of(before, state, is_here);
-    if state.readers != 0 || state.writers != 0 {
+    if left < right && (state.readers != 0 || state.writers != 0) {
         add_fill(page, state.held, news.held, (left, right, top));
     }
     add_ends(page, state, news, (left, right, top), is_here);

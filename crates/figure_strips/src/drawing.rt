@@ -82,8 +82,8 @@ pub fn add_strips<A: Allocator + Copy>(
     Ok(left)
 }
 
-/// Adds strips of these events to the page, as `add_strips`, until it has so many bytes; returns the number of the first event that
-/// isn't drawn. Own.
+/// Adds strips of these events to the page, as `add_strips`, as long as it has at most so many bytes with them; returns the number of
+/// the first event that isn't drawn. Own.
 ///
 /// `AllocError` where memory is refused.
 pub fn add_strips_within<A: Allocator + Copy>(
@@ -95,11 +95,16 @@ pub fn add_strips_within<A: Allocator + Copy>(
 ) -> Result<usize, AllocError> {
     let mut rest = window;
     for _strip in window.first..window.past {
-        if rest.first >= rest.past || page.size() >= most {
+        if rest.first >= rest.past {
             return Ok(rest.first);
         }
         let strip = first_strip(rest);
-        let _sheet = add_strip(alloc, page, run, strip, Sheet::Page)?;
+        let mut drawn = Page::new(alloc);
+        let _sheet = add_strip(alloc, &mut drawn, run, strip, Sheet::Page)?;
+        if page.size().saturating_add(drawn.size()) > most {
+            return Ok(rest.first);
+        }
+        page.append(drawn);
         rest = rest_of(rest, strip);
     }
     Ok(rest.first)

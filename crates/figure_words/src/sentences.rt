@@ -10,6 +10,9 @@ use trace_data::{Call, Channel, Event, Full, Mode, Object, Part, PipeState, Repl
 // How many columns bytes take in a sentence at most.
 const ROOM: usize = 60;
 
+// How many ends of pipes a call closes for good at most: as many as a process has descriptors.
+const MOST_CLOSED: usize = 16;
+
 // What a call returns that is refused.
 const REFUSED: &str = ": <b class=\"alert\">refused, −1</b>";
 
@@ -58,8 +61,9 @@ fn add_sleep<A: Allocator>(
     moved: Option<usize>,
     channel: Channel,
 ) {
-    if let Some(moved) = moved {
-        page.fill("writes %, and ", &[Count(moved)]);
+    match moved {
+        Some(moved) if moved > 0 => page.fill("writes %, and ", &[Count(moved)]),
+        _ => {}
     }
     add_reason(page, run, channel);
 }
@@ -242,7 +246,7 @@ fn add_closed<A: Allocator>(page: &mut Page<A>, state: &PipeState, place: usize)
 // The ends of pipes that a call closed for good.
 fn add_all_closed<A: Allocator>(page: &mut Page<A>, run: &Run<'_, A>, pipes: Part) {
     let states = run.trace.pipes.as_slice().get(pipes.first..pipes.past);
-    for state in states.unwrap_or(&[]) {
+    for state in states.unwrap_or(&[]).iter().take(MOST_CLOSED) {
         add_closed(page, state, run.pipe(state.pipe));
     }
 }

@@ -9,6 +9,9 @@ use trace_data::{Call, Channel, Doing, Event, Full, Mode, Node, Part, Trace, Tra
 // How many columns bytes take in a table at most.
 const TABLE_ROOM: usize = 60;
 
+// How many words of a command are told: all of one that xv6 runs.
+const MOST_WORDS: usize = 10;
+
 /// The name of a call.
 pub fn call_name(call: Call) -> &'static str {
     match call {
@@ -102,9 +105,13 @@ pub fn add_node<A: Allocator>(page: &mut Page<A>, doing: &Doing) {
 // The words of a command, with commas between.
 fn add_words<A: Allocator>(page: &mut Page<A>, trace: &Trace<A>, words: &[Part]) {
     let mut comma = "";
-    for word in words {
+    let told = words.get(..MOST_WORDS).unwrap_or(words);
+    for word in told {
         page.fill("%“%”", &[Mark(comma), Short(trace.text(*word), TABLE_ROOM)]);
         comma = ", ";
+    }
+    if told.len() < words.len() {
+        page.mark(", …");
     }
 }
 

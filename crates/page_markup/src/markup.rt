@@ -26,13 +26,16 @@ pub enum Piece<'a> {
     Text(&'a [u8]),
     /// Bytes, with a new line at each LF.
     Lines(&'a [u8]),
-    /// Bytes on one line, cut where they take more than so many columns.
+    /// Bytes on one line, cut where they take more than so many columns, or more than `COLUMN_BYTES` bytes a column.
     Short(&'a [u8], usize),
     /// The name of the pipe with this place among the pipes.
     Pipe(usize),
     /// The numbers of the bits that are set, with a space between.
     Bits(u64),
 }
+
+// How many bytes are shown a column at most: of a letter with many marks, which have no width of their own, not all.
+const COLUMN_BYTES: usize = 16;
 
 /// A page that is being written. That memory was refused to a piece is kept, and told at the end: so no piece needs a look at how the
 /// one before it went. In a clause it stands for whether memory was refused.
@@ -305,11 +308,13 @@ impl<A: Allocator> Page<A> {
     fn add_short(&mut self, bytes: &[u8], room: usize)
         ensures kept { self.old ≡ true → self.new ≡ true }
     {
-        if shown_width(bytes) <= room {
+        let most = room.saturating_mul(COLUMN_BYTES);
+        if bytes.len() <= most && shown_width(bytes) <= room {
             self.add_text(bytes);
             return;
         }
-        self.add_within(bytes, room.saturating_sub(1), false);
+        let shown = bytes.get(..most).unwrap_or(bytes);
+        self.add_within(shown, room.saturating_sub(1), false);
         self.mark("…");
     }
 

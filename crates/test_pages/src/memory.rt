@@ -1,7 +1,7 @@
 //! A page and a picture for which one request for memory is refused, each in turn: that is told, or both are whole without it, and no
 //! memory is kept.
 
-use crate::given::TRACE;
+use crate::given::{OTHER, TRACE};
 use figure_page::pair_page;
 use figure_strips::Bounds;
 use figure_svg::pair_svg;
@@ -34,14 +34,18 @@ fn is_made<A: Allocator>(made: Result<Vec<u8, A>, AllocError>, wanted: &[u8]) ->
 // Whether the page and then the picture are made that are wanted; `None` where others are, or something else than want of memory is
 // told.
 fn is_drawn<A: Allocator + Copy>(memory: A, page: &[u8], picture: &[u8]) -> Option<bool> {
-    match read_trace(memory, TRACE.as_bytes()) {
-        Ok(trace) => {
-            let has_page = is_made(pair_page(memory, &trace, &trace, ALL), page)?;
-            let has_picture = is_made(pair_svg(memory, &trace, &trace, ALL), picture)?;
+    let traces = (
+        read_trace(memory, TRACE.as_bytes()),
+        read_trace(memory, OTHER.as_bytes()),
+    );
+    match traces {
+        (Ok(trace), Ok(other)) => {
+            let has_page = is_made(pair_page(memory, &trace, &other, ALL), page)?;
+            let has_picture = is_made(pair_svg(memory, &trace, &other, ALL), picture)?;
             Some(has_page && has_picture)
         }
-        Err(TraceFault::Memory) => Some(false),
-        Err(_) => None,
+        (Err(TraceFault::Memory), _) | (_, Err(TraceFault::Memory)) => Some(false),
+        _ => None,
     }
 }
 
@@ -65,8 +69,9 @@ fn is_refused(alloc: Global, granted: u64, page: &[u8], picture: &[u8]) -> Resul
 #[test]
 fn each_request_is_refused_in_turn(rt: HostRuntime) -> Result<(), Fail> {
     let trace = read_trace(rt.alloc(), TRACE.as_bytes())?;
-    let page = pair_page(rt.alloc(), &trace, &trace, ALL)?;
-    let picture = pair_svg(rt.alloc(), &trace, &trace, ALL)?;
+    let other = read_trace(rt.alloc(), OTHER.as_bytes())?;
+    let page = pair_page(rt.alloc(), &trace, &other, ALL)?;
+    let picture = pair_svg(rt.alloc(), &trace, &other, ALL)?;
     let mut refused: u64 = 0;
     for granted in 0..MOST {
         if !is_refused(rt.alloc(), granted, page.as_slice(), picture.as_slice())? {

@@ -8,7 +8,7 @@ use xvsh_read::Fault;
 /// Why there is no page. Each is reported as one line on standard error after `xvsh: `.
 #[derive(Clone, Copy, Debug)]
 pub enum DrawFault<'a> {
-    /// A trace can't be read, or has more than 67,108,864 bytes, or memory is refused.
+    /// A trace can't be read, or has more than 536,870,912 bytes, or memory is refused.
     Read(Fault<'a>),
     /// What is at this path is no trace.
     NoTrace(&'a str, TraceFault),

@@ -11,7 +11,7 @@ use trace_read::{TraceFault, read_trace};
 use xvsh_read::{Host, read};
 
 /// The most bytes that a trace may have (own).
-pub const MAX_TRACE: usize = 67_108_864;
+pub const MAX_TRACE: usize = 536_870_912;
 
 // The trace of a text, in which each event is of a process that was made.
 pub(crate) fn trace_of(alloc: Global, bytes: &[u8]) -> Result<Trace<Global>, TraceFault> {

@@ -6,50 +6,25 @@ use figure_strips::Span;
 use figure_words::{Run, add_command, add_place, add_sentence, events_of};
 use page_markup::{Page, Piece};
 use std::alloc::Allocator;
-use trace_data::{Event, Process, Trap};
+use trace_data::{Event, Process};
 
 // How many columns a command takes.
 const ROOM: usize = 32;
 
-// How many calls are listed before the one that decides and behind it, and how many of each kind that is folded.
+// How many calls are listed before the one that decides, and behind it.
 const BEFORE: usize = 8;
 
 const BEHIND: usize = 14;
 
-const FOLDED: usize = 20;
-
-/// A run of two: what the two processes share, as it has it, these two, and its call that decides, where it has one.
+/// A run of two: what the two processes share, as it has it, these two, and its call that decides, where it has one; and how many bytes
+/// the page has when no call more is told in words.
 #[derive(Clone, Copy)]
 pub(crate) struct Side<'p, 't, A: Allocator> {
     pub(crate) run: &'p Run<'t, A>,
     pub(crate) thing: Thing<'t>,
     pub(crate) actors: (Option<Process>, Option<Process>),
     pub(crate) call: Option<&'t Event>,
-}
-
-/// Which calls are meant: those of the first or of the second of the two, or of both; and whether they are on what these share, or
-/// seen, or not.
-#[derive(Clone, Copy)]
-struct Choice {
-    is_first: bool,
-    is_second: bool,
-    is_listed: bool,
-}
-
-const LISTED: Choice = Choice {
-    is_first: true,
-    is_second: true,
-    is_listed: true,
-};
-
-// How many calls there are, in words.
-fn calls_word(count: usize) -> &'static str {
-    if count == 1 { " call" } else { " calls" }
-}
-
-// Before how many calls of the choice there is no room for a list of so many.
-fn skipped(count: usize, room: usize) -> usize {
-    count.saturating_sub(room)
+    pub(crate) most: usize,
 }
 
 impl<'t, A: Allocator> Side<'_, 't, A> {
@@ -58,39 +33,33 @@ impl<'t, A: Allocator> Side<'_, 't, A> {
         self.actors.0 == Some(process)
     }
 
-    // Whether a call is on what the two share, or seen.
-    fn is_listed(&self, trap: &Trap) -> bool {
-        touches(self.run, trap, self.thing) || is_seen(trap)
+    /// Whether an event is a call of one of the two on what they share, or one that is seen.
+    pub(crate) fn is_meant(&self, event: &Event) -> bool {
+        let is_actor = self.is_first(event.process) || self.actors.1 == Some(event.process);
+        match &event.trap {
+            Some(trap) => is_actor && (touches(self.run, trap, self.thing) || is_seen(trap)),
+            None => false,
+        }
     }
 
-    // Whether a call is meant.
-    fn is_meant(&self, event: &Event, choice: Choice) -> bool {
-        let Some(trap) = &event.trap else {
-            return false;
-        };
-        let is_actor = choice.is_first && self.is_first(event.process)
-            || choice.is_second && self.actors.1 == Some(event.process);
-        is_actor && self.is_listed(trap) == choice.is_listed
-    }
-
-    // The events of it from one on, and before another.
-    fn events(&self, span: Span) -> &'t [Event] {
+    /// The events of it from one on, and before another.
+    pub(crate) fn events(&self, span: Span) -> &'t [Event] {
         events_of(self.run.trace, span.first, span.past)
     }
 
-    // How many calls of these events are meant.
-    fn count(&self, span: Span, choice: Choice) -> usize {
+    /// How many of these events are such calls.
+    pub(crate) fn count(&self, span: Span) -> usize {
         let mut count: usize = 0;
         for event in self.events(span) {
-            if self.is_meant(event, choice) {
+            if self.is_meant(event) {
                 count = count.saturating_add(1);
             }
         }
         count
     }
 
-    // The number of the call that decides, or else the one behind the last event.
-    fn number(&self) -> usize {
+    /// The number of the call that decides, or else the one behind the last event.
+    pub(crate) fn number(&self) -> usize {
         match self.call {
             Some(event) => event.number,
             None => self.run.trace.events.len().saturating_add(1),
@@ -98,7 +67,7 @@ impl<'t, A: Allocator> Side<'_, 't, A> {
     }
 
     /// The events before the call that decides, and those behind it.
-    fn parts(&self) -> (Span, Span) {
+    pub(crate) fn parts(&self) -> (Span, Span) {
         let (number, events) = (self.number(), self.run.trace.events.len());
         let before = Span {
             first: 1,
@@ -112,8 +81,8 @@ impl<'t, A: Allocator> Side<'_, 't, A> {
         (before, behind)
     }
 
-    // The first call behind the one that decides by which the other process touches what they share; 0 where there is none.
-    fn later(&self) -> usize {
+    /// The first call behind the one that decides by which the other process touches what they share; 0 where there is none.
+    pub(crate) fn later(&self) -> usize {
         let Some(call) = self.call else {
             return 0;
         };
@@ -121,7 +90,7 @@ impl<'t, A: Allocator> Side<'_, 't, A> {
         let later = self.events(behind).iter().find(|event| match &event.trap {
             Some(trap) => {
                 event.process != call.process
-                    && self.is_meant(event, LISTED)
+                    && self.is_meant(event)
                     && touches(self.run, trap, self.thing)
             }
             None => false,
@@ -166,26 +135,28 @@ fn add_item<A: Allocator + Copy>(
     page.mark("</li>\n");
 }
 
-// The calls that are meant, from one of them on, counted from 0, and at most so many.
+// The calls of these events that are meant, from one of them on, counted from 0, and at most so many; returns how many there are.
 fn add_items<A: Allocator + Copy>(
     page: &mut Page<A>,
     side: &Side<'_, '_, A>,
     span: Span,
-    choice: Choice,
     (from, most): (usize, usize),
-) {
+) -> usize {
     let later = side.later();
     let mut seen: usize = 0;
+    let mut told: usize = 0;
     page.mark("<ol>\n");
     for event in side.events(span) {
-        if side.is_meant(event, choice) {
-            if seen >= from && seen.saturating_sub(from) < most {
+        if side.is_meant(event) {
+            if seen >= from && told < most && page.size() < side.most {
+                told = told.saturating_add(1);
                 add_item(page, side, event, event.number == later);
             }
             seen = seen.saturating_add(1);
         }
     }
     page.mark("</ol>\n");
+    told
 }
 
 // Says how many calls are left out.
@@ -200,63 +171,16 @@ fn add_more<A: Allocator>(page: &mut Page<A>, count: usize, words: &'static str)
     }
 }
 
-// The command of the process of the first call that is meant.
-fn add_actor<A: Allocator + Copy>(
-    page: &mut Page<A>,
-    side: &Side<'_, '_, A>,
-    span: Span,
-    choice: Choice,
-) {
-    let mut events = side.events(span).iter();
-    if let Some(event) = events.find(|event| side.is_meant(event, choice)) {
-        add_command(page, side.run, event, ROOM);
-    }
-}
-
-// The calls of one of the two that aren't listed, as one line that opens.
-fn add_fold<A: Allocator + Copy>(
-    page: &mut Page<A>,
-    side: &Side<'_, '_, A>,
-    span: Span,
-    is_first: bool,
-    words: &'static str,
-) {
-    let choice = Choice {
-        is_first,
-        is_second: !is_first,
-        is_listed: false,
-    };
-    let count = side.count(span, choice);
-    if count == 0 {
-        return;
-    }
-    page.add(&[
-        Mark("<details class=\""),
-        class_of(is_first),
-        Mark("\"><summary>"),
-    ]);
-    add_actor(page, side, span, choice);
-    page.add(&[
-        Mark(words),
-        Num(count),
-        Mark(calls_word(count)),
-        Mark("</summary>\n"),
-    ]);
-    add_items(page, side, span, choice, (0, FOLDED));
-    add_more(page, skipped(count, FOLDED), " more, in the table below");
-    page.mark("</details>\n");
-}
-
-/// What comes before the call that decides: how both get ready, folded, and their last calls on what they share.
+/// What comes before the call that decides: the last calls of both on what they share.
 pub(crate) fn add_before<A: Allocator + Copy>(page: &mut Page<A>, side: &Side<'_, '_, A>) {
     let (before, _behind) = side.parts();
-    let count = side.count(before, LISTED);
-    let from = skipped(count, BEFORE);
+    let count = side.count(before);
+    let from = count.saturating_sub(BEFORE);
     page.mark("<div class=\"before\">\n");
-    add_fold(page, side, before, true, " gets ready: ");
-    add_fold(page, side, before, false, " gets ready: ");
     add_more(page, from, " calls on it before these");
-    add_items(page, side, before, LISTED, (from, BEFORE));
+    let told = add_items(page, side, before, (from, BEFORE));
+    let more = count.saturating_sub(from).saturating_sub(told);
+    add_more(page, more, " calls more before the next");
     page.mark("</div>\n");
 }
 
@@ -279,18 +203,13 @@ pub(crate) fn add_turn<A: Allocator + Copy>(page: &mut Page<A>, side: &Side<'_, 
     page.mark("</div>\n");
 }
 
-/// What comes behind the call that decides: the next calls on what they share, and what else both do, folded.
+/// What comes behind the call that decides: the next calls of both on what they share.
 pub(crate) fn add_behind<A: Allocator + Copy>(page: &mut Page<A>, side: &Side<'_, '_, A>) {
     let (_before, behind) = side.parts();
-    let count = side.count(behind, LISTED);
+    let count = side.count(behind);
     page.mark("<div class=\"behind\">\n");
-    add_items(page, side, behind, LISTED, (0, BEHIND));
-    add_more(
-        page,
-        skipped(count, BEHIND),
-        " more such calls, in the table below",
-    );
-    add_fold(page, side, behind, true, " goes on: ");
-    add_fold(page, side, behind, false, " goes on: ");
+    let told = add_items(page, side, behind, (0, BEHIND));
+    let more = count.saturating_sub(told);
+    add_more(page, more, " more such calls, in the table below");
     page.mark("</div>\n");
 }

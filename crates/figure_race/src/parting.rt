@@ -62,22 +62,40 @@ fn add_card<A: Allocator + Copy>(
     page.mark("</div>\n");
 }
 
-/// Where the two part, in a sentence, and what comes then in each.
-pub(crate) fn add_where<A: Allocator + Copy>(
+// Whether two runs are the same that begin with so many same events.
+fn are_same<A: Allocator>(one: &Run<'_, A>, other: &Run<'_, A>, count: usize) -> bool {
+    count == one.trace.events.len() && count == other.trace.events.len()
+}
+
+/// Where two runs part that begin with so many same events, in a sentence.
+pub(crate) fn add_where<A: Allocator>(
     page: &mut Page<A>,
     one: &Run<'_, A>,
     other: &Run<'_, A>,
     count: usize,
 ) {
     page.mark("<h2>Where they part</h2>\n");
-    if count == one.trace.events.len() && count == other.trace.events.len() {
+    if are_same(one, other, count) {
         page.mark("<p>Nowhere: the events of both are the same.</p>\n");
         return;
     }
-    let number = count.saturating_add(1);
     page.mark("<p>");
     add_parting(page, count);
-    page.mark("</p>\n<div class=\"two\">\n");
+    page.mark("</p>\n");
+}
+
+/// What comes in each of two runs at the event at which they part, which begin with so many same events. Own.
+pub fn add_turns<A: Allocator + Copy>(
+    page: &mut Page<A>,
+    one: &Run<'_, A>,
+    other: &Run<'_, A>,
+    count: usize,
+) {
+    if are_same(one, other, count) {
+        return;
+    }
+    let number = count.saturating_add(1);
+    page.mark("<div class=\"two\">\n");
     add_card(page, one, "run 1", number);
     add_card(page, other, "run 2", number);
     page.mark("</div>\n");
