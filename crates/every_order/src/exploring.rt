@@ -90,7 +90,7 @@ pub fn explore_watched<B: Allocator, C: Allocator, W: Watch>(
 /// script opens and forks.
 pub fn origin_of<'a, N: Naming, B: Allocator, C: Allocator>(
     setting: &Setting<'a, B, C>,
-) -> Origin<'a, User<B, N>, C>
+) -> Origin<'a, User<'a, B, N>, C>
     requires { lines_of setting.now.script.now.lines ≡ N.script }
     ensures begins { boot_kernel (user_of result.init) (user_of result.shell) result.stdin.now result.files.now ≡ script_kernel setting.now.script.now.profile (lines_of setting.now.script.now.lines) setting.now.stdin.now setting.now.files.now }
     ensures ahead { HasAhead call_of next_of result.ahead (boot_kernel (user_of result.init) (user_of result.shell) result.stdin.now result.files.now) }
