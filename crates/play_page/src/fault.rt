@@ -1,7 +1,7 @@
 //! Why there is no page.
 
 use play_states::{ExploreFault, PlayFault};
-use std::alloc::AllocError;
+use std::alloc::{AllocError, AllocFailed};
 use thiserror::Error;
 
 /// Why there is no page.
@@ -19,6 +19,12 @@ pub enum PageFault {
     /// What was to be shown isn't so.
     #[error("what was to be shown isn't so")]
     Astray,
+}
+
+impl<T: Drop> From<AllocFailed<T>> for PageFault {
+    fn from(_failed: AllocFailed<T>) -> PageFault {
+        PageFault::Memory
+    }
 }
 
 impl From<AllocError> for PageFault {

@@ -75,13 +75,13 @@ module _ {S : Type 0} (call : S → Reply → Call) (next : S → Reply → S) w
   pub record IsAlikeTo (boot : KernelState S) (shown : List Shown) (pids : List ℕ) (turn : Turn) : Type 0 where
     pub to : Shown
     pub there : slice_get shown turn.next ≡ Some to
-    pub alike : AreAlikeAfter call next boot (pids ++ turn.pid ∷ []) to.spot.pids.items
+    pub alike : AreAlikeAfter call next boot to.spot.pids.items (pids ++ turn.pid ∷ [])
 
   -- the same, and the outcomes of all finished runs that go on after the turn are those that are told of that state
   pub record IsTurnTo (boot : KernelState S) (outcomes : List Outcome) (shown : List Shown) (pids : List ℕ) (turn : Turn) : Type 0 where
     pub to : Shown
     pub there : slice_get shown turn.next ≡ Some to
-    pub alike : AreAlikeAfter call next boot (pids ++ turn.pid ∷ []) to.spot.pids.items
+    pub alike : AreAlikeAfter call next boot to.spot.pids.items (pids ++ turn.pid ∷ [])
     pub comes : ComesTo boot (pids ++ turn.pid ∷ []) (map outcome_by outcomes) to.possible.items
 
   -- all of this of each state that is shown, and of each turn that is offered there

@@ -1,7 +1,7 @@
 //! Why a play isn't told.
 
 use every_order::ExploreFault;
-use std::alloc::AllocError;
+use std::alloc::{AllocError, AllocFailed};
 use thiserror::Error;
 
 /// Why a play isn't told.
@@ -19,6 +19,12 @@ pub enum PlayFault {
     /// What was to be shown isn't so: a turn leads elsewhere, an outcome isn't listed, or a turn that isn't offered adds one.
     #[error("what was to be shown isn't so")]
     Astray,
+}
+
+impl<T: Drop> From<AllocFailed<T>> for PlayFault {
+    fn from(_failed: AllocFailed<T>) -> PlayFault {
+        PlayFault::Memory
+    }
 }
 
 impl From<AllocError> for PlayFault {

@@ -210,7 +210,7 @@ impl<'t, M: Machine, C: Allocator> Ground<'t, M, C> {
             return Err(PlayFault::Astray);
         };
         let longer = longer(alloc, pids, turn.pid)?;
-        if self.are_alike(alloc, &longer, &next.spot.pids)? {
+        if self.are_alike(alloc, &next.spot.pids, &longer)? {
             Ok(())
         } else {
             Err(PlayFault::Astray)
