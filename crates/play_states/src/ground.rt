@@ -35,7 +35,7 @@ impl<'t, M: Machine, C: Allocator> Ground<'t, M, C> {
     // Of any machines.
     fn of(origin: Origin<'t, M, C>) -> Self
         requires { HasAhead M.call_of M.next_of origin.ahead (boot_kernel (M.view origin.init) (M.view origin.shell) origin.stdin.now origin.files.now) }
-        ensures { result ≡ boot_kernel (M.view origin.init) (M.view origin.shell) origin.stdin.now origin.files.now }
+        ensures { result ≡ boot_kernel (M.view origin.entry.init) (M.view origin.entry.shell) origin.entry.stdin.now origin.entry.files.now }
     {
         Ground { origin }
     }

@@ -1,6 +1,6 @@
 //! What is told of the states of a play.
 
-ghost use Rattle.std.specs.Prelude.{◌≡◌, ◌++◌, ◌∷◌, [], IfOk, IfSome, OnOk, Ok, All, Any, Contains, true};
+ghost use Rattle.std.specs.Prelude.{◌≡◌, ◌++◌, ◌∷◌, [], IfOk, IfSome, IsSome, None, OnOk, Ok, All, Any, true, false};
 ghost use Rattle.order_search.specs.After.{AreAlikeAfter, GivesWayAfter};
 ghost use Rattle.every_order.specs.Rest.{TellsAfter};
 ghost use Rattle.play_states.specs.Plays.{IsAlikeTo, IsCovered, IsLedTo, IsPlay, IsShown, LeadsTo, TellsAllAfter, BeginsWith};
