@@ -94,20 +94,29 @@ fn add_closed<A: Allocator>(page: &mut Page<A>, states: &[PipeState]) {
     }
 }
 
+// What a read came to that returned.
+fn add_read<A: Allocator>(page: &mut Page<A>, run: &Run<'_, A>, is_at_end: bool, reply: Reply) {
+    match reply {
+        _ if is_at_end => page.mark("end of file"),
+        Reply::Bytes(bytes) => add_quoted(page, run.trace.text(bytes)),
+        _ => {}
+    }
+}
+
+// What a call closed for good.
+fn add_all_closed<A: Allocator>(page: &mut Page<A>, run: &Run<'_, A>, pipes: Part) {
+    let states = run.trace.pipes.as_slice();
+    add_closed(page, states.get(pipes.first..pipes.past).unwrap_or(&[]))
+}
+
 // What a call came to that returned.
 fn add_returned<A: Allocator>(page: &mut Page<A>, run: &Run<'_, A>, trap: &Trap, reply: Reply) {
-    match (trap.call, reply) {
-        (_, Reply::Refused) => page.mark("refused, −1"),
-        (Call::Read(_, _), _) if trap.is_at_end => page.mark("end of file"),
-        (Call::Read(_, _), Reply::Bytes(bytes)) => add_quoted(page, run.trace.text(bytes)),
-        (Call::Write(_, bytes), _) => add_quoted(page, run.trace.text(bytes)),
-        (Call::Open(_, mode), _) => page.mark(purpose(mode)),
-        (Call::Fork | Call::Wait, _) => add_made(page, trap),
-        _ => {
-            let states = run.trace.pipes.as_slice();
-            let states = states.get(trap.pipes.first..trap.pipes.past);
-            add_closed(page, states.unwrap_or(&[]))
-        }
+    match trap.call {
+        Call::Read(_, _) => add_read(page, run, trap.is_at_end, reply),
+        Call::Write(_, bytes) => add_quoted(page, run.trace.text(bytes)),
+        Call::Open(_, mode) => page.mark(purpose(mode)),
+        Call::Fork | Call::Wait => add_made(page, trap),
+        _ => add_all_closed(page, run, trap.pipes),
     }
 }
 
@@ -124,6 +133,7 @@ fn reason(channel: Channel) -> &'static str {
 pub(crate) fn add_result<A: Allocator>(page: &mut Page<A>, run: &Run<'_, A>, trap: &Trap) {
     match trap.state {
         State::Asleep(channel) => page.mark(reason(channel)),
+        State::Runnable(Reply::Refused) => page.mark("refused, −1"),
         State::Runnable(reply) => add_returned(page, run, trap, reply),
         State::Zombie => add_returned(page, run, trap, Reply::Done),
     }
