@@ -184,8 +184,8 @@ function showSentence(state, isOver) {
 function hintOf(state, turn) {
   const {set} = goals[goal] || {}, left = possible(turn.to), before = possible(state).size;
   if (set && meets(state, set)) {
-    if (!meets(turn.to, set)) return ['alert', '✗ your goal can no longer come'];
-    return ['good', [...left].every(it => set.has(it)) ? '✓ makes your goal certain' : '✓ keeps your goal possible'];
+    if (!meets(turn.to, set)) return ['alert', '\u2717 your goal can no longer come'];
+    return ['good', [...left].every(it => set.has(it)) ? '\u2713 makes your goal certain' : '\u2713 keeps your goal possible'];
   }
   return ['', before === 1 ? 'changes nothing any more' : left.size === before ? `keeps all ${before}` : `leaves ${left.size} of ${before}`];
 }
@@ -193,7 +193,7 @@ function hintOf(state, turn) {
 function idle(p) {
   const next = `next: ${p.words}`, left = `has exited; process ${p.parent} hasn't waited for it yet`;
   const words = [next, `${next}, and would only go to sleep`, `sleeps: ${p.words}`, left];
-  return make('div', {class: 'idle'}, make('span', {'aria-hidden': 'true'}, '··z†'[p.state]),
+  return make('div', {class: 'idle'}, make('span', {'aria-hidden': 'true'}, '\u00b7\u00b7z\u2020'[p.state]),
     make('span', {}, make('b', {class: 'who'}, `${p.pid} ${p.name}`), ` ${words[p.state]}`));
 }
 function choiceButton(state, turn, some) {
@@ -230,7 +230,7 @@ function showOutcomes(state) {
     const words = make(isLeft ? 'span' : 'del', {}, outcomeWords(it)), row = make('div', {}, words);
     if (wished.has(at)) row.append(' ', make('span', {class: 'mark'}, 'your goal'));
     if (lost >= 0) row.append(make('p', {}, `gone since turn ${lost + 1}: ${told(path[lost])}`));
-    const mark = make('span', {class: isLeft ? 'good' : ''}, `${isLeft ? '○' : '✗'} ${at + 1}`);
+    const mark = make('span', {class: isLeft ? 'good' : ''}, `${isLeft ? '\u25cb' : '\u2717'} ${at + 1}`);
     return make('li', {class: !isLeft ? 'gone' : left.size === 1 ? 'only' : ''}, mark, row);
   }));
   get('count').textContent = `${left.size} of ${outcomes.length}`;

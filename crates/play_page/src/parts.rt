@@ -6,7 +6,7 @@ pub(crate) const HEAD: &str = r##"<!DOCTYPE html>
 <head>
 <meta charset="utf-8">
 <meta name="viewport" content="width=device-width, initial-scale=1">
-<meta http-equiv="Content-Security-Policy" content="default-src 'none'; script-src 'sha256-vkzqN9ueXY54KNPCyZLfw1s+l8ZGF+1d57+4SoGYZbQ='; style-src 'unsafe-inline'; base-uri 'none'; form-action 'none'">
+<meta http-equiv="Content-Security-Policy" content="default-src 'none'; script-src 'sha256-MljHeku8O7qNZAT+iIYqTj4LKz/mSJebVwnr7b73LdA='; style-src 'unsafe-inline'; base-uri 'none'; form-action 'none'">
 <meta name="color-scheme" content="light dark">
 <title>Choose the order</title>
 <style>
@@ -358,8 +358,8 @@ function showSentence(state, isOver) {
 function hintOf(state, turn) {
   const {set} = goals[goal] || {}, left = possible(turn.to), before = possible(state).size;
   if (set && meets(state, set)) {
-    if (!meets(turn.to, set)) return ['alert', '✗ your goal can no longer come'];
-    return ['good', [...left].every(it => set.has(it)) ? '✓ makes your goal certain' : '✓ keeps your goal possible'];
+    if (!meets(turn.to, set)) return ['alert', '\u2717 your goal can no longer come'];
+    return ['good', [...left].every(it => set.has(it)) ? '\u2713 makes your goal certain' : '\u2713 keeps your goal possible'];
   }
   return ['', before === 1 ? 'changes nothing any more' : left.size === before ? `keeps all ${before}` : `leaves ${left.size} of ${before}`];
 }
@@ -367,7 +367,7 @@ function hintOf(state, turn) {
 function idle(p) {
   const next = `next: ${p.words}`, left = `has exited; process ${p.parent} hasn't waited for it yet`;
   const words = [next, `${next}, and would only go to sleep`, `sleeps: ${p.words}`, left];
-  return make('div', {class: 'idle'}, make('span', {'aria-hidden': 'true'}, '··z†'[p.state]),
+  return make('div', {class: 'idle'}, make('span', {'aria-hidden': 'true'}, '\u00b7\u00b7z\u2020'[p.state]),
     make('span', {}, make('b', {class: 'who'}, `${p.pid} ${p.name}`), ` ${words[p.state]}`));
 }
 function choiceButton(state, turn, some) {
@@ -404,7 +404,7 @@ function showOutcomes(state) {
     const words = make(isLeft ? 'span' : 'del', {}, outcomeWords(it)), row = make('div', {}, words);
     if (wished.has(at)) row.append(' ', make('span', {class: 'mark'}, 'your goal'));
     if (lost >= 0) row.append(make('p', {}, `gone since turn ${lost + 1}: ${told(path[lost])}`));
-    const mark = make('span', {class: isLeft ? 'good' : ''}, `${isLeft ? '○' : '✗'} ${at + 1}`);
+    const mark = make('span', {class: isLeft ? 'good' : ''}, `${isLeft ? '\u25cb' : '\u2717'} ${at + 1}`);
     return make('li', {class: !isLeft ? 'gone' : left.size === 1 ? 'only' : ''}, mark, row);
   }));
   get('count').textContent = `${left.size} of ${outcomes.length}`;
