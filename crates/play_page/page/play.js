@@ -61,7 +61,7 @@ function clash(a, b) {
 const rivalsOf = (turn, others) => others.filter(it => clash(turn, it) !== undefined);
 
 // ---- The run: the turns that were taken, and those that can be taken again.
-let isEvery = false, isHinting = false, goal = -1, path = [], ahead = [];
+let isEvery = false, isHinting = false, goal = -1, path = [], ahead = [], frame = 0;
 const now = () => path.length ? path.at(-1).to : 0;
 // The turns among which the reader chooses; a turn that nobody can interfere with is taken at once, and one that only sleeps isn't offered.
 function offered(state) {
@@ -270,8 +270,8 @@ function show() {
   showOutcomes(state);
   showNow(state);
   showWords();
-  draw();
-  keepLink();
+  cancelAnimationFrame(frame);
+  frame = requestAnimationFrame(() => { draw(); keepLink(); });
 }
 
 // ---- The diagram: a lane for each process that ever was, time from left to right, and below it what was left, files, pipes and output.

@@ -6,7 +6,7 @@ pub(crate) const HEAD: &str = r##"<!DOCTYPE html>
 <head>
 <meta charset="utf-8">
 <meta name="viewport" content="width=device-width, initial-scale=1">
-<meta http-equiv="Content-Security-Policy" content="default-src 'none'; script-src 'sha256-MljHeku8O7qNZAT+iIYqTj4LKz/mSJebVwnr7b73LdA='; style-src 'unsafe-inline'; base-uri 'none'; form-action 'none'">
+<meta http-equiv="Content-Security-Policy" content="default-src 'none'; script-src 'sha256-8Q+bxbzXrD7mY4Cx9GTyJV6Z82S+IP61UljwkzefaO8='; style-src 'unsafe-inline'; base-uri 'none'; form-action 'none'">
 <meta name="color-scheme" content="light dark">
 <title>Choose the order</title>
 <style>
@@ -235,7 +235,7 @@ function clash(a, b) {
 const rivalsOf = (turn, others) => others.filter(it => clash(turn, it) !== undefined);
 
 // ---- The run: the turns that were taken, and those that can be taken again.
-let isEvery = false, isHinting = false, goal = -1, path = [], ahead = [];
+let isEvery = false, isHinting = false, goal = -1, path = [], ahead = [], frame = 0;
 const now = () => path.length ? path.at(-1).to : 0;
 // The turns among which the reader chooses; a turn that nobody can interfere with is taken at once, and one that only sleeps isn't offered.
 function offered(state) {
@@ -444,8 +444,8 @@ function show() {
   showOutcomes(state);
   showNow(state);
   showWords();
-  draw();
-  keepLink();
+  cancelAnimationFrame(frame);
+  frame = requestAnimationFrame(() => { draw(); keepLink(); });
 }
 
 // ---- The diagram: a lane for each process that ever was, time from left to right, and below it what was left, files, pipes and output.
