@@ -18,7 +18,7 @@ function make(tag, attributes, ...children) {
 const put = (id, ...children) => get(id).replaceChildren(...children);
 const count = (n, word) => `${n} ${word}${n === 1 ? '' : 's'}`;
 const listed = words => words.length < 2 ? words.join('') : words.slice(0, -1).join(', ') + ' and ' + words.at(-1);
-const first = (text, most) => text.length > most ? text.slice(0, most - 2) + '..' : text;
+const first = (text, most) => text.length > most ? text.slice(0, most - 2).replace(/\\(x.?)?$/, '') + '..' : text;
 const quoted = text => '"' + text.replace(/"/g, '\\"') + '"';
 // How many bytes a text shows, and its lines, each with its end.
 const size = text => text.replace(/\\(x..|.)/g, '.').length;
@@ -61,7 +61,7 @@ function clash(a, b) {
 const rivalsOf = (turn, others) => others.filter(it => clash(turn, it) !== undefined);
 
 // ---- The run: the turns that were taken, and those that can be taken again.
-let isEvery = false, isHinting = false, goal = -1, path = [], ahead = [];
+let isEvery = false, isHinting = false, goal = -1, path = [], ahead = [], frame = 0;
 const now = () => path.length ? path.at(-1).to : 0;
 // The turns among which the reader chooses; a turn that nobody can interfere with is taken at once, and one that only sleeps isn't offered.
 function offered(state) {
@@ -160,7 +160,8 @@ function stands(state, isOver) {
   const cut = isCut(state) ? ' This page has no turns behind this one; the command below goes on from here.' : '';
   if (outcomes.length === 1) return ' Whatever you choose, the same comes out.' + cut;
   if (left.size === 1) return ` Only outcome ${only + 1} is left: it ${outcomeWords(outcomes[only])}.${cut}`;
-  return ` ${left.size === outcomes.length ? `All ${left.size}` : `${left.size} of ${outcomes.length}`} outcomes are still possible.${cut}`;
+  const all = left.size === 2 ? 'Both' : `All ${left.size}`;
+  return ` ${left.size === outcomes.length ? all : `${left.size} of ${outcomes.length}`} outcomes are still possible.${cut}`;
 }
 function showSentence(state, isOver) {
   const at = path.findLastIndex(isChoice), last = path[at], after = path.length - 1 - at;
@@ -270,8 +271,8 @@ function show() {
   showOutcomes(state);
   showNow(state);
   showWords();
-  draw();
-  keepLink();
+  cancelAnimationFrame(frame);
+  frame = requestAnimationFrame(() => { draw(); keepLink(); });
 }
 
 // ---- The diagram: a lane for each process that ever was, time from left to right, and below it what was left, files, pipes and output.

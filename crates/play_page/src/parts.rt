@@ -6,7 +6,7 @@ pub(crate) const HEAD: &str = r##"<!DOCTYPE html>
 <head>
 <meta charset="utf-8">
 <meta name="viewport" content="width=device-width, initial-scale=1">
-<meta http-equiv="Content-Security-Policy" content="default-src 'none'; script-src 'sha256-MljHeku8O7qNZAT+iIYqTj4LKz/mSJebVwnr7b73LdA='; style-src 'unsafe-inline'; base-uri 'none'; form-action 'none'">
+<meta http-equiv="Content-Security-Policy" content="default-src 'none'; script-src 'sha256-KHjjGkA4g/1mmk/bll0CIppYP3v9uEoYVBuXaEqASwA='; style-src 'unsafe-inline'; base-uri 'none'; form-action 'none'">
 <meta name="color-scheme" content="light dark">
 <title>Choose the order</title>
 <style>
@@ -16,7 +16,7 @@ pub(crate) const HEAD: &str = r##"<!DOCTYPE html>
 *{box-sizing:border-box}
 [hidden]{display:none!important}
 body{margin:0 auto;padding:20px 20px 60px;max-width:1400px;background:var(--paper);color:var(--ink);font:15px/1.45 system-ui,sans-serif}
-h1{font-size:15px;margin:0 0 6px;color:var(--faint)}
+h1{font-size:17px;margin:0 0 6px;color:var(--faint)}
 h2{font-size:18px;margin:0 0 8px}
 h2 small{font-size:14px;font-weight:400;color:var(--faint);margin-left:6px}
 h3{font-size:13px;font-weight:400;color:var(--faint);margin:12px 0 2px}
@@ -61,13 +61,14 @@ b.who{font-size:14px}
 #who .deeper{margin-left:32px}
 #others{display:none;margin-top:12px}
 #rescue{margin:0 0 8px;border-color:var(--alert)}
-#outcomes{border-bottom:1px solid var(--line)}
-#outcomes li{display:grid;grid-template-columns:34px minmax(0,1fr);gap:2px 6px;padding:6px 0;border-top:1px solid var(--line);overflow-wrap:anywhere}
+#outcomes{border-bottom:1px solid var(--line);max-height:80vh;overflow:auto}
+#outcomes li>span:first-child{white-space:nowrap}
+#outcomes li{display:grid;grid-template-columns:minmax(34px,max-content) minmax(0,1fr);gap:2px 6px;padding:6px 0;border-top:1px solid var(--line);overflow-wrap:anywhere}
 #outcomes .gone del{color:var(--faint)}
 #outcomes .gone{color:var(--faint)}
 #outcomes .only{background:var(--fresh)}
 #outcomes p{font-size:13px;margin:0}
-.mark{color:var(--edge);font-weight:700;white-space:nowrap}
+#outcomes .mark{color:var(--edge);font-weight:700;white-space:nowrap}
 .bytes{padding:4px 8px;background:var(--soft);min-height:30px;max-height:11em;overflow:auto}
 .strip{display:flex;border-top:1px solid var(--line);padding-top:6px;margin-top:6px}
 #names{flex:0 0 210px;overflow:hidden}
@@ -106,6 +107,7 @@ button{min-height:44px}
 #goals button{white-space:nowrap;flex:none}
 #goals span{flex:none}
 #say{position:sticky;top:0;z-index:1;font-size:14px;margin-bottom:12px;max-height:30vh;overflow:auto}
+#outcomes{max-height:none}
 #choices{position:fixed;bottom:0;left:0;right:0;z-index:2;max-height:46vh;overflow:auto;background:var(--paper);border-top:2px solid var(--edge);padding:8px 12px 10px;display:flex;flex-direction:column}
 #choices h2{font-size:15px;margin:0 0 4px}
 #choices .bar{order:3;margin:4px 0 0;flex-wrap:nowrap}
@@ -114,7 +116,7 @@ button{min-height:44px}
 #who .not{display:none}
 #others{display:block}
 }
-@media print{button,#goals,#lanes,.row,#choices,#others{display:none!important}#say{position:static}main{grid-template-columns:1fr 1fr}body{padding:0}#script,.bytes{max-height:none}}
+@media print{button,#goals,#lanes,.row,#choices,#others{display:none!important}#say{position:static}main{grid-template-columns:1fr 1fr}body{padding:0}#script,.bytes,#outcomes{max-height:none}}
 </style>
 </head>
 <body>
@@ -192,7 +194,7 @@ function make(tag, attributes, ...children) {
 const put = (id, ...children) => get(id).replaceChildren(...children);
 const count = (n, word) => `${n} ${word}${n === 1 ? '' : 's'}`;
 const listed = words => words.length < 2 ? words.join('') : words.slice(0, -1).join(', ') + ' and ' + words.at(-1);
-const first = (text, most) => text.length > most ? text.slice(0, most - 2) + '..' : text;
+const first = (text, most) => text.length > most ? text.slice(0, most - 2).replace(/\\(x.?)?$/, '') + '..' : text;
 const quoted = text => '"' + text.replace(/"/g, '\\"') + '"';
 // How many bytes a text shows, and its lines, each with its end.
 const size = text => text.replace(/\\(x..|.)/g, '.').length;
@@ -235,7 +237,7 @@ function clash(a, b) {
 const rivalsOf = (turn, others) => others.filter(it => clash(turn, it) !== undefined);
 
 // ---- The run: the turns that were taken, and those that can be taken again.
-let isEvery = false, isHinting = false, goal = -1, path = [], ahead = [];
+let isEvery = false, isHinting = false, goal = -1, path = [], ahead = [], frame = 0;
 const now = () => path.length ? path.at(-1).to : 0;
 // The turns among which the reader chooses; a turn that nobody can interfere with is taken at once, and one that only sleeps isn't offered.
 function offered(state) {
@@ -334,7 +336,8 @@ function stands(state, isOver) {
   const cut = isCut(state) ? ' This page has no turns behind this one; the command below goes on from here.' : '';
   if (outcomes.length === 1) return ' Whatever you choose, the same comes out.' + cut;
   if (left.size === 1) return ` Only outcome ${only + 1} is left: it ${outcomeWords(outcomes[only])}.${cut}`;
-  return ` ${left.size === outcomes.length ? `All ${left.size}` : `${left.size} of ${outcomes.length}`} outcomes are still possible.${cut}`;
+  const all = left.size === 2 ? 'Both' : `All ${left.size}`;
+  return ` ${left.size === outcomes.length ? all : `${left.size} of ${outcomes.length}`} outcomes are still possible.${cut}`;
 }
 function showSentence(state, isOver) {
   const at = path.findLastIndex(isChoice), last = path[at], after = path.length - 1 - at;
@@ -444,8 +447,8 @@ function show() {
   showOutcomes(state);
   showNow(state);
   showWords();
-  draw();
-  keepLink();
+  cancelAnimationFrame(frame);
+  frame = requestAnimationFrame(() => { draw(); keepLink(); });
 }
 
 // ---- The diagram: a lane for each process that ever was, time from left to right, and below it what was left, files, pipes and output.
