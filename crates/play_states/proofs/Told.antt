@@ -1,6 +1,6 @@
 -- What is told of kernels, carried from one name of a kernel to another.
 use Rattle.std.proofs.Common.{◌≡◌, ℕ, zero, suc, ◌<◌, List, [], ◌∷◌, ◌++◌, length, get_or, Some, None, Result, Ok, Err, refl, sym, ap, subst, ◌∙◌, arith, map}
-use Rattle.std.specs.Prelude.{All, IfOk, IfSome, Option, slice_get, slice_index_or}
+use Rattle.std.specs.Prelude.{All, IfSome, IsSome, Option, slice_get, slice_index_or}
 use Rattle.mem_files.specs.Name.{Name, Bytes}
 use Rattle.mem_files.specs.Listing.{AreFiles}
 use Rattle.user_calls.specs.declared.calls.Call.{Call}
@@ -13,11 +13,11 @@ use Rattle.order_model.specs.Begun.{IsBegun}
 use Rattle.order_model.specs.Turns.{after_turns}
 use Rattle.order_model.specs.Explored.{AreAllOutcomes}
 use Rattle.order_search.specs.declared.outcomes.Outcome.{Outcome}
-use Rattle.order_search.specs.Told.{outcome_by}
+use Rattle.order_search.specs.Told.{outcome_by, LeadsToSleep}
 use Rattle.order_search.specs.After.{AreAlikeAfter}
 use Rattle.play_states.specs.declared.spots.Turn.{Turn}
 use Rattle.play_states.specs.declared.spots.Shown.{Shown}
-use Rattle.play_states.specs.Plays.{AreAt, ComesTo, IsShown, IsAlikeTo, IsTurnTo}
+use Rattle.play_states.specs.Plays.{BeginsWith, ComesTo, SleepsAfter, IsShown, IsAlikeTo, IsTurnTo}
 
 -- what stands at a place has what is said of all
 pub got : {X : Type 0} (P : X → Type 0) (xs : List X) (k : ℕ) (x : X) → All P xs → slice_get xs k ≡ Some x → P x
@@ -26,6 +26,11 @@ got P (y ∷ ys) zero x all is = let same : y ≡ x = cc in subst P same (all ze
 got P (y ∷ ys) (suc k) x all is = got P ys k x (λ i d less. all (suc i) d (omega (arith, less))) is
 
 module _ {S : Type 0} (call : S → Reply → Call) (next : S → Reply → S) where
+  -- turns to where all sleep, which begin so
+  pub slept : {V : Type 0} (boot : KernelState S) (pids : List ℕ) (items : V → List ℕ) (o : Option V) → IsSome o → IfSome o (λ w. LeadsToSleep call next boot (items w)) → IfSome o (λ w. BeginsWith pids (items w)) → SleepsAfter call next boot pids
+  slept boot pids items None some asleep begins = absurd (let z : ⊥ = cc in z)
+  slept boot pids items (Some w) some asleep begins = record { way = items w; asleep = asleep; begins = begins }
+
   -- kernels with the same key have the same outcomes
   abbrev pub KeyTells : Type 0
   KeyTells = (k l : KernelState S) (outcomes : List RunOutcome) → IsBegun call next k → IsBegun call next l → SameKeyAnyhow k l → AreAllOutcomes call next k outcomes → AreAllOutcomes call next l outcomes

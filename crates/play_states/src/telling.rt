@@ -112,6 +112,13 @@ fn sleeps_after(found: &Exploration, pids: &[u8]) -> Result<bool, PlayFault>
     }
 }
 
+fn push_shown(shown: &mut Vec<Shown>, it: Shown) -> Result<(), AllocError>
+    ensures { OnOk result (shown.new.items ≡ shown.old.items ++ it ∷ []) }
+{
+    shown.push(it)?;
+    Ok(())
+}
+
 impl<'t, M: Machine, C: Allocator> Ground<'t, M, C> {
     /// Whether turns of these processes and turns of those were seen to lead to kernels that differ only in who sleeps, in the numbers of
     /// open-file entries, in what pipes are called and in how many events there were. `false` is always right.
@@ -190,7 +197,7 @@ impl<'t, M: Machine, C: Allocator> Ground<'t, M, C> {
         for spot in spots {
             watch.found(shown.len());
             let it = self.show(alloc, outcomes, spot, states)?;
-            shown.push(it)?;
+            push_shown(&mut shown, it)?;
         }
         watch.ended();
         Ok(shown)
