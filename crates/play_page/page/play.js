@@ -201,6 +201,9 @@ function choiceButton(state, turn, some) {
   const key = some.indexOf(turn) < 9 ? `${some.indexOf(turn) + 1}` : undefined, says = ` next: ${process(state, turn.pid).words}`;
   const at = make('button', {'data-pid': turn.pid, 'aria-keyshortcuts': key, click: () => choose(turn.pid)},
     make('kbd', {'aria-hidden': 'true'}, key || ''), make('b', {class: 'who'}, who(state, turn.pid)), make('span', {}, says));
+  // what a write moves stands in what it then does
+  const data = turn.call === 'write' && /: ("(?:\\.|[^"\\])*"(?:\.\.)?)/.exec(turn.words);
+  if (data) at.append(make('span', {class: 'sub'}, ` it writes ${data[1]}`));
   for (const rival of rivalsOf(turn, some)) {
     at.append(make('span', {class: 'sub alert'}, ` against ${who(state, rival.pid)}, on ${thing(clash(turn, rival))}`));
   }
@@ -266,11 +269,7 @@ function show() {
   const state = now(), isOver = !turnsOf(state).length && !isCut(state);
   goalButtons.forEach((at, i) => at.setAttribute('aria-pressed', goal === i));
   for (const [id, is] of [['hint', isHinting], ['every', isEvery]]) get(id).setAttribute('aria-pressed', is);
-  showSentence(state, isOver);
-  showChoices(state, isOver);
-  showOutcomes(state);
-  showNow(state);
-  showWords();
+  for (const part of [showSentence, showChoices, showOutcomes, showNow, showWords]) part(state, isOver);
   cancelAnimationFrame(frame);
   frame = requestAnimationFrame(() => { draw(); keepLink(); });
 }

@@ -6,7 +6,7 @@ pub(crate) const HEAD: &str = r##"<!DOCTYPE html>
 <head>
 <meta charset="utf-8">
 <meta name="viewport" content="width=device-width, initial-scale=1">
-<meta http-equiv="Content-Security-Policy" content="default-src 'none'; script-src 'sha256-KHjjGkA4g/1mmk/bll0CIppYP3v9uEoYVBuXaEqASwA='; style-src 'unsafe-inline'; base-uri 'none'; form-action 'none'">
+<meta http-equiv="Content-Security-Policy" content="default-src 'none'; script-src 'sha256-tUKjiNHt4iKwDyIBMhwKS8xX7PcW/RScPeVDhriWyNY='; style-src 'unsafe-inline'; base-uri 'none'; form-action 'none'">
 <meta name="color-scheme" content="light dark">
 <title>Choose the order</title>
 <style>
@@ -377,6 +377,9 @@ function choiceButton(state, turn, some) {
   const key = some.indexOf(turn) < 9 ? `${some.indexOf(turn) + 1}` : undefined, says = ` next: ${process(state, turn.pid).words}`;
   const at = make('button', {'data-pid': turn.pid, 'aria-keyshortcuts': key, click: () => choose(turn.pid)},
     make('kbd', {'aria-hidden': 'true'}, key || ''), make('b', {class: 'who'}, who(state, turn.pid)), make('span', {}, says));
+  // what a write moves stands in what it then does
+  const data = turn.call === 'write' && /: ("(?:\\.|[^"\\])*"(?:\.\.)?)/.exec(turn.words);
+  if (data) at.append(make('span', {class: 'sub'}, ` it writes ${data[1]}`));
   for (const rival of rivalsOf(turn, some)) {
     at.append(make('span', {class: 'sub alert'}, ` against ${who(state, rival.pid)}, on ${thing(clash(turn, rival))}`));
   }
@@ -442,11 +445,7 @@ function show() {
   const state = now(), isOver = !turnsOf(state).length && !isCut(state);
   goalButtons.forEach((at, i) => at.setAttribute('aria-pressed', goal === i));
   for (const [id, is] of [['hint', isHinting], ['every', isEvery]]) get(id).setAttribute('aria-pressed', is);
-  showSentence(state, isOver);
-  showChoices(state, isOver);
-  showOutcomes(state);
-  showNow(state);
-  showWords();
+  for (const part of [showSentence, showChoices, showOutcomes, showNow, showWords]) part(state, isOver);
   cancelAnimationFrame(frame);
   frame = requestAnimationFrame(() => { draw(); keepLink(); });
 }
