@@ -31,6 +31,12 @@ const FEW_STATES: usize = 100;
 
 const FEW_SHOWN: usize = 1_000;
 
+// What can still come is found for each state that is shown, by a search of its own. So many states are tried by these at most, if each
+// were as long as that from the start, so that a page takes seconds and no hours; but some states are shown of every script (own).
+const MOST_TRIED: usize = 1_500_000;
+
+const FEWEST_SHOWN: usize = 100;
+
 // A walk over the states, with every turn where that makes few of them.
 fn walked<'w, 't, M: Machine, C: Allocator, W: Watch>(
     alloc: Global,
@@ -46,7 +52,6 @@ fn walked<'w, 't, M: Machine, C: Allocator, W: Watch>(
 
 // The page of what was found.
 fn page_by<M: Machine, C: Allocator, W: Watch>(
-    alloc: Global,
     ground: &Ground<'_, M, C>,
     scene: &Scene<'_, M>,
     found: Exploration,
@@ -62,12 +67,13 @@ fn page_by<M: Machine, C: Allocator, W: Watch>(
     if !whole {
         return Err(PageFault::Many(states));
     }
+    let alloc = making.alloc;
     let outcomes = sorted(alloc, outcomes)?;
     let mut is_whole = states <= FEW_STATES;
-    let mut walk = walked(alloc, ground, scene, making.reach(is_whole), watch)?;
+    let mut walk = walked(alloc, ground, scene, making.reach(states, is_whole), watch)?;
     if is_whole && walk.is_cut {
         is_whole = false;
-        walk = walked(alloc, ground, scene, making.reach(false), watch)?;
+        walk = walked(alloc, ground, scene, making.reach(states, false), watch)?;
     }
     let spots = walk.spots()?;
     let play = ground.tell(alloc, outcomes, spots, making.limits.states, watch)?;
@@ -84,16 +90,22 @@ fn page_by<M: Machine, C: Allocator, W: Watch>(
     page_of(&mut walk, &play, &beginning, is_whole)
 }
 
+// How many states are shown at most of a script with so many.
+fn most_shown(states: usize) -> usize {
+    (MOST_TRIED / states.max(1)).max(FEWEST_SHOWN)
+}
+
 // What is asked for.
 #[derive(Clone, Copy)]
 struct Making<'a> {
+    alloc: Global,
     words: &'a Words<'a>,
     limits: Limits,
 }
 
 impl Making<'_> {
     // How far to walk.
-    fn reach(&self, is_full: bool) -> Reach {
+    fn reach(&self, states: usize, is_full: bool) -> Reach {
         Reach {
             most: if is_full {
                 FEW_SHOWN
@@ -108,7 +120,6 @@ impl Making<'_> {
 
 // The page of the script that `N` names.
 fn page_named<N: Naming, W: Watch>(
-    alloc: Global,
     setting: &Setting<'_, Global, Global>,
     making: &Making<'_>,
     watch: &mut W,
@@ -123,8 +134,8 @@ fn page_named<N: Naming, W: Watch>(
         stdin: setting.stdin,
         files: setting.files,
     };
-    let found = explore_watched(alloc, setting, making.limits.states, watch)?;
-    page_by(alloc, &ground, &scene, found, making, watch)
+    let found = explore_watched(making.alloc, setting, making.limits.states, watch)?;
+    page_by(&ground, &scene, found, making, watch)
 }
 
 /// The page of a script, in which its reader chooses who goes next. `watch` is told how far it is.
@@ -137,5 +148,10 @@ pub fn play_page<W: Watch>(
     limits: Limits,
     watch: &mut W,
 ) -> Result<Vec<u8>, PageFault> {
-    page_named::<Brand, W>(alloc, setting, &Making { words, limits }, watch)
+    let making = Making {
+        alloc,
+        words,
+        limits,
+    };
+    page_named::<Brand, W>(setting, &making, watch)
 }
