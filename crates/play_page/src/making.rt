@@ -110,7 +110,7 @@ impl Making<'_> {
             most: if is_full {
                 FEW_SHOWN
             } else {
-                self.limits.shown
+                self.limits.shown.min(most_shown(states))
             },
             bytes: MOST_BYTES,
             is_full,
