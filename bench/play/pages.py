@@ -17,7 +17,7 @@ SCRIPTS = {
     "writers": ("echo abc > f &\necho d > f\n", {}),
     "settled": ("(echo one; echo two) | grep t\nlss\n", {}),
     "hostile": ("cat p > q &\ncat q \"b'\\x41%s\u202e\nlss </script>b\n",
-                {"p": b"</script>\x00\xff\xe2\x80\xae\\n\"\t", "a b": b"", "<i>": b"\r\n", "\u202enames": b"left"}),
+                {"p": b"</script>\x00\xff\xe2\x80\xae\\n\"\t", "a b": b"", "<i>": b"\r\n", "\u202enames": b"left", **{f"f{n:03}": b"%d\n" % n for n in range(190)}}),
 }
 
 

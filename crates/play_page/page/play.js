@@ -81,7 +81,6 @@ function goOn() {
   for (let some = offered(now()); !isEvery && some.length === 1; some = offered(now())) take(some[0].pid);
 }
 const choose = pid => { take(pid); goOn(); show(); };
-// Takes turns back, until there are so many.
 function returnTo(length) {
   if (length < 0) return;
   ahead = path.slice(length).map(turn => turn.pid).concat(ahead);
@@ -312,10 +311,8 @@ const drawLane = (it, i) => it.spans.map(({from, to, state}) => state !== 2 ? ru
   : make('rect', {class: 'sleep', x: from, y: middle(i) - 5, width: to - from, height: 10}));
 function drawTurn(c) {
   const {turn, x, width, middle: m, at} = c, y = middle(c.lane), isFree = isChoice(turn), isPale = !isFree && !c.isHot, marks = [];
-  if (c.child !== undefined) {
-    const cx = x + width - 4, cy = middle(c.child);
-    marks.push(rule('life', cx, y, cx, cy), make('circle', {class: 'box', cx, cy, r: 3}));
-  }
+  const cx = x + width - 4, cy = middle(c.child);
+  if (c.child !== undefined) marks.push(rule('life', cx, y, cx, cy), make('circle', {class: 'box', cx, cy, r: 3}));
   marks.push(make('g', {}, make('title', {}, `turn ${at + 1}: ${told(turn)}`),
     make('rect', {class: `box${c.isHot ? ' hot' : isFree ? '' : ' auto'}`, x, y: y - 14, width, height: 28, rx: 2}),
     letters(`middle bold${c.isHot ? ' fewer' : isFree ? '' : ' pale'}`, m, y - 2, turn.call),
@@ -327,20 +324,24 @@ function drawTurn(c) {
   }
   return marks;
 }
+// What each file and each pipe holds in a state, by its title; kept, since many states have the same.
+const holding = bytes => bytes === '' ? 'empty' : quoted(bytes);
+const holdings = new Map();
+function holdingsOf(state) {
+  const row = D.S[state][2], [, , files, pipes] = D.W[row];
+  if (!holdings.has(row)) {
+    const inPipes = pipes.map(([name, size, bytes]) => [`pipe ${B[name]}`, bytes < 0 ? count(size, 'byte') : holding(B[bytes])]);
+    holdings.set(row, new Map([...pairs(files).map(([name, bytes]) => [`file ${B[name]}`, holding(B[bytes])]), ...inPipes]));
+  }
+  return holdings.get(row);
+}
 // What stands in the bands: a title, and a text for each state.
 function bandsOf() {
-  const states = [0, ...path.map(turn => turn.to)], found = [];
-  const add = (title, value) => { if (new Set(states.map(value)).size > 1 || title === 'output') found.push({title, value}); };
-  const within = (list, name, none) => (list.find(row => row[0] === name) || [name, none])[1];
-  const holding = bytes => bytes === '' ? 'empty' : quoted(bytes);
-  if (outcomes.length > 1) found.push({title: LEFT, value: state => `${possible(state).size}`});
-  const all = key => [...new Set(states.flatMap(key).map(it => it[0]))];
-  const filesOf = state => pairs(world(state)[2]).map(([name, bytes]) => [B[name], holding(B[bytes])]);
-  const pipesOf = state => world(state)[3].map(it => [B[it[0]], it[2] < 0 ? count(it[1], 'byte') : holding(B[it[2]])]);
-  for (const name of all(filesOf)) add(`file ${name}`, state => within(filesOf(state), name, 'none'));
-  for (const name of all(pipesOf)) add(`pipe ${name}`, state => within(pipesOf(state), name, '-'));
-  add('output', state => printed(B[world(state)[0]]));
-  return found;
+  const states = [0, ...path.map(turn => turn.to)], titles = new Set(states.flatMap(state => [...holdingsOf(state).keys()]));
+  const found = [...titles].map(title => ({title, value: state => holdingsOf(state).get(title) || 'none'}))
+    .filter(({value}) => states.some(state => value(state) !== value(0)));
+  if (outcomes.length > 1) found.unshift({title: LEFT, value: state => `${possible(state).size}`});
+  return [...found, {title: 'output', value: state => printed(B[world(state)[0]])}];
 }
 // A band has its value where it changes, and again, pale, where that was long before.
 function drawBand({title, value}, columns, y, width) {
