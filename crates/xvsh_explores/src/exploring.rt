@@ -11,7 +11,6 @@ use crate::drawing::page_of;
 use crate::fault::ExploringFault;
 use crate::findings::{Findings, findings_of, schedules_of};
 use crate::objects::{object_of, object_of_settled};
-use crate::playing::{Played, played};
 use crate::request::ExploreRequest;
 use crate::telling::{told, told_settled};
 use dead_lines::{bad_lines, dead_lines};
@@ -35,8 +34,6 @@ pub struct Explored {
     pub pair: Option<Pair>,
     /// Where a page is asked for and an outcome was found, the page of these two, or of the only outcome.
     pub page: Option<Vec<u8>>,
-    /// What became of the page to play.
-    pub played: Played,
     /// The numbers, from 1, of the script's lines that are no command.
     pub bad: Vec<usize>,
 }
@@ -93,7 +90,7 @@ fn text_of(
     }
 }
 
-// What is shown of what was found, but for the page to play.
+// What is shown of what was found.
 fn show(
     alloc: Global,
     start: &Start,
@@ -134,11 +131,7 @@ fn show(
 
 // Whether something is asked for that only trying orders shows: every turn, a schedule of each outcome, a page, or a pair.
 fn needs_orders(request: &ExploreRequest<'_>) -> bool {
-    request.is_full
-        || request.witness.is_some()
-        || request.draw.is_some()
-        || request.play.is_some()
-        || request.pair.is_some()
+    request.is_full || request.witness.is_some() || request.draw.is_some() || request.pair.is_some()
 }
 
 // How far to search: a settled script too where a schedule of its outcome is to be shown.
@@ -195,7 +188,6 @@ pub fn explore_start<'a, W: Watch>(
         pair,
         page,
     } = show(alloc, start, request, asked, &found)?;
-    let played = played(alloc, start, request, watch)?;
     let bad = bad_lines(alloc, start.script.lines.as_slice())?;
     Ok(Explored {
         found,
@@ -203,7 +195,6 @@ pub fn explore_start<'a, W: Watch>(
         schedules,
         pair,
         page,
-        played,
         bad,
     })
 }
