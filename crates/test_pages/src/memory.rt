@@ -34,19 +34,19 @@ fn is_made<A: Allocator>(made: Result<Vec<u8, A>, AllocError>, wanted: &[u8]) ->
 // Whether the page and then the picture are made that are wanted; `None` where others are, or something else than want of memory is
 // told.
 fn is_drawn<A: Allocator + Copy>(memory: A, page: &[u8], picture: &[u8]) -> Option<bool> {
-    let traces = (
-        read_trace(memory, TRACE.as_bytes()),
-        read_trace(memory, OTHER.as_bytes()),
-    );
-    match traces {
-        (Ok(trace), Ok(other)) => {
-            let has_page = is_made(pair_page(memory, &trace, &other, ALL), page)?;
-            let has_picture = is_made(pair_svg(memory, &trace, &other, ALL), picture)?;
-            Some(has_page && has_picture)
-        }
-        (Err(TraceFault::Memory), _) | (_, Err(TraceFault::Memory)) => Some(false),
-        _ => None,
-    }
+    let trace = match read_trace(memory, TRACE.as_bytes()) {
+        Ok(trace) => trace,
+        Err(TraceFault::Memory) => return Some(false),
+        Err(_) => return None,
+    };
+    let other = match read_trace(memory, OTHER.as_bytes()) {
+        Ok(other) => other,
+        Err(TraceFault::Memory) => return Some(false),
+        Err(_) => return None,
+    };
+    let has_page = is_made(pair_page(memory, &trace, &other, ALL), page)?;
+    let has_picture = is_made(pair_svg(memory, &trace, &other, ALL), picture)?;
+    Some(has_page && has_picture)
 }
 
 // Whether more requests are made than so many; the one after these is refused.
