@@ -15,8 +15,8 @@ use law_every_outcome::laws::{
     a_script_begins_at_a_boot, no_run_is_stuck_if_each_kernel_can_do_something,
     what_a_search_found_is_explored, what_was_explored_is_every_outcome,
 };
-use law_limits::few_forks::a_script_of_few_forks_has_slots_ahead;
-use law_limits::few_opens::a_script_of_few_opens_has_room_ahead;
+use law_limits::forks::a_script_of_few_forks_has_slots_ahead;
+use law_limits::opens::a_script_of_few_opens_has_room_ahead;
 use mem_files::Files;
 use mem_files::laws::are_files;
 use order_search::{Ahead, Exploration, ExploreFault, Origin, Unwatched, Watch, explore_from};

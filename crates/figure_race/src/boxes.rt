@@ -2,7 +2,7 @@
 
 use crate::deeds::{add_result, add_verb};
 use crate::lane::Lane;
-use crate::shown::{Grid, Shown};
+use crate::picked::{Grid, Shown};
 use Piece::{Mark, Num};
 use figure_strips::{add_line, add_rect, add_text, begin_text, outcome_class};
 use figure_words::call_name;

@@ -1,6 +1,6 @@
 //! The lane of one of the two processes in a run: which of its calls are in the picture, and which are folded before and behind them.
 
-use crate::shown::{Grid, Shown};
+use crate::picked::{Grid, Shown};
 use crate::side::Side;
 use figure_words::Run;
 use std::alloc::Allocator;

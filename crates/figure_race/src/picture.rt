@@ -5,7 +5,7 @@ use crate::bars::add_bars;
 use crate::boxes::{HIGH, add_boxes, add_column, add_life, width_of};
 use crate::lane::{Folded, Lane};
 use crate::opened::add_opened;
-use crate::shown::{Grid, Shown, shown_of};
+use crate::picked::{Grid, Shown, shown_of};
 use crate::side::Side;
 use Piece::{Mark, Num, Short};
 use figure_words::{add_command, add_place};

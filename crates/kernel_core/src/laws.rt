@@ -18,12 +18,12 @@ ghost use Rattle.run_model.specs.ScriptRun.{script_kernel};
 ghost use Rattle.kernel_core.specs.Alike.{AreAlike};
 
 use kernel_events::Report;
-pub use law_runs::bounds::{
-    every_run_ends_with_the_meaning, every_run_is_finished_after_so_many_events,
-};
 pub use law_kernel::kernel::{
     an_entry_is_open_while_a_descriptor_holds_it, an_exit_closes_every_descriptor,
     no_wake_up_is_lost,
+};
+pub use law_runs::bounds::{
+    every_run_ends_with_the_meaning, every_run_is_finished_after_so_many_events,
 };
 pub use law_runs::never_stuck::no_run_is_stuck;
 pub use law_runs::standing::{

@@ -6,7 +6,7 @@ use Rattle.mem_files.specs.Files.{FileMap}
 use Rattle.program_model.specs.FilesAhead.{Sizes, sizes}
 use Rattle.process_model.specs.Seen.{Place, View}
 use Rattle.process_model.specs.Effect.{Rest, InputChanges, OutChanges, PipeChanges, PlaceChanges, further}
-use Rattle.law_limits.proofs.room_behind.Sums.{put, put_here, put_there}
+use Rattle.law_limits.proofs.behind.Sums.{put, put_here, put_there}
 use Rattle.law_limits.proofs.sizes.Doings.{Goal, a_pipe, a_file, has}
 use Rattle.law_limits.proofs.sizes.Later.{Later}
 

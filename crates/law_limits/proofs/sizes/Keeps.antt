@@ -14,8 +14,8 @@ use Rattle.process_model.specs.Seen.{Fds, fd_at, Act, Seen, free, zombie, live, 
 use Rattle.process_model.specs.Phases.{shell_act, does, has_open}
 use Rattle.process_model.specs.Effect.{Quiet, Rest, Answers as Answered, WritesAt, EffectBy, IsCall, given}
 use Rattle.law_runs.specs.Seen.{InitWaits, takes_away, waits_on}
-use Rattle.law_limits.proofs.room_behind.Sums.{total, total_one}
-use Rattle.law_limits.proofs.room_behind.Budget.{InRange}
+use Rattle.law_limits.proofs.behind.Sums.{total, total_one}
+use Rattle.law_limits.proofs.behind.Budget.{InRange}
 use Rattle.law_limits.proofs.sizes.Doings.{NoFile, Goal, has, Doing, over, in_phase, runs, IsEnding, IsOver, may, Is}
 use Rattle.law_limits.proofs.sizes.Later.{Later, may_less, fine_still, phase_still, own_still}
 use Rattle.law_limits.proofs.sizes.Effects.{cap, rest_later, has_same}

@@ -12,9 +12,9 @@ use Rattle.kernel_model.specs.Events.{run}
 use Rattle.run_model.specs.ScriptRun.{script_kernel}
 use Rattle.sh_machine.specs.State.{User}
 use Rattle.sh_machine.specs.Turn.{call_of, next_of}
-use Rattle.law_limits.proofs.room_behind.FewBehind.{slot_is_free}
-use Rattle.law_limits.proofs.room_behind.FewOpens.{entry_is_free}
-use Rattle.law_limits.proofs.room_behind.FewPlaces.{descriptor_is_free}
+use Rattle.law_limits.proofs.behind.FewBehind.{slot_is_free}
+use Rattle.law_limits.proofs.behind.FewOpens.{entry_is_free}
+use Rattle.law_limits.proofs.behind.FewPlaces.{descriptor_is_free}
 use Rattle.law_limits.specs.Room.{HasRoomInAnyOrder}
 use Rattle.law_limits.proofs.sizes.FewFiles.{file_finds_place}
 use Rattle.law_limits.proofs.sizes.TooLarge.{file_stays_small}

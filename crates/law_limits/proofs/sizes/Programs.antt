@@ -35,7 +35,7 @@ use Rattle.law_runs.proofs.standing.CallKinds.{effect_at}
 use Rattle.law_runs.proofs.standing.LowestFree.{IsLowest, is_lowest}
 use Rattle.law_runs.proofs.standing.Openable.{whole}
 use Rattle.law_trees.proofs.tree_ends.Growing.{written_size}
-use Rattle.law_limits.proofs.room_behind.Sums.{put_here, put_there}
+use Rattle.law_limits.proofs.behind.Sums.{put_here, put_there}
 use Rattle.size_model.specs.Place.{counted_if}
 use Rattle.law_limits.proofs.sizes.Doings.{Goal, a_pipe, a_file, goes_by, goes_to, has, names_of, written_by, Doing, over, runs, IsFine, IsOwnFile, IsAsked, OpensIts, fd_source, name_opened, ahead, ahead_by, writes_to, IsRun, Is}
 use Rattle.law_limits.proofs.sizes.Later.{Later, run_old, own_still, by_less}

@@ -32,8 +32,8 @@ use Rattle.law_runs.proofs.views.Events.{trap_seen, dispatch_quiet}
 use Rattle.law_runs.proofs.views.InitSeen.{init_seen}
 use Rattle.law_runs.proofs.views.Named.{event_keeps_init, start_init}
 use Rattle.law_runs.proofs.views.Runs as runs
-use Rattle.law_limits.proofs.room_behind.Sums.{total}
-use Rattle.law_limits.proofs.room_behind.Runs.{in_range, none_seen}
+use Rattle.law_limits.proofs.behind.Sums.{total}
+use Rattle.law_limits.proofs.behind.Runs.{in_range, none_seen}
 use Rattle.size_model.specs.Sizes.{KeepsWithin}
 use Rattle.law_limits.proofs.sizes.More.{none_place}
 use Rattle.law_limits.proofs.sizes.Doings.{NoName, NoFile, Goal, a_pipe, a_file, has, Doing, over, in_phase, IsOver, IsFine, may, Is}

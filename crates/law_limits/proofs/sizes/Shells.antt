@@ -36,7 +36,7 @@ use Rattle.process_model.specs.Effect.{Sets, Rest, Answers as Answered, Forks, E
 use Rattle.law_runs.proofs.standing.CallKinds.{effect_at}
 use Rattle.law_runs.proofs.standing.Openable.{whole, same_openable}
 use Rattle.law_trees.proofs.tree_ends.TurnBytes.{turn_pays}
-use Rattle.law_limits.proofs.room_behind.Sums.{put, put_here, put_there}
+use Rattle.law_limits.proofs.behind.Sums.{put, put_here, put_there}
 use Rattle.room_model.specs.Files.{names_written}
 use Rattle.size_model.specs.Place.{program_bytes, counted_if, to_place}
 use Rattle.law_limits.proofs.sizes.More.{counted_more, place_more, none_place}

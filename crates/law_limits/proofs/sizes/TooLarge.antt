@@ -46,8 +46,8 @@ use Rattle.law_runs.specs.Consistent.{IsConsistent}
 use Rattle.law_runs.proofs.views.Runs as settling
 use Rattle.law_runs.proofs.views.Tables.{seen_up}
 use Rattle.law_runs.proofs.room.Marks.{WritesTooMuch, tells}
-use Rattle.law_limits.proofs.room_behind.Sums.{total, total_zero}
-use Rattle.law_limits.proofs.room_behind.Runs.{in_range}
+use Rattle.law_limits.proofs.behind.Sums.{total, total_zero}
+use Rattle.law_limits.proofs.behind.Runs.{in_range}
 use Rattle.size_model.specs.Place.{counted_if}
 use Rattle.size_model.specs.Sizes.{KeepsWithin}
 use Rattle.law_limits.proofs.sizes.Doings.{a_file, goes_by, written_by, Doing, over, in_phase, runs, IsEnding, IsOver, IsOwnFile, reads_left, writes_to, may, IsRun, Is}

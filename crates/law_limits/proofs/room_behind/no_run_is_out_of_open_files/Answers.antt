@@ -1,5 +1,0 @@
-use Rattle.law_limits.proofs.room_behind.FewOpens.{entry_is_free}
-use Rattle.law_limits.proofs.room_behind.no_run_is_out_of_open_files.Goals as goal
-
-pub returns : goal.returns
-returns c = λ r few full. entry_is_free r.profile r.lines r.input r.files r.schedule r.notes r.last r.runs few full
