@@ -15,10 +15,10 @@ use crate::room_found::{Growth, RoomFound};
 use conflict_check::{clash, has_back};
 use mem_files::Files;
 use room_bounds::{
-    Behind, Lack, Room, Table, behind_of, first_behind, first_without_room, is_roomy, room_of,
+    Behind, Lack, Room, Table, behind_of, first_behind, first_without_room, growth_of, is_roomy,
+    room_of,
 };
 use script_load::{Line, Profile, Script};
-use size_bounds::growth_of;
 use std::alloc::{AllocError, Global};
 use xvsh_read::{Fault, Host, Source, Start, prepare};
 

@@ -2,12 +2,10 @@
 
 use crate::fault::DrawFault;
 use crate::request::DrawRequest;
-use figure_page::{pair_page, run_page};
-use figure_svg::{pair_svg, run_svg};
+use figure_page::{pair_page, pair_svg, run_page, run_svg};
 use run_figure::first_stranger;
 use std::alloc::{AllocError, Global};
-use trace_data::Trace;
-use trace_read::{TraceFault, read_trace};
+use trace_read::{Trace, TraceFault, read_trace};
 use xvsh_read::{Host, read};
 
 /// The most bytes that a trace may have (own).
