@@ -10,7 +10,7 @@ use crate::running::{RunAnswer, run_of};
 use crate::task::Task;
 use figure_page::{pair_page, pair_svg, run_page, run_svg};
 use figure_strips::Bounds;
-use kernel_core::Order;
+use hart_run::Order;
 use std::alloc::Global;
 
 // All events that one page draws.

@@ -7,7 +7,7 @@ use crate::fault::EmbedFault;
 use crate::replays::schedule_of;
 use crate::running::{RunAnswer, run_of};
 use crate::task::Task;
-use kernel_core::Order;
+use hart_run::Order;
 use kernel_model::Event;
 use std::alloc::Global;
 use xvsh_read::{Start, Unwritten};

@@ -61,7 +61,7 @@ fn both_drawn(
 }
 
 /// `draw`: reads the traces, and returns the page of one, or of both: `run_page` and `pair_page` of `figure_page`; or the picture alone
-/// where it is asked for: `run_svg` and `pair_svg` of `figure_svg`. Nothing is written. Own.
+/// where it is asked for: `run_svg` and `pair_svg` of `figure_page`. Nothing is written. Own.
 ///
 /// `Read` where a trace can't be read, is too long, or memory is refused; `NoTrace` where a text is no trace, or has an event of
 /// a process that no event before it made; `OtherScript` where the two scripts differ.
