@@ -1,2 +1,4 @@
 pub mod Passing
 pub mod Resting
+pub mod Last
+pub mod Knowing

@@ -7,8 +7,8 @@ use Rattle.kernel_model.specs.KernelState.{KernelState}
 use Rattle.kernel_model.specs.Events.{run}
 use Rattle.kernel_model.specs.Quiet.{no_refusals}
 use Rattle.kernel_model.proofs.Quiet.{run_quiet}
-use Rattle.order_model.specs.Turns.{after_turns, quiet_turns, turn_events}
-use Rattle.law_every_outcome.proofs.Runs.{turns_run}
+use Rattle.kernel_model.specs.Turns.{after_turns, quiet_turns, turn_events}
+use Rattle.law_turns.proofs.Runs.{turns_run}
 
 module _ {S : Type 0} (call : S → Reply → Call) (next : S → Reply → S) where
   -- turns of these processes at which memory isn't refused come to the kernel of such a run

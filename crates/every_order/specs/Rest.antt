@@ -3,8 +3,8 @@ use Rattle.std.specs.Prelude.{◌≡◌, ℕ, List, true, Some, None, IfSome, Al
 use Rattle.user_calls.specs.declared.calls.Call.{Call}
 use Rattle.user_calls.specs.declared.calls.Reply.{Reply}
 use Rattle.kernel_model.specs.KernelState.{KernelState}
-use Rattle.order_model.specs.Turns.{after_turns}
-use Rattle.order_model.specs.Explored.{AreAllOutcomes, IsNeverStuck}
+use Rattle.kernel_model.specs.Turns.{after_turns}
+use Rattle.kernel_model.specs.Explored.{AreAllOutcomes, IsNeverStuck}
 use Rattle.order_search.specs.declared.ordering.Exploration.{Exploration}
 use Rattle.order_search.specs.Told.{outcome_by, IsReplayed, AreApart, LeadsToSleep}
 

@@ -7,20 +7,20 @@ ghost use Rattle.kernel_model.specs.Boot.{boot_kernel};
 ghost use Rattle.sh_machine.specs.View.{user_of};
 ghost use Rattle.order_search.specs.Room.{HasAhead};
 ghost use Rattle.run_model.specs.ScriptRun.{script_kernel};
-ghost use Rattle.order_model.specs.Explored.{AreAllOutcomes, IsNeverStuck};
+ghost use Rattle.kernel_model.specs.Explored.{AreAllOutcomes, IsNeverStuck};
 ghost use Rattle.order_search.specs.Told.{outcome_by, IsReplayed, AreApart, LeadsToSleep};
 
-use few_forks::has_few_forks;
-use law_every_outcome::laws::{
+use law_limits::forks::a_script_of_few_forks_has_slots_ahead;
+use law_limits::opens::a_script_of_few_opens_has_room_ahead;
+use law_turns::every_outcome::{
     a_script_begins_at_a_boot, no_run_is_stuck_if_each_kernel_can_do_something,
     what_a_search_found_is_explored, what_was_explored_is_every_outcome,
 };
-use law_limits::forks::a_script_of_few_forks_has_slots_ahead;
-use law_limits::opens::a_script_of_few_opens_has_room_ahead;
 use mem_files::Files;
 use mem_files::laws::are_files;
 use order_search::{Ahead, Exploration, ExploreFault, Origin, Unwatched, Watch, explore_from};
 use room_bounds::has_few_opens;
+use room_model::has_few_forks;
 use script_load::Script;
 use sh_machine::{Naming, User};
 use std::alloc::{Allocator, Global};

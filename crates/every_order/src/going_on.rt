@@ -5,7 +5,7 @@ ghost use Rattle.kernel_model.specs.Boot.{boot_kernel};
 ghost use Rattle.order_search.specs.Room.{HasAhead};
 ghost use Rattle.every_order.specs.Rest.{TellsAfter};
 
-use law_every_outcome::laws::{
+use law_turns::every_outcome::{
     no_run_is_stuck_if_each_kernel_can_do_something, what_a_search_found_is_explored,
     what_was_explored_is_every_outcome,
 };

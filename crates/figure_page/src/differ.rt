@@ -1,10 +1,10 @@
 //! What two runs leave that differs, side by side, with the bytes marked from where they part on.
 
 use Piece::{Count, Lines, Mark, Num, Short, Text};
-use page_markup::{Page, Piece};
+use figure_words::{Page, Piece};
 use run_figure::common_bytes;
 use std::alloc::Allocator;
-use trace_data::{FileState, Part, Trace};
+use trace_read::{FileState, Part, Trace};
 
 // How many same bytes are shown before those that differ, how many of these, and how many files.
 const BEFORE: usize = 160;

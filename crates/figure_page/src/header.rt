@@ -3,10 +3,9 @@
 use crate::style::{BEGUN, HEAD, STYLE};
 use Piece::{Count, Lines, Mark, Num, Short};
 use figure_strips::PATTERNS;
-use figure_words::{Run, full_name};
-use page_markup::{Page, Piece};
+use figure_words::{Page, Piece, Run, full_name};
 use std::alloc::Allocator;
-use trace_data::{FileState, Part, Trace};
+use trace_read::{FileState, Part, Trace};
 
 // How many bytes of a script or an output are shown, and how many files.
 const SHOWN: usize = 2048;

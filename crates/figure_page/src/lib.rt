@@ -1,8 +1,4 @@
-//! Pages that draw traces, in HTML that stands alone: one or two traces and the numbers of events go in, and the bytes of a page come
-//! out.
-//!
-//! A page has the script, what it printed and left, what happened in sentences, the figure of `figure_strips`, and a table of the
-//! calls; a page of two traces says where they part, and draws what both begin with once.
+//! Draws figures: a page of HTML, or a picture in SVG.
 #![tactic(auto)]
 
 mod differ;
@@ -12,7 +8,13 @@ mod pair;
 mod phases;
 mod story;
 mod style;
+mod svg_drawing;
+mod svg_pair;
+mod svg_run;
+mod svg_style;
 mod table;
 
 pub use page::run_page;
 pub use pair::pair_page;
+pub use svg_pair::pair_svg;
+pub use svg_run::run_svg;

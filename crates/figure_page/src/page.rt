@@ -6,10 +6,9 @@ use crate::style::KEY;
 use crate::table::add_table;
 use Piece::{Mark, Num};
 use figure_strips::{Bounds, Fold, Span, Window, add_strips_within, folds_of};
-use figure_words::Run;
-use page_markup::{Page, Piece};
+use figure_words::{Page, Piece, Run};
 use std::alloc::{AllocError, Allocator};
-use trace_data::Trace;
+use trace_read::Trace;
 
 // How many bytes a page has when no row and no sentence more is begun, and at most with a strip more: so it stays below 400,000, since
 // none of these, and nothing that has no limit, is as large as what is left.

@@ -9,11 +9,10 @@ use crate::table::add_table;
 use Piece::{Mark, Num};
 use figure_race::{add_turns, add_why};
 use figure_strips::{Bounds, Span};
-use figure_words::Run;
-use page_markup::{Page, Piece};
+use figure_words::{Page, Piece, Run};
 use run_figure::common_events;
 use std::alloc::{AllocError, Allocator};
-use trace_data::Trace;
+use trace_read::Trace;
 
 // How many tenths of what is left of the page the story, the figure and the table of a run get.
 #[derive(Clone, Copy)]

@@ -2,10 +2,9 @@
 
 use Piece::{Count, Mark, Num};
 use figure_strips::Fold;
-use figure_words::{Run, add_call, add_object, add_process, events_of};
-use page_markup::{Page, Piece};
+use figure_words::{Page, Piece, Run, add_call, add_object, add_process, events_of};
 use std::alloc::{AllocError, Allocator};
-use trace_data::{Call, Event, Reply, State, Trap};
+use trace_read::{Call, Event, Reply, State, Trap};
 
 // How many columns a command takes.
 const ROOM: usize = 32;

@@ -2,10 +2,9 @@
 
 use Piece::{Mark, Num};
 use figure_strips::Span;
-use figure_words::{Run, add_process, add_sentence, events_of};
-use page_markup::{Page, Piece};
+use figure_words::{Page, Piece, Run, add_process, add_sentence, events_of};
 use std::alloc::Allocator;
-use trace_data::{Call, Channel, Event, Mode, Reply, State, Trap};
+use trace_read::{Call, Channel, Event, Mode, Reply, State, Trap};
 
 // How many calls are told at most, and how many columns a command takes.
 const MOST: usize = 36;

@@ -3,10 +3,9 @@
 use crate::phases::add_phase;
 use Piece::{Mark, Num};
 use figure_strips::{Fold, Span, phases_of};
-use figure_words::{Run, add_call, add_node, add_process, add_sentence, events_of};
-use page_markup::{Page, Piece};
+use figure_words::{Page, Piece, Run, add_call, add_node, add_process, add_sentence, events_of};
 use std::alloc::{AllocError, Allocator};
-use trace_data::{Event, Trap};
+use trace_read::{Event, Trap};
 
 // How many columns a command takes.
 const ROOM: usize = 32;

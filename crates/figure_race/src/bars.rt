@@ -4,9 +4,9 @@ use crate::boxes::{BAR, HIGH, REST, TOP, left_of};
 use crate::lane::{Folded, Lane};
 use Piece::{Mark, Num};
 use figure_strips::{add_rect, add_text, begin_text};
-use page_markup::{Page, Piece};
+use figure_words::{Page, Piece};
 use std::alloc::Allocator;
-use trace_data::{Call, Event, Reply, State};
+use trace_read::{Call, Event, Reply, State};
 
 // How many descriptors are told that a process sets up.
 const MOST_ENDS: usize = 2;

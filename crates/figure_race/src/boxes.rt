@@ -5,10 +5,9 @@ use crate::lane::Lane;
 use crate::picked::{Grid, Shown};
 use Piece::{Mark, Num};
 use figure_strips::{add_line, add_rect, add_text, begin_text, outcome_class};
-use figure_words::call_name;
-use page_markup::{Page, Piece};
+use figure_words::{Page, Piece, call_name};
 use std::alloc::Allocator;
-use trace_data::Trap;
+use trace_read::Trap;
 
 /// How wide the bar before the columns is with what is left free behind it, how wide a column is, and how wide the bar behind them.
 pub(crate) const BAR: usize = 132;

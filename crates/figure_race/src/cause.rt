@@ -4,7 +4,7 @@ use crate::parting::deed_of;
 use crate::things::{Thing, matters, next_touch};
 use figure_words::{Run, place_of};
 use std::alloc::{AllocError, Allocator};
-use trace_data::{Event, Process};
+use trace_read::{Event, Process};
 
 // How many files, and how many pipes, are looked at.
 const MOST: usize = 16;

@@ -1,10 +1,9 @@
 //! What a call did, in the few words of a box.
 
 use Piece::{Mark, Num, Pipe, Short};
-use figure_words::Run;
-use page_markup::{Page, Piece};
+use figure_words::{Page, Piece, Run};
 use std::alloc::Allocator;
-use trace_data::{Call, Channel, Mode, Object, Part, PipeState, Reply, State, Trap};
+use trace_read::{Call, Channel, Mode, Object, Part, PipeState, Reply, State, Trap};
 
 // How many columns a name takes, and bytes.
 const NAME_ROOM: usize = 7;

@@ -4,7 +4,7 @@ use crate::picked::{Grid, Shown};
 use crate::side::Side;
 use figure_words::Run;
 use std::alloc::Allocator;
-use trace_data::{Event, Process};
+use trace_read::{Event, Process};
 
 /// A lane of a run: its process, whether that is the first of the two, and what the picture shows of the run.
 #[derive(Clone, Copy)]

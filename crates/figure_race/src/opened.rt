@@ -3,10 +3,9 @@
 use crate::bars::calls_word;
 use crate::lane::{Folded, Lane};
 use Piece::{Mark, Num};
-use figure_words::add_sentence;
-use page_markup::{Page, Piece};
+use figure_words::{Page, Piece, add_sentence};
 use std::alloc::Allocator;
-use trace_data::{Event, Trap};
+use trace_read::{Event, Trap};
 
 // How many calls are told of each bar.
 const MOST: usize = 20;

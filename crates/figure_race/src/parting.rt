@@ -1,10 +1,9 @@
 //! Where two runs part: the event, and what comes then in each.
 
 use Piece::{Mark, Num};
-use figure_words::{Run, add_parting, add_process, add_sentence};
-use page_markup::{Page, Piece};
+use figure_words::{Page, Piece, Run, add_parting, add_process, add_sentence};
 use std::alloc::Allocator;
-use trace_data::Event;
+use trace_read::Event;
 
 // How many columns a command takes.
 const ROOM: usize = 40;

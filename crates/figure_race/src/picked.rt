@@ -3,7 +3,7 @@
 use crate::side::Side;
 use figure_strips::Span;
 use std::alloc::{AllocError, Allocator};
-use trace_data::Event;
+use trace_read::Event;
 
 // How many columns a picture has at most before the call that decides, and behind it.
 const BEFORE: usize = 3;

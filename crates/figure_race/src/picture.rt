@@ -8,10 +8,9 @@ use crate::opened::add_opened;
 use crate::picked::{Grid, Shown, shown_of};
 use crate::side::Side;
 use Piece::{Mark, Num, Short};
-use figure_words::{add_command, add_place};
-use page_markup::{Page, Piece};
+use figure_words::{Page, Piece, add_command, add_place};
 use std::alloc::{AllocError, Allocator};
-use trace_data::Process;
+use trace_read::Process;
 
 // How many columns a command takes, and what a run prints.
 const ROOM: usize = 40;

@@ -3,10 +3,9 @@
 use crate::things::{Thing, is_seen, touches};
 use Piece::{Mark, Num};
 use figure_strips::Span;
-use figure_words::{Run, add_command, add_place, add_sentence, events_of};
-use page_markup::{Page, Piece};
+use figure_words::{Page, Piece, Run, add_command, add_place, add_sentence, events_of};
 use std::alloc::Allocator;
-use trace_data::{Event, Process};
+use trace_read::{Event, Process};
 
 // How many columns a command takes.
 const ROOM: usize = 32;

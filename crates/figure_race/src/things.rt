@@ -2,7 +2,7 @@
 
 use figure_words::{Run, lane_of};
 use std::alloc::Allocator;
-use trace_data::{Call, Event, Mode, Object, Part, PipeState, Process, State, Trap};
+use trace_read::{Call, Event, Mode, Object, Part, PipeState, Process, State, Trap};
 
 /// What processes share. A file goes by its name, and a pipe by the process that made it, since xv6's shell makes one a process.
 #[derive(Clone, Copy)]

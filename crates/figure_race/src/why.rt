@@ -7,10 +7,9 @@ use crate::side::{Side, add_before, add_behind, add_turn};
 use crate::things::Thing;
 use crate::twins::twins_of;
 use Piece::{Mark, Num, Pipe, Short};
-use figure_words::{Run, add_command, add_sentence};
-use page_markup::{Page, Piece};
+use figure_words::{Page, Piece, Run, add_command, add_sentence};
 use std::alloc::{AllocError, Allocator};
-use trace_data::{Event, Process};
+use trace_read::{Event, Process};
 
 // How many columns a name takes.
 const ROOM: usize = 40;

@@ -4,7 +4,7 @@ use crate::geometry::{Fold, Window};
 use crate::labels::add_text;
 use crate::shapes::{add_rect, add_upright};
 use Piece::{Mark, Num};
-use page_markup::{Page, Piece};
+use figure_words::{Page, Piece};
 use std::alloc::Allocator;
 
 // Which events a fold has, above the strip, and what stands behind them.

@@ -5,10 +5,9 @@ use crate::labels::{add_label, add_text};
 use crate::shapes::{add_line, add_rect};
 use crate::strip::{Strip, states_of};
 use Piece::{Bits, Mark, Num};
-use figure_words::{Run, events_of};
-use page_markup::{Page, Piece, bits_width};
+use figure_words::{Page, Piece, Run, bits_width, events_of};
 use std::alloc::{AllocError, Allocator};
-use trace_data::{Object, PipeState, Reply, State, Trap};
+use trace_read::{Object, PipeState, Reply, State, Trap};
 
 // How many bytes a pipe holds.
 const PIPE_SIZE: usize = 512;

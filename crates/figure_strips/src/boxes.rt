@@ -6,10 +6,9 @@ use crate::outcomes::{add_outcome, outcome_class};
 use crate::shapes::add_rect;
 use crate::strip::row_of;
 use Piece::{Mark, Num};
-use figure_words::{Run, call_name, events_of};
-use page_markup::{Page, Piece};
+use figure_words::{Page, Piece, Run, call_name, events_of};
 use std::alloc::Allocator;
-use trace_data::{Event, Trap};
+use trace_read::{Event, Trap};
 
 // Where a box is.
 #[derive(Clone, Copy)]

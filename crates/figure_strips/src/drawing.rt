@@ -10,8 +10,7 @@ use crate::names::add_names;
 use crate::sheet::{Sheet, begin_time, end_strip};
 use crate::strip::Strip;
 use crate::written::{add_fold_outputs, add_written};
-use figure_words::Run;
-use page_markup::Page;
+use figure_words::{Page, Run};
 use std::alloc::{AllocError, Allocator};
 
 // What a strip's events wrote.

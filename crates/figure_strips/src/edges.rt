@@ -4,10 +4,10 @@ use crate::geometry::Row;
 use crate::shapes::{add_rect, add_upright};
 use crate::strip::row_of;
 use Piece::Num;
-use page_markup::{Page, Piece};
+use figure_words::{Page, Piece};
 use run_figure::Bar;
 use std::alloc::Allocator;
-use trace_data::{Event, Process, Trap};
+use trace_read::{Event, Process, Trap};
 
 // Where an edge leaves the box of a row, the middle of the other row, and whether that is below.
 #[derive(Clone, Copy)]

@@ -5,10 +5,9 @@ use crate::labels::add_text;
 use crate::shapes::add_rect;
 use crate::strip::Strip;
 use Piece::{Mark, Num, Short};
-use figure_words::{Run, events_of};
-use page_markup::{Page, Piece};
+use figure_words::{Page, Piece, Run, events_of};
 use std::alloc::{AllocError, Allocator};
-use trace_data::{Call, Event, FileState, Object, Part};
+use trace_read::{Call, Event, FileState, Object, Part};
 
 // How high what a file holds is drawn, and how far below the band's top.
 const HIGH: usize = 16;

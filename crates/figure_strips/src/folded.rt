@@ -4,10 +4,9 @@ use crate::geometry::{Row, Window};
 use crate::labels::add_text;
 use crate::shapes::add_rect;
 use Piece::{Mark, Num};
-use figure_words::{Run, events_of};
-use page_markup::{Page, Piece};
+use figure_words::{Page, Piece, Run, events_of};
 use std::alloc::Allocator;
-use trace_data::{Call, Event, Process};
+use trace_read::{Call, Event, Process};
 
 // How many of the events are reads of a process, and how many are its writes.
 fn calls_in(events: &[Event], process: Process) -> (usize, usize) {

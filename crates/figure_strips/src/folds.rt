@@ -3,7 +3,7 @@
 use crate::geometry::{FOLD_COLUMNS, Fold, Window};
 use figure_words::{Run, events_of};
 use std::alloc::{AllocError, Allocator};
-use trace_data::{Call, Event, Object, Part, PipeState, Process, Reply, State, Trap};
+use trace_read::{Call, Event, Object, Part, PipeState, Process, Reply, State, Trap};
 
 // How often a read or a write of a kind is drawn before it is dull, and how many dull events in a row are folded in a figure, and in
 // a table.

@@ -3,7 +3,7 @@
 use crate::geometry::LETTER;
 use crate::shapes::add_rect;
 use Piece::{Mark, Num};
-use page_markup::{Page, Piece};
+use figure_words::{Page, Piece};
 use std::alloc::Allocator;
 
 /// Begins a text at a place.

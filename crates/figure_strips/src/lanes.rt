@@ -5,8 +5,7 @@ use crate::edges::add_edges;
 use crate::folded::add_folds;
 use crate::geometry::{Row, Window};
 use crate::lives::{add_bars, add_life};
-use figure_words::{Run, events_of};
-use page_markup::Page;
+use figure_words::{Page, Run, events_of};
 use std::alloc::Allocator;
 
 // The lives of a strip's processes.

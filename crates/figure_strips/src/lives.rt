@@ -5,11 +5,10 @@ use crate::labels::add_label;
 use crate::shapes::{add_line, add_rect};
 use crate::strip::row_of;
 use Piece::{Mark, Num, Pipe};
-use figure_words::{Run, add_channel};
-use page_markup::{Page, Piece};
+use figure_words::{Page, Piece, Run, add_channel};
 use run_figure::Bar;
 use std::alloc::Allocator;
-use trace_data::Channel;
+use trace_read::Channel;
 
 // How high a bar is.
 const BAR: usize = 14;

@@ -5,11 +5,10 @@ use crate::labels::{add_text, begin_text};
 use crate::sheet::{Sheet, begin_names};
 use crate::strip::Strip;
 use Piece::{Mark, Num, Pipe, Short};
-use figure_words::{Run, add_doing};
-use page_markup::{Page, Piece};
+use figure_words::{Page, Piece, Run, add_doing};
 use run_figure::Band;
 use std::alloc::Allocator;
-use trace_data::Part;
+use trace_read::Part;
 
 // By how much a lane's name is set in for each process above it, and for how many at most.
 const INDENT: usize = 10;

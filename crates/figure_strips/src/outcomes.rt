@@ -1,10 +1,9 @@
 //! What calls came to, in few columns.
 
 use Piece::{Mark, Num, Pipe, Short};
-use figure_words::Run;
-use page_markup::{Page, Piece, shown_width};
+use figure_words::{Page, Piece, Run, shown_width};
 use std::alloc::Allocator;
-use trace_data::{Call, Object, Part, Reply, State, Trap};
+use trace_read::{Call, Object, Part, Reply, State, Trap};
 
 // What a read or a write was about.
 fn short_object<'a, A: Allocator>(

@@ -1,7 +1,7 @@
 //! Shapes in a picture.
 
 use Piece::{Mark, Num};
-use page_markup::{Page, Piece};
+use figure_words::{Page, Piece};
 use std::alloc::Allocator;
 
 /// A rectangle with this corner, so wide and so high.

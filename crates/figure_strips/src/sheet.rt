@@ -4,7 +4,7 @@ ghost use Rattle.figure_strips.specs.Sheets.{below};
 
 use crate::geometry::{GAP, NAMES, TIME, Window};
 use Piece::Num;
-use page_markup::{Page, Piece};
+use figure_words::{Page, Piece};
 use std::alloc::Allocator;
 
 /// What strips are drawn onto.

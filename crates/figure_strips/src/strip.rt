@@ -5,7 +5,7 @@ use crate::geometry::{AXIS, BAND, FILE, OUTPUT, Row, Window};
 use figure_words::{Run, events_of};
 use run_figure::Band;
 use std::alloc::{AllocError, Allocator};
-use trace_data::{Part, PipeState, Process};
+use trace_read::{Part, PipeState, Process};
 
 /// What is drawn in a strip.
 #[derive(Drop)]

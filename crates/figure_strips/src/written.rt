@@ -3,10 +3,9 @@
 use crate::geometry::{Fold, LETTER, TIME, Window};
 use crate::labels::{add_text, begin_text};
 use Piece::{Num, Short};
-use figure_words::{Run, events_of};
-use page_markup::{Page, Piece, shown_width};
+use figure_words::{Page, Piece, Run, events_of, shown_width};
 use std::alloc::Allocator;
-use trace_data::{Event, Part};
+use trace_read::{Event, Part};
 
 // A stroke down from a place.
 fn add_tick<A: Allocator>(page: &mut Page<A>, x: usize, y: usize) {

@@ -1,8 +1,8 @@
 //! How large a run is, and where two runs part, in words.
 
+use crate::markup::{Page, Piece};
 use crate::run::Run;
 use Piece::{Count, Num};
-use page_markup::{Page, Piece};
 use std::alloc::Allocator;
 
 /// How large a run is: its harts, events, processes and pipes, and the bytes of its input, with `; ` behind each.

@@ -1,12 +1,12 @@
 //! How a process is called: its command, and its place in the script.
 
+use crate::markup::{Page, Piece};
 use crate::run::{Run, place_of};
 use crate::words::add_doing;
 use Piece::{Mark, Num};
-use page_markup::{Page, Piece};
 use run_figure::Lane;
 use std::alloc::Allocator;
-use trace_data::{Doing, Event, Node, Process};
+use trace_read::{Doing, Event, Node, Process};
 
 // How many pipes are above a process at most whose place in them is told.
 const MOST_ABOVE: usize = 64;

@@ -2,7 +2,7 @@
 
 use run_figure::{Band, Bar, Lane, bands, bars, lanes};
 use std::alloc::{AllocError, Allocator};
-use trace_data::{Doing, Event, Part, PipeState, Process, State, Trace};
+use trace_read::{Doing, Event, Part, PipeState, Process, State, Trace};
 
 /// A lane, and how long its process lived.
 #[derive(Clone, Copy)]

@@ -1,11 +1,11 @@
 //! What calls did, in sentences.
 
+use crate::markup::{Page, Piece};
 use crate::run::Run;
 use crate::words::full_name;
 use Piece::{Bits, Count, Mark, Num, Pipe, Short};
-use page_markup::{Page, Piece};
 use std::alloc::Allocator;
-use trace_data::{Call, Channel, Event, Full, Mode, Object, Part, PipeState, Reply, State, Trap};
+use trace_read::{Call, Channel, Event, Full, Mode, Object, Part, PipeState, Reply, State, Trap};
 
 // How many columns bytes take in a sentence at most.
 const ROOM: usize = 60;

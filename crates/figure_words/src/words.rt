@@ -1,10 +1,10 @@
 //! Processes, calls and channels, in words.
 
+use crate::markup::{Page, Piece};
 use crate::run::Run;
 use Piece::{Mark, Num, Pipe, Short};
-use page_markup::{Page, Piece};
 use std::alloc::Allocator;
-use trace_data::{Call, Channel, Doing, Event, Full, Mode, Node, Part, Trace, Trap};
+use trace_read::{Call, Channel, Doing, Event, Full, Mode, Node, Part, Trace, Trap};
 
 // How many columns bytes take in a table at most.
 const TABLE_ROOM: usize = 60;

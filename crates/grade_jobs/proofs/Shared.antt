@@ -7,8 +7,8 @@ use Rattle.grade_verdicts.specs.Judged.{IsJudged}
 use Rattle.grade_verdicts.specs.Same.{IsCopyOf}
 use Rattle.grade_verdicts.specs.declared.verdict.Verdict.{Verdict}
 use Rattle.grade_verdicts.proofs.Shared.{shared}
-use Rattle.grade_ways.specs.Ways.{RunsRightInEveryWay}
-use Rattle.grade_ways.proofs.Shared.{shared_ways}
+use Rattle.grade_jobs.specs.Ways.{RunsRightInEveryWay}
+use Rattle.grade_jobs.proofs.SharedWays.{shared_ways}
 use Rattle.grade_jobs.specs.Judges.{IsSameJob, IsVerdictOn}
 use Rattle.grade_jobs.specs.declared.judging.Job.{Job}
 

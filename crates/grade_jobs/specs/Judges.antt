@@ -5,7 +5,7 @@ use Rattle.grade_verdicts.specs.Judged.{IsJudged}
 use Rattle.grade_verdicts.specs.Same.{IsSameTask}
 use Rattle.grade_verdicts.specs.declared.expected.Task.{Task}
 use Rattle.grade_verdicts.specs.declared.verdict.Verdict.{Verdict}
-use Rattle.grade_ways.specs.Ways.{RunsRightInEveryWay}
+use Rattle.grade_jobs.specs.Ways.{RunsRightInEveryWay}
 use Rattle.grade_jobs.specs.declared.judging.Job.{Job}
 
 -- the verdict is due of the job's test on its script, and where the job asks for it, a pass is one in every way

@@ -4,9 +4,9 @@ ghost use Rattle.std.specs.Prelude.{◌≡◌, IfOk};
 ghost use Rattle.std.specs.List.{AllZip};
 ghost use Rattle.grade_jobs.specs.Judges.{IsFoundOn, IsVerdictOn};
 
+use crate::every_way::judge_every_way;
 use crate::known::{Done, Known, is_among};
 use grade_verdicts::{Task, Verdict, judge};
-use grade_ways::judge_every_way;
 use rayon::prelude::*;
 use std::alloc::{AllocError, Global};
 use std::sync::Wait;

@@ -18,13 +18,13 @@ use Rattle.plain_run.proofs.NameSets.{contained, contains}
 use Rattle.sh_machine.specs.Turn.{call_of, next_of}
 use Rattle.kernel_model.specs.declared.events.Full.{Full}
 use Rattle.kernel_model.specs.declared.events.Full.TheVariants.{Memory}
-use Rattle.order_model.specs.Turns.{quiet_turns, turn_events, turn_notes}
-use Rattle.order_model.specs.Outcome.{outcome_of}
-use Rattle.order_model.specs.Explored.{AreAllOutcomes, IsNeverStuck}
+use Rattle.kernel_model.specs.Turns.{quiet_turns, turn_events, turn_notes}
+use Rattle.kernel_model.specs.Outcome.{outcome_of}
+use Rattle.kernel_model.specs.Explored.{AreAllOutcomes, IsNeverStuck}
 use Rattle.order_search.specs.Told.{outcome_by, IsReplayed, LeadsToSleep}
 use Rattle.order_search.specs.declared.outcomes.Outcome.{Outcome}
 use Rattle.order_search.proofs.Telling.{some_of}
-use Rattle.run_room.specs.Room.{HasRoom}
+use Rattle.kernel_runs.specs.Room.{HasRoom}
 use Rattle.law_runs.proofs.standing.RunsEnd.{finished_means}
 use Rattle.law_trees.proofs.trees.Short.{small_short}
 use Rattle.grade_verdicts.specs.Agrees.{Agrees, AgreesIn, AgreesWith, HasFile}

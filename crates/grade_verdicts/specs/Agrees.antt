@@ -2,7 +2,7 @@
 use Rattle.std.specs.Prelude.{◌≡◌, Some, All}
 use Rattle.mem_files.specs.Name.{Bytes}
 use Rattle.mem_files.specs.Files.{FileMap, files}
-use Rattle.order_model.specs.Outcome.{RunOutcome}
+use Rattle.kernel_model.specs.Outcome.{RunOutcome}
 use Rattle.order_search.specs.declared.outcomes.Outcome.{Outcome}
 use Rattle.grade_verdicts.specs.declared.expected.Expected.{Expected}
 use Rattle.grade_verdicts.specs.declared.expected.ExpectedFile.{ExpectedFile}

@@ -18,9 +18,9 @@ use Rattle.kernel_model.specs.declared.events.Full.TheVariants.{Memory}
 use Rattle.kernel_model.specs.KernelState.{KernelState}
 use Rattle.kernel_model.specs.Events.{run, IsFinished}
 use Rattle.run_model.specs.ScriptRun.{script_kernel, IsSpentFrom}
-use Rattle.run_room.specs.Room.{EndsBy, HasRoom, IsFilled}
-use Rattle.order_model.specs.Outcome.{RunOutcome, outcome_of}
-use Rattle.order_model.specs.Explored.{AreAllOutcomes, IsNeverStuck}
+use Rattle.kernel_runs.specs.Room.{EndsBy, HasRoom, IsFilled}
+use Rattle.kernel_model.specs.Outcome.{RunOutcome, outcome_of}
+use Rattle.kernel_model.specs.Explored.{AreAllOutcomes, IsNeverStuck}
 use Rattle.order_search.specs.Told.{IsReplayed, LeadsToSleep}
 use Rattle.order_search.specs.declared.outcomes.Outcome.{Outcome}
 use Rattle.grade_verdicts.specs.Agrees.{Agrees, AgreesIn, AgreesWith}

@@ -4,14 +4,13 @@
 ghost use Rattle.std.specs.Prelude.{◌≡◌, IfOk, OnOk, IfSome, All, map, true, false, None, []};
 ghost use Rattle.script_load.specs.Line.{lines_of};
 ghost use Rattle.sh_machine.specs.Turn.{call_of, next_of};
-ghost use Rattle.order_model.specs.Explored.{AreAllOutcomes, IsNeverStuck};
+ghost use Rattle.kernel_model.specs.Explored.{AreAllOutcomes, IsNeverStuck};
 ghost use Rattle.order_search.specs.Told.{outcome_by, IsReplayed, LeadsToSleep};
 ghost use Rattle.grade_verdicts.specs.Judged.{start_of};
 
 use crate::agreeing::{first_right, first_wrong};
 use crate::expected::{Expected, Task};
-use every_order::{Exploration, ExploreFault, Outcome, Setting, explore};
-use sample_runs::add_samples;
+use every_order::{Exploration, ExploreFault, Outcome, Setting, add_samples, explore};
 use script_load::Script;
 use std::alloc::{AllocError, Global};
 

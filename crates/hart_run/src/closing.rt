@@ -11,7 +11,7 @@ ghost use Rattle.kernel_threads.specs.Boots.{number_of};
 ghost use Rattle.kernel_threads.specs.Events.{AreOfHarts};
 ghost use Rattle.kernel_threads.specs.Reports.{IsReportSoFar};
 ghost use Rattle.kernel_threads.specs.Seats.{all_events};
-ghost use Rattle.kernel_core.specs.Answer.{IsAnswerIfRoomy, IsAnswerIfSettled};
+ghost use Rattle.hart_run.specs.Answer.{IsAnswerIfRoomy, IsAnswerIfSettled};
 
 use kernel_events::Report;
 use kernel_threads::{Run, Seat, Shared};

@@ -5,7 +5,7 @@ ghost use Rattle.script_load.specs.Line.{lines_of};
 ghost use Rattle.run_model.specs.ScriptRun.{script_kernel};
 ghost use Rattle.kernel_events.specs.Reports.{IsRunFrom};
 ghost use Rattle.kernel_runs.specs.Refused.{IsReplayFault};
-ghost use Rattle.kernel_core.specs.Answer.{IsAnswerIfRoomy, IsAnswerIfSettled};
+ghost use Rattle.hart_run.specs.Answer.{IsAnswerIfRoomy, IsAnswerIfSettled};
 
 use kernel_events::{Event, Report};
 use kernel_runs::ReplayFault;
@@ -17,7 +17,7 @@ use std::alloc::Allocator;
 /// Runs a script by these events and no others, with this standard input and these files, and gives the report of that run.
 /// The events may be any: the fault is that of the first which can't take place. So whatever the events, the report of a
 /// settled script in which nothing was full has the output and the files of the script's meaning (`answer`).
-#[tactic(auto, using(kernel_core::proofs::Answers::answered, kernel_core::proofs::Answers::roomy_answered))]
+#[tactic(auto, using(crate::proofs::Answers::answered, crate::proofs::Answers::roomy_answered))]
 pub fn replay<A: Allocator + Copy, B: Allocator, C: Allocator>(
     alloc: A,
     script: &Script<B>,

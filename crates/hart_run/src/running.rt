@@ -7,7 +7,7 @@ ghost use Rattle.kernel_events.specs.Reports.{IsRunFrom};
 ghost use Rattle.kernel_threads.specs.Events.{AreOfHarts};
 ghost use Rattle.kernel_threads.specs.Ranges.{AreBadHarts, AreBadTurns};
 ghost use Rattle.kernel_threads.specs.declared.faults.RunFault.TheVariants.{BadHarts, BadTurns, Spent};
-ghost use Rattle.kernel_core.specs.Answer.{IsAnswerIfRoomy, IsAnswerIfSettled};
+ghost use Rattle.hart_run.specs.Answer.{IsAnswerIfRoomy, IsAnswerIfSettled};
 
 use kernel_events::Report;
 use kernel_threads::{Gate, RunFault};
@@ -30,7 +30,7 @@ use std::time::Clock;
 ///
 /// The faults come in their order. A refused growth inside a call is answered to its process and marked in the report;
 /// elsewhere it is the fault `Memory`, unless the other harts finish the run.
-#[tactic(auto, using(kernel_core::proofs::Answers::answered, kernel_core::proofs::Answers::roomy_answered))]
+#[tactic(auto, using(crate::proofs::Answers::answered, crate::proofs::Answers::roomy_answered))]
 pub fn run_harts<R: Threads + Wait + Clock + Sync, G: Gate + Sync>(
     rt: &R,
     alloc: Global,

@@ -8,9 +8,9 @@ ghost use Rattle.kernel_model.specs.KernelState.{fds_at};
 ghost use Rattle.kernel_model.specs.Sound.{IsSound};
 ghost use Rattle.kernel_model.specs.Descriptors.{close, copied, dup, with_open};
 
+use crate::state::State;
 use fd_table::{Entry, FdFault, Object};
 use kernel_model::Full;
-use kernel_state::State;
 use proc_table::{Answer, Pid};
 use std::alloc::Allocator;
 use user_calls::Machine;

@@ -1,14 +1,28 @@
-//! The system calls on files and pipes, and the trap that carries out any call.
-//!
-//! The behaviour is that of xv6's `kernel/file.c`, `pipe.c` and `sysfile.c`, and of `syscall` in `kernel/syscall.c`. A
-//! call is one step of the state, and never waits: a process that would wait is put to sleep, and makes its call again.
+//! The kernel's state in memory, and its ten calls.
 #![tactic(auto)]
 
+mod blocks;
+mod booting;
+mod closing;
+mod copying;
 mod descriptors;
+mod dispatching;
+mod named;
 mod opening;
+mod pipes;
 mod piping;
+mod processes;
 mod reading;
+mod state;
+mod status;
 mod trapping;
+mod unread;
 mod writing;
 
+pub use blocks::first_bytes;
+pub use dispatching::Task;
+pub use pipes::Pipes;
+pub use state::State;
+pub use status::PipeStatus;
 pub use trapping::trap;
+pub use unread::Unread;

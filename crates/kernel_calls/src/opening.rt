@@ -10,9 +10,9 @@ ghost use Rattle.kernel_model.specs.Opening.{emptied_if, open_file, open_for_rea
 ghost use Rattle.kernel_model.specs.Notes.{is_refused};
 
 use crate::descriptors::{free_fd, open_object};
+use crate::state::State;
 use fd_table::{Mode as EntryMode, Name, Object};
 use kernel_model::{Full, Memory};
-use kernel_state::State;
 use mem_files::{FilesFault, is_openable};
 use proc_table::{Answer, Pid};
 use std::alloc::Allocator;

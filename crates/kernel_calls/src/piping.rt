@@ -7,9 +7,9 @@ ghost use Rattle.kernel_model.specs.Descriptors.{ends_reply, make_pipe};
 ghost use Rattle.kernel_model.specs.Notes.{is_refused};
 
 use crate::descriptors::{free_fd, free_fds, open_object};
+use crate::state::State;
 use fd_table::Object;
 use kernel_model::{Full, Memory};
-use kernel_state::State;
 use proc_table::{Answer, Pid};
 use std::alloc::Allocator;
 use user_calls::Machine;

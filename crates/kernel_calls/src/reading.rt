@@ -10,11 +10,11 @@ ghost use Rattle.kernel_model.specs.Sound.{IsSound};
 ghost use Rattle.kernel_model.specs.Pipes.{pipe_of};
 ghost use Rattle.kernel_model.specs.Reading.{read, read_held, read_object, read_pipe};
 
+use crate::blocks::first_bytes;
 use crate::descriptors::entry;
+use crate::state::State;
 use byte_pipe::Take;
 use fd_table::{Entry, Mode as EntryMode, Object};
-use kernel_pipes::first_bytes;
-use kernel_state::State;
 use mem_files::Files;
 use proc_table::{Answer, Channel, Pid};
 use std::alloc::Allocator;

@@ -12,10 +12,10 @@ ghost use Rattle.kernel_model.specs.Pipes.{pipe_of};
 ghost use Rattle.kernel_model.specs.Writing.{append_file, write, write_file, write_object, write_pipe};
 
 use crate::descriptors::entry;
+use crate::state::State;
 use byte_pipe::Put;
 use fd_table::{Entry, Mode as EntryMode, Object};
 use kernel_model::{Full, Memory};
-use kernel_state::State;
 use mem_files::FilesFault;
 use proc_table::{Answer, Channel, Pid};
 use std::alloc::{AllocError, Allocator};

@@ -12,9 +12,8 @@ ghost use Rattle.kernel_events.specs.Harts.{AreCounts};
 
 use crate::log::Log;
 use crate::report::{Report, Schedule, count_of_hart};
-use kernel_calls::trap;
+use kernel_calls::{State, Task, trap};
 use kernel_model::{Event, Full, Memory};
-use kernel_state::{State, Task};
 use mem_files::Files;
 use mem_files::laws::are_files;
 use proc_table::Pid;

@@ -13,7 +13,6 @@ mod report;
 mod status;
 
 pub use kernel::{Kernel, Stranger};
+pub use kernel_calls::{PipeStatus, Task};
 pub use kernel_model::{Event, Full};
-pub use kernel_pipes::PipeStatus;
-pub use kernel_state::Task;
 pub use report::{Report, Schedule};

@@ -7,13 +7,12 @@ ghost use Rattle.fd_table.specs.Entries.{IsInUse};
 ghost use Rattle.kernel_model.specs.KernelState.{fds_at, file_at};
 ghost use Rattle.kernel_model.specs.Pipes.{pipe_of};
 ghost use Rattle.kernel_model.specs.Sound.{IsSound};
-ghost use Rattle.kernel_pipes.specs.Status.{status_of};
+ghost use Rattle.kernel_calls.specs.Status.{status_of};
 ghost use Rattle.proc_table.specs.Slots.{at, is_running_on, parent_or_init, state_of};
 
 use crate::kernel::Kernel;
 use fd_table::{Entry, Object};
-use kernel_pipes::PipeStatus;
-use kernel_state::State;
+use kernel_calls::{PipeStatus, State};
 use mem_files::Files;
 use proc_table::{Pid, State as SlotState};
 use std::alloc::Allocator;

@@ -1,3 +1,4 @@
 mod OneReport
 mod Stopping
 mod Turning
+pub mod Ran

@@ -13,8 +13,8 @@ use Rattle.std.proofs.sync.ledger.Share.TheSendSync as ShareSends
 use Rattle.std.proofs.sync.Mutex.TheSendSync as MutexSends
 use Rattle.user_calls.proofs.slots.CallSlot.TheSendSync as CallSlotSends
 use Rattle.user_calls.specs.declared.machine.Machine as Machine
-use Rattle.kernel_state.specs.contracts.state.State as State
-use Rattle.kernel_state.proofs.state.State.TheSendSync as StateSends
+use Rattle.kernel_calls.specs.contracts.state.State as State
+use Rattle.kernel_calls.proofs.state.State.TheSendSync as StateSends
 use Rattle.kernel_events.specs.contracts.kernel.Kernel as Kernel
 use Rattle.kernel_events.specs.contracts.kernel.Kernel.TheInside as Inside
 use Rattle.kernel_events.proofs.log.Log.TheSendSync as LogSends

@@ -11,7 +11,7 @@ use Rattle.kernel_model.specs.declared.events.Event.{Event}
 use Rattle.kernel_model.specs.declared.events.Full.TheVariants.{Memory}
 use Rattle.kernel_model.specs.Events.{run, IsFinished}
 use Rattle.kernel_model.specs.KernelState.{KernelState}
-use Rattle.order_model.specs.Outcome.{outcome_of}
+use Rattle.kernel_model.specs.Outcome.{outcome_of}
 use Rattle.room_model.specs.Roomy.{IsRoomyScript}
 use Rattle.law_runs.proofs.room.Roomy.{only_memory}
 use Rattle.grade_verdicts.specs.Agrees.{AgreesIn}

@@ -19,7 +19,7 @@ use Rattle.room_model.specs.Roomy.{IsRoomyScript}
 use Rattle.step_bounds.specs.Most.{most_events}
 use Rattle.law_runs.proofs.bounds.Ending.{few_turns}
 use Rattle.law_runs.proofs.room.Roomy.{only_memory}
-use Rattle.kernel_core.specs.Filled.{IsRefusedFrom}
+use Rattle.hart_run.specs.Filled.{IsRefusedFrom}
 use Rattle.xvsh_read.specs.Starting.{Starts}
 use Rattle.xvsh_runs.specs.declared.fault.ProcessFault.{ProcessFault}
 use Rattle.xvsh_runs.specs.declared.fault.ProcessFault.TheVariants.{Spent}

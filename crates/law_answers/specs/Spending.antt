@@ -8,7 +8,7 @@ use Rattle.meaning_model.specs.Settled.{IsSettledScript}
 use Rattle.run_model.specs.ScriptRun.{IsSpentFrom, script_kernel}
 use Rattle.room_model.specs.Roomy.{IsRoomyScript}
 use Rattle.step_bounds.specs.Most.{most_events}
-use Rattle.kernel_core.specs.Filled.{IsRefusedFrom}
+use Rattle.hart_run.specs.Filled.{IsRefusedFrom}
 use Rattle.xvsh_read.specs.Starting.{Starts}
 use Rattle.xvsh_runs.specs.Limit.{IsLimit}
 use Rattle.law_answers.specs.Settings.{Setting}

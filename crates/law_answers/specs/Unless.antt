@@ -9,7 +9,7 @@ use Rattle.kernel_model.specs.declared.events.Full.{Full}
 use Rattle.kernel_model.specs.declared.events.Full.TheVariants.{Memory}
 use Rattle.kernel_model.specs.Events.{run, IsFinished}
 use Rattle.kernel_model.specs.KernelState.{KernelState}
-use Rattle.order_model.specs.Outcome.{outcome_of}
+use Rattle.kernel_model.specs.Outcome.{outcome_of}
 use Rattle.grade_verdicts.specs.Agrees.{AgreesIn}
 use Rattle.grade_verdicts.specs.Judged.{start_of}
 use Rattle.grade_verdicts.specs.declared.expected.Task.{Task}

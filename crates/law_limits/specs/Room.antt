@@ -7,12 +7,12 @@ use Rattle.mem_files.specs.Name.{Name, Bytes}
 use Rattle.mem_files.specs.Files.{files}
 use Rattle.mem_files.specs.Listing.{max_files, max_size}
 use Rattle.script_load.specs.Line.{ScriptLine}
-use Rattle.program_model.specs.FilesAhead.{Sizes}
+use Rattle.tree_model.specs.FilesAhead.{Sizes}
 use Rattle.room_model.specs.Descriptors.{script_descriptors}
 use Rattle.room_model.specs.Files.{script_files}
-use Rattle.room_behind.specs.Opens.{opens_in_all}
-use Rattle.room_behind.specs.Processes.{processes_at_once}
-use Rattle.size_model.specs.Sizes.{KeepsWithin}
+use Rattle.room_model.specs.BehindOpens.{opens_in_all}
+use Rattle.room_model.specs.BehindProcesses.{processes_at_once}
+use Rattle.room_model.specs.Sizes.{KeepsWithin}
 
 -- it needs no more processes, open-file entries and descriptors than there are, makes not too many files, and keeps within sizes of
 -- which none is larger than a file can be

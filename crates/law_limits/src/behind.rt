@@ -7,8 +7,8 @@ ghost use Rattle.proc_table.specs.declared.pid.TheConstants.{PROCS};
 ghost use Rattle.kernel_model.specs.declared.events.Full.TheVariants.{Fds, Open, Procs};
 ghost use Rattle.run_model.specs.ScriptRun.{ScriptRun};
 ghost use Rattle.room_model.specs.Descriptors.{script_descriptors};
-ghost use Rattle.room_behind.specs.Opens.{opens_in_all};
-ghost use Rattle.room_behind.specs.Processes.{processes_at_once};
+ghost use Rattle.room_model.specs.BehindOpens.{opens_in_all};
+ghost use Rattle.room_model.specs.BehindProcesses.{processes_at_once};
 
 /// No run of a script whose processes are at most 64 by their bound is ever out of processes, also where commands run behind `&`:
 /// whatever the schedule, and whether memory is refused or not, it isn't that a fork found no free slot that was full first.

@@ -7,8 +7,8 @@ ghost use Rattle.script_load.specs.Line.{ScriptLine};
 ghost use Rattle.script_load.specs.declared.profile.Profile.{Profile};
 ghost use Rattle.run_model.specs.ScriptRun.{script_kernel};
 ghost use Rattle.sh_machine.specs.Turn.{call_of, next_of};
-ghost use Rattle.order_model.specs.Giving.{HasSlotsAhead};
-ghost use Rattle.few_forks.specs.Forks.{HasFewForks};
+ghost use Rattle.kernel_model.specs.Giving.{HasSlotsAhead};
+ghost use Rattle.room_model.specs.Forks.{HasFewForks};
 
 /// Let a script, with `&` or without, come to use no more slots in all than there are. Then whoever forks, after whatever turns, finds a
 /// free one: whether anything else is full or not.

@@ -7,7 +7,7 @@ ghost use Rattle.script_load.specs.Line.{ScriptLine};
 ghost use Rattle.script_load.specs.declared.profile.Profile.{Profile};
 ghost use Rattle.run_model.specs.ScriptRun.{script_kernel};
 ghost use Rattle.sh_machine.specs.Turn.{call_of, next_of};
-ghost use Rattle.order_model.specs.Closes.{HasRoomAhead};
+ghost use Rattle.kernel_model.specs.Closes.{HasRoomAhead};
 ghost use Rattle.room_model.specs.Opens.{HasFewOpens};
 
 /// Let a script, with `&` or without, come to use no more open-file entries in all than there are. Then whatever is opened, after

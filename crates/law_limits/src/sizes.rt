@@ -5,10 +5,10 @@ ghost use Rattle.mem_files.specs.Name.{Name};
 ghost use Rattle.mem_files.specs.Files.{files};
 ghost use Rattle.mem_files.specs.Listing.{max_files, max_size};
 ghost use Rattle.kernel_model.specs.declared.events.Full.TheVariants.{Files, Memory, Size};
-ghost use Rattle.program_model.specs.FilesAhead.{Sizes, sizes};
+ghost use Rattle.tree_model.specs.FilesAhead.{Sizes, sizes};
 ghost use Rattle.run_model.specs.ScriptRun.{IsRoomy, ScriptRun};
 ghost use Rattle.room_model.specs.Files.{script_files};
-ghost use Rattle.size_model.specs.Sizes.{KeepsWithin};
+ghost use Rattle.room_model.specs.Sizes.{KeepsWithin};
 ghost use Rattle.law_limits.specs.Room.{HasRoomInAnyOrder};
 
 /// In no run of a script, with `&` or without, does a file exceed these sizes, if the script keeps within them: whatever the schedule,

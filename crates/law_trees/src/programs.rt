@@ -14,21 +14,21 @@ ghost use Rattle.meaning_model.specs.Programs.{program_value};
 ghost use Rattle.user_progs.specs.State.{State, begins};
 ghost use Rattle.prog_parts.specs.Program.{program_uses_input};
 ghost use Rattle.user_progs.specs.Turn.{Turn, turn, call_of, next_of, bytes_in};
-ghost use Rattle.program_model.specs.Ahead.{still_opens, still_writes, still_uses};
-ghost use Rattle.program_model.specs.Alone.{World, may_write, May, after_call, to_out};
-ghost use Rattle.program_model.specs.Still.{still, left_of, after_bytes};
-ghost use Rattle.program_model.specs.Waits.{Waits, BeginsShort};
-ghost use Rattle.program_model.specs.Fits.{Fits};
-ghost use Rattle.program_model.specs.Frame.{depends_on, holds_to_write, may_change, only_changed};
-ghost use Rattle.program_model.specs.Refusals.{IsTold, PassesOrTells};
-ghost use Rattle.program_model.specs.Calls.{MayCall};
+ghost use Rattle.tree_model.specs.Ahead.{still_opens, still_writes, still_uses};
+ghost use Rattle.tree_model.specs.Alone.{World, may_write, May, after_call, to_out};
+ghost use Rattle.tree_model.specs.Still.{still, left_of, after_bytes};
+ghost use Rattle.tree_model.specs.Waits.{Waits, BeginsShort};
+ghost use Rattle.tree_model.specs.Fits.{Fits};
+ghost use Rattle.tree_model.specs.Frame.{depends_on, holds_to_write, may_change, only_changed};
+ghost use Rattle.tree_model.specs.Refusals.{IsTold, PassesOrTells};
+ghost use Rattle.tree_model.specs.Calls.{MayCall};
 ghost use Rattle.meaning_model.specs.Firm.{IsFirm};
-ghost use Rattle.program_model.specs.Blocks.{WritesBlock, HoldsBlock};
-ghost use Rattle.program_model.specs.Reads.{bytes_of_function};
-ghost use Rattle.program_model.specs.FilesAhead.{Sizes, sizes, files_ahead, from_files};
-ghost use Rattle.program_model.specs.Tame.{Among, AreTame};
-ghost use Rattle.program_model.specs.Exits.{calls_on, bytes_told, bytes_read, calls_for, most_calls, calls_left, width};
-ghost use Rattle.program_model.specs.Runs.{first_process, after_replies, MayBe, MayBeRefused, Comes};
+ghost use Rattle.tree_model.specs.Blocks.{WritesBlock, HoldsBlock};
+ghost use Rattle.tree_model.specs.Reads.{bytes_of_function};
+ghost use Rattle.tree_model.specs.FilesAhead.{Sizes, sizes, files_ahead, from_files};
+ghost use Rattle.tree_model.specs.Tame.{Among, AreTame};
+ghost use Rattle.tree_model.specs.Exits.{calls_on, bytes_told, bytes_read, calls_for, most_calls, calls_left, width};
+ghost use Rattle.tree_model.specs.ProgramRuns.{first_process, after_replies, MayBe, MayBeRefused, Comes};
 
 /// A program that runs alone, whatever its reads give and how much at a time: what it wrote so far begins what the
 /// program function writes, and once it calls `Exit`, its output, the input left and the files are the function's.

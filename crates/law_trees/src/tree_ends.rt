@@ -2,7 +2,7 @@
 ghost use Rattle.std.specs.Prelude.{◌≡◌, ◌⊎◌, ◌+◌, ◌≤◌, List, length};
 ghost use Rattle.mem_files.specs.Files.{FileMap};
 ghost use Rattle.mem_files.specs.Name.{Bytes, Name};
-ghost use Rattle.program_model.specs.FilesAhead.{sizes};
+ghost use Rattle.tree_model.specs.FilesAhead.{sizes};
 ghost use Rattle.script_load.specs.declared.profile.Profile.{Profile};
 ghost use Rattle.script_load.specs.Line.{ScriptLine};
 ghost use Rattle.meaning_model.specs.Meaning.{script_meaning, script_tree};

@@ -3,9 +3,9 @@ use Rattle.std.specs.Prelude.{◌≡◌, ℕ, Some}
 use Rattle.user_calls.specs.declared.calls.Call.{Call}
 use Rattle.user_calls.specs.declared.calls.Reply.{Reply}
 use Rattle.kernel_model.specs.KernelState.{KernelState}
-use Rattle.order_model.specs.Alike.{Alike}
-use Rattle.order_model.specs.Turns.{after_turn}
-use Rattle.order_model.specs.Numbers.{SameButNumbers}
+use Rattle.kernel_model.specs.Alike.{Alike}
+use Rattle.kernel_model.specs.Turns.{after_turn}
+use Rattle.kernel_model.specs.Numbers.{SameButNumbers}
 
 module _ {S : Type 0} (call : S → Reply → Call) (next : S → Reply → S) where
   -- p's turn leads to a, and q's turn to l: each can take its turn then, and what both orders come to differs only in the numbers of

@@ -7,12 +7,12 @@ use Rattle.fd_table.specs.Descriptors.{entry_of}
 use Rattle.proc_table.specs.declared.states.Status.TheVariants.{Runnable}
 use Rattle.proc_table.specs.Slots.{Process, at}
 use Rattle.kernel_model.specs.KernelState.{KernelState}
-use Rattle.order_model.specs.Anyhow.{AlikeAnyhow}
-use Rattle.order_model.specs.Begun.{IsBegun}
-use Rattle.order_model.specs.Closes.{HasRoomAhead}
-use Rattle.order_model.specs.Turns.{after_turn}
-use Rattle.order_model.specs.Slots.{SameButSlots}
-use Rattle.order_model.specs.Giving.{ReapsNext, ExitsNext}
+use Rattle.kernel_model.specs.Anyhow.{AlikeAnyhow}
+use Rattle.kernel_model.specs.Begun.{IsBegun}
+use Rattle.kernel_model.specs.Closes.{HasRoomAhead}
+use Rattle.kernel_model.specs.Turns.{after_turn}
+use Rattle.kernel_model.specs.Slots.{SameButSlots}
+use Rattle.kernel_model.specs.Giving.{ReapsNext, ExitsNext}
 
 module _ {S : Type 0} (call : S → Reply → Call) (next : S → Reply → S) where
   -- the process p is Runnable and exits next, and it holds no descriptor

@@ -3,10 +3,10 @@ use Rattle.std.specs.Prelude.{◌≡◌, List, Some}
 use Rattle.user_calls.specs.declared.calls.Call.{Call}
 use Rattle.user_calls.specs.declared.calls.Reply.{Reply}
 use Rattle.kernel_model.specs.KernelState.{KernelState}
-use Rattle.order_model.specs.Alike.{IsStill}
-use Rattle.order_model.specs.Outcome.{SameOutcome}
-use Rattle.order_model.specs.Turns.{Turn, by_turns}
-use Rattle.order_model.specs.Numbers.{SameButNumbers}
+use Rattle.kernel_model.specs.Alike.{IsStill}
+use Rattle.kernel_model.specs.Outcome.{SameOutcome}
+use Rattle.kernel_model.specs.Turns.{Turn, by_turns}
+use Rattle.kernel_model.specs.Numbers.{SameButNumbers}
 
 module _ {S : Type 0} (call : S → Reply → Call) (next : S → Reply → S) where
   -- these turns can be taken from l too, and lead to a kernel that is m but for numbers, is still, and has the same outcome

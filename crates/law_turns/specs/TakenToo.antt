@@ -3,8 +3,8 @@ use Rattle.std.specs.Prelude.{◌≡◌, ℕ, List, Some, length}
 use Rattle.user_calls.specs.declared.calls.Call.{Call}
 use Rattle.user_calls.specs.declared.calls.Reply.{Reply}
 use Rattle.kernel_model.specs.KernelState.{KernelState}
-use Rattle.order_model.specs.Turns.{after_turn, after_turns}
-use Rattle.order_model.specs.Slots.{SameButSlots}
+use Rattle.kernel_model.specs.Turns.{after_turn, after_turns}
+use Rattle.kernel_model.specs.Slots.{SameButSlots}
 
 module _ {S : Type 0} (call : S → Reply → Call) (next : S → Reply → S) where
   -- the process in that slot can take a turn in l, which leads to what `now` is but for slots

@@ -7,9 +7,9 @@ use Rattle.proc_table.specs.declared.states.Status.TheVariants.{Runnable}
 use Rattle.proc_table.specs.Slots.{Process, at, is_zombie_child_of}
 use Rattle.proc_table.specs.Calls.{lowest_free}
 use Rattle.kernel_model.specs.KernelState.{KernelState}
-use Rattle.order_model.specs.Alike.{Alike}
-use Rattle.order_model.specs.Turns.{after_turn}
-use Rattle.order_model.specs.Slots.{SameButSlots}
+use Rattle.kernel_model.specs.Alike.{Alike}
+use Rattle.kernel_model.specs.Turns.{after_turn}
+use Rattle.kernel_model.specs.Slots.{SameButSlots}
 
 module _ {S : Type 0} (call : S → Reply → Call) (next : S → Reply → S) where
   -- p's turn leads to a, and q's turn to l: each can take its turn then, and what both orders come to differs only in the numbers of

@@ -10,9 +10,9 @@ use Rattle.fd_table.specs.Descriptors.{entry_of}
 use Rattle.proc_table.specs.Slots.{Process, at}
 use Rattle.kernel_model.specs.KernelState.{KernelState, file_at}
 use Rattle.kernel_model.specs.Pipes.{pipe_of}
-use Rattle.order_model.specs.Woke.{AlikeAwake}
-use Rattle.order_model.specs.Turns.{after_turn}
-use Rattle.order_model.specs.Numbers.{SameButNumbers}
+use Rattle.kernel_model.specs.Woke.{AlikeAwake}
+use Rattle.kernel_model.specs.Turns.{after_turn}
+use Rattle.kernel_model.specs.Numbers.{SameButNumbers}
 
 module _ {S : Type 0} (call : S → Reply → Call) (next : S → Reply → S) where
   -- if q next reads from this pipe, the pipe holds bytes

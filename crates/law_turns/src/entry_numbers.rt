@@ -6,10 +6,10 @@ ghost use Rattle.proc_table.specs.Slots.{at};
 ghost use Rattle.kernel_model.specs.KernelState.{KernelState};
 ghost use Rattle.kernel_model.specs.Events.{acted};
 ghost use Rattle.kernel_model.specs.Sound.{IsMid};
-ghost use Rattle.order_model.specs.Alike.{IsStill};
-ghost use Rattle.order_model.specs.Outcome.{SameOutcome};
-ghost use Rattle.order_model.specs.Turns.{Turn, by_turns};
-ghost use Rattle.order_model.specs.Numbers.{SameButNumbers, renumbered_slot};
+ghost use Rattle.kernel_model.specs.Alike.{IsStill};
+ghost use Rattle.kernel_model.specs.Outcome.{SameOutcome};
+ghost use Rattle.kernel_model.specs.Turns.{Turn, by_turns};
+ghost use Rattle.kernel_model.specs.Numbers.{SameButNumbers, renumbered_slot};
 ghost use Rattle.law_turns.specs.Taken.{IsTakenToo};
 
 use user_calls::Machine;

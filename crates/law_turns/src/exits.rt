@@ -2,12 +2,12 @@
 
 ghost use Rattle.std.specs.Prelude.{◌≡◌, ◌≢◌, ◌⊎◌, ℕ, Some};
 ghost use Rattle.kernel_model.specs.KernelState.{KernelState};
-ghost use Rattle.order_model.specs.Begun.{IsBegun};
-ghost use Rattle.order_model.specs.Anyhow.{DoesAnyhow};
-ghost use Rattle.order_model.specs.Reduced.{Joins};
-ghost use Rattle.order_model.specs.Turns.{after_turn};
-ghost use Rattle.order_model.specs.Giving.{ExitsNext, ReapsNext};
-ghost use Rattle.order_model.specs.Closes.{FindsFreeNext};
+ghost use Rattle.kernel_model.specs.Begun.{IsBegun};
+ghost use Rattle.kernel_model.specs.Anyhow.{DoesAnyhow};
+ghost use Rattle.kernel_model.specs.Reduced.{Joins};
+ghost use Rattle.kernel_model.specs.Turns.{after_turn};
+ghost use Rattle.kernel_model.specs.Giving.{ExitsNext, ReapsNext};
+ghost use Rattle.kernel_model.specs.Closes.{FindsFreeNext};
 ghost use Rattle.law_turns.specs.Exits.{ExitsBareNext, ExitsInRoom, InEitherOrderAnyhow, InEitherOrderReaping, IsDoneAnyhow};
 
 use user_calls::Machine;

@@ -4,9 +4,9 @@ ghost use Rattle.std.specs.Prelude.{◌≡◌, ◌≢◌, ℕ, Some};
 ghost use Rattle.user_calls.specs.declared.calls.Call.TheVariants.{Fork};
 ghost use Rattle.proc_table.specs.Slots.{Process, at};
 ghost use Rattle.kernel_model.specs.KernelState.{KernelState};
-ghost use Rattle.order_model.specs.Begun.{IsBegun};
-ghost use Rattle.order_model.specs.Turns.{after_turn};
-ghost use Rattle.order_model.specs.Giving.{ForksNext};
+ghost use Rattle.kernel_model.specs.Begun.{IsBegun};
+ghost use Rattle.kernel_model.specs.Turns.{after_turn};
+ghost use Rattle.kernel_model.specs.Giving.{ForksNext};
 ghost use Rattle.law_turns.specs.Waits.{InEitherOrderButSlots};
 ghost use Rattle.law_turns.specs.Forks.{HasSlot};
 

@@ -1,11 +1,11 @@
 //! Laws: each function's contract is the law, and its body is empty. They are of any machines.
 
 ghost use Rattle.kernel_model.specs.KernelState.{KernelState};
-ghost use Rattle.order_model.specs.Giving.{GivesWayBegun};
-ghost use Rattle.order_model.specs.Linked.{CanDo};
-ghost use Rattle.order_model.specs.Outcome.{SameOutcome};
-ghost use Rattle.order_model.specs.Reduced.{IsFollowing, IsSafe};
-ghost use Rattle.order_model.specs.Turns.{after_turn};
+ghost use Rattle.kernel_model.specs.Giving.{GivesWayBegun};
+ghost use Rattle.kernel_model.specs.Linked.{CanDo};
+ghost use Rattle.kernel_model.specs.Outcome.{SameOutcome};
+ghost use Rattle.kernel_model.specs.Reduced.{IsFollowing, IsSafe};
+ghost use Rattle.kernel_model.specs.Turns.{after_turn};
 
 use user_calls::Machine;
 

@@ -2,11 +2,11 @@
 
 ghost use Rattle.std.specs.Prelude.{◌≡◌, ◌≢◌, ℕ, Some};
 ghost use Rattle.kernel_model.specs.KernelState.{KernelState};
-ghost use Rattle.order_model.specs.Alike.{IsStill};
-ghost use Rattle.order_model.specs.Turns.{after_turn};
-ghost use Rattle.order_model.specs.Reduced.{IsFollowing};
-ghost use Rattle.order_model.specs.Anyhow.{DoesAnyhow};
-ghost use Rattle.order_model.specs.Closes.{ClosesNext, FindsFreeNext, IsPlain};
+ghost use Rattle.kernel_model.specs.Alike.{IsStill};
+ghost use Rattle.kernel_model.specs.Turns.{after_turn};
+ghost use Rattle.kernel_model.specs.Reduced.{IsFollowing};
+ghost use Rattle.kernel_model.specs.Anyhow.{DoesAnyhow};
+ghost use Rattle.kernel_model.specs.Closes.{ClosesNext, FindsFreeNext, IsPlain};
 ghost use Rattle.fd_table.specs.declared.names.Object.{Object};
 ghost use Rattle.law_turns.specs.Either.{InEitherOrder};
 

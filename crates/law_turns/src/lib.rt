@@ -1,9 +1,8 @@
-//! Turns of processes in another order: which come to the same, and what of a kernel no turn sees: laws, no code.
-//!
-//! Each module is about one kind of turn, or one part of a kernel that isn't seen; `giving_way` joins them.
+//! Which turns give way, and that a list of kernels that is closed under the others has every outcome: laws, no code.
 #![tactic(auto)]
 
 pub mod entry_numbers;
+pub mod every_outcome;
 pub mod exits;
 pub mod forks;
 pub mod giving_way;

@@ -10,9 +10,9 @@ ghost use Rattle.kernel_model.specs.KernelRun.{KernelRun, start_of};
 ghost use Rattle.kernel_model.specs.Boot.{boot_kernel};
 ghost use Rattle.kernel_model.specs.Events.{run};
 ghost use Rattle.kernel_model.specs.Quiet.{no_refusals};
-ghost use Rattle.order_model.specs.Alike.{Alike, IsStill};
-ghost use Rattle.order_model.specs.Key.{SameKey};
-ghost use Rattle.order_model.specs.Turns.{Turn, callers, quiet_turns, turns_of, by_turns};
+ghost use Rattle.kernel_model.specs.Alike.{Alike, IsStill};
+ghost use Rattle.kernel_model.specs.Key.{SameKey};
+ghost use Rattle.kernel_model.specs.Turns.{Turn, callers, quiet_turns, turns_of, by_turns};
 ghost use Rattle.law_turns.specs.Matched.{IsMatchedBy};
 
 use user_calls::Machine;

@@ -1,8 +1,8 @@
 //! Laws: each function's contract is the law, and its body is empty. They are of any machines.
 
-ghost use Rattle.order_model.specs.Begun.{DoesAwake, PrivatelyBegun};
-ghost use Rattle.order_model.specs.Reduced.{IsFollowing, IsSafe};
-ghost use Rattle.order_model.specs.Turns.{after_turn};
+ghost use Rattle.kernel_model.specs.Begun.{DoesAwake, PrivatelyBegun};
+ghost use Rattle.kernel_model.specs.Reduced.{IsFollowing, IsSafe};
+ghost use Rattle.kernel_model.specs.Turns.{after_turn};
 
 use user_calls::Machine;
 

@@ -4,11 +4,11 @@ ghost use Rattle.std.specs.Prelude.{◌≡◌, ◌≢◌, ℕ, ◌<◌, Some, No
 ghost use Rattle.fd_table.specs.declared.names.Object.TheVariants.{PipeRead};
 ghost use Rattle.kernel_model.specs.KernelState.{KernelState};
 ghost use Rattle.kernel_model.specs.Pipes.{pipe_of};
-ghost use Rattle.order_model.specs.Alike.{IsStill};
-ghost use Rattle.order_model.specs.Anyhow.{DoesAnyhow};
-ghost use Rattle.order_model.specs.Closes.{ClosesNext, FindsFreeNext, ClosesOrPrivateBegun, NobodyElseWrites};
-ghost use Rattle.order_model.specs.Reduced.{IsSafe};
-ghost use Rattle.order_model.specs.Turns.{after_turn};
+ghost use Rattle.kernel_model.specs.Alike.{IsStill};
+ghost use Rattle.kernel_model.specs.Anyhow.{DoesAnyhow};
+ghost use Rattle.kernel_model.specs.Closes.{ClosesNext, FindsFreeNext, ClosesOrPrivateBegun, NobodyElseWrites};
+ghost use Rattle.kernel_model.specs.Reduced.{IsSafe};
+ghost use Rattle.kernel_model.specs.Turns.{after_turn};
 ghost use Rattle.law_kernel.specs.Ends.{EndsAgree};
 ghost use Rattle.law_turns.specs.Writers.{InEitherOrderAwake};
 

@@ -2,10 +2,10 @@
 
 ghost use Rattle.std.specs.Prelude.{◌≡◌, ℕ, List, Some, length};
 ghost use Rattle.kernel_model.specs.KernelState.{KernelState};
-ghost use Rattle.order_model.specs.Begun.{IsBegun};
-ghost use Rattle.order_model.specs.Outcome.{SameOutcome};
-ghost use Rattle.order_model.specs.Turns.{after_turn, after_turns};
-ghost use Rattle.order_model.specs.Slots.{SameButSlots};
+ghost use Rattle.kernel_model.specs.Begun.{IsBegun};
+ghost use Rattle.kernel_model.specs.Outcome.{SameOutcome};
+ghost use Rattle.kernel_model.specs.Turns.{after_turn, after_turns};
+ghost use Rattle.kernel_model.specs.Slots.{SameButSlots};
 ghost use Rattle.law_turns.specs.TakenToo.{IsTurnTakenToo, AreTurnsTakenToo};
 
 use user_calls::Machine;

@@ -2,9 +2,9 @@
 
 ghost use Rattle.std.specs.Prelude.{◌≡◌, ◌≢◌, ℕ, Some};
 ghost use Rattle.kernel_model.specs.KernelState.{KernelState};
-ghost use Rattle.order_model.specs.Begun.{IsBegun};
-ghost use Rattle.order_model.specs.Turns.{after_turn};
-ghost use Rattle.order_model.specs.Giving.{FindsSlotNext, ReapsNext};
+ghost use Rattle.kernel_model.specs.Begun.{IsBegun};
+ghost use Rattle.kernel_model.specs.Turns.{after_turn};
+ghost use Rattle.kernel_model.specs.Giving.{FindsSlotNext, ReapsNext};
 ghost use Rattle.law_turns.specs.Waits.{InEitherOrderButSlots};
 
 use user_calls::Machine;

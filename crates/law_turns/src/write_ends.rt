@@ -4,11 +4,11 @@ ghost use Rattle.std.specs.Prelude.{◌≡◌, ◌≢◌, ◌⊎◌, ℕ, ◌<�
 ghost use Rattle.fd_table.specs.declared.names.Object.TheVariants.{PipeWrite};
 ghost use Rattle.kernel_model.specs.KernelState.{KernelState};
 ghost use Rattle.kernel_model.specs.Pipes.{pipe_of};
-ghost use Rattle.order_model.specs.Alike.{IsStill};
-ghost use Rattle.order_model.specs.Begun.{IsBegun};
-ghost use Rattle.order_model.specs.Turns.{after_turn};
+ghost use Rattle.kernel_model.specs.Alike.{IsStill};
+ghost use Rattle.kernel_model.specs.Begun.{IsBegun};
+ghost use Rattle.kernel_model.specs.Turns.{after_turn};
 ghost use Rattle.law_kernel.specs.Ends.{EndsAgree};
-ghost use Rattle.order_model.specs.Closes.{ClosesNext, FindsFreeNext};
+ghost use Rattle.kernel_model.specs.Closes.{ClosesNext, FindsFreeNext};
 ghost use Rattle.law_turns.specs.Writers.{FindsBytesNext, InEitherOrderAwake, IsDoneAlready, ReadsEmptyNext};
 
 use user_calls::Machine;

@@ -2,7 +2,7 @@
 
 ghost use Rattle.std.specs.Prelude.{◌≡◌, ◌++◌, ◌∷◌, [], IfOk, OnOk};
 ghost use Rattle.kernel_model.specs.declared.events.Event.TheVariants.{Dispatch, Trap};
-ghost use Rattle.order_model.specs.Turns.{quiet_turns, turn_events};
+ghost use Rattle.kernel_model.specs.Turns.{quiet_turns, turn_events};
 
 use kernel_model::Event;
 use mem_files::Files;

@@ -19,15 +19,15 @@ use Rattle.kernel_model.specs.declared.events.Event.TheVariants.{Trap}
 use Rattle.kernel_model.specs.KernelState.{KernelState, fds_of, fds_at, file_at}
 use Rattle.kernel_model.specs.Boot.{boot_kernel}
 use Rattle.kernel_model.specs.Events.{counted, can_dispatch, then_happens, IsFinished}
-use Rattle.order_model.specs.Idle.{idle_slot, idle_status, idle_kernel, renamed_object, renamed_entry, renamed_pipe}
-use Rattle.order_model.specs.Key.{key, place_in}
-use Rattle.order_model.specs.Woke.{woke_status, woke_slot, woke_table, woke}
-use Rattle.order_model.specs.Anyhow.{bare_status, bare_slot, bare_table}
-use Rattle.order_model.specs.Privately.{IsPrivateCall}
-use Rattle.order_model.specs.Closes.{IsClosedAtOnce, NobodyElseWrites, ClosesNext}
-use Rattle.order_model.specs.Giving.{ForksNext, ReapsNext, ExitsNext, GivesWay, privately, closes, forks, reaps, exits}
-use Rattle.order_model.specs.Outcome.{outcome_of}
-use Rattle.order_model.specs.Turns.{by_turns, quiet_turns, after_turns, after_turn, turn_events, turn_notes}
+use Rattle.kernel_model.specs.Idle.{idle_slot, idle_status, idle_kernel, renamed_object, renamed_entry, renamed_pipe}
+use Rattle.kernel_model.specs.Key.{key, place_in}
+use Rattle.kernel_model.specs.Woke.{woke_status, woke_slot, woke_table, woke}
+use Rattle.kernel_model.specs.Anyhow.{bare_status, bare_slot, bare_table}
+use Rattle.kernel_model.specs.Privately.{IsPrivateCall}
+use Rattle.kernel_model.specs.Closes.{IsClosedAtOnce, NobodyElseWrites, ClosesNext}
+use Rattle.kernel_model.specs.Giving.{ForksNext, ReapsNext, ExitsNext, GivesWay, privately, closes, forks, reaps, exits}
+use Rattle.kernel_model.specs.Outcome.{outcome_of}
+use Rattle.kernel_model.specs.Turns.{by_turns, quiet_turns, after_turns, after_turn, turn_events, turn_notes}
 use Rattle.order_search.specs.Led.{start_kernel}
 use Rattle.order_search.specs.declared.origin.Ahead.{Ahead}
 use Rattle.order_search.specs.Room.{HasAhead}

@@ -7,21 +7,20 @@ use Rattle.std.proofs.lemmas.Bool.{cases_eq, eqb-true, ltb-true, ltb-false}
 use Rattle.user_calls.specs.declared.calls.Call.{Call}
 use Rattle.user_calls.specs.declared.calls.Call.TheVariants.{Fork, Exit, Wait}
 use Rattle.user_calls.specs.declared.calls.Reply.{Reply}
-use Rattle.fd_table.specs.Descriptors.{Descriptors}
+use Rattle.fd_table.specs.Descriptors.{Descriptors, entry_of}
 use Rattle.proc_table.specs.Slots.{Process, Slot, Table, at}
-use Rattle.order_model.specs.Anyhow.{bare_slot}
+use Rattle.kernel_model.specs.Anyhow.{bare_slot}
 use Rattle.order_search.specs.declared.private.NextCall.{NextCall}
 use Rattle.order_search.specs.declared.private.NextCall.TheVariants.{Private, Closes, Forks, Waits, Exits, Unknown}
 use Rattle.order_search.specs.Shown.{filled, slot_of, AreApart, IsNextCall, IsReadyCall, IsClosingSlot, IsCallingSlot, IsOpenAs, IsNoReadEnd, HasNoWriteEnd}
 use Rattle.fd_table.specs.declared.names.Object.{Object}
 use Rattle.fd_table.specs.declared.names.Object.TheVariants.{Input, Out, Diag, File, PipeRead, PipeWrite}
 use Rattle.fd_table.specs.Entries.{Entries, OpenFile, entry_at}
-use Rattle.fd_table.specs.Descriptors.{entry_of}
 use Rattle.fd_table.specs.declared.descriptors.TheConstants.{DESCRIPTORS}
 use Rattle.proc_table.specs.declared.states.Status.TheVariants.{Runnable}
 use Rattle.kernel_model.specs.KernelState.{KernelState, fds_of, fds_at, file_at}
-use Rattle.order_model.specs.Closes.{ClosesNext, IsClosedAtOnce, NobodyElseWrites}
-use Rattle.order_model.specs.Giving.{ForksNext, ReapsNext, ExitsNext}
+use Rattle.kernel_model.specs.Closes.{ClosesNext, IsClosedAtOnce, NobodyElseWrites}
+use Rattle.kernel_model.specs.Giving.{ForksNext, ReapsNext, ExitsNext}
 use Rattle.order_search.specs.Giving.{HasZombieChild, AreClosedAtOnce}
 use Rattle.order_search.proofs.Filling.{at_filled}
 

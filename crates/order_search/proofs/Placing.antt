@@ -4,7 +4,7 @@ use Rattle.std.specs.Prelude.{if◌then◌else◌, ◌==◌}
 use Rattle.std.proofs.lemmas.Bool.{ne_eqb, eq-eqb}
 use Rattle.byte_pipe.specs.PipeState.{PipeState}
 use Rattle.kernel_model.specs.Pipes.{Pipes, pipe_of}
-use Rattle.order_model.specs.Key.{place_in}
+use Rattle.kernel_model.specs.Key.{place_in}
 use Rattle.order_search.specs.Places.{names_in, place_among, AscendWithin}
 
 pub place_is : (pipes : Pipes) (id : ℕ) → place_in pipes id ≡ place_among (names_in pipes) id

@@ -3,8 +3,8 @@ use Rattle.std.proofs.Common.{◌≡◌, ℕ, List, refl, sym, ap, ◌∙◌, ma
 use Rattle.fd_table.specs.Entries.{Entries, entry_at, free_count}
 use Rattle.proc_table.specs.Slots.{Table}
 use Rattle.kernel_model.specs.KernelState.{KernelState}
-use Rattle.order_model.specs.Woke.{woke_slot, woke}
-use Rattle.order_model.specs.Numbers.{renumbered_table, SameButNumbers}
+use Rattle.kernel_model.specs.Woke.{woke_slot, woke}
+use Rattle.kernel_model.specs.Numbers.{renumbered_table, SameButNumbers}
 use Rattle.order_search.specs.Under.{number_under, GoBack, AreRenumberedParts}
 use Rattle.law_turns.proofs.entry_numbers.Numberings.{unchanged, table_none}
 

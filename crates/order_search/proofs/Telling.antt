@@ -8,8 +8,8 @@ use Rattle.user_calls.specs.declared.calls.Call.{Call}
 use Rattle.user_calls.specs.declared.calls.Reply.{Reply}
 use Rattle.kernel_model.specs.KernelState.{KernelState}
 use Rattle.kernel_model.specs.Events.{IsFinished}
-use Rattle.order_model.specs.Outcome.{RunOutcome, outcome_of}
-use Rattle.order_model.specs.Explored.{FinishesWith}
+use Rattle.kernel_model.specs.Outcome.{RunOutcome, outcome_of}
+use Rattle.kernel_model.specs.Explored.{FinishesWith}
 use Rattle.order_search.specs.declared.outcomes.Outcome.{Outcome}
 use Rattle.order_search.specs.Told.{outcome_by, IsReplayed, AreApart, IsAddedTo, Tells}
 

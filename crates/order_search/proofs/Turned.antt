@@ -17,7 +17,7 @@ use Rattle.kernel_model.proofs.Lasting.{happens_later}
 use Rattle.kernel_model.proofs.Runs.{dispatch_happens}
 use Rattle.proc_table.proofs.Changes.{written}
 use Rattle.proc_table.proofs.Counts.{status_counts}
-use Rattle.order_model.specs.Turns.{after_turn}
+use Rattle.kernel_model.specs.Turns.{after_turn}
 
 idle_once : (s : Status) → is_runnable_status s ≡ true → is_running_status s ≡ false
 idle_once Runnable r = refl

@@ -3,9 +3,9 @@ use Rattle.std.specs.Prelude.{◌≡◌, ℕ, List, Some}
 use Rattle.user_calls.specs.declared.calls.Call.{Call}
 use Rattle.user_calls.specs.declared.calls.Reply.{Reply}
 use Rattle.kernel_model.specs.KernelState.{KernelState}
-use Rattle.order_model.specs.Anyhow.{SameKeyAnyhow}
-use Rattle.order_model.specs.Giving.{GivesWay}
-use Rattle.order_model.specs.Turns.{after_turns}
+use Rattle.kernel_model.specs.Anyhow.{SameKeyAnyhow}
+use Rattle.kernel_model.specs.Giving.{GivesWay}
+use Rattle.kernel_model.specs.Turns.{after_turns}
 
 module _ {S : Type 0} (call : S → Reply → Call) (next : S → Reply → S) where
   -- turns of these processes, and of those, lead from the start to kernels with one key, but for who sleeps and for numbers of entries

@@ -5,10 +5,10 @@ use Rattle.user_calls.specs.declared.calls.Reply.{Reply}
 use Rattle.proc_table.specs.declared.pid.TheConstants.{PROCS}
 use Rattle.kernel_model.specs.KernelState.{KernelState}
 use Rattle.closed_search.specs.Searched.{IsReached, IsReducedUnder}
-use Rattle.order_model.specs.Anyhow.{SameKeyAnyhow}
-use Rattle.order_model.specs.Giving.{GivesWay}
-use Rattle.order_model.specs.Turns.{after_turn, after_turns}
-use Rattle.order_model.specs.Explored.{IsFinishedOrBusy}
+use Rattle.kernel_model.specs.Anyhow.{SameKeyAnyhow}
+use Rattle.kernel_model.specs.Giving.{GivesWay}
+use Rattle.kernel_model.specs.Turns.{after_turn, after_turns}
+use Rattle.kernel_model.specs.Explored.{IsFinishedOrBusy}
 use Rattle.order_search.specs.declared.ordering.Exploration.{Exploration}
 use Rattle.order_search.specs.Told.{Tells, LeadsToSleep}
 

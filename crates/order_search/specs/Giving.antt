@@ -6,8 +6,8 @@ use Rattle.fd_table.specs.Entries.{OpenFile}
 use Rattle.fd_table.specs.Descriptors.{Descriptors, entry_of}
 use Rattle.proc_table.specs.Slots.{Table, at, is_zombie_child_of}
 use Rattle.kernel_model.specs.KernelState.{KernelState, file_at}
-use Rattle.order_model.specs.Closes.{IsClosedAtOnce, ClosesNext}
-use Rattle.order_model.specs.Giving.{ForksNext, ReapsNext, ExitsNext}
+use Rattle.kernel_model.specs.Closes.{IsClosedAtOnce, ClosesNext}
+use Rattle.kernel_model.specs.Giving.{ForksNext, ReapsNext, ExitsNext}
 use Rattle.order_search.specs.declared.origin.Ahead.{Ahead}
 use Rattle.order_search.specs.Shown.{IsPrivateSlot}
 

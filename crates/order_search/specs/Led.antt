@@ -7,9 +7,9 @@ use Rattle.proc_table.specs.Slots.{is_running}
 use Rattle.kernel_model.specs.KernelState.{KernelState}
 use Rattle.kernel_model.specs.Boot.{boot_kernel}
 use Rattle.kernel_model.specs.Sound.{IsSound}
-use Rattle.order_model.specs.Key.{key}
-use Rattle.order_model.specs.Explored.{IsBusy}
-use Rattle.order_model.specs.Turns.{after_turns}
+use Rattle.kernel_model.specs.Key.{key}
+use Rattle.kernel_model.specs.Explored.{IsBusy}
+use Rattle.kernel_model.specs.Turns.{after_turns}
 use Rattle.order_search.specs.declared.origin.Ahead.{Ahead}
 use Rattle.order_search.specs.Room.{HasAhead}
 

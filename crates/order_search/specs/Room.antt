@@ -3,8 +3,8 @@ use Rattle.std.specs.Prelude.{◌≡◌, true}
 use Rattle.user_calls.specs.declared.calls.Call.{Call}
 use Rattle.user_calls.specs.declared.calls.Reply.{Reply}
 use Rattle.kernel_model.specs.KernelState.{KernelState}
-use Rattle.order_model.specs.Closes.{HasRoomAhead}
-use Rattle.order_model.specs.Giving.{HasSlotsAhead}
+use Rattle.kernel_model.specs.Closes.{HasRoomAhead}
+use Rattle.kernel_model.specs.Giving.{HasSlotsAhead}
 use Rattle.order_search.specs.declared.origin.Ahead.{Ahead}
 
 -- whatever is opened finds free entries, and whoever forks a free slot, if that is said

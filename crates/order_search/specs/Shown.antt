@@ -12,8 +12,8 @@ use Rattle.fd_table.specs.Descriptors.{Descriptors, entry_of}
 use Rattle.proc_table.specs.declared.states.Status.TheVariants.{Runnable}
 use Rattle.proc_table.specs.Slots.{Slot, Table, Process, at}
 use Rattle.kernel_model.specs.KernelState.{file_at}
-use Rattle.order_model.specs.Anyhow.{bare_slot}
-use Rattle.order_model.specs.Privately.{IsPrivateCall}
+use Rattle.kernel_model.specs.Anyhow.{bare_slot}
+use Rattle.kernel_model.specs.Privately.{IsPrivateCall}
 use Rattle.order_search.specs.declared.private.NextCall.{NextCall}
 use Rattle.order_search.specs.declared.private.NextCall.TheVariants.{Private, Closes, Forks, Waits, Exits, Unknown}
 use Rattle.order_search.specs.declared.private.CloseOf.{CloseOf}

@@ -3,9 +3,9 @@ use Rattle.std.specs.Prelude.{◌≡◌, ◌≢◌, ◌⊎◌, ℕ, List, [], �
 use Rattle.user_calls.specs.declared.calls.Call.{Call}
 use Rattle.user_calls.specs.declared.calls.Reply.{Reply}
 use Rattle.kernel_model.specs.KernelState.{KernelState}
-use Rattle.order_model.specs.Turns.{after_turns}
-use Rattle.order_model.specs.Outcome.{RunOutcome}
-use Rattle.order_model.specs.Explored.{FinishesWith, AreOutcomesOf, IsFinishedOrReady}
+use Rattle.kernel_model.specs.Turns.{after_turns}
+use Rattle.kernel_model.specs.Outcome.{RunOutcome}
+use Rattle.kernel_model.specs.Explored.{FinishesWith, AreOutcomesOf, IsFinishedOrReady}
 use Rattle.order_search.specs.declared.outcomes.Outcome.{Outcome}
 
 -- what is told, without its schedule

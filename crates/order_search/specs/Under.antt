@@ -2,7 +2,7 @@
 use Rattle.std.specs.Prelude.{◌≡◌, ℕ, List, slice_index_or}
 use Rattle.fd_table.specs.Entries.{Entries}
 use Rattle.proc_table.specs.Slots.{Table}
-use Rattle.order_model.specs.Numbers.{Numbering, AreRenumbered, renumbered_table}
+use Rattle.kernel_model.specs.Numbers.{Numbering, AreRenumbered, renumbered_table}
 
 -- the number that the list has at this place; past its end each keeps its own
 abbrev pub number_under : List ℕ → ℕ → ℕ

@@ -5,8 +5,8 @@ ghost use Rattle.std.specs.Prelude.{◌≡◌, ◌↔◌, IsTrue, true};
 ghost use Rattle.fd_table.specs.Entries.{entry_at};
 ghost use Rattle.fd_table.specs.declared.names.Object.TheVariants.{PipeWrite};
 ghost use Rattle.order_search.specs.Shown.{IsCloseOf, IsOpenAs};
-ghost use Rattle.order_model.specs.Woke.{woke_status};
-ghost use Rattle.order_model.specs.Anyhow.{bare_status};
+ghost use Rattle.kernel_model.specs.Woke.{woke_status};
+ghost use Rattle.kernel_model.specs.Anyhow.{bare_status};
 
 use crate::pools::{Digest, Same};
 use crate::private::{CloseOf, NextCall};
@@ -488,9 +488,9 @@ fn awake(status: Status) -> Status
 
 impl<M: Machine> Held<M> {
     ghost use Rattle.std.specs.Prelude.{◌≡◌, ◌↔◌, IsTrue, true, false, Some};
-    ghost use Rattle.order_model.specs.Woke.{woke_slot};
-    ghost use Rattle.order_model.specs.Numbers.{renumbered_slot};
-    ghost use Rattle.order_model.specs.Anyhow.{bare_slot};
+    ghost use Rattle.kernel_model.specs.Woke.{woke_slot};
+    ghost use Rattle.kernel_model.specs.Numbers.{renumbered_slot};
+    ghost use Rattle.kernel_model.specs.Anyhow.{bare_slot};
     ghost use Rattle.proc_table.specs.Slots.{is_zombie_child_of};
     ghost use Rattle.order_search.specs.Shown.{HasNoWriteEnd, IsReadyCall};
     ghost use Rattle.order_search.specs.Under.{number_under};

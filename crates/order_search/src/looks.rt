@@ -2,8 +2,8 @@
 
 ghost use Rattle.std.specs.Prelude.{◌≡◌, ◌≢◌, ◌↔◌, IsTrue, IsSome, true, false, map};
 ghost use Rattle.proc_table.specs.Slots.{at, is_runnable, is_zombie_child_of};
-ghost use Rattle.order_model.specs.Anyhow.{bare_slot};
-ghost use Rattle.order_model.specs.Woke.{woke_slot};
+ghost use Rattle.kernel_model.specs.Anyhow.{bare_slot};
+ghost use Rattle.kernel_model.specs.Woke.{woke_slot};
 ghost use Rattle.kernel_model.specs.KernelState.{fds_of};
 ghost use Rattle.order_search.specs.Shown.{slot_of, AreApart, HasNoWriteEnd, IsReadyCall};
 
@@ -125,11 +125,11 @@ impl<M: Machine> Look<M> {
     ghost use Rattle.std.specs.Prelude.{◌≡◌, ◌≢◌, ◌↔◌, IsTrue, IfSome, true, false, map};
     ghost use Rattle.proc_table.specs.Slots.{at, is_runnable};
     ghost use Rattle.kernel_model.specs.Events.{IsFinished};
-    ghost use Rattle.order_model.specs.Woke.{woke, woke_slot};
-    ghost use Rattle.order_model.specs.Numbers.{SameButNumbers};
-    ghost use Rattle.order_model.specs.Anyhow.{bare_table};
+    ghost use Rattle.kernel_model.specs.Woke.{woke, woke_slot};
+    ghost use Rattle.kernel_model.specs.Numbers.{SameButNumbers};
+    ghost use Rattle.kernel_model.specs.Anyhow.{bare_table};
     ghost use Rattle.order_search.specs.Under.{AreRenumberedParts};
-    ghost use Rattle.order_model.specs.Closes.{IsClosedAtOnce, NobodyElseWrites};
+    ghost use Rattle.kernel_model.specs.Closes.{IsClosedAtOnce, NobodyElseWrites};
     ghost use Rattle.fd_table.specs.Entries.{entry_at, free_count};
     ghost use Rattle.kernel_model.specs.KernelState.{fds_at};
     ghost use Rattle.order_search.specs.Giving.{AreClosedAtOnce, HasZombieChild, IsGiving};

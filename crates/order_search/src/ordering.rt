@@ -2,7 +2,7 @@
 
 ghost use Rattle.std.specs.Prelude.{◌≡◌, ◌<◌, IfOk, IfSome, None, All, length, map, true, false};
 ghost use Rattle.order_search.specs.Led.{start_kernel};
-ghost use Rattle.order_model.specs.Explored.{IsFinishedOrBusy};
+ghost use Rattle.kernel_model.specs.Explored.{IsFinishedOrBusy};
 ghost use Rattle.order_search.specs.Led.{kernel_of};
 ghost use Rattle.order_search.specs.Room.{HasAhead};
 ghost use Rattle.order_search.specs.Told.{LeadsToSleep, Tells};

@@ -4,11 +4,11 @@ ghost use Rattle.std.specs.Prelude.{◌≡◌, ◌<◌, ◌^◌, ◌+◌, Some, 
 ghost use Rattle.proc_table.specs.Slots.{is_running};
 ghost use Rattle.order_search.specs.Led.{start_kernel};
 ghost use Rattle.kernel_model.specs.Sound.{IsSound};
-ghost use Rattle.order_model.specs.Turns.{after_turn, after_turns};
+ghost use Rattle.kernel_model.specs.Turns.{after_turn, after_turns};
 
 use crate::fault::ExploreFault;
 use crate::turning::take_turn;
-use kernel_state::State;
+use kernel_calls::State;
 use mem_files::Files;
 use proc_table::Pid;
 use std::alloc::{Allocator, Global};

@@ -3,8 +3,8 @@
 ghost use Rattle.std.specs.Prelude.{◌≡◌, ◌↔◌, ◌++◌, ◌∷◌, [], IsTrue, IfOk, IfSome, OnOk, Ok, None, All, Contains, map};
 ghost use Rattle.order_search.specs.Led.{start_kernel};
 ghost use Rattle.kernel_model.specs.Events.{IsFinished};
-ghost use Rattle.order_model.specs.Outcome.{outcome_of};
-ghost use Rattle.order_model.specs.Explored.{IsFinishedOrBusy};
+ghost use Rattle.kernel_model.specs.Outcome.{outcome_of};
+ghost use Rattle.kernel_model.specs.Explored.{IsFinishedOrBusy};
 ghost use Rattle.order_search.specs.Told.{outcome_by, IsReplayed, IsAddedTo, LeadsToSleep, Tells};
 ghost use Rattle.order_search.specs.Led.{kernel_of};
 

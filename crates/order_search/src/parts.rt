@@ -9,7 +9,7 @@ ghost use Rattle.proc_table.specs.declared.states.Status.{Status as ShownStatus}
 ghost use Rattle.proc_table.specs.Slots.{at, state_by};
 ghost use Rattle.kernel_model.specs.KernelState.{fds_of};
 ghost use Rattle.kernel_model.specs.Sound.{IsSound};
-ghost use Rattle.order_model.specs.Idle.{idle_status, idle_slot, renamed_object, renamed_entry, renamed_pipe};
+ghost use Rattle.kernel_model.specs.Idle.{idle_status, idle_slot, renamed_object, renamed_entry, renamed_pipe};
 ghost use Rattle.order_search.specs.Places.{place_among, names_in, IsOrderly, AreNumbers, AreNumbersOf, IsNextNumber};
 
 use crate::fault::ExploreFault;
@@ -17,7 +17,7 @@ use crate::kept::{Entries, Held, Opened, Piped, Pipes};
 use crate::places::{place_of, placed_channel};
 use crate::private::next_call;
 use fd_table::{Entry, Fds, Name, Object, OpenFiles};
-use kernel_state::State;
+use kernel_calls::State;
 use proc_table::{Pid, State as SlotState, Status};
 use std::alloc::{AllocError, Allocator, Global};
 use user_calls::{CallSlot, Machine};

@@ -1,11 +1,11 @@
 //! Pipes by their places.
 
 ghost use Rattle.std.specs.Prelude.{◌≡◌, IfOk};
-ghost use Rattle.order_model.specs.Idle.{renamed_channel};
+ghost use Rattle.kernel_model.specs.Idle.{renamed_channel};
 ghost use Rattle.order_search.specs.Places.{names_in, place_among};
 
 use crate::fault::ExploreFault;
-use kernel_state::State;
+use kernel_calls::State;
 use proc_table::Channel;
 use std::alloc::{AllocError, Allocator, Global};
 use user_calls::Machine;

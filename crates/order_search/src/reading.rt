@@ -3,7 +3,7 @@
 ghost use Rattle.std.specs.Prelude.{◌≡◌, ℕ, ◌≤◌, ◌++◌, ◌∷◌, [], IfOk, IfSome, OnOk, Some, None, true, map};
 ghost use Rattle.proc_table.specs.Slots.{at};
 ghost use Rattle.kernel_model.specs.Sound.{IsSound};
-ghost use Rattle.order_model.specs.Idle.{idle_slot};
+ghost use Rattle.kernel_model.specs.Idle.{idle_slot};
 ghost use Rattle.order_search.specs.Places.{IsOrderly, place_among};
 ghost use Rattle.order_search.specs.Shown.{slot_of};
 
@@ -17,7 +17,7 @@ use crate::pools::Pool;
 use crate::seen::{SeenEntries, SeenSlots, sketch_of, sketch_of_entries};
 use crate::unchanged::{are_entries, is_held};
 use fd_table::OpenFiles;
-use kernel_state::{State, Unread};
+use kernel_calls::{State, Unread};
 use mem_files::Files;
 use proc_table::Pid;
 use std::alloc::{AllocError, Allocator, Global};
@@ -42,8 +42,8 @@ impl<M: Machine> Reader<M> {
     ghost use Rattle.fd_table.specs.Entries.{entry_at, count_of};
     ghost use Rattle.proc_table.specs.Slots.{at};
     ghost use Rattle.kernel_model.specs.Sound.{IsSound};
-    ghost use Rattle.order_model.specs.Idle.{idle_slot, renamed_entry};
-    ghost use Rattle.order_model.specs.Key.{key};
+    ghost use Rattle.kernel_model.specs.Idle.{idle_slot, renamed_entry};
+    ghost use Rattle.kernel_model.specs.Key.{key};
     ghost use Rattle.order_search.specs.Shown.{filled, slot_of};
     ghost use Rattle.order_search.specs.Places.{IsOrderly, names_in, place_among};
 

@@ -2,8 +2,8 @@
 
 ghost use Rattle.std.specs.Prelude.{◌≡◌, ℕ, true, map};
 ghost use Rattle.fd_table.specs.Entries.{entry_at, free_count};
-ghost use Rattle.order_model.specs.Woke.{woke_slot};
-ghost use Rattle.order_model.specs.Numbers.{renumbered_place, renumbered_fds, renumbered_slot, renumbered_table};
+ghost use Rattle.kernel_model.specs.Woke.{woke_slot};
+ghost use Rattle.kernel_model.specs.Numbers.{renumbered_place, renumbered_fds, renumbered_slot, renumbered_table};
 ghost use Rattle.order_search.specs.Shown.{slot_of};
 ghost use Rattle.order_search.specs.Under.{number_under, GoBack};
 

@@ -11,7 +11,7 @@ use crate::pools::Digest;
 use crate::unchanged::{are_entries, is_held};
 use closed_search::Index;
 use fd_table::{Entry, Fds, OpenFiles};
-use kernel_state::State;
+use kernel_calls::State;
 use proc_table::{Channel, Pid, State as SlotState};
 use std::alloc::{AllocError, Allocator, Global};
 use std::rc::Rc;
@@ -28,7 +28,7 @@ impl<M: Machine> SeenSlots<M> {
     ghost use Rattle.std.specs.Prelude.{◌≡◌, IfOk, IfSome, Some};
     ghost use Rattle.proc_table.specs.Slots.{at};
     ghost use Rattle.kernel_model.specs.Sound.{IsSound};
-    ghost use Rattle.order_model.specs.Idle.{idle_slot};
+    ghost use Rattle.kernel_model.specs.Idle.{idle_slot};
     ghost use Rattle.order_search.specs.Places.{IsOrderly, place_among};
 
     // Nothing was seen yet.
@@ -88,7 +88,7 @@ pub struct SeenEntries {
 impl SeenEntries {
     ghost use Rattle.std.specs.Prelude.{◌≡◌, ◌⊎◌, ℕ, ◌<◌, None, IfOk, IfSome, length, map};
     ghost use Rattle.fd_table.specs.Entries.{entry_at, count_of};
-    ghost use Rattle.order_model.specs.Idle.{renamed_entry};
+    ghost use Rattle.kernel_model.specs.Idle.{renamed_entry};
     ghost use Rattle.order_search.specs.Places.{AreNumbersOf, place_among};
 
     // Nothing was seen yet.

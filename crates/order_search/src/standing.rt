@@ -8,7 +8,7 @@ use crate::origin::{Origin, remake};
 use crate::reading::Reader;
 use crate::trail::Trail;
 use closed_search::Node;
-use kernel_state::State;
+use kernel_calls::State;
 use proc_table::PROCS;
 use std::alloc::{AllocError, Allocator, Global};
 use std::marker::Model;
@@ -71,7 +71,7 @@ impl<'t, M: Machine, C: Allocator> Standing<'t, M, C> {
     ghost use Rattle.std.specs.Prelude.{◌≡◌, Some, IfOk};
     ghost use Rattle.order_search.specs.Led.{start_kernel};
     ghost use Rattle.order_search.specs.Room.{HasAhead};
-    ghost use Rattle.order_model.specs.Turns.{after_turns};
+    ghost use Rattle.kernel_model.specs.Turns.{after_turns};
 
     // The kernel after turns of these processes.
     pub fn begin(
@@ -98,7 +98,7 @@ impl<'t, M: Machine, C: Allocator> Standing<'t, M, C> {
 
 impl<'t, M: Machine, C: Allocator> Standing<'t, M, C> {
     ghost use Rattle.std.specs.Prelude.{◌≡◌, Ok, true, false};
-    ghost use Rattle.order_model.specs.Explored.{IsBusy, IsFinishedOrBusy};
+    ghost use Rattle.kernel_model.specs.Explored.{IsBusy, IsFinishedOrBusy};
 
     // Whether it isn't finished, and each turn leaves the slots as they are, but for who sleeps and for what descriptors hold.
     pub fn is_stuck(&self, tools: &mut Tools<'t, M, C>) -> Result<bool, ExploreFault>
@@ -142,7 +142,7 @@ impl<'t, M: Machine, C: Allocator> Standing<'t, M, C> {
 
 impl<'t, M: Machine, C: Allocator> Standing<'t, M, C> {
     ghost use Rattle.std.specs.Prelude.{◌≡◌, ℕ, Some, IfOk, option_map};
-    ghost use Rattle.order_model.specs.Turns.{after_turn};
+    ghost use Rattle.kernel_model.specs.Turns.{after_turn};
     ghost use Rattle.order_search.specs.Led.{kernel_of};
 
     // The node after a turn of the process in the slot of this number; `None` where it can't take one.
@@ -200,12 +200,12 @@ fn longer(alloc: Global, pids: &[u8], pid: u8) -> Result<Vec<u8>, AllocError>
 
 impl<'t, M: Machine, C: Allocator> Node for Standing<'t, M, C> {
     ghost use Rattle.law_turns.proofs.entry_numbers.Numberings.{same_itself};
-    ghost use Rattle.order_model.specs.Key.{key};
+    ghost use Rattle.kernel_model.specs.Key.{key};
     ghost use Rattle.kernel_model.specs.KernelState.{KernelState};
-    ghost use Rattle.order_model.specs.Woke.{woke};
-    ghost use Rattle.order_model.specs.Anyhow.{SameKeyAnyhow};
-    ghost use Rattle.order_model.specs.Giving.{GivesWay};
-    ghost use Rattle.order_model.specs.Turns.{after_turn};
+    ghost use Rattle.kernel_model.specs.Woke.{woke};
+    ghost use Rattle.kernel_model.specs.Anyhow.{SameKeyAnyhow};
+    ghost use Rattle.kernel_model.specs.Giving.{GivesWay};
+    ghost use Rattle.kernel_model.specs.Turns.{after_turn};
 
     ghost State = { KernelState M.State };
 

@@ -4,7 +4,7 @@ ghost use Rattle.std.specs.Prelude.{◌≡◌, ◌++◌, ◌∷◌, [], IfOk, On
 
 use crate::fault::ExploreFault;
 use crate::origin::{Origin, remake, turn_by};
-use kernel_state::State;
+use kernel_calls::State;
 use std::alloc::{AllocError, Allocator, Global};
 use std::boxed::Box;
 use std::marker::Model;

@@ -3,11 +3,10 @@
 ghost use Rattle.std.specs.Prelude.{◌≡◌, ◌<◌, ◌+◌, ◌^◌, Some, None, Ok, true, false, IfOk, count_by};
 ghost use Rattle.proc_table.specs.Slots.{is_running};
 ghost use Rattle.kernel_model.specs.Sound.{IsSound};
-ghost use Rattle.order_model.specs.Turns.{after_turn};
+ghost use Rattle.kernel_model.specs.Turns.{after_turn};
 
-use kernel_calls::trap;
+use kernel_calls::{State, trap};
 use kernel_model::Memory;
-use kernel_state::State;
 use proc_table::Pid;
 use std::alloc::{AllocError, Allocator};
 use user_calls::{CallSlot, Machine};

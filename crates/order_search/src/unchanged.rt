@@ -4,7 +4,7 @@ ghost use Rattle.std.specs.Prelude.{◌≡◌, ◌⊎◌, ℕ, ◌<◌, None, So
 ghost use Rattle.fd_table.specs.Entries.{entry_at, count_of};
 ghost use Rattle.proc_table.specs.Slots.{at};
 ghost use Rattle.kernel_model.specs.Sound.{IsSound};
-ghost use Rattle.order_model.specs.Idle.{idle_slot, renamed_entry, renamed_object};
+ghost use Rattle.kernel_model.specs.Idle.{idle_slot, renamed_entry, renamed_object};
 ghost use Rattle.order_search.specs.Places.{place_among, IsOrderly, AreNumbersOf};
 
 use crate::fault::ExploreFault;
@@ -12,7 +12,7 @@ use crate::kept::{Entries, Held, Opened};
 use crate::parts::{entry_of, idle_status, parent_of};
 use crate::places::place_of;
 use fd_table::{Entry, Fds, Object, OpenFiles};
-use kernel_state::State;
+use kernel_calls::State;
 use proc_table::Pid;
 use std::alloc::Allocator;
 use user_calls::Machine;

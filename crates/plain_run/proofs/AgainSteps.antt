@@ -18,7 +18,7 @@ use Rattle.meaning_model.specs.Inputs.{found}
 use Rattle.meaning_model.specs.Meaning.{meaning, opened, output_value, written_value}
 use Rattle.meaning_model.specs.Settled.{with_name}
 use Rattle.meaning_model.specs.Value.{is_cut, nothing}
-use Rattle.plain_progs.specs.Gives.{Gives}
+use Rattle.plain_run.specs.Gives.{Gives}
 use Rattle.plain_run.specs.Again.{TellsAgain, if_found, named_again, reuses_input}
 use Rattle.plain_run.specs.Tells.{Tells, all_again, only_if, with_lost}
 use Rattle.plain_run.proofs.Again.{again_outside}

@@ -11,8 +11,8 @@ use Rattle.script_load.specs.declared.profile.Profile.{Profile}
 use Rattle.meaning_model.specs.Limits.{Outgrows}
 use Rattle.meaning_model.specs.Meaning.{meaning}
 use Rattle.meaning_model.specs.Value.{fixed, is_cut}
-use Rattle.plain_progs.specs.Gives.{Gives}
-use Rattle.plain_progs.specs.declared.fault.PlainFault.{PlainFault}
+use Rattle.plain_run.specs.Gives.{Gives}
+use Rattle.plain_run.specs.declared.fault.PlainFault.{PlainFault}
 use Rattle.plain_run.specs.Again.{TellsAgain, named_again, reuses_input}
 use Rattle.plain_run.specs.CatAlone.{cat_alone}
 use Rattle.prog_parts.specs.Program.{is_empty}

@@ -1,3 +1,7 @@
+pub mod Extending
+pub mod Filling
+pub mod Full
+pub mod Prefixes
 pub mod Again
 pub mod AgainSteps
 pub mod Beside

@@ -11,8 +11,8 @@ use Rattle.meaning_model.specs.Limits.{Outgrows}
 use Rattle.script_load.specs.Line.{ScriptLine, line_of}
 use Rattle.script_load.specs.declared.profile.Profile.{Profile}
 use Rattle.meaning_model.specs.Meaning.{meaning, line_tree, script_tree}
-use Rattle.plain_progs.specs.declared.fault.PlainFault.{PlainFault}
-use Rattle.plain_progs.specs.Gives.{Gives, IsDue}
+use Rattle.plain_run.specs.declared.fault.PlainFault.{PlainFault}
+use Rattle.plain_run.specs.Gives.{Gives, IsDue}
 use Rattle.plain_run.specs.Tells.{Tells}
 use Rattle.plain_run.proofs.Steps.{due_more, list_gives, due_later}
 use Rattle.plain_run.proofs.Verdicts.{among_two}

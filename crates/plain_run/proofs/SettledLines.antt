@@ -14,7 +14,7 @@ use Rattle.script_load.specs.Line.{ScriptLine, line_of}
 use Rattle.script_load.specs.declared.profile.Profile.{Profile}
 use Rattle.meaning_model.specs.Meaning.{meaning, line_tree, script_tree}
 use Rattle.meaning_model.specs.Settled.{AreNoneOf, IsSettled}
-use Rattle.plain_progs.specs.Gives.{Gives}
+use Rattle.plain_run.specs.Gives.{Gives}
 use Rattle.plain_run.specs.Spans.{all_names}
 use Rattle.plain_run.specs.Tells.{Tells}
 use Rattle.plain_run.proofs.NameSets.{exchanged}

@@ -13,9 +13,9 @@ use Rattle.meaning_model.specs.Limits.{OnOpened, Outgrows, HasNoRoom}
 use Rattle.meaning_model.specs.Inputs.{found}
 use Rattle.meaning_model.specs.Meaning.{meaning, input_value, opened, over_end, at_end, output_value, written_value}
 use Rattle.meaning_model.specs.Value.{Value}
-use Rattle.plain_progs.specs.declared.fault.PlainFault.{PlainFault}
-use Rattle.plain_progs.specs.declared.fault.PlainFault.TheVariants.{TooLarge, Memory}
-use Rattle.plain_progs.specs.Gives.{Gives, IsDue}
+use Rattle.plain_run.specs.declared.fault.PlainFault.{PlainFault}
+use Rattle.plain_run.specs.declared.fault.PlainFault.TheVariants.{TooLarge, Memory}
+use Rattle.plain_run.specs.Gives.{Gives, IsDue}
 use Rattle.plain_run.specs.Held.{held}
 use Rattle.plain_run.proofs.Kept.{meaning_keeps, opened_is_there}
 

@@ -19,7 +19,7 @@ use Rattle.script_load.specs.declared.profile.Profile.{Profile}
 use Rattle.script_load.specs.Line.{ScriptLine, line_of}
 use Rattle.meaning_model.specs.Meaning.{meaning, line_tree, script_tree, script_meaning}
 use Rattle.meaning_model.specs.Settled.{IsSettled}
-use Rattle.plain_progs.specs.Gives.{Gives}
+use Rattle.plain_run.specs.Gives.{Gives}
 use Rattle.plain_run.specs.Again.{TellsAgain}
 use Rattle.plain_run.specs.Reasons.{IsReason, named_within, named_beside, used_within, used_later, runs_behind, clashes, tree_at, value_before, value_at}
 use Rattle.plain_run.specs.Tells.{Tells}

@@ -16,7 +16,7 @@ use Rattle.script_load.specs.declared.profile.Profile.{Profile}
 use Rattle.meaning_model.specs.Inputs.{found}
 use Rattle.meaning_model.specs.Meaning.{meaning, input_value, opened, written_value}
 use Rattle.meaning_model.specs.Value.{is_cut}
-use Rattle.plain_progs.specs.Gives.{Gives}
+use Rattle.plain_run.specs.Gives.{Gives}
 use Rattle.plain_run.specs.Tells.{Tells, with_lost}
 use Rattle.plain_run.proofs.Steps.{output_is}
 

@@ -1,3 +1,4 @@
+pub mod Gives
 pub mod Again
 pub mod CatAlone
 pub mod Held

@@ -10,8 +10,8 @@ use Rattle.prog_parts.specs.Program.{is_empty}
 use Rattle.script_load.specs.Line.{ScriptLine}
 use Rattle.meaning_model.specs.Meaning.{meaning, script_tree, script_meaning}
 use Rattle.meaning_model.specs.Settled.{IsSettled}
-use Rattle.plain_progs.specs.Gives.{Gives, IsDue}
-use Rattle.plain_progs.specs.declared.fault.PlainFault.{PlainFault}
+use Rattle.plain_run.specs.Gives.{Gives, IsDue}
+use Rattle.plain_run.specs.declared.fault.PlainFault.{PlainFault}
 use Rattle.plain_run.specs.Again.{TellsAgain}
 use Rattle.plain_run.specs.Reasons.{IsReason}
 use Rattle.plain_run.specs.Tells.{Tells}

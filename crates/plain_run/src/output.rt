@@ -6,12 +6,13 @@ ghost use Rattle.mem_files.specs.Files.{files, with_file};
 ghost use Rattle.mem_files.specs.Listing.{max_size};
 ghost use Rattle.meaning_model.specs.Limits.{HasNoRoom};
 ghost use Rattle.meaning_model.specs.Meaning.{opened, over_end};
-ghost use Rattle.plain_progs.specs.Gives.{IsDue};
+ghost use Rattle.plain_run.specs.Gives.{IsDue};
 ghost use Rattle.plain_run.specs.Held.{held};
 
+use crate::fault::PlainFault;
+use crate::store::give;
 use mem_files::laws::are_files;
 use mem_files::{Files, FilesFault};
-use plain_progs::{PlainFault, give};
 use script_load::Profile;
 use sh_tree::Mode;
 use std::alloc::{AllocError, Allocator};

@@ -9,8 +9,8 @@ use Rattle.user_calls.specs.declared.calls.Reply.{Reply}
 use Rattle.user_calls.specs.declared.calls.Reply.TheVariants.{Done, Refused}
 use Rattle.user_progs.specs.State.{Tee, tee_opens, tee_reads, tee_writes, tee_gives, State, begins, echo_word, echo_space, opens, works, closes, tees, told, ended}
 use Rattle.user_progs.specs.Turn.{Turn, turn as turn_on}
-use Rattle.program_model.specs.Alone.{OwnFile}
-use Rattle.program_model.specs.Tame.{AreTame}
+use Rattle.tree_model.specs.Alone.{OwnFile}
+use Rattle.tree_model.specs.Tame.{AreTame}
 use Rattle.sh_machine.specs.State.{program}
 use Rattle.process_model.specs.Seen.{Entry, input, out, diag, reader, writer, file, Fds, fd_at, Act, live, Place, View}
 

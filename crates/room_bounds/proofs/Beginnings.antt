@@ -9,7 +9,7 @@ use Rattle.script_load.specs.Line.{ScriptLine, line_of}
 use Rattle.meaning_model.specs.Meaning.{line_tree, script_tree}
 use Rattle.mem_files.specs.Name.{Name, Bytes}
 use Rattle.mem_files.specs.Files.{files as map_of}
-use Rattle.program_model.specs.FilesAhead.{Sizes, sizes}
+use Rattle.tree_model.specs.FilesAhead.{Sizes, sizes}
 use Rattle.tree_model.specs.Bound.{grown, most_bytes, tree_bytes}
 use Rattle.step_bounds.specs.Cost.{IsCapped as IsFew, IsGrownBy}
 use Rattle.step_bounds.proofs.Growing.{grown_twice}

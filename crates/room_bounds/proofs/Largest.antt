@@ -9,7 +9,7 @@ use Rattle.mem_files.specs.Name.{Name, Bytes}
 use Rattle.mem_files.specs.Files.{files, bytes_of}
 use Rattle.mem_files.specs.Listing.{AreFiles}
 use Rattle.mem_files.proofs.Listed.{found_listed}
-use Rattle.program_model.specs.FilesAhead.{sizes}
+use Rattle.tree_model.specs.FilesAhead.{sizes}
 use Rattle.room_bounds.specs.Given.{IsLargestOf, IsLargestTo}
 
 abbrev File : Type 0

@@ -5,8 +5,8 @@ use Rattle.script_load.specs.Line.{ScriptLine}
 use Rattle.meaning_model.specs.Meaning.{script_tree}
 use Rattle.room_model.specs.Descriptors.{script_descriptors}
 use Rattle.room_model.specs.Opens.{most_opens}
-use Rattle.room_behind.specs.Opens.{opens_in_all}
-use Rattle.room_behind.specs.Processes.{at_once, left_behind, processes_at_once}
+use Rattle.room_model.specs.BehindOpens.{opens_in_all}
+use Rattle.room_model.specs.BehindProcesses.{at_once, left_behind, processes_at_once}
 use Rattle.room_bounds.specs.Capped.{IsCapped}
 use Rattle.room_bounds.specs.Needs.{AreNeeds}
 use Rattle.room_bounds.specs.Room.{IsTooMuch}

@@ -3,7 +3,7 @@ use Rattle.std.specs.Prelude.{◌≡◌, ℕ, ◌<◌, ◌≤◌, List, length, 
 use Rattle.std.specs.List.{slice_get}
 use Rattle.mem_files.specs.Name.{Name, Bytes}
 use Rattle.mem_files.specs.Files.{files}
-use Rattle.program_model.specs.FilesAhead.{sizes}
+use Rattle.tree_model.specs.FilesAhead.{sizes}
 use Rattle.room_bounds.specs.declared.given.Given.{Given}
 
 -- the size of the largest of these files, 0 where there is none

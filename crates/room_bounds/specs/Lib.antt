@@ -4,3 +4,6 @@ pub mod Given
 pub mod Room
 pub mod Crowd
 pub mod Behind
+pub mod CappedGrowth
+pub mod Growth
+pub mod Written

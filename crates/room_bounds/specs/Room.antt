@@ -3,7 +3,7 @@ use Rattle.std.specs.Prelude.{◌≡◌, ℕ, ◌+◌, ◌<◌, ◌≤◌, List,
 use Rattle.mem_files.specs.Name.{Name, Bytes}
 use Rattle.mem_files.specs.Files.{files}
 use Rattle.script_load.specs.Line.{ScriptLine}
-use Rattle.program_model.specs.FilesAhead.{sizes}
+use Rattle.tree_model.specs.FilesAhead.{sizes}
 use Rattle.tree_model.specs.Bound.{most_bytes}
 use Rattle.room_model.specs.Processes.{script_processes}
 use Rattle.room_model.specs.Entries.{script_entries}

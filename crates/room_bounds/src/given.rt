@@ -1,7 +1,7 @@
 //! What counts of the files that are there.
 ghost use Rattle.std.specs.Prelude.{◌≡◌, ◌+◌};
 ghost use Rattle.mem_files.specs.Files.{files};
-ghost use Rattle.program_model.specs.FilesAhead.{sizes};
+ghost use Rattle.tree_model.specs.FilesAhead.{sizes};
 ghost use Rattle.room_bounds.specs.Given.{IsGiven, IsLargestOf, IsLargestTo};
 
 use mem_files::Files;

@@ -3,7 +3,7 @@ use Rattle.std.specs.Prelude.{◌+◌, ◌≤◌, List}
 use Rattle.mem_files.specs.Name.{Name, Bytes}
 use Rattle.mem_files.specs.Files.{files}
 use Rattle.mem_files.specs.Listing.{max_size}
-use Rattle.program_model.specs.FilesAhead.{sizes}
+use Rattle.tree_model.specs.FilesAhead.{sizes}
 use Rattle.script_load.specs.Line.{ScriptLine}
 use Rattle.tree_model.specs.Bound.{most_bytes}
 

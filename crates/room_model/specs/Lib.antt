@@ -5,3 +5,9 @@ pub mod Bytes
 pub mod Files
 pub mod Roomy
 pub mod Opens
+pub mod BehindProcesses
+pub mod BehindOpens
+pub mod Forks
+pub mod Left
+pub mod Place
+pub mod Sizes

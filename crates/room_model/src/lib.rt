@@ -1,2 +1,7 @@
-//! How much of a kernel's tables a script needs at most: definitions. There is no code here.
+//! Bounds on what a script needs: processes, descriptors, entries, files and their sizes, also behind `&`.
 #![tactic(auto)]
+
+mod forks;
+pub mod laws;
+
+pub use forks::has_few_forks;

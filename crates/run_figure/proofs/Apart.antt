@@ -4,8 +4,8 @@ use Rattle.std.specs.Prelude.{All, option_map}
 use Rattle.std.specs.List.{filter_map, cons_option}
 use Rattle.std.proofs.lemmas.List.Elements.{All-nil, All-cons, All-weaker}
 use Rattle.std.proofs.lemmas.List.Kept.{AllPairs-cons}
-use Rattle.trace_data.specs.declared.trace.Event.{Event}
-use Rattle.trace_data.specs.declared.trace.Process.{Process}
+use Rattle.trace_read.specs.declared.trace.Event.{Event}
+use Rattle.trace_read.specs.declared.trace.Process.{Process}
 use Rattle.run_figure.specs.Figure.{lane_of, lane_for, child_of, first_lane, first_lanes, AreApart, Rise}
 use Rattle.run_figure.specs.declared.figure.Lane.{Lane}
 

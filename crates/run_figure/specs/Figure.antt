@@ -1,15 +1,15 @@
 -- What of a run's events stands in its figure.
 use Rattle.std.specs.Prelude.{◌≡◌, ◌≢◌, ℕ, ◌<◌, ◌-◌, ◌/◌, ◌%◌, ◌^◌, ◌&&◌, ◌==◌, nat_lt, Bool, true, false, cond, List, [], ◌∷◌, AllPairs, not, is_some, Option, Some, None, option_map, find, drop, slice_get}
 use Rattle.std.specs.Option.{option_and_then}
-use Rattle.trace_data.specs.declared.trace.Channel.{Channel}
-use Rattle.trace_data.specs.declared.trace.Child.{Child}
-use Rattle.trace_data.specs.declared.trace.Event.{Event}
-use Rattle.trace_data.specs.declared.trace.Process.{Process}
-use Rattle.trace_data.specs.declared.trace.Reply.{Reply}
-use Rattle.trace_data.specs.declared.trace.Reply.TheVariants.{Ends}
-use Rattle.trace_data.specs.declared.trace.State.{State}
-use Rattle.trace_data.specs.declared.trace.State.TheVariants.{Runnable, Asleep}
-use Rattle.trace_data.specs.declared.trace.Trap.{Trap}
+use Rattle.trace_read.specs.declared.trace.Channel.{Channel}
+use Rattle.trace_read.specs.declared.trace.Child.{Child}
+use Rattle.trace_read.specs.declared.trace.Event.{Event}
+use Rattle.trace_read.specs.declared.trace.Process.{Process}
+use Rattle.trace_read.specs.declared.trace.Reply.{Reply}
+use Rattle.trace_read.specs.declared.trace.Reply.TheVariants.{Ends}
+use Rattle.trace_read.specs.declared.trace.State.{State}
+use Rattle.trace_read.specs.declared.trace.State.TheVariants.{Runnable, Asleep}
+use Rattle.trace_read.specs.declared.trace.Trap.{Trap}
 use Rattle.run_figure.specs.declared.figure.Band.{Band}
 use Rattle.run_figure.specs.declared.figure.Bar.{Bar}
 use Rattle.run_figure.specs.declared.figure.Lane.{Lane}

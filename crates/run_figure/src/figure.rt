@@ -5,7 +5,7 @@ ghost use Rattle.std.specs.List.{filter_map};
 ghost use Rattle.run_figure.specs.Figure.{BeginAlike, is_same_at, is_same_turn, lane_of, first_lane, first_lanes, AreApart, Rise, bar_of, band_of, asleep_on, child_of, read_end_of, wakes, wake_of, is_made};
 
 use std::alloc::{AllocError, Allocator};
-use trace_data::{Channel, Event, Process, Reply, State, Trap};
+use trace_read::{Channel, Event, Process, Reply, State, Trap};
 
 /// The lane of a process.
 #[derive(Clone, Copy)]

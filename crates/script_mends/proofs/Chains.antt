@@ -7,7 +7,7 @@ use Rattle.mem_files.specs.Files.{FileMap}
 use Rattle.script_load.specs.declared.profile.Profile.{Profile}
 use Rattle.script_load.proofs.OneScript.{one_script}
 use Rattle.meaning_model.specs.Settled.{IsSettledScript}
-use Rattle.plain_progs.specs.declared.fault.PlainFault.TheVariants.{TooLarge, Memory}
+use Rattle.plain_run.specs.declared.fault.PlainFault.TheVariants.{TooLarge, Memory}
 use Rattle.plain_run.specs.declared.reason.Reason.{Reason}
 use Rattle.script_mends.specs.Mended.{AreMends, HasNoMend, HasNoRule, IsMend, IsMendOver, IsNew, IsReasonOf, IsRefused, IsSettledText, IsUnmended, new_name, no_mend, no_name, one_more, outgrown, spoilt, unread, unruled}
 use Rattle.script_mends.specs.Rounds.{IsMendFault, most_mends}

@@ -7,7 +7,7 @@ use Rattle.script_load.specs.Line.{ScriptLine}
 use Rattle.script_load.specs.Script.{HasLoadFault, IsScript}
 use Rattle.meaning_model.specs.Limits.{Outgrows}
 use Rattle.meaning_model.specs.Meaning.{script_tree}
-use Rattle.plain_progs.specs.declared.fault.PlainFault.TheVariants.{TooLarge, Memory}
+use Rattle.plain_run.specs.declared.fault.PlainFault.TheVariants.{TooLarge, Memory}
 use Rattle.script_mends.specs.Mended.{HasNoMend, IsMend, IsSettledText}
 use Rattle.script_mends.specs.declared.rounds.MendFault.{MendFault}
 use Rattle.script_mends.specs.declared.rounds.MendFault.TheVariants.{Load, Plain}

@@ -38,7 +38,7 @@ pub enum Round {
 
 impl From<AllocError> for MendFault {
     ghost use Rattle.std.specs.Prelude.{◌≡◌};
-    ghost use Rattle.plain_progs.specs.declared.fault.PlainFault.TheVariants.{Memory};
+    ghost use Rattle.plain_run.specs.declared.fault.PlainFault.TheVariants.{Memory};
     ghost use Rattle.script_mends.specs.declared.rounds.MendFault.TheVariants.{Plain};
 
     ghost from_gives = { λ _ fault. fault ≡ Plain Memory };

@@ -1,2 +1,3 @@
+mod Weights
 pub mod Apart
 pub mod Reordered

@@ -6,8 +6,8 @@ use Rattle.std.proofs.lemmas.List.Sorted.{All-permutation, Contains-permutation,
 use Rattle.sh_machine.specs.State.{User}
 use Rattle.sh_machine.specs.Turn.{call_of, next_of}
 use Rattle.kernel_model.specs.KernelState.{KernelState}
-use Rattle.order_model.specs.Outcome.{RunOutcome}
-use Rattle.order_model.specs.Explored.{AreAllOutcomes, IsOutcomeOfRun}
+use Rattle.kernel_model.specs.Outcome.{RunOutcome}
+use Rattle.kernel_model.specs.Explored.{AreAllOutcomes, IsOutcomeOfRun}
 use Rattle.order_search.specs.Told.{outcome_by, IsReplayed, LeadsToSleep}
 use Rattle.order_search.specs.declared.outcomes.Outcome.{Outcome}
 use Rattle.order_search.specs.declared.ordering.Exploration.{Exploration}

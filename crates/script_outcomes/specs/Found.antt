@@ -13,8 +13,8 @@ use Rattle.sh_machine.specs.State.{User}
 use Rattle.sh_machine.specs.Turn.{call_of, next_of}
 use Rattle.kernel_model.specs.KernelState.{KernelState}
 use Rattle.run_model.specs.ScriptRun.{script_kernel}
-use Rattle.run_room.specs.Room.{HasRoom}
-use Rattle.order_model.specs.Explored.{AreAllOutcomes, IsNeverStuck}
+use Rattle.kernel_runs.specs.Room.{HasRoom}
+use Rattle.kernel_model.specs.Explored.{AreAllOutcomes, IsNeverStuck}
 use Rattle.order_search.specs.Told.{outcome_by, AreApart, IsReplayed, LeadsToSleep}
 use Rattle.order_search.specs.declared.outcomes.Outcome.{Outcome}
 use Rattle.order_search.specs.declared.ordering.Exploration.{Exploration}

@@ -1,1 +1,4 @@
+pub mod Contrast
+pub mod Named
+pub mod Pairs
 pub mod Found

@@ -3,16 +3,14 @@ ghost use Rattle.std.specs.Prelude.{◌≡◌, ◌⊎◌, ◌≤◌, true, All, 
 ghost use Rattle.script_load.specs.Line.{lines_of};
 ghost use Rattle.sh_machine.specs.Turn.{call_of, next_of};
 ghost use Rattle.run_model.specs.ScriptRun.{script_kernel};
-ghost use Rattle.run_room.specs.Room.{HasRoom};
+ghost use Rattle.kernel_runs.specs.Room.{HasRoom};
 ghost use Rattle.script_outcomes.specs.Found.{AreTried, IsFound, IsKnown, IsReordered};
 
 use crate::sorting::sorted;
-use every_order::{Exploration, ExploreFault, Setting, Watch, explore_watched};
+use every_order::{Exploration, ExploreFault, Setting, Watch, add_samples, explore_watched};
 use kernel_model::Full;
-use kernel_runs::RunOneFault;
+use kernel_runs::{RunOneFault, full_in_run};
 use plain_run::{Plain, PlainFault, plain};
-use run_room::full_in_run;
-use sample_runs::add_samples;
 use script_load::MAX_TURNS;
 use std::alloc::{AllocError, Allocator, Global};
 

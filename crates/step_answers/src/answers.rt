@@ -10,9 +10,9 @@ use crate::words::add_quoted;
 use proc_table::{Pid, State};
 use result_json::full_word;
 use schedule_lines::schedule_text;
-use session_outcomes::RestFault;
 use std::alloc::{AllocError, Global};
 use step_commands::{Command, Mistake, NAMES, Name, nearest};
+use step_session::RestFault;
 use trace_lines::Line;
 use user_calls::Machine;
 

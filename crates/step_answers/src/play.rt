@@ -7,10 +7,11 @@ use crate::text::Text;
 use crate::words::add_process;
 use kernel_events::{Event, Kernel};
 use proc_table::{Pid, State};
-use session_outcomes::{Exploration, RestFault, Unwatched, outcomes_from};
 use std::alloc::{AllocError, Global};
 use step_commands::Goal;
-use step_session::{BackFault, ChooseFault, Session};
+use step_session::{
+    BackFault, ChooseFault, Exploration, RestFault, Session, Unwatched, outcomes_from,
+};
 use user_calls::Machine;
 
 /// How many turns one command takes at most (own).

@@ -5,8 +5,8 @@ use crate::text::Text;
 use crate::views::add_all_files;
 use crate::words::add_quoted;
 use result_json::full_word;
-use session_outcomes::{Exploration, Outcome};
 use std::alloc::AllocError;
+use step_session::{Exploration, Outcome};
 use trace_lines::Line;
 
 // How many states are tried where no number is given (own).

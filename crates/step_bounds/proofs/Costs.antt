@@ -5,7 +5,7 @@ use Rattle.sh_tree.specs.declared.tree.Mode.{Mode}
 use Rattle.sh_tree.specs.Tree.{Tree, exec, redir, pipe, list}
 use Rattle.prog_parts.specs.declared.program.Program.{Program}
 use Rattle.prog_parts.specs.Program.{program_of}
-use Rattle.program_model.specs.FilesAhead.{Sizes}
+use Rattle.tree_model.specs.FilesAhead.{Sizes}
 use Rattle.tree_model.specs.Bound.{grown, input_under, tree_bytes, tree_steps}
 use Rattle.tree_model.specs.ProgramBytes.{begin_bytes}
 use Rattle.step_bounds.specs.declared.cost.Cost.{Cost}

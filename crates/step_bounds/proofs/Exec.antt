@@ -5,7 +5,7 @@ use Rattle.sh_tree.specs.Tree.{exec}
 use Rattle.prog_parts.specs.declared.program.Program.{Program}
 use Rattle.prog_parts.specs.Program.{program_of, file_words, program_uses_input}
 use Rattle.prog_parts.specs.Words.{by_program, words_files, words_use_input}
-use Rattle.program_model.specs.FilesAhead.{Sizes, all_sizes}
+use Rattle.tree_model.specs.FilesAhead.{Sizes, all_sizes}
 use Rattle.tree_model.specs.Begin.{begun}
 use Rattle.tree_model.specs.Bound.{begun_bytes, begun_steps, input_ahead, tree_bytes, tree_steps}
 use Rattle.tree_model.specs.ProgramBytes.{begin_bytes}

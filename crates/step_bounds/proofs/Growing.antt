@@ -1,6 +1,6 @@
 -- Files that grow twice.
 use Rattle.std.proofs.Common.{◌≡◌, ℕ, ◌+◌, arith}
-use Rattle.program_model.specs.FilesAhead.{Sizes}
+use Rattle.tree_model.specs.FilesAhead.{Sizes}
 use Rattle.tree_model.specs.Bound.{grown}
 
 pub grown_twice : (L : Sizes) (a b : ℕ) → grown (grown L a) b ≡ grown L (a + b)

@@ -4,7 +4,7 @@ use Rattle.mem_files.specs.Name.{Bytes, Name}
 use Rattle.sh_tree.specs.Tree.{Tree, exec, pipe, list}
 use Rattle.prog_parts.specs.declared.program.Program.{Program}
 use Rattle.prog_parts.specs.Program.{program_of}
-use Rattle.program_model.specs.FilesAhead.{Sizes}
+use Rattle.tree_model.specs.FilesAhead.{Sizes}
 use Rattle.tree_model.specs.Bound.{grown, tree_bytes}
 use Rattle.tree_model.specs.ProgramBytes.{begin_bytes}
 use Rattle.step_bounds.specs.Cost.{IsCapped, IsGrownBy, sizes_grown}

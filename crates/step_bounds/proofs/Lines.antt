@@ -7,7 +7,7 @@ use Rattle.sh_tree.specs.Tree.{Tree}
 use Rattle.script_load.specs.declared.line.Line.{Line}
 use Rattle.script_load.specs.Line.{ScriptLine, line_of}
 use Rattle.meaning_model.specs.Meaning.{line_tree, script_tree}
-use Rattle.program_model.specs.FilesAhead.{Sizes}
+use Rattle.tree_model.specs.FilesAhead.{Sizes}
 use Rattle.tree_model.specs.Bound.{grown, tree_bytes, tree_steps}
 use Rattle.step_bounds.specs.Cost.{sizes_grown}
 use Rattle.step_bounds.proofs.Growing.{grown_twice}

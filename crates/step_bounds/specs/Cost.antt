@@ -3,7 +3,7 @@ use Rattle.std.specs.Prelude.{◌≡◌, ℕ, ◌+◌, ◌<◌, ◌≤◌, List,
 use Rattle.mem_files.specs.Name.{Bytes, Name}
 use Rattle.mem_files.specs.Files.{files}
 use Rattle.sh_tree.specs.Tree.{Tree}
-use Rattle.program_model.specs.FilesAhead.{Sizes, sizes}
+use Rattle.tree_model.specs.FilesAhead.{Sizes, sizes}
 use Rattle.tree_model.specs.Bound.{grown, tree_bytes, tree_steps}
 use Rattle.step_bounds.specs.declared.capped.TheConstants.{MAX_STEPS}
 use Rattle.step_bounds.specs.declared.cost.Cost.{Cost}

@@ -2,7 +2,7 @@
 ghost use Rattle.std.specs.Prelude.{◌≡◌, ◌<◌, ◌≤◌, ◌+◌, ◌*◌, ◌^◌, length};
 ghost use Rattle.sh_tree.specs.Tree.{exec};
 ghost use Rattle.meaning_model.specs.Programs.{echo_out};
-ghost use Rattle.program_model.specs.FilesAhead.{all_sizes};
+ghost use Rattle.tree_model.specs.FilesAhead.{all_sizes};
 ghost use Rattle.prog_parts.specs.Words.{words_files, words_use_input};
 ghost use Rattle.tree_model.specs.Bound.{input_ahead};
 ghost use Rattle.tree_model.specs.ProgramBytes.{begin_bytes};

@@ -14,7 +14,7 @@ use Rattle.kernel_model.specs.KernelState.{KernelState}
 use Rattle.kernel_model.specs.Boot.{boot_kernel}
 use Rattle.kernel_model.specs.Events.{can_dispatch, counted, is_dispatch}
 use Rattle.kernel_model.specs.History.{History, GoesOn, IsTask}
-use Rattle.order_model.specs.Turns.{callers, quiet_turns, turn_events}
+use Rattle.kernel_model.specs.Turns.{callers, quiet_turns, turn_events}
 use Rattle.step_session.specs.Sessions.{AreTurns, IsBegun, IsSession, Takes, first_kernel}
 use Rattle.std.proofs.lemmas.List.Sums.{sum_by-cons}
 

@@ -10,7 +10,7 @@ use Rattle.kernel_model.specs.KernelState.{KernelState}
 use Rattle.kernel_model.specs.Boot.{boot_kernel}
 use Rattle.kernel_model.specs.Events.{run}
 use Rattle.kernel_model.specs.History.{History, GoesOn}
-use Rattle.order_model.specs.Turns.{callers, quiet_turns, turn_events}
+use Rattle.kernel_model.specs.Turns.{callers, quiet_turns, turn_events}
 
 -- the kernel at its start
 unfoldable pub first_kernel : {S : Type 0} → S → S → Bytes → List (Name × Bytes) → KernelState S

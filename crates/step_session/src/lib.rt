@@ -1,12 +1,14 @@
-//! A session with a kernel: whoever holds it says which process takes the next turn, and may take turns back.
-//!
-//! A turn is what hart 0 does from one choice to the next: a Runnable process is given to it, and at once makes its call.
-//! The kernel's programs are any machines.
+//! A run whose reader chooses which process takes the next turn, and what can still come of it.
 #![tactic(auto)]
 
 mod fault;
+mod rest;
+mod rest_fault;
 mod session;
 mod turning;
 
+pub use every_order::{Exploration, Outcome, Unwatched, Watch};
 pub use fault::{BackFault, ChooseFault};
+pub use rest::outcomes_from;
+pub use rest_fault::RestFault;
 pub use session::{Beginning, Session};

@@ -4,7 +4,7 @@ ghost use Rattle.std.specs.Prelude.{◌≡◌, ◌<◌, ◌≤◌, ◌-◌, ◌*
 ghost use Rattle.proc_table.specs.Slots.{at, is_runnable};
 ghost use Rattle.kernel_model.specs.Events.{run};
 ghost use Rattle.kernel_model.specs.History.{booted};
-ghost use Rattle.order_model.specs.Turns.{callers, quiet_turns, turn_events};
+ghost use Rattle.kernel_model.specs.Turns.{callers, quiet_turns, turn_events};
 ghost use Rattle.step_session.specs.Sessions.{IsBack, IsDetermined, Takes, first_kernel};
 
 use crate::fault::{BackFault, ChooseFault};

@@ -1,6 +1,6 @@
 //! Scripts that fork as much as there may be, and more.
 
-use few_forks::has_few_forks;
+use room_model::has_few_forks;
 use script_load::load;
 use std::test::Fail;
 

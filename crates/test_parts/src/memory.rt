@@ -1,6 +1,6 @@
 //! Calls of which one request for memory is refused, each in turn: it is told where one is, and nowhere else, and no memory is kept.
 
-use kernel_pipes::Pipes;
+use kernel_calls::Pipes;
 use linked_list_allocator::LocalHeap;
 use mem_files::{Files, FilesFault};
 use script_load::{LoadFault, Profile, load_with};

@@ -1,8 +1,8 @@
 //! How much the files of scripts grow at most.
 
 use mem_files::Files;
+use room_bounds::growth_of;
 use script_load::load;
-use size_bounds::growth_of;
 use std::test::Fail;
 
 // Scripts with four bytes of input and five in the file f, and by how many bytes their files grow at most, counted by hand: `wc` counts

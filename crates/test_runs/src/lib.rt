@@ -1,12 +1,10 @@
-//! Tests alone: what no row of a file can say of runs of scripts: gates and threads, each request for memory refused in turn, and
-//! readers that fail.
+//! Tests of runs, of replays and of laws at whole runs.
 #![tactic(auto)]
 
-#[cfg(test)]
+mod closed;
+mod facts;
 mod given;
-#[cfg(test)]
 mod memory;
-#[cfg(test)]
 mod reading;
-#[cfg(test)]
 mod threads;
+mod whole;

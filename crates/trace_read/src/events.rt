@@ -6,9 +6,9 @@ use crate::keeping::Kept;
 use crate::pieces::{
     read_call, read_doing, read_files, read_full, read_object, read_pipes, read_process, read_state,
 };
+use crate::trace::{Child, Event, Process, Trap};
 use json::Value;
 use std::alloc::Allocator;
-use trace_data::{Child, Event, Process, Trap};
 
 // The child of a fork.
 fn read_child<A: Allocator + Copy>(

@@ -2,11 +2,11 @@
 
 use crate::fault::Wrong;
 use crate::fields::field;
+use crate::trace::{Event, FileState, Part, PipeState};
 use base64::DecodeAllocError;
 use base64::engine::general_purpose::STANDARD;
 use json::Value;
 use std::alloc::{AllocError, Allocator};
-use trace_data::{Event, FileState, Part, PipeState};
 
 /// The lists of a trace, as they grow.
 #[derive(Drop)]

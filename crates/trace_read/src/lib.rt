@@ -1,7 +1,4 @@
-//! Traces, read back: the lines that `run --trace` writes, as plain data.
-//!
-//! `read_trace` reads the text of a trace of version 1, as `docs/FORMATS.md` has it, and tells of the first line that is none
-//! of a trace.
+//! Traces as plain data, and the reader of the lines that `run --trace` writes.
 #![tactic(auto)]
 
 mod events;
@@ -10,6 +7,11 @@ mod fields;
 mod keeping;
 mod lines;
 mod pieces;
+mod trace;
 
 pub use fault::TraceFault;
 pub use lines::read_trace;
+pub use trace::{
+    Call, Channel, Child, Doing, End, Event, FileState, Full, Head, Mode, Node, Object, Part,
+    PipeState, Process, Reply, State, Trace, Trap,
+};

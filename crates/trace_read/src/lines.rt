@@ -5,10 +5,10 @@ use crate::fault::{TraceFault, Wrong};
 use crate::fields::{count, small, word};
 use crate::keeping::Kept;
 use crate::pieces::{read_files, read_full};
+use crate::trace::{End, Head, Trace};
 use json::{Error, Scratch, Value};
 use std::alloc::Allocator;
 use std::str;
-use trace_data::{End, Head, Trace};
 
 // The most harts that a run has.
 const MOST_HARTS: u8 = 8;

@@ -3,12 +3,12 @@
 use crate::fault::Wrong;
 use crate::fields::{count, field, has_word, list, pid, pids, truth, within, word};
 use crate::keeping::Kept;
-use json::Value;
-use std::alloc::Allocator;
-use trace_data::{
+use crate::trace::{
     Call, Channel, Doing, FileState, Full, Mode, Node, Object, Part, PipeState, Process, Reply,
     State,
 };
+use json::Value;
+use std::alloc::Allocator;
 
 // How many bytes a pipe holds at most.
 const PIPE_SIZE: usize = 512;

@@ -9,7 +9,7 @@ use Rattle.user_calls.specs.declared.calls.Call.TheVariants.{Fork, Exec, Exit, W
 use Rattle.user_calls.specs.declared.calls.Reply.{Reply}
 use Rattle.user_calls.specs.declared.calls.Reply.TheVariants.{Done, Bytes as Bytes', Fd, Refused}
 use Rattle.user_progs.specs.Turn.{turn}
-use Rattle.program_model.specs.Alone.{OwnFile, World, held, readable, can_open, may_write, done_if, after_call}
+use Rattle.tree_model.specs.Alone.{OwnFile, World, held, readable, can_open, may_write, done_if, after_call}
 use Rattle.tree_model.specs.Residual.{Running, alone}
 
 -- what answers a call

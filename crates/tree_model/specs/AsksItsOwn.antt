@@ -1,6 +1,6 @@
 -- What is left, whose programs each ask for what is their own.
 use Rattle.mem_files.specs.Files.{no_files}
-use Rattle.program_model.specs.Calls.{MayCall}
+use Rattle.tree_model.specs.Calls.{MayCall}
 use Rattle.tree_model.specs.Residual.{alone, Residual, done, todo, running, seq, piped, unopened, from, into}
 
 -- each program that runs waits for a call that its state may make: a file that it opens is one that it names, and one that it

@@ -9,10 +9,10 @@ use Rattle.mem_files.specs.Files.{FileMap}
 use Rattle.script_load.specs.Line.{ScriptLine}
 use Rattle.meaning_model.specs.Meaning.{script_tree}
 use Rattle.user_progs.specs.State.{State}
-use Rattle.program_model.specs.Ahead.{still_uses}
-use Rattle.program_model.specs.Alone.{OwnFile}
-use Rattle.program_model.specs.Exits.{calls_left, width}
-use Rattle.program_model.specs.FilesAhead.{Sizes, sizes, files_ahead}
+use Rattle.tree_model.specs.Ahead.{still_uses}
+use Rattle.tree_model.specs.Alone.{OwnFile}
+use Rattle.tree_model.specs.Exits.{calls_left, width}
+use Rattle.tree_model.specs.FilesAhead.{Sizes, sizes, files_ahead}
 use Rattle.tree_model.specs.Residual.{Running, Residual, done, todo, running, seq, piped, unopened, from, into}
 use Rattle.tree_model.specs.Answers.{Kind, leaves, reads_input, writes_output, asks, kind_of}
 use Rattle.tree_model.specs.Begin.{begun_words}

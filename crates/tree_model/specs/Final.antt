@@ -10,7 +10,7 @@ use Rattle.script_load.specs.declared.profile.Profile.{Profile}
 use Rattle.meaning_model.specs.Value.{Value, nothing, seq_value, pipe_value, from_value}
 use Rattle.meaning_model.specs.Meaning.{meaning}
 use Rattle.meaning_model.specs.Met.{seq_met, met_names}
-use Rattle.program_model.specs.Still.{left_of}
+use Rattle.tree_model.specs.Still.{left_of}
 use Rattle.tree_model.specs.Residual.{Running, world_of, Residual, done, todo, running, seq, piped, unopened, from, into, Position, left_writes, left_uses}
 use Rattle.tree_model.specs.Rules.{patched}
 

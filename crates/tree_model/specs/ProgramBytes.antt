@@ -10,7 +10,7 @@ use Rattle.user_calls.specs.declared.calls.Call.TheVariants.{Fork, Exec, Exit, W
 use Rattle.meaning_model.specs.Programs.{echo_out}
 use Rattle.user_progs.specs.State.{Filter, copying, heading, counting, searching, Source, standard, file, Work, cat_reads, cat_writes, head_reads, head_writes, wc_reads, wc_writes, grep_reads, grep_writes, Tee, tee_opens, tee_reads, tee_writes, tee_gives, State, begins, echo_word, echo_space, opens, works, closes, tees, told, ended}
 use Rattle.user_progs.specs.Turn.{filter_of}
-use Rattle.program_model.specs.Still.{echo_rest}
+use Rattle.tree_model.specs.Still.{echo_rest}
 
 -- what a call writes, of whose bytes so many were put; what goes to descriptor 2 doesn't count
 abbrev pub write_bytes : ℕ → Bytes → ℕ → ℕ

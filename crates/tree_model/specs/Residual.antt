@@ -9,9 +9,9 @@ use Rattle.mem_files.specs.Files.{FileMap, no_files}
 use Rattle.prog_parts.specs.NameSets.{Names}
 use Rattle.conflict_check.specs.Names.{names, writes, uses_input}
 use Rattle.user_progs.specs.Turn.{Turn}
-use Rattle.program_model.specs.Ahead.{still_uses}
-use Rattle.program_model.specs.Alone.{OwnFile, World}
-use Rattle.program_model.specs.Frame.{depends_on, may_change}
+use Rattle.tree_model.specs.Ahead.{still_uses}
+use Rattle.tree_model.specs.Alone.{OwnFile, World}
+use Rattle.tree_model.specs.Frame.{depends_on, may_change}
 
 -- a program that made a call: the call and the state in which it waits for the reply, its own open files, and how many
 -- bytes of the call were put so far, where it is a write

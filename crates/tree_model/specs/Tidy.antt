@@ -7,8 +7,8 @@ use Rattle.prog_parts.specs.declared.program.Program.{Program}
 use Rattle.conflict_check.specs.Clear.{has_back, IsClear}
 use Rattle.script_load.specs.Line.{ScriptLine}
 use Rattle.meaning_model.specs.Meaning.{script_tree}
-use Rattle.program_model.specs.Waits.{BeginsShort, Waits}
-use Rattle.program_model.specs.Fits.{Fits}
+use Rattle.tree_model.specs.Waits.{BeginsShort, Waits}
+use Rattle.tree_model.specs.Fits.{Fits}
 use Rattle.tree_model.specs.Residual.{alone, Residual, done, todo, running, seq, piped, unopened, from, into, Position, byte_in, left_names, left_writes, keeps_0}
 
 -- commands short enough that each program does what its function says: echo writes an argument by one call, and tee holds at

@@ -1,3 +1,2 @@
-//! A machine on command trees, which runs a script's commands step by step in any order that their pipes allow, and how many
-//! steps it makes at most: definitions, no code.
+//! The tree machine, its programs, and the final value of what is left to run: definitions, no code.
 #![tactic(auto)]

@@ -7,7 +7,7 @@ use Rattle.xvsh_read.specs.declared.fault.Fault.TheVariants.{Memory}
 use Rattle.xvsh_read.specs.Writing.{out_text}
 use Rattle.xvsh_ends.specs.Ends.{Asked, Tells, Writes, told_text}
 use Rattle.xvsh_ends.specs.declared.ending.Ending.{Ending}
-use Rattle.xvsh_given.specs.Given.{Sight}
+use Rattle.xvsh_traces.specs.Given.{Sight}
 use Rattle.xvsh.specs.Drive.{ComesOf, EndsOn, IsDueOn, of_command, of_help, of_misuse, of_no_memory}
 use Rattle.xvsh.specs.Parsing.{IsUnparsed, for_help, for_memory, for_misuse}
 

@@ -20,8 +20,8 @@ use Rattle.xvsh_explores.specs.declared.request.ExploreRequest.{ExploreRequest}
 use Rattle.xvsh_draws.specs.declared.request.DrawRequest.{DrawRequest}
 use Rattle.xvsh_ends.specs.declared.request.Request.{Request}
 use Rattle.xvsh_ends.specs.declared.request.Request.TheVariants.{Run, Replay, Plain, Check, Explain, Explore, Draw}
-use Rattle.xvsh_given.specs.Given.{text_path}
-use Rattle.xvsh_given.specs.declared.given.Inputs.{Inputs}
+use Rattle.xvsh_traces.specs.Given.{text_path}
+use Rattle.xvsh_traces.specs.declared.given.Inputs.{Inputs}
 use Rattle.xvsh.specs.declared.request.TheConstants.{HARTS, STATES}
 
 -- whether a flag is among the words: it is where it has the value `true`, and not where it has `false` or no value

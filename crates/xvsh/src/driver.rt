@@ -6,7 +6,7 @@ ghost use Rattle.xvsh_read.specs.Writing.{out_text};
 ghost use Rattle.xvsh_ends.specs.Ends.{Asked, IsDue, asks_plain};
 ghost use Rattle.xvsh_ends.specs.Requests.{EndsAt};
 ghost use Rattle.xvsh.specs.Drive.{EndsOn, IsAskedBy, IsDueGiven, IsDueOn, WritesMeaning, completed, help_words};
-ghost use Rattle.xvsh_given.specs.Given.{Sight};
+ghost use Rattle.xvsh_traces.specs.Given.{Sight};
 
 use crate::parsing::parsed_words;
 use crate::request::{inputs_of, request_of};
@@ -23,9 +23,8 @@ use xvsh_ends::{
     unread_ending, write_ending,
 };
 use xvsh_explores::Watch;
-use xvsh_given::{Given, Inputs, read_given};
 use xvsh_read::{Console, Hints, Host, STDIN, Source};
-use xvsh_traces::Traces;
+use xvsh_traces::{Given, Inputs, Traces, read_given};
 
 // How the request ends with the standard input and the script that the words give, if they do.
 fn given_ending<R: Threads + Wait + Clock + Sync, H: Host + Traces + Watch>(

@@ -10,5 +10,5 @@ pub use parsing::{MAX_JOBS, parsed_words};
 pub use request::{OWN_INPUT, STATES, inputs_of, request_of};
 pub use xvsh_ends::Request;
 pub use xvsh_explores::Watch;
-pub use xvsh_given::{Inputs, NOTHING};
 pub use xvsh_read::Console;
+pub use xvsh_traces::{Inputs, NOTHING};

@@ -9,8 +9,8 @@ use xvsh_ends::{
     Bounds, CheckRequest, DrawRequest, ExplainRequest, ExploreRequest, Lists, PlainRequest,
     ReplayRequest, Request, RunRequest,
 };
-use xvsh_given::{Inputs, TEXT_PATH};
 use xvsh_read::{STDIN, Source, profile_of};
+use xvsh_traces::{Inputs, TEXT_PATH};
 
 /// How many harts a run has, if the words name none (own).
 const HARTS: u8 = 4;

@@ -1,9 +1,9 @@
 -- What is left in an answer.
 use Rattle.std.specs.Prelude.{◌≡◌, ℕ, []}
-use Rattle.embed_task.specs.declared.fault.StartFault.{StartFault}
-use Rattle.embed_task.specs.declared.fault.StartFault.TheVariants.{ScriptTooLong, InputTooLong, LineTooLong, ByteZero, BadName, TakenName, FileTooLong, TooManyFiles, Memory as start_memory}
-use Rattle.embed_task.specs.declared.fault.EmbedFault.{EmbedFault}
-use Rattle.embed_task.specs.declared.fault.EmbedFault.TheVariants.{Start, TooLarge, Memory, BadTurns, Spent, NoEvent, NotRunnable, NotRunning, Unfinished, BadOrder, BadStates}
+use Rattle.embed.specs.declared.fault.StartFault.{StartFault}
+use Rattle.embed.specs.declared.fault.StartFault.TheVariants.{ScriptTooLong, InputTooLong, LineTooLong, ByteZero, BadName, TakenName, FileTooLong, TooManyFiles, Memory as start_memory}
+use Rattle.embed.specs.declared.fault.EmbedFault.{EmbedFault}
+use Rattle.embed.specs.declared.fault.EmbedFault.TheVariants.{Start, TooLarge, Memory, BadTurns, Spent, NoEvent, NotRunnable, NotRunning, Unfinished, BadOrder, BadStates}
 use Rattle.xvsh_c.specs.declared.answer.Answer.{Answer}
 
 abbrev pub start_number : StartFault → ℕ

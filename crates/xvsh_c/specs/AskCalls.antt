@@ -1,10 +1,10 @@
 -- What a call of a check or an explanation leaves: what the library below tells of the task, or a fault that is due.
 use Rattle.std.specs.Prelude.{◌≡◌, ◌⊎◌, ℕ, Bool, not, ◌==◌}
-use Rattle.embed_task.specs.declared.task.Task.{Task}
-use Rattle.embed_task.specs.declared.fault.EmbedFault.{EmbedFault}
-use Rattle.embed_task.specs.Packing.{mark_of}
-use Rattle.embed_asks.specs.declared.answer.AskAnswer.{AskAnswer}
-use Rattle.embed_asks.specs.Asks.{IsAskFault, IsCheckAnswer, IsExplainAnswer}
+use Rattle.embed.specs.declared.task.Task.{Task}
+use Rattle.embed.specs.declared.fault.EmbedFault.{EmbedFault}
+use Rattle.embed.specs.Packing.{mark_of}
+use Rattle.embed.specs.declared.answer.AskAnswer.{AskAnswer}
+use Rattle.embed.specs.Asks.{IsAskFault, IsCheckAnswer, IsExplainAnswer}
 use Rattle.xvsh_c.specs.declared.answer.Answer.{Answer}
 use Rattle.xvsh_c.specs.Answers.{TellsFault}
 

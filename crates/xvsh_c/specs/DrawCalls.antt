@@ -1,13 +1,13 @@
 -- What a call of a drawing leaves: what the library below tells of the task, or a fault that is due.
 use Rattle.std.specs.Prelude.{◌≡◌, ◌⊎◌, ℕ, None}
 use Rattle.mem_files.specs.Name.{Bytes}
-use Rattle.embed_task.specs.declared.task.Task.{Task}
-use Rattle.embed_task.specs.declared.fault.EmbedFault.{EmbedFault}
-use Rattle.embed_task.specs.declared.fault.EmbedFault.TheVariants.{BadOrder}
-use Rattle.embed_runs.specs.Orders.{order_by}
-use Rattle.embed_runs.specs.Runs.{IsReplayAnswer, IsRunAnswer, IsRunFault}
-use Rattle.embed_draws.specs.declared.drawing.DrawAnswer.{DrawAnswer}
-use Rattle.embed_draws.specs.Pairs.{CanReplay, IsPairFault}
+use Rattle.embed.specs.declared.task.Task.{Task}
+use Rattle.embed.specs.declared.fault.EmbedFault.{EmbedFault}
+use Rattle.embed.specs.declared.fault.EmbedFault.TheVariants.{BadOrder}
+use Rattle.embed.specs.Orders.{order_by}
+use Rattle.embed.specs.Runs.{IsReplayAnswer, IsRunAnswer, IsRunFault}
+use Rattle.embed.specs.declared.drawing.DrawAnswer.{DrawAnswer}
+use Rattle.embed.specs.Pairs.{CanReplay, IsPairFault}
 use Rattle.xvsh_c.specs.declared.answer.Answer.{Answer}
 use Rattle.xvsh_c.specs.Answers.{TellsFault}
 use Rattle.xvsh_c.specs.RunCalls.{full_number}

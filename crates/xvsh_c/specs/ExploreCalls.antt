@@ -1,10 +1,10 @@
 -- What a call of an exploration leaves: what the library below tells of the task, or a fault that is due.
 use Rattle.std.specs.Prelude.{◌≡◌, ◌⊎◌, ℕ}
-use Rattle.embed_task.specs.declared.task.Task.{Task}
-use Rattle.embed_task.specs.declared.fault.EmbedFault.{EmbedFault}
-use Rattle.embed_task.specs.Packing.{mark_of}
-use Rattle.embed_explores.specs.declared.exploring.ExploreAnswer.{ExploreAnswer}
-use Rattle.embed_explores.specs.Explores.{IsExploreAnswer, IsExploreRefusal}
+use Rattle.embed.specs.declared.task.Task.{Task}
+use Rattle.embed.specs.declared.fault.EmbedFault.{EmbedFault}
+use Rattle.embed.specs.Packing.{mark_of}
+use Rattle.embed.specs.declared.exploring.ExploreAnswer.{ExploreAnswer}
+use Rattle.embed.specs.Explores.{IsExploreAnswer, IsExploreRefusal}
 use Rattle.xvsh_c.specs.declared.answer.Answer.{Answer}
 use Rattle.xvsh_c.specs.Answers.{TellsFault}
 use Rattle.xvsh_c.specs.AskCalls.{is_on}

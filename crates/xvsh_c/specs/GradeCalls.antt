@@ -2,11 +2,11 @@
 use Rattle.std.specs.Prelude.{◌≡◌, ◌⊎◌, ℕ, [], string_bytes}
 use Rattle.mem_files.specs.Name.{Bytes}
 use Rattle.xvsh_grades.specs.declared.request.Report.{Report}
-use Rattle.embed_task.specs.declared.task.Task.{Task}
-use Rattle.embed_task.specs.Packing.{mark_of}
-use Rattle.embed_grades.specs.declared.refusal.GradeRefusal.{GradeRefusal}
-use Rattle.embed_grades.specs.declared.refusal.GradeRefusal.TheVariants.{SuiteTooLong, BadSuite, UnusedScript, EveryWay, TooManyFiles, Memory}
-use Rattle.embed_grades.specs.Grades.{IsGradeAnswer, IsGradeRefusal}
+use Rattle.embed.specs.declared.task.Task.{Task}
+use Rattle.embed.specs.Packing.{mark_of}
+use Rattle.embed.specs.declared.refusal.GradeRefusal.{GradeRefusal}
+use Rattle.embed.specs.declared.refusal.GradeRefusal.TheVariants.{SuiteTooLong, BadSuite, UnusedScript, EveryWay, TooManyFiles, Memory}
+use Rattle.embed.specs.Grades.{IsGradeAnswer, IsGradeRefusal}
 use Rattle.xvsh_c.specs.declared.answer.Answer.{Answer}
 use Rattle.xvsh_c.specs.AskCalls.{is_on}
 

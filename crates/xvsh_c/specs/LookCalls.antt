@@ -1,15 +1,15 @@
 -- What a call of a trace or of a look leaves: what the library below tells of the task, or a fault that is due.
 use Rattle.std.specs.Prelude.{◌≡◌, ◌⊎◌, ℕ, None}
 use Rattle.mem_files.specs.Name.{Bytes}
-use Rattle.embed_task.specs.declared.task.Task.{Task}
-use Rattle.embed_task.specs.declared.fault.EmbedFault.{EmbedFault}
-use Rattle.embed_task.specs.declared.fault.EmbedFault.TheVariants.{BadOrder}
-use Rattle.embed_task.specs.Packing.{mark_of}
-use Rattle.embed_runs.specs.Orders.{order_by}
-use Rattle.embed_runs.specs.Runs.{IsRunAnswer, IsRunFault}
-use Rattle.embed_looks.specs.declared.tracing.TraceAnswer.{TraceAnswer}
-use Rattle.embed_looks.specs.declared.looking.LookAnswer.{LookAnswer}
-use Rattle.embed_looks.specs.Looks.{IsLookAnswer, IsLookRefusal}
+use Rattle.embed.specs.declared.task.Task.{Task}
+use Rattle.embed.specs.declared.fault.EmbedFault.{EmbedFault}
+use Rattle.embed.specs.declared.fault.EmbedFault.TheVariants.{BadOrder}
+use Rattle.embed.specs.Packing.{mark_of}
+use Rattle.embed.specs.Orders.{order_by}
+use Rattle.embed.specs.Runs.{IsRunAnswer, IsRunFault}
+use Rattle.embed.specs.declared.traced_run.TraceAnswer.{TraceAnswer}
+use Rattle.embed.specs.declared.looking.LookAnswer.{LookAnswer}
+use Rattle.embed.specs.Looks.{IsLookAnswer, IsLookRefusal}
 use Rattle.xvsh_c.specs.declared.answer.Answer.{Answer}
 use Rattle.xvsh_c.specs.Answers.{TellsFault}
 use Rattle.xvsh_c.specs.RunCalls.{full_number}

@@ -1,10 +1,10 @@
 -- What a call of a run by meaning leaves: what the library below tells of the task, or a fault that is due.
 use Rattle.std.specs.Prelude.{◌≡◌, ◌⊎◌}
-use Rattle.embed_task.specs.declared.task.Task.{Task}
-use Rattle.embed_task.specs.declared.fault.EmbedFault.{EmbedFault}
-use Rattle.embed_task.specs.Packing.{mark_of}
-use Rattle.embed_plain.specs.declared.plain.PlainAnswer.{PlainAnswer}
-use Rattle.embed_plain.specs.Plain.{IsPlainAnswer, IsPlainFault}
+use Rattle.embed.specs.declared.task.Task.{Task}
+use Rattle.embed.specs.declared.fault.EmbedFault.{EmbedFault}
+use Rattle.embed.specs.Packing.{mark_of}
+use Rattle.embed.specs.declared.plain.PlainAnswer.{PlainAnswer}
+use Rattle.embed.specs.Plain.{IsPlainAnswer, IsPlainFault}
 use Rattle.xvsh_c.specs.declared.answer.Answer.{Answer}
 use Rattle.xvsh_c.specs.Answers.{TellsFault}
 

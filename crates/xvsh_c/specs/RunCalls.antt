@@ -3,12 +3,12 @@ use Rattle.std.specs.Prelude.{◌≡◌, ◌⊎◌, ℕ, Option, None, Some}
 use Rattle.kernel_model.specs.declared.events.Full.{Full}
 use Rattle.kernel_model.specs.declared.events.Full.TheVariants.{Procs, Open, Fds, Files, Size, Memory}
 use Rattle.mem_files.specs.Name.{Bytes}
-use Rattle.embed_task.specs.declared.task.Task.{Task}
-use Rattle.embed_task.specs.declared.fault.EmbedFault.{EmbedFault}
-use Rattle.embed_task.specs.declared.fault.EmbedFault.TheVariants.{BadOrder}
-use Rattle.embed_runs.specs.declared.running.RunAnswer.{RunAnswer}
-use Rattle.embed_runs.specs.Orders.{order_by}
-use Rattle.embed_runs.specs.Runs.{IsRunAnswer, IsRunFault, IsReplayAnswer, IsReplayRefusal}
+use Rattle.embed.specs.declared.task.Task.{Task}
+use Rattle.embed.specs.declared.fault.EmbedFault.{EmbedFault}
+use Rattle.embed.specs.declared.fault.EmbedFault.TheVariants.{BadOrder}
+use Rattle.embed.specs.declared.running.RunAnswer.{RunAnswer}
+use Rattle.embed.specs.Orders.{order_by}
+use Rattle.embed.specs.Runs.{IsRunAnswer, IsRunFault, IsReplayAnswer, IsReplayRefusal}
 use Rattle.xvsh_c.specs.declared.answer.Answer.{Answer}
 use Rattle.xvsh_c.specs.Answers.{TellsFault}
 

@@ -1,13 +1,13 @@
 -- What a call leaves of a check or an explanation on files and input: what the library below tells of the task, or a fault that is due.
 use Rattle.std.specs.Prelude.{◌≡◌, ◌⊎◌, ℕ, Bool}
 use Rattle.mem_files.specs.Name.{Bytes}
-use Rattle.embed_task.specs.declared.task.Task.{Task}
-use Rattle.embed_task.specs.declared.fault.EmbedFault.{EmbedFault}
-use Rattle.embed_task.specs.Packing.{mark_of}
-use Rattle.embed_asks.specs.declared.turns.TurnsAnswer.{TurnsAnswer}
-use Rattle.embed_asks.specs.declared.rooms.RoomAnswer.{RoomAnswer}
-use Rattle.embed_asks.specs.declared.whys.WhysAnswer.{WhysAnswer}
-use Rattle.embed_asks.specs.Tells.{IsRoomAnswer, IsTellFault, IsTurnsAnswer, IsWhysAnswer, IsWhysFault}
+use Rattle.embed.specs.declared.task.Task.{Task}
+use Rattle.embed.specs.declared.fault.EmbedFault.{EmbedFault}
+use Rattle.embed.specs.Packing.{mark_of}
+use Rattle.embed.specs.declared.turns.TurnsAnswer.{TurnsAnswer}
+use Rattle.embed.specs.declared.rooms.RoomAnswer.{RoomAnswer}
+use Rattle.embed.specs.declared.whys.WhysAnswer.{WhysAnswer}
+use Rattle.embed.specs.Tells.{IsRoomAnswer, IsTellFault, IsTurnsAnswer, IsWhysAnswer, IsWhysFault}
 use Rattle.xvsh_c.specs.declared.answer.Answer.{Answer}
 use Rattle.xvsh_c.specs.Answers.{TellsFault}
 use Rattle.xvsh_c.specs.AskCalls.{is_on}

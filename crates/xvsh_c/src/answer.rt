@@ -2,7 +2,7 @@
 ghost use Rattle.std.specs.Prelude.{◌≡◌};
 ghost use Rattle.xvsh_c.specs.Answers.{IsNothing, TellsFault, number_of, place_of, start_number, start_place};
 
-use embed_task::{EmbedFault, FileSizes, StartFault};
+use embed::{EmbedFault, FileSizes, StartFault};
 
 /// What a call gives: `xvsh_answer`. Its bytes are the caller's from then on.
 #[repr(C)]

@@ -4,8 +4,7 @@ ghost use Rattle.xvsh_c.specs.AskCalls.{CheckCall, ExplainCall, TellsAsked, is_o
 
 use crate::answer::{Answer, put_fault};
 use crate::handing::given_out;
-use embed_asks::{AskAnswer, check_of, explain_of};
-use embed_task::Task;
+use embed::{AskAnswer, Task, check_of, explain_of};
 use std::alloc::Global;
 
 /// Whether a number asks for something: 0 doesn't, any other does.

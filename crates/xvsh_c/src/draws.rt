@@ -4,9 +4,7 @@ ghost use Rattle.xvsh_c.specs.DrawCalls.{DrawCall, DrawTwoCall, TellsDrawn};
 use crate::answer::{Answer, put_fault};
 use crate::handing::{given_out, table_out};
 use crate::runs::full_number;
-use embed_draws::{DrawAnswer, Form, draw_of, draw_two_of};
-use embed_runs::order_by;
-use embed_task::{EmbedFault, Task};
+use embed::{DrawAnswer, EmbedFault, Form, Task, draw_of, draw_two_of, order_by};
 use std::alloc::Global;
 
 // Puts what a run leaves into an answer, with its page or picture for its events.

@@ -4,8 +4,7 @@ ghost use Rattle.xvsh_c.specs.ExploreCalls.{ExploreCall, TellsExplored};
 use crate::answer::{Answer, put_fault};
 use crate::asks::is_on;
 use crate::handing::given_out;
-use embed_explores::{ExploreAnswer, explore_of};
-use embed_task::Task;
+use embed::{ExploreAnswer, Task, explore_of};
 use std::alloc::Global;
 
 // Puts what every order leaves into an answer.

@@ -5,8 +5,7 @@ ghost use Rattle.xvsh_c.specs.GradeCalls.{GradeCall, TellsGraded, TellsRefusal, 
 use crate::answer::Answer;
 use crate::asks::is_on;
 use crate::handing::given_out;
-use embed_grades::{GradeRefusal, grade_of};
-use embed_task::Task;
+use embed::{GradeRefusal, Task, grade_of};
 use std::alloc::Global;
 use xvsh_grades::Report;
 

@@ -1,7 +1,7 @@
 //! Bytes that are handed to the caller.
 ghost use Rattle.std.specs.Prelude.{◌≡◌};
 
-use embed_task::FileSizes;
+use embed::FileSizes;
 
 /// Hands bytes to the caller, who frees them where there are any.
 pub fn given_out(bytes: Vec<u8>) -> &'static [u8]

@@ -4,9 +4,7 @@ ghost use Rattle.xvsh_c.specs.LookCalls.{LookCall, TellsLook, TellsTrace, TraceC
 use crate::answer::{Answer, put_fault};
 use crate::handing::{given_out, table_out};
 use crate::runs::full_number;
-use embed_looks::{LookAnswer, TraceAnswer, look_of, trace_of};
-use embed_runs::order_by;
-use embed_task::{EmbedFault, Task};
+use embed::{EmbedFault, LookAnswer, Task, TraceAnswer, look_of, order_by, trace_of};
 use std::alloc::Global;
 
 // Puts what a run leaves into an answer, with its trace for its events.

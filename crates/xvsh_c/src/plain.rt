@@ -3,8 +3,7 @@ ghost use Rattle.xvsh_c.specs.PlainCalls.{PlainCall, TellsPlain};
 
 use crate::answer::{Answer, put_fault};
 use crate::handing::{given_out, table_out};
-use embed_plain::{PlainAnswer, plain_of};
-use embed_task::Task;
+use embed::{PlainAnswer, Task, plain_of};
 use std::alloc::Global;
 
 // Puts what a script gives into an answer.

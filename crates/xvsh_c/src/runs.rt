@@ -4,8 +4,7 @@ ghost use Rattle.xvsh_c.specs.RunCalls.{full_number, ReplayCall, RunCall, TellsR
 
 use crate::answer::{Answer, put_fault};
 use crate::handing::{given_out, table_out};
-use embed_runs::{Full, RunAnswer, order_by, replay_of, run_of};
-use embed_task::{EmbedFault, Task};
+use embed::{EmbedFault, Full, RunAnswer, Task, order_by, replay_of, run_of};
 use std::alloc::Global;
 
 /// What was full, from 1 on, or 0.

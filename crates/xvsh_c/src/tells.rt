@@ -4,8 +4,7 @@ ghost use Rattle.xvsh_c.specs.TellCalls.{RoomCall, TellsObject, TurnsCall, WhysC
 use crate::answer::{Answer, put_fault};
 use crate::asks::is_on;
 use crate::handing::given_out;
-use embed_asks::{room_check_of, turns_check_of, whys_of};
-use embed_task::Task;
+use embed::{Task, room_check_of, turns_check_of, whys_of};
 use std::alloc::Global;
 
 // Puts an object, and whether all is fine, into an answer.

@@ -11,8 +11,8 @@ use Rattle.script_load.proofs.OneScript.{one_script}
 use Rattle.meaning_model.specs.Limits.{Outgrows}
 use Rattle.meaning_model.specs.Meaning.{script_tree}
 use Rattle.script_mends.specs.Mended.{AreMends, IsSettledText, IsUnmended}
-use Rattle.plain_progs.specs.declared.fault.PlainFault.{PlainFault}
-use Rattle.plain_progs.specs.declared.fault.PlainFault.TheVariants.{TooLarge as Large, Memory as NoRoom}
+use Rattle.plain_run.specs.declared.fault.PlainFault.{PlainFault}
+use Rattle.plain_run.specs.declared.fault.PlainFault.TheVariants.{TooLarge as Large, Memory as NoRoom}
 use Rattle.script_mends.specs.Rounds.{IsMendFault, most_mends}
 use Rattle.script_mends.specs.declared.rounds.MendFault.TheVariants.{Plain}
 use Rattle.xvsh_plain.specs.Running.{of_plain}

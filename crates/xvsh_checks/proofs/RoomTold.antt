@@ -1,15 +1,14 @@
--- What a check of a script's room read and reports.
-use Rattle.std.proofs.Common.{◌≡◌, Bool, true, false, List, [], ◌∷◌, ◌++◌, Option, IsTrue, codes, refl, ap, ◌∙◌}
+-- What a check of a script's room read and found.
+use Rattle.std.proofs.Common.{◌≡◌, Bool, true, false, List, [], ◌∷◌, ◌++◌, IsTrue, refl}
 use Rattle.std.specs.Prelude.{◌↔◌, ◌&&◌}
 use Rattle.std.specs.Borrow.{Bor}
 use Rattle.mem_files.specs.Name.{Name, Bytes}
 use Rattle.script_load.specs.Line.{ScriptLine, command, bad, cd}
 use Rattle.room_model.specs.Roomy.{IsRoomyScript}
-use Rattle.room_bounds.specs.declared.room.Room.{Room}
 use Rattle.xvsh_read.specs.Path.{Path}
 use Rattle.xvsh_read.specs.Starting.{Starts}
 use Rattle.xvsh_checks.specs.Check.{AreTold, IsHarmless, AreHarmless}
-use Rattle.xvsh_checks.specs.Room.{IsRoomFound, RanRoom, room_text, room_told, with_need}
+use Rattle.xvsh_checks.specs.Room.{IsRoomFound, RanRoom, room_told}
 use Rattle.xvsh_checks.specs.declared.room_found.RoomFound.{RoomFound}
 
 -- lines that are strictly harmless are harmless
@@ -43,13 +42,3 @@ ran_room input file script paths lines given stdin of_lines whole strict is foun
   whole = both;
   fine = fine;
 }
-
--- a need after the other
-pub made : (room : Room) (first one two three four five : Bytes) → first ≡ codes "room: " → one ≡ with_need first room.processes (codes " of 64 processes, ") → two ≡ with_need one room.entries (codes " of 100 open files, ")
-    → three ≡ with_need two room.descriptors (codes " of 16 descriptors, ") → four ≡ with_need three room.files (codes " of 199 files, ") → five ≡ with_need four room.size (codes " of 274432 bytes a file\n") → five ≡ room_text room
-made room first one two three four five is is_one is_two is_three is_four is_five =
-    is_five
-    ∙ ap (λ t. with_need t room.size (codes " of 274432 bytes a file\n")) (is_four
-    ∙ ap (λ t. with_need t room.files (codes " of 199 files, ")) (is_three
-    ∙ ap (λ t. with_need t room.descriptors (codes " of 16 descriptors, ")) (is_two
-    ∙ ap (λ t. with_need t room.entries (codes " of 100 open files, ")) (is_one ∙ ap (λ t. with_need t room.processes (codes " of 64 processes, ")) is))))

@@ -12,16 +12,6 @@ abbrev pub written_of : Bytes → Bytes
 written_of [] = codes "nothing to tell\n"
 written_of (byte ∷ told) = byte ∷ told
 
--- this is told of the script at a path: the notes on it, and then with which line first it may not have room
-pub record IsExplainedAt (input : Option Bytes) (file : Path → Option Bytes) (script : Path) (told : Bytes) : Type 0 where
-  pub bytes : Bytes
-  pub own : Agree (told_at input file script) bytes
-  pub notes : Bytes
-  pub explained : IsExplained bytes notes
-  pub lack : Option Lack
-  pub room : IsLackOfText bytes lack
-  pub whole : told ≡ notes ++ lack_noted lack
-
 -- this is what is printed of it, and whether no line of the script has a note and none may not have room
 pub record RanExplain (input : Option Bytes) (file : Path → Option Bytes) (script : Path) (is_fine : Bool) (text : Bytes) : Type 0 where
   pub bytes : Bytes

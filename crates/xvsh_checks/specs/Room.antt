@@ -7,8 +7,8 @@ use Rattle.script_load.specs.Line.{ScriptLine}
 use Rattle.room_model.specs.Roomy.{IsRoomyScript}
 use Rattle.mem_files.specs.Files.{files}
 use Rattle.room_bounds.specs.Room.{IsRoom, IsFirstLack, IsNeedOf}
-use Rattle.size_bounds.specs.Growth.{IsGrowth, IsLeastGrowth}
-use Rattle.size_bounds.specs.declared.capped.TheConstants.{MAX_GROWTH}
+use Rattle.room_bounds.specs.Growth.{IsGrowth, IsLeastGrowth}
+use Rattle.room_bounds.specs.declared.capped_growth.TheConstants.{MAX_GROWTH}
 use Rattle.room_bounds.specs.Behind.{FitsBehind, IsBehind, IsFirstBehind}
 use Rattle.room_bounds.specs.declared.behind.Behind.{Behind}
 use Rattle.room_bounds.specs.declared.room.Room.{Room}

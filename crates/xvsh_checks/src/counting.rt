@@ -1,4 +1,4 @@
-//! What `check --turns --json` does: the same findings and turns, as values in place of the text.
+//! What `check --turns` finds: in the lines of a script, and the turns that are enough for it.
 ghost use Rattle.std.specs.Prelude.{◌++◌, IfOk, IfErr};
 ghost use Rattle.mem_files.specs.Files.{files};
 ghost use Rattle.script_load.specs.Line.{lines_of};
@@ -16,7 +16,7 @@ use xvsh_read::{Fault, Host, Source, prepare};
 /// What `check --turns` finds in a script.
 #[derive(Drop)]
 pub struct CountedFindings {
-    /// What is told of its lines.
+    /// What is found in its lines.
     pub findings: Findings,
     /// In how many turns the script runs to its end; nothing where these are more than 1,000,000,000.
     pub turns: Option<u64>,
@@ -29,8 +29,8 @@ fn turns_of(script: &Script<Global>, stdin: &[u8], given: &Files<Global>) -> Opt
     turns_enough(script, stdin, given)
 }
 
-/// `check --turns --json`: reads the script, the files in order, and standard input unless that is the script, and returns what
-/// `run_turns` reports, as values. Nothing is written.
+/// `check --turns`: reads the script, the files in order, and standard input unless that is the script, and returns what is found in the
+/// script's lines, and in how many turns a run by its processes is finished, whatever their order (own). Nothing is written.
 pub fn run_count<'a, H: Host>(
     alloc: Global,
     request: &CheckRequest<'a>,

@@ -1,4 +1,4 @@
-//! What `check --json` does: the same findings, as values in place of the text.
+//! What `check` finds in a script before any run.
 ghost use Rattle.std.specs.Prelude.{◌≡◌, ◌++◌, ◌↔◌, ℕ, List, OnOk, IfOk, IfErr, IsTrue, false};
 ghost use Rattle.sh_tree.specs.Tree.{tree_of};
 ghost use Rattle.conflict_check.specs.Clear.{IsClear, has_back as back};
@@ -85,13 +85,13 @@ fn find_in_line(
 /// What `check` finds in a script.
 #[derive(Drop)]
 pub struct Findings {
-    /// What is told of its lines, in order.
+    /// What is found in its lines, in order.
     pub list: Vec<Finding>,
     /// No line holds a `&` or a clash, and strictly each is a command; and where its room is asked for, the script has room.
     pub is_harmless: bool,
 }
 
-/// What `check` tells of each line of a script, in order: the fault of a line that is no command; that it holds a `&`; and its
+/// What `check` finds in each line of a script, in order: the fault of a line that is no command; that it holds a `&`; and its
 /// first clash (own). Lines are counted from 1. Nothing is run. `AllocError` where memory is refused.
 pub fn find(alloc: Global, script: &Script<Global>, is_strict: bool) -> Result<Findings, AllocError>
     ensures told { IfOk result (λ found. AreTold 1 (lines_of script.now.lines) (findings_text found.list.items)) }
@@ -106,8 +106,7 @@ pub fn find(alloc: Global, script: &Script<Global>, is_strict: bool) -> Result<F
     Ok(Findings { list, is_harmless })
 }
 
-/// `check --json`: reads the script, and returns what `run_check` reports of its lines, as values, and whether these are
-/// harmless. Nothing is written.
+/// `check`: reads the script, and returns what is found in its lines, and whether these are harmless. Nothing is written.
 pub fn run_find<'a, H: Host>(
     alloc: Global,
     request: &CheckRequest<'a>,

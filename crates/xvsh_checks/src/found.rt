@@ -1,11 +1,11 @@
-//! What `check` finds in a script, as values.
+//! What `check` finds in a line.
 
 use conflict_check::ClashKind;
 use sh_lexer::Bytes;
 use sh_tree::ParseFault;
 use std::alloc::Global;
 
-/// What `check` tells of a line of a script (own). Lines are counted from 1.
+/// What `check` finds in a line of a script (own). Lines are counted from 1.
 #[derive(Drop)]
 pub enum Finding {
     /// This line is no command.

@@ -1,4 +1,4 @@
-//! What `explain --json` does: the same notes, as values in place of the text.
+//! What `explain` finds in a script.
 ghost use Rattle.std.specs.Prelude.{◌≡◌, ◌++◌, ◌↔◌, [], None, IfOk, IfErr, IsTrue};
 ghost use Rattle.script_notes.specs.Written.{written};
 ghost use Rattle.xvsh_checks.specs.Explain.{RanExplain, written_of};
@@ -20,7 +20,7 @@ fn are_none(notes: &[LineNote]) -> bool
 }
 
 /// Whether there is no note, and no line that may not have room.
-pub(crate) fn is_told_nothing(notes: &[LineNote], lack: &Option<Lack>) -> bool
+pub(crate) fn is_nothing_noted(notes: &[LineNote], lack: &Option<Lack>) -> bool
     ensures { IsTrue result ↔ ((written notes.now ≡ []) × (lack.now ≡ None)) }
 {
     match lack {
@@ -29,7 +29,7 @@ pub(crate) fn is_told_nothing(notes: &[LineNote], lack: &Option<Lack>) -> bool
     }
 }
 
-/// What `explain` tells of a script.
+/// What `explain` finds in a script.
 #[derive(Drop)]
 pub struct Noted {
     /// The notes, in the order of the lines.
@@ -40,8 +40,8 @@ pub struct Noted {
     pub is_fine: bool,
 }
 
-/// `explain --json`: reads the script, and returns its notes and with which line first it may not have room, as values, and
-/// whether there is none of these (own). Nothing is written.
+/// `explain`: reads the script, and returns its notes on the lines, with which line first it may need more processes, open files or
+/// descriptors than xv6 has, and whether there is none of these (own). Nothing is written.
 pub fn run_note<'a, H: Host>(
     alloc: Global,
     request: &ExplainRequest<'a>,
@@ -53,7 +53,7 @@ pub fn run_note<'a, H: Host>(
     let bytes = read(alloc, host, request.source.script, MAX_INPUT)?;
     let notes = notes_of(alloc, bytes.as_slice())?;
     let lack = lack_of_text(alloc, bytes.as_slice())?;
-    let is_fine = is_told_nothing(notes.as_slice(), &lack);
+    let is_fine = is_nothing_noted(notes.as_slice(), &lack);
     Ok(Noted {
         notes,
         lack,

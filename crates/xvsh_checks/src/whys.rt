@@ -13,15 +13,13 @@ ghost use Rattle.reason_sentences.specs.Whys.{AreReasonTexts};
 ghost use Rattle.xvsh_checks.specs.Lacks.{IsLackNoted, lack_noted};
 ghost use Rattle.xvsh_checks.specs.Whys.{RanWhys, IsWhysFault};
 
-use crate::explaining::Explained;
-use crate::lacks::{add_lack_note, lack_of};
-use crate::noting::is_told_nothing;
+use crate::lacks::lack_of;
+use crate::noting::is_nothing_noted;
 use crate::request::ExplainRequest;
-use missing_names::{Missing, missing_names, text_of_missing};
+use missing_names::{Missing, missing_names};
 use plain_run::{Reason, plain_with_reasons};
-use reason_sentences::{ways, why};
 use room_bounds::Lack;
-use script_notes::{LineNote, explain, notes_of};
+use script_notes::{LineNote, notes_of};
 use std::alloc::{AllocError, Global};
 use xvsh_plain::of_plain;
 use xvsh_read::{Fault, Host, MAX_INPUT, Start, prepare_read, read};
@@ -51,80 +49,6 @@ fn lack_at(start: &Start) -> Option<Lack>
     lack_of(&start.script)
 }
 
-// The sentence of a lack, and behind it these reasons or that there is none, and what mends each.
-fn lack_and_why(
-    alloc: Global,
-    lack: &Option<Lack>,
-    reasons: &[Reason<Global>],
-) -> Result<Vec<u8>, AllocError>
-    ensures { IfOk result (λ text. text.items ≡ lack_noted lack.now ++ (why_text (map reason_text reasons.now) ++ ways_text reasons.now)) }
-{
-    let mut text = Vec::new(alloc);
-    add_lack_note(alloc, lack, &mut text)?;
-    let told = why(alloc, reasons)?;
-    text.extend_from_slice(told.as_slice())?;
-    let mends = ways(alloc, reasons)?;
-    text.extend_from_slice(mends.as_slice())?;
-    Ok(text)
-}
-
-// The sentences of these names, and behind them that of a lack and these reasons or that there is none.
-fn names_and_why(
-    alloc: Global,
-    missing: &[Missing],
-    lack: &Option<Lack>,
-    reasons: &[Reason<Global>],
-) -> Result<Vec<u8>, AllocError>
-    ensures { IfOk result (λ text. text.items ≡ missing_texts (map shown missing.now) ++ (lack_noted lack.now ++ (why_text (map reason_text reasons.now) ++ ways_text reasons.now))) }
-{
-    let mut text = text_of_missing(alloc, missing)?;
-    let told = lack_and_why(alloc, lack, reasons)?;
-    text.extend_from_slice(told.as_slice())?;
-    Ok(text)
-}
-
-// The notes, and behind them these names, this lack, and these reasons or that there is none.
-fn with_why(
-    alloc: Global,
-    notes: Vec<u8>,
-    missing: &[Missing],
-    lack: &Option<Lack>,
-    reasons: &[Reason<Global>],
-) -> Result<Explained, AllocError>
-    ensures text { IfOk result (λ explained. explained.text.items ≡ notes.items ++ (missing_texts (map shown missing.now) ++ (lack_noted lack.now ++ (why_text (map reason_text reasons.now) ++ ways_text reasons.now)))) }
-    ensures fine { IfOk result (λ explained. IsTrue explained.is_fine ↔ ((notes.items ≡ []) × (missing.now ≡ []) × (lack.now ≡ None) × (reasons.now ≡ []))) }
-{
-    let mut text = notes;
-    let is_nothing = text.as_slice().is_empty() && missing.is_empty() && reasons.is_empty();
-    let is_fine = is_nothing && lack.is_none();
-    let told = names_and_why(alloc, missing, lack, reasons)?;
-    text.extend_from_slice(told.as_slice())?;
-    Ok(Explained { text, is_fine })
-}
-
-/// `explain` with files: reads the script, the files in order, and standard input unless that is the script, and returns its notes
-/// on the lines in sentences, behind them the first name of each line that no file has when the line runs, with which line first the
-/// script may need more processes, open files or descriptors than xv6 has, and then each reason why it isn't settled on these files and this input and what mends each, or why it is
-/// (own); and whether there is no note, no such name, no such line and no reason. The script is run by its meaning to find that
-/// out. Nothing is written.
-pub fn run_whys<'a, H: Host>(
-    alloc: Global,
-    request: &ExplainRequest<'a>,
-    host: &mut H,
-) -> Result<Explained, Fault<'a>>
-    ensures ran { IfOk result (λ explained. RanWhys (H.input host.old) (H.file host.old) request.now.source.profile request.now.source.script.now request.now.source.files.now explained.is_fine explained.text.items) }
-    ensures fault { IfErr result (IsWhysFault (H.input host.old) (H.file host.old) request.now.source.profile request.now.source.script.now request.now.source.files.now) }
-{
-    let bytes = read(alloc, host, request.source.script, MAX_INPUT)?;
-    let notes = explain(alloc, bytes.as_slice())?;
-    let start = prepare_read(alloc, host, &request.source, bytes.as_slice())?;
-    let reasons = reasons_of(alloc, &start)?;
-    let missing = missing_of(alloc, &start)?;
-    let lack = lack_at(&start);
-    let explained = with_why(alloc, notes, missing.as_slice(), &lack, reasons.as_slice())?;
-    Ok(explained)
-}
-
 // Whether there is no note, no missing name, no lack and no reason.
 fn is_nothing(
     notes: &[LineNote],
@@ -134,10 +58,10 @@ fn is_nothing(
 ) -> bool
     ensures { IsTrue result ↔ ((written notes.now ≡ []) × (missing.now ≡ []) × (lack.now ≡ None) × (reasons.now ≡ [])) }
 {
-    is_told_nothing(notes, lack) && missing.is_empty() && reasons.is_empty()
+    is_nothing_noted(notes, lack) && missing.is_empty() && reasons.is_empty()
 }
 
-/// What `explain` tells of a script on its files and its input.
+/// What `explain` finds in a script on its files and its input.
 #[derive(Drop)]
 pub struct NotedWhys {
     /// The notes, in the order of the lines.
@@ -152,8 +76,10 @@ pub struct NotedWhys {
     pub is_fine: bool,
 }
 
-/// `explain --json` with files: reads what `run_whys` reads, and returns the notes, the names that no file has, with which line first
-/// it may not have room, and the reasons as values, and whether there is none of these (own). The script is run by its meaning to find that out. Nothing is written.
+/// `explain` with files: reads the script, the files in order, and standard input unless that is the script, and returns its notes on the
+/// lines, the first name of each line that no file has when the line runs, with which line first the script may need more processes, open
+/// files or descriptors than xv6 has, and each reason why it isn't settled on these files and this input; and whether there is none of
+/// these (own). The script is run by its meaning to find that out. Nothing is written.
 pub fn run_note_whys<'a, H: Host>(
     alloc: Global,
     request: &ExplainRequest<'a>,

@@ -8,7 +8,7 @@ use Rattle.script_load.specs.Line.{ScriptLine}
 use Rattle.meaning_model.specs.Meaning.{script_meaning}
 use Rattle.meaning_model.specs.Settled.{IsSettledScript}
 use Rattle.reason_sentences.specs.Whys.{IsWhy}
-use Rattle.known_diagnostics.specs.Known.{IsKnown}
+use Rattle.every_order.specs.Known.{IsKnown}
 use Rattle.xvsh_read.specs.Path.{Path}
 use Rattle.xvsh_read.specs.Writing.{out_text}
 use Rattle.xvsh_plain.specs.Running.{DidPlain, IsRunText}

@@ -1,8 +1,8 @@
 -- What is told of a script's diagnostics.
 use Rattle.std.specs.Prelude.{codes}
 use Rattle.mem_files.specs.Name.{Bytes}
-use Rattle.known_diagnostics.specs.declared.known.Diagnostics.{Diagnostics}
-use Rattle.known_diagnostics.specs.declared.known.Diagnostics.TheVariants.{Same, Differ, Untried, Full, Asleep}
+use Rattle.every_order.specs.declared.known.Diagnostics.{Diagnostics}
+use Rattle.every_order.specs.declared.known.Diagnostics.TheVariants.{Same, Differ, Untried, Full, Asleep}
 
 -- the diagnostics themselves, or why there are none
 abbrev pub told : Diagnostics → Bytes

@@ -5,6 +5,6 @@
 mod running;
 mod telling;
 
-pub use known_diagnostics::Diagnostics;
+pub use every_order::Diagnostics;
 pub use running::{DiagnosedRun, run_diagnosed};
 pub use telling::told;

@@ -9,7 +9,7 @@ ghost use Rattle.xvsh_plain.specs.Running.{IsMeaningFault, IsPlainRefusal};
 ghost use Rattle.xvsh_diagnoses.specs.Running.{DidDiagnose, IsDiagnosed};
 
 use dead_lines::bad_lines;
-use known_diagnostics::{Diagnostics, STATES, diagnostics_of};
+use every_order::{Diagnostics, STATES, diagnostics_of};
 use plain_run::Reason;
 use reason_sentences::first_reason;
 use std::alloc::{AllocError, Global};

@@ -2,7 +2,7 @@
 ghost use Rattle.std.specs.Prelude.{◌≡◌};
 ghost use Rattle.xvsh_diagnoses.specs.Telling.{told};
 
-use known_diagnostics::Diagnostics;
+use every_order::Diagnostics;
 
 /// The text of what is known of a script's diagnostics (own): the diagnostics themselves, where every order writes these, or a line that
 /// says why there are none.

@@ -2,12 +2,10 @@
 
 use crate::fault::DrawFault;
 use crate::request::DrawRequest;
-use figure_page::{pair_page, run_page};
-use figure_svg::{pair_svg, run_svg};
+use figure_page::{pair_page, pair_svg, run_page, run_svg};
 use run_figure::first_stranger;
 use std::alloc::{AllocError, Global};
-use trace_data::Trace;
-use trace_read::{TraceFault, read_trace};
+use trace_read::{Trace, TraceFault, read_trace};
 use xvsh_read::{Host, read};
 
 /// The most bytes that a trace may have (own).
@@ -63,7 +61,7 @@ fn both_drawn(
 }
 
 /// `draw`: reads the traces, and returns the page of one, or of both: `run_page` and `pair_page` of `figure_page`; or the picture alone
-/// where it is asked for: `run_svg` and `pair_svg` of `figure_svg`. Nothing is written. Own.
+/// where it is asked for: `run_svg` and `pair_svg` of `figure_page`. Nothing is written. Own.
 ///
 /// `Read` where a trace can't be read, is too long, or memory is refused; `NoTrace` where a text is no trace, or has an event of
 /// a process that no event before it made; `OtherScript` where the two scripts differ.

@@ -5,7 +5,7 @@ use figure_page::{pair_page, run_page};
 use figure_strips::Bounds;
 use kernel_model::Event;
 use std::alloc::{AllocError, Global};
-use trace_data::Trace;
+use trace_read::Trace;
 use xvsh_read::{Start, Unwritten};
 use xvsh_traces::{Traces, trace_run};
 

@@ -21,8 +21,8 @@ use Rattle.xvsh_runs.specs.Runs.{RanRun, RanReplay}
 use Rattle.xvsh_runs.specs.Status.{run_status, run_fault_told, full_told}
 use Rattle.xvsh_runs.specs.Why.{IsRunFault, IsReplayingFault}
 use Rattle.xvsh_plain.specs.Running.{RanPlain, IsPlainFault}
-use Rattle.known_diagnostics.specs.Known.{IsKnown}
-use Rattle.known_diagnostics.specs.declared.known.Diagnostics.{Diagnostics}
+use Rattle.every_order.specs.Known.{IsKnown}
+use Rattle.every_order.specs.declared.known.Diagnostics.{Diagnostics}
 use Rattle.xvsh_diagnoses.specs.Telling.{told}
 use Rattle.xvsh_checks.specs.Check.{RanCheck, IsCheckFault}
 use Rattle.xvsh_checks.specs.Explain.{RanExplain}

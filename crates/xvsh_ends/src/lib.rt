@@ -1,17 +1,18 @@
 //! With what each request ends: what is printed, and the status; and how that is written.
 #![tactic(auto)]
 
-mod check_objects;
 mod checks;
 mod diagnosing;
 mod drawing;
 mod ending;
+mod explanations;
 mod explorations;
 mod filing;
 mod lining;
 mod objects;
 mod pages;
 mod plain;
+mod printing;
 mod process_faults;
 mod processes;
 mod request;

@@ -4,9 +4,10 @@ ghost use Rattle.xvsh_read.specs.Writing.{out_text};
 ghost use Rattle.xvsh_ends.specs.Ends.{IsDue};
 ghost use Rattle.xvsh_ends.specs.Requests.{UnlessPrinted, asked};
 
-use crate::check_objects::{check_told, explain_told};
+use crate::checks::check_ending;
 use crate::drawing::draw_ending;
 use crate::ending::Ending;
+use crate::explanations::explain_ending;
 use crate::explorations::explore_ending;
 use crate::filing::filed;
 use crate::lining::lined_if;
@@ -73,8 +74,8 @@ pub fn ending_of<R: Threads + Wait + Clock + Sync, H: Host + Traces + Watch>(
             let ending = plain_ending(alloc, plain, host);
             filed(alloc, ending, plain.files_to, host)
         }
-        Request::Check(check) => check_told(alloc, check, host),
-        Request::Explain(explain) => explain_told(alloc, explain, host),
+        Request::Check(check) => check_ending(alloc, check, host),
+        Request::Explain(explain) => explain_ending(alloc, explain, host),
         Request::Explore(explore) => explore_ending(alloc, explore, host),
         Request::Draw(draw) => draw_ending(alloc, draw, host),
     }

@@ -4,8 +4,8 @@ use Rattle.std.specs.Borrow.{Bor}
 use Rattle.mem_files.specs.Name.{Name, Bytes}
 use Rattle.script_load.specs.declared.profile.Profile.{Profile}
 use Rattle.script_load.specs.Line.{ScriptLine}
-use Rattle.outcome_pairs.specs.Named.{IsNamed}
-use Rattle.outcome_pairs.specs.declared.pair.Pair.{Pair}
+use Rattle.script_outcomes.specs.Named.{IsNamed}
+use Rattle.script_outcomes.specs.declared.pair.Pair.{Pair}
 use Rattle.script_outcomes.specs.declared.finding.Found.{Found}
 use Rattle.script_outcomes.specs.Found.{IsFound}
 use Rattle.xvsh_read.specs.declared.fault.Fault.{Fault}

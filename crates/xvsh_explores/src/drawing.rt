@@ -3,8 +3,7 @@
 use crate::findings::Findings;
 use crate::request::ExploreRequest;
 use order_partings::{Scene, Way, align, events_of};
-use outcome_pairs::Pair;
-use script_outcomes::Outcome;
+use script_outcomes::{Outcome, Pair};
 use std::alloc::{AllocError, Global};
 use xvsh_draws::draw_runs;
 use xvsh_read::Start;

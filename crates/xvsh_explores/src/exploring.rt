@@ -15,9 +15,10 @@ use crate::request::ExploreRequest;
 use crate::telling::{told, told_settled};
 use dead_lines::{bad_lines, dead_lines};
 use order_partings::Scene;
-use outcome_pairs::{Pair, named_pair};
 use plain_run::Plain;
-use script_outcomes::{ExploreFault, Found, Limits, Setting, Tried, Watch, concluded, outcomes_of};
+use script_outcomes::{
+    ExploreFault, Found, Limits, Pair, Setting, Tried, Watch, concluded, named_pair, outcomes_of,
+};
 use std::alloc::{AllocError, Global};
 use xvsh_read::{Fault, Host, Start, prepare};
 

@@ -1,12 +1,11 @@
 //! Schedules that lead to the outcomes, and where these part.
 ghost use Rattle.std.specs.Prelude.{◌≡◌, ◌<◌, Some, None, IfOk, IfSome, length};
-ghost use Rattle.outcome_pairs.specs.Pairs.{IsClearest};
+ghost use Rattle.script_outcomes.specs.Pairs.{IsClearest};
 
 use crate::request::ExploreRequest;
 use order_partings::{Parting, Scene, Way, align, events_of, part};
-use outcome_pairs::{Pair, shown_pair};
 use schedule_lines::schedule_text;
-use script_outcomes::Outcome;
+use script_outcomes::{Outcome, Pair, shown_pair};
 use std::alloc::{AllocError, Global};
 
 /// Where the schedules of two outcomes part.

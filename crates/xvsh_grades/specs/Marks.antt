@@ -10,7 +10,7 @@ use Rattle.grade_verdicts.specs.Judged.{IsJudged}
 use Rattle.grade_verdicts.specs.declared.expected.Task.{Task}
 use Rattle.grade_verdicts.specs.declared.verdict.Verdict.{Verdict}
 use Rattle.grade_verdicts.specs.declared.verdict.Verdict.TheVariants.{TooLarge}
-use Rattle.grade_ways.specs.Ways.{RunsRightInEveryWay}
+use Rattle.grade_jobs.specs.Ways.{RunsRightInEveryWay}
 use Rattle.grade_tests.specs.Loads.{AreTestsAt}
 use Rattle.grade_tests.specs.Tasks.{IsTaskOf}
 use Rattle.grade_tests.specs.declared.test.Loaded.{Loaded}

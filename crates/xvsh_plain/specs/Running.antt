@@ -10,8 +10,8 @@ use Rattle.meaning_model.specs.Limits.{Outgrows}
 use Rattle.meaning_model.specs.Meaning.{script_tree, script_meaning}
 use Rattle.meaning_model.specs.Settled.{IsSettledScript}
 use Rattle.meaning_model.specs.Value.{Value}
-use Rattle.plain_progs.specs.declared.fault.PlainFault.{PlainFault}
-use Rattle.plain_progs.specs.declared.fault.PlainFault.TheVariants.{TooLarge as plain_large, Memory as plain_memory}
+use Rattle.plain_run.specs.declared.fault.PlainFault.{PlainFault}
+use Rattle.plain_run.specs.declared.fault.PlainFault.TheVariants.{TooLarge as plain_large, Memory as plain_memory}
 use Rattle.xvsh_read.specs.Listing.{list_text}
 use Rattle.xvsh_read.specs.Path.{Path}
 use Rattle.xvsh_read.specs.Starting.{Starts, IsStartFault}

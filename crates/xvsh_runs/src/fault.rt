@@ -2,8 +2,7 @@
 ghost use Rattle.std.specs.Prelude.{◌≡◌};
 ghost use Rattle.xvsh_runs.specs.Status.{run_status};
 
-use hart_run::RunFault as HartsFault;
-use kernel_core::RunOneFault;
+use hart_run::{RunFault as HartsFault, RunOneFault};
 use std::alloc::AllocError;
 use std::fmt;
 use xvsh_read::Fault;

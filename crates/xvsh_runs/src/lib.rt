@@ -11,8 +11,7 @@ mod running;
 mod strict;
 
 pub use fault::ProcessFault;
-pub use hart_run::MAX_HARTS;
-pub use kernel_core::MAX_TURNS;
+pub use hart_run::{MAX_HARTS, MAX_TURNS};
 pub use replaying::{MAX_SCHEDULE, run_replay};
 pub use report::{Lists, Recording, Run};
 pub use request::{ReplayRequest, RunRequest};

@@ -4,7 +4,7 @@ ghost use Rattle.xvsh_runs.specs.Orders.{IsOrderFault};
 
 use crate::fault::ProcessFault;
 use crate::request::RunRequest;
-use kernel_core::Order;
+use hart_run::Order;
 use proc_table::PROCS;
 use schedule_lines::number_of;
 

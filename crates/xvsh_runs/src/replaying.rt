@@ -16,8 +16,7 @@ ghost use Rattle.xvsh_runs.specs.Why.{IsBytesFault, IsEventsFault, IsLinesFault,
 use crate::fault::ProcessFault;
 use crate::report::{Run, run_of};
 use crate::request::ReplayRequest;
-use hart_run::{ReplayFault, replay};
-use kernel_core::Report;
+use hart_run::{ReplayFault, Report, replay};
 use kernel_model::Event;
 use schedule_lines::{ScheduleFault, read_schedule};
 use std::alloc::Global;

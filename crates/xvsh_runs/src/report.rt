@@ -6,7 +6,7 @@ ghost use Rattle.xvsh_read.specs.Writing.{out_text};
 ghost use Rattle.xvsh_runs.specs.Lists.{files_text, events_text, run_text};
 
 use dead_lines::bad_lines;
-use kernel_core::Report;
+use hart_run::Report;
 use kernel_events::Schedule;
 use kernel_model::{Event, Full};
 use mem_files::Files;

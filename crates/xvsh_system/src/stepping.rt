@@ -11,9 +11,9 @@ use std::rt::Files;
 use std::sync::Wait;
 use std::time::Clock;
 use xvsh::parsed_words;
-use xvsh_given::{Given, NOTHING, TEXT_PATH, read_given};
 use xvsh_read::{Hints, Host, HostFault, STDIN, Source, Unwritten, profile_of, write};
 use xvsh_steps::{Keep, StepFault, StepRequest, step};
+use xvsh_traces::{Given, NOTHING, TEXT_PATH, read_given};
 
 // The system, with the standard input and the script that the words give; a schedule is kept in a file of it.
 #[derive(Drop)]

@@ -1,11 +1,12 @@
-//! Traces of runs: the lines of a run that is made again by its schedule, and where they are written; and the lines of the script
-//! that its diagnostics come from.
+//! What `run --trace` writes, and a host that gives what was read before.
 #![tactic(auto)]
 
 mod diagnostics;
+mod given;
 mod traces;
 mod writing;
 
 pub use diagnostics::lined;
+pub use given::{Given, Inputs, NOTHING, TEXT_PATH, read_given};
 pub use traces::{TraceFault, Traces, trace_run};
 pub use writing::script_text;

@@ -28,8 +28,8 @@ use Rattle.law_runs.specs.Consistent.{IsConsistent}
 use Rattle.law_runs.proofs.views.Runs as runs
 use Rattle.law_runs.proofs.views.Tables.{seen_up}
 use Rattle.law_runs.proofs.room.FirstFull.{First, first_full}
-use Rattle.room_behind.specs.Processes.{processes_at_once}
-use Rattle.room_behind.proofs.Trees.{some_run}
+use Rattle.room_model.specs.BehindProcesses.{processes_at_once}
+use Rattle.room_model.proofs.Trees.{some_run}
 use Rattle.law_limits.proofs.behind.Trees.{list_enough}
 use Rattle.law_limits.proofs.behind.Sums.{total_least}
 use Rattle.law_limits.proofs.behind.Fits.{IsQuiet, UserFits, ShellFits, TopFits, ParentFits}

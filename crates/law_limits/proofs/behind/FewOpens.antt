@@ -19,7 +19,7 @@ use Rattle.run_model.specs.ScriptRun.{script_kernel}
 use Rattle.sh_machine.specs.declared.state.Phase.TheVariants.{Starts}
 use Rattle.sh_machine.specs.State.{User, init, shell, top}
 use Rattle.sh_machine.specs.Turn.{call_of, next_of}
-use Rattle.room_behind.specs.Opens.{opens_in_all}
+use Rattle.room_model.specs.BehindOpens.{opens_in_all}
 use Rattle.law_runs.proofs.room.FirstFull.{First, first_full}
 use Rattle.law_runs.proofs.room.Marks.{entries_wanted}
 use Rattle.law_limits.proofs.opens.Spending.{cost, finds_within}

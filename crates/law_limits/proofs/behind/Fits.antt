@@ -16,7 +16,7 @@ use Rattle.sh_machine.specs.declared.state.Phase.TheVariants.{Starts, Forks, Wai
 use Rattle.sh_machine.specs.State.{Parent, makes, forks_writer, forks_reader, closes_reader, closes_writer, waits_first, waits_second, Shell, top, unknown, closes_old, opens_file, forks_left, waits_left, pipes, side, forks_back, told, ended, User, init, shell, program}
 use Rattle.sh_machine.specs.Turn.{Turn, user_of_next, exits, tells, runs, runs_line, takes_first, execs_found, fault_text, failed}
 use Rattle.process_model.specs.Seen.{Entry, Fds, fd_at, Act}
-use Rattle.room_behind.specs.Processes.{at_once, left_behind}
+use Rattle.room_model.specs.BehindProcesses.{at_once, left_behind}
 use Rattle.law_limits.proofs.behind.Trees.{Enough, list_enough}
 
 -- ---- calls and descriptors

@@ -30,8 +30,8 @@ use Rattle.law_runs.proofs.views.Events.{trap_seen, dispatch_quiet}
 use Rattle.law_runs.proofs.views.InitSeen.{init_seen}
 use Rattle.law_runs.proofs.views.Named.{event_keeps_init, start_init}
 use Rattle.law_runs.proofs.views.Runs as runs
-use Rattle.room_behind.specs.Processes.{at_once, processes_at_once}
-use Rattle.room_behind.proofs.Trees.{some_run}
+use Rattle.room_model.specs.BehindProcesses.{at_once, processes_at_once}
+use Rattle.room_model.proofs.Trees.{some_run}
 use Rattle.law_limits.proofs.behind.Trees.{none_enough}
 use Rattle.law_limits.proofs.behind.Sums.{total, total_zero}
 use Rattle.law_limits.proofs.behind.Fits.{takes_fit}

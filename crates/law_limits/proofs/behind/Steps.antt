@@ -15,8 +15,8 @@ use Rattle.sh_machine.specs.declared.state.Phase.TheVariants.{Starts, Forks, Wai
 use Rattle.sh_machine.specs.State.{Parent, makes, forks_writer, forks_reader, closes_reader, closes_writer, waits_first, waits_second, Shell, top, unknown, closes_old, opens_file, forks_left, waits_left, pipes, side, forks_back, told, ended, User, init, shell, program}
 use Rattle.process_model.specs.Seen.{Entry, reader, writer, Fds, fd_at, Act, act_of, live, View}
 use Rattle.process_model.specs.Effect.{Answers, lowest, WaitsFor, reaps, has_none, sleeps, MakesPipe, ClosesAt, EffectBy, IsCall}
-use Rattle.room_behind.specs.Processes.{at_once, left_behind}
-use Rattle.room_behind.proofs.Trees.{some_run, rest_of}
+use Rattle.room_model.specs.BehindProcesses.{at_once, left_behind}
+use Rattle.room_model.proofs.Trees.{some_run, rest_of}
 use Rattle.law_limits.proofs.behind.Trees.{Enough, ListEnough, list_enough, gives_back, back_enough, none_enough}
 use Rattle.law_limits.proofs.behind.Fits.{IsQuiet, IsOpen, AreOpen, UserFits, ShellFits, TopFits, ParentFits, ActFits, runs_fit, takes_fit, line_fit}
 use Rattle.law_limits.proofs.behind.Budget.{kids, owed, none_kids, SlotFits, Budget, InRange, quiet_keeps, set_keeps, exit_keeps}

@@ -2,8 +2,8 @@
 use Rattle.std.proofs.Common.{◌≡◌, ℕ, ◌+◌, ◌≤◌, arith}
 use Rattle.std.proofs.Math.Nat.{le-max_left, le-max_right}
 use Rattle.sh_tree.specs.Tree.{Tree, list}
-use Rattle.room_behind.specs.Processes.{at_once, left_behind}
-use Rattle.room_behind.proofs.Trees.{one_stays, rest_of}
+use Rattle.room_model.specs.BehindProcesses.{at_once, left_behind}
+use Rattle.room_model.proofs.Trees.{one_stays, rest_of}
 
 -- with w a process can run the command, and give back g at its end
 pub record Enough (t : Tree) (w g : ℕ) : Type 0 where

@@ -14,10 +14,10 @@ use Rattle.run_model.specs.ScriptRun.{script_kernel}
 use Rattle.sh_machine.specs.declared.state.Phase.TheVariants.{Starts}
 use Rattle.sh_machine.specs.State.{User, init, shell, top}
 use Rattle.sh_machine.specs.Turn.{call_of, next_of}
-use Rattle.order_model.specs.Giving.{HasSlotsAhead}
+use Rattle.kernel_model.specs.Giving.{HasSlotsAhead}
 use Rattle.law_turns.proofs.orders.Booted.{boot_still}
 use Rattle.law_limits.proofs.opens.Left.{slot_left, table_left}
-use Rattle.few_forks.specs.Forks.{HasFewForks}
+use Rattle.room_model.specs.Forks.{HasFewForks}
 use Rattle.law_limits.proofs.forks.Slots.{nothing, slots_ahead as finds_slots}
 use Rattle.law_limits.proofs.forks.Shells.{user_ahead, users_each, users_spend}
 

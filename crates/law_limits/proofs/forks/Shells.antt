@@ -21,7 +21,7 @@ use Rattle.sh_machine.specs.State.{Parent, makes, forks_writer, forks_reader, cl
 use Rattle.sh_machine.specs.Turn.{Next, stays, becomes, Turn, calls, exits, tells, failed, call_of, next_of, user_of_next, on_done, on_fd, on_fork, on_pipe, on_unknown, execs_found, runs, runs_first, takes_first, top_turn, pipe_turn, side_turn, shell_turn}
 use Rattle.law_limits.proofs.opens.Left.{left, IsSpent}
 use Rattle.law_limits.proofs.opens.Programs.{turn_opens, no_fork}
-use Rattle.few_forks.specs.Forks.{most_forks}
+use Rattle.room_model.specs.Forks.{most_forks}
 use Rattle.law_limits.proofs.forks.Slots.{nothing}
 
 -- what lines fork

@@ -11,9 +11,9 @@ use Rattle.proc_table.specs.declared.pid.TheConstants.{PROCS}
 use Rattle.proc_table.specs.Slots.{Slot, Table, at, is_free}
 use Rattle.proc_table.specs.Calls.{lowest_free}
 use Rattle.kernel_model.specs.KernelState.{KernelState}
-use Rattle.order_model.specs.Alike.{IsStill}
-use Rattle.order_model.specs.Turns.{after_turn}
-use Rattle.order_model.specs.Giving.{FindsSlotNext, HasSlotsAhead}
+use Rattle.kernel_model.specs.Alike.{IsStill}
+use Rattle.kernel_model.specs.Turns.{after_turn}
+use Rattle.kernel_model.specs.Giving.{FindsSlotNext, HasSlotsAhead}
 use Rattle.law_turns.proofs.private_turns.Begun.{after_still}
 use Rattle.law_limits.proofs.opens.Left.{IsPaidOnce, IsSpent, slot_left, table_left, turn_spends, turns_keep}
 

@@ -27,8 +27,8 @@ use Rattle.kernel_model.specs.Descriptors.{let_go_of, taken_away, closed, closed
 use Rattle.kernel_model.proofs.Lasting.{no_run}
 use Rattle.law_kernel.specs.Outcome.{Outcome, refused, lacks, forks, runs, exits, reaps, waits, opens, opens_empty, closes, dups, pipes, reads_input, reads_file, takes, waits_for_bytes, meets_end, tells, complains, writes_over, appends, puts_all, puts_part}
 use Rattle.law_kernel.proofs.outcomes.Outcomes.{every_call_ends}
-use Rattle.order_model.specs.Alike.{IsStill}
-use Rattle.order_model.specs.Turns.{by_turns, after_turn, after_turns, quiet_turns, turn_events, turn_notes}
+use Rattle.kernel_model.specs.Alike.{IsStill}
+use Rattle.kernel_model.specs.Turns.{by_turns, after_turn, after_turns, quiet_turns, turn_events, turn_notes}
 use Rattle.law_turns.proofs.orders.Back.{could_turn}
 use Rattle.law_turns.proofs.orders.Follow.{after_turn as turned, given_0}
 use Rattle.law_turns.proofs.private_turns.Begun.{after_still}

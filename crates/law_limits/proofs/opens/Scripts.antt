@@ -17,7 +17,7 @@ use Rattle.run_model.specs.ScriptRun.{script_kernel}
 use Rattle.sh_machine.specs.declared.state.Phase.TheVariants.{Starts}
 use Rattle.sh_machine.specs.State.{User, init, shell, top}
 use Rattle.sh_machine.specs.Turn.{call_of, next_of}
-use Rattle.order_model.specs.Closes.{HasRoomAhead}
+use Rattle.kernel_model.specs.Closes.{HasRoomAhead}
 use Rattle.law_turns.proofs.orders.Booted.{boot_still}
 use Rattle.room_model.specs.Opens.{HasFewOpens}
 use Rattle.law_limits.proofs.opens.Left.{slot_left, table_left}

@@ -27,9 +27,9 @@ use Rattle.kernel_model.specs.Opening.{with_bytes}
 use Rattle.kernel_model.specs.Descriptors.{let_go_of, taken_away, closed, closed_below, opened_at, with_open, with_reader}
 use Rattle.law_kernel.specs.Outcome.{Outcome, refused, lacks, forks, runs, exits, reaps, waits, opens, opens_empty, closes, dups, pipes, reads_input, reads_file, takes, waits_for_bytes, meets_end, tells, complains, writes_over, appends, puts_all, puts_part}
 use Rattle.law_kernel.proofs.outcomes.Outcomes.{every_call_ends}
-use Rattle.order_model.specs.Alike.{IsStill}
-use Rattle.order_model.specs.Turns.{after_turn}
-use Rattle.order_model.specs.Closes.{FindsFree, FindsFreeNext, HasRoomAhead}
+use Rattle.kernel_model.specs.Alike.{IsStill}
+use Rattle.kernel_model.specs.Turns.{after_turn}
+use Rattle.kernel_model.specs.Closes.{FindsFree, FindsFreeNext, HasRoomAhead}
 use Rattle.law_turns.proofs.entry_numbers.Opening.{lowest_is_free, taken}
 use Rattle.law_limits.proofs.opens.Sums.{one_of, free_set, held_free}
 use Rattle.law_limits.proofs.opens.Left.{IsPaidOnce, IsSpent, slot_left as slot_left_of, table_left as table_left_of, outcome_costs, rewritten, status_left, turn_spends, turns_keep}

@@ -17,9 +17,9 @@ use Rattle.user_calls.specs.declared.calls.Mode.TheVariants.{Input as ToRead}
 use Rattle.user_calls.specs.declared.calls.Reply.{Reply}
 use Rattle.user_progs.specs.State.{Source, standard, file as file_at, State, begins, echo_word, echo_space, opens, works, closes, tees, told, ended}
 use Rattle.user_progs.specs.Turn.{block}
-use Rattle.program_model.specs.Ahead.{still_uses}
-use Rattle.program_model.specs.FilesAhead.{Sizes, sizes, all_sizes}
-use Rattle.program_model.specs.Tame.{Among, AreTame}
+use Rattle.tree_model.specs.Ahead.{still_uses}
+use Rattle.tree_model.specs.FilesAhead.{Sizes, sizes, all_sizes}
+use Rattle.tree_model.specs.Tame.{Among, AreTame}
 use Rattle.tree_model.specs.Bound.{input_ahead, input_under}
 use Rattle.tree_model.specs.ProgramBytes.{call_bytes, later_bytes}
 use Rattle.sh_machine.specs.State.{program, told as shell_told}
@@ -29,7 +29,7 @@ use Rattle.process_model.specs.Phases.{Phase, at_lines, waits_line, begins as be
 use Rattle.process_model.specs.Own.{IsWriter}
 use Rattle.process_model.specs.Part.{CanBeInput, CanBeOutput, OpenedToRead, OpenedToWrite}
 use Rattle.room_model.specs.Files.{names_written}
-use Rattle.size_model.specs.Place.{counted_if, output_under, to_place}
+use Rattle.room_model.specs.Place.{counted_if, output_under, to_place}
 
 -- ---- places
 

@@ -3,7 +3,7 @@ use Rattle.std.proofs.Common.{◌≡◌, ◌≢◌, ◌⊎◌, inl, inr, ℕ, �
 use Rattle.std.proofs.lemmas.Bool.{cases_eq}
 use Rattle.std.proofs.lemmas.List.{length-drop}
 use Rattle.mem_files.specs.Files.{FileMap}
-use Rattle.program_model.specs.FilesAhead.{Sizes, sizes}
+use Rattle.tree_model.specs.FilesAhead.{Sizes, sizes}
 use Rattle.process_model.specs.Seen.{Place, View}
 use Rattle.process_model.specs.Effect.{Rest, InputChanges, OutChanges, PipeChanges, PlaceChanges, further}
 use Rattle.law_limits.proofs.behind.Sums.{put, put_here, put_there}

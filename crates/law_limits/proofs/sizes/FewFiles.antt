@@ -20,7 +20,7 @@ use Rattle.prog_parts.specs.NameSets.{among}
 use Rattle.script_load.specs.Line.{ScriptLine}
 use Rattle.script_load.specs.declared.profile.Profile.{Profile}
 use Rattle.meaning_model.specs.Meaning.{script_tree}
-use Rattle.program_model.specs.FilesAhead.{Sizes}
+use Rattle.tree_model.specs.FilesAhead.{Sizes}
 use Rattle.room_model.specs.Files.{names_written, script_files}
 use Rattle.kernel_model.specs.declared.events.Event.{Event}
 use Rattle.kernel_model.specs.declared.events.Full.TheVariants.{Files}
@@ -32,7 +32,7 @@ use Rattle.sh_machine.specs.State.{User, init, shell, top}
 use Rattle.sh_machine.specs.Turn.{call_of, next_of}
 use Rattle.law_kernel.proofs.kernel.SoundRuns.{every_run_has_files}
 use Rattle.law_runs.proofs.room.FirstFull.{First, first_full}
-use Rattle.size_model.specs.Sizes.{KeepsWithin}
+use Rattle.room_model.specs.Sizes.{KeepsWithin}
 use Rattle.law_limits.proofs.sizes.Runs.{IsNew, Holds, every_run_holds}
 
 -- ---- names, of which no two are the same

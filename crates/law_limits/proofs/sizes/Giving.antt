@@ -10,9 +10,9 @@ use Rattle.user_calls.specs.declared.calls.Call.TheVariants.{Write}
 use Rattle.user_calls.specs.declared.calls.Reply.{Reply}
 use Rattle.user_progs.specs.State.{Filter, copying, heading, counting, searching, Source, standard, file as file_at, Work, cat_reads, Tee, tee_opens, tee_reads, tee_writes, tee_gives, State, begins, echo_word, echo_space, opens, works, closes, tees, told, ended}
 use Rattle.user_progs.specs.Turn.{Turn, Answer, yields, denies, strays, Step, reads, writes, finishes, fails, quits, bytes_in, fd_in, done_in, turn, turn_by, first_step, work_step, filter_of, name_of, opens_next, opened_by, closed_by, begins_filter, begins_head, begins_program, echo_next, echo_end, tee_waits, tee_opens_next, tee_cannot_open, tee_opened, tee_got, tee_gives_next, tee_wrote, tee_turn}
-use Rattle.program_model.specs.Ahead.{still_uses}
-use Rattle.program_model.specs.Exits.{bytes_told}
-use Rattle.program_model.specs.FilesAhead.{Sizes, all_sizes}
+use Rattle.tree_model.specs.Ahead.{still_uses}
+use Rattle.tree_model.specs.Exits.{bytes_told}
+use Rattle.tree_model.specs.FilesAhead.{Sizes, all_sizes}
 use Rattle.tree_model.specs.Bound.{input_ahead}
 use Rattle.law_trees.proofs.programs.Shrinking.{uses_shrink}
 use Rattle.process_model.specs.Seen.{Fds, fd_at, View}

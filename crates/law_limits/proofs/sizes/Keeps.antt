@@ -5,7 +5,7 @@ use Rattle.std.proofs.lemmas.Bool.{cases_eq, eq-eqb, ne_eqb}
 use Rattle.script_load.specs.declared.profile.Profile.{Profile}
 use Rattle.mem_files.specs.Name.{Name}
 use Rattle.mem_files.specs.Files.{FileMap}
-use Rattle.program_model.specs.FilesAhead.{Sizes}
+use Rattle.tree_model.specs.FilesAhead.{Sizes}
 use Rattle.user_calls.specs.declared.calls.Call.TheVariants.{Write}
 use Rattle.user_calls.specs.declared.calls.Reply.TheVariants.{Done}
 use Rattle.sh_machine.specs.State.{told as shell_told}

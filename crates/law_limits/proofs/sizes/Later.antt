@@ -12,15 +12,15 @@ use Rattle.meaning_model.specs.Meaning.{script_tree}
 use Rattle.user_calls.specs.declared.calls.Call.{Call}
 use Rattle.user_calls.specs.declared.calls.Mode.TheVariants.{Input as ToRead}
 use Rattle.user_progs.specs.State.{Source, standard, file as file_at, State, begins, echo_word, echo_space, opens, works, closes, tees, told, ended}
-use Rattle.program_model.specs.Ahead.{still_uses}
-use Rattle.program_model.specs.FilesAhead.{Sizes}
+use Rattle.tree_model.specs.Ahead.{still_uses}
+use Rattle.tree_model.specs.FilesAhead.{Sizes}
 use Rattle.tree_model.specs.Bound.{input_ahead}
 use Rattle.process_model.specs.Seen.{Entry, input, out, diag, reader, writer, file, Fds, fd_at, View}
 use Rattle.process_model.specs.Shape.{OpensOutput}
 use Rattle.process_model.specs.Phases.{Phase, at_lines, waits_line, begins as begins_tree, opens as opens_redir, waits_list, forks_left, forks_right, has_forked, on_left, on_right}
 use Rattle.process_model.specs.Part.{OpenedToRead, OpenedToWrite}
 use Rattle.law_trees.proofs.tree_ends.TurnBytes.{later_more}
-use Rattle.size_model.specs.Place.{counted_if, output_under, to_place}
+use Rattle.room_model.specs.Place.{counted_if, output_under, to_place}
 use Rattle.law_limits.proofs.sizes.More.{counted_more, input_under_more, place_more, input_more}
 use Rattle.law_limits.proofs.sizes.Doings.{Goal, a_pipe, a_file, names_of, goes_to, goes_by, IsOld, Doing, over, in_phase, runs, IsFine, IsOldPhase, IsOwnFile, ahead, ahead_by, of_tree, of_phase, of_source, of_files, reads_left, writes_left, writes_to, may, IsRun, Is}
 

@@ -11,10 +11,10 @@ use Rattle.prog_parts.specs.NameSets.{Names, no_names}
 use Rattle.prog_parts.specs.Program.{program_of, program_uses_input}
 use Rattle.user_progs.specs.State.{begins}
 use Rattle.prog_parts.specs.Words.{files_read, words_files_written}
-use Rattle.program_model.specs.FilesAhead.{Sizes, all_sizes}
+use Rattle.tree_model.specs.FilesAhead.{Sizes, all_sizes}
 use Rattle.tree_model.specs.Bound.{input_ahead, input_under}
 use Rattle.law_trees.proofs.tree_ends.TurnBytes.{later_more}
-use Rattle.size_model.specs.Place.{program_bytes, words_bytes, counted_if, output_under, to_place}
+use Rattle.room_model.specs.Place.{program_bytes, words_bytes, counted_if, output_under, to_place}
 
 pub counted_more : (c : Bool) (m n : ℕ) → m ≤ n → counted_if c m ≤ counted_if c n
 counted_more true m n less = less

@@ -23,9 +23,9 @@ use Rattle.user_calls.specs.declared.calls.Reply.{Reply}
 use Rattle.user_calls.specs.declared.calls.Reply.TheVariants.{Done, Bytes as Bytes', Fd, Refused}
 use Rattle.user_progs.specs.State.{State, begins, echo_word, echo_space, opens, works, closes, tees, told, ended}
 use Rattle.user_progs.specs.Turn.{yields, bytes_in, fd_in, block}
-use Rattle.program_model.specs.Exits.{bytes_told}
-use Rattle.program_model.specs.FilesAhead.{Sizes, sizes}
-use Rattle.program_model.specs.Tame.{Among, mode_of, IsTame, opened_after, without}
+use Rattle.tree_model.specs.Exits.{bytes_told}
+use Rattle.tree_model.specs.FilesAhead.{Sizes, sizes}
+use Rattle.tree_model.specs.Tame.{Among, mode_of, IsTame, opened_after, without}
 use Rattle.tree_model.specs.ProgramBytes.{call_bytes}
 use Rattle.sh_machine.specs.State.{program}
 use Rattle.process_model.specs.Seen.{Entry, input, out, diag, reader, writer, file, Fds, fd_at, Act, Seen, Place, View}
@@ -36,7 +36,7 @@ use Rattle.law_runs.proofs.standing.LowestFree.{IsLowest, is_lowest}
 use Rattle.law_runs.proofs.standing.Openable.{whole}
 use Rattle.law_trees.proofs.tree_ends.Growing.{written_size}
 use Rattle.law_limits.proofs.behind.Sums.{put_here, put_there}
-use Rattle.size_model.specs.Place.{counted_if}
+use Rattle.room_model.specs.Place.{counted_if}
 use Rattle.law_limits.proofs.sizes.Doings.{Goal, a_pipe, a_file, goes_by, goes_to, has, names_of, written_by, Doing, over, runs, IsFine, IsOwnFile, IsAsked, OpensIts, fd_source, name_opened, ahead, ahead_by, writes_to, IsRun, Is}
 use Rattle.law_limits.proofs.sizes.Later.{Later, run_old, own_still, by_less}
 use Rattle.law_limits.proofs.sizes.Giving.{Answers}

@@ -11,15 +11,15 @@ use Rattle.user_calls.specs.declared.calls.Call.TheVariants.{Write}
 use Rattle.user_calls.specs.declared.calls.Reply.{Reply}
 use Rattle.user_progs.specs.State.{State}
 use Rattle.user_progs.specs.Turn.{turn}
-use Rattle.program_model.specs.FilesAhead.{Sizes}
-use Rattle.program_model.specs.Tame.{Among, opened_after}
+use Rattle.tree_model.specs.FilesAhead.{Sizes}
+use Rattle.tree_model.specs.Tame.{Among, opened_after}
 use Rattle.tree_model.specs.ProgramBytes.{call_bytes, later_bytes}
 use Rattle.sh_machine.specs.State.{program}
 use Rattle.process_model.specs.Seen.{Entry, Fds, fd_at, Act, free, zombie, live, View}
 use Rattle.process_model.specs.Own.{IsWriter}
 use Rattle.process_model.specs.Effect.{given, answered}
 use Rattle.law_trees.proofs.tree_ends.TurnBytes.{turn_pays}
-use Rattle.size_model.specs.Place.{counted_if}
+use Rattle.room_model.specs.Place.{counted_if}
 use Rattle.law_limits.proofs.sizes.More.{counted_more}
 use Rattle.law_limits.proofs.sizes.Doings.{NoFile, Goal, goes_by, has, names_of, written_by, Doing, runs, IsOwnFile, reads_left, writes_left, writes_to, may, IsRun, Is}
 use Rattle.law_limits.proofs.sizes.Later.{Later, AllOld, run_old, fine_still, own_still, writes_less, to_same, by_same}

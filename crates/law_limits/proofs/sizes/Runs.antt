@@ -11,7 +11,7 @@ use Rattle.mem_files.specs.Listing.{AreFiles}
 use Rattle.script_load.specs.declared.profile.Profile.{Profile}
 use Rattle.script_load.specs.Line.{ScriptLine}
 use Rattle.meaning_model.specs.Meaning.{script_tree}
-use Rattle.program_model.specs.FilesAhead.{Sizes, sizes}
+use Rattle.tree_model.specs.FilesAhead.{Sizes, sizes}
 use Rattle.kernel_model.specs.declared.events.Event.{Event}
 use Rattle.kernel_model.specs.declared.events.Event.TheVariants.{Dispatch, Trap}
 use Rattle.kernel_model.specs.KernelState.{KernelState}
@@ -34,7 +34,7 @@ use Rattle.law_runs.proofs.views.Named.{event_keeps_init, start_init}
 use Rattle.law_runs.proofs.views.Runs as runs
 use Rattle.law_limits.proofs.behind.Sums.{total}
 use Rattle.law_limits.proofs.behind.Runs.{in_range, none_seen}
-use Rattle.size_model.specs.Sizes.{KeepsWithin}
+use Rattle.room_model.specs.Sizes.{KeepsWithin}
 use Rattle.law_limits.proofs.sizes.More.{none_place}
 use Rattle.law_limits.proofs.sizes.Doings.{NoName, NoFile, Goal, a_pipe, a_file, has, Doing, over, in_phase, IsOver, IsFine, may, Is}
 use Rattle.law_limits.proofs.sizes.Effects.{cap}

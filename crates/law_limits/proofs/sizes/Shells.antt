@@ -25,7 +25,7 @@ use Rattle.user_progs.specs.State.{State, begins as begins_program}
 use Rattle.user_progs.specs.Turn.{turn, block}
 use Rattle.user_progs.specs.View.{begun as found_by}
 use Rattle.law_trees.proofs.programs.Taming.{always_tame}
-use Rattle.program_model.specs.FilesAhead.{Sizes, sizes}
+use Rattle.tree_model.specs.FilesAhead.{Sizes, sizes}
 use Rattle.tree_model.specs.ProgramBytes.{later_bytes}
 use Rattle.sh_machine.specs.State.{program, unknown}
 use Rattle.sh_machine.specs.Turn.{calls, fault_text, execs_found}
@@ -38,7 +38,7 @@ use Rattle.law_runs.proofs.standing.Openable.{whole, same_openable}
 use Rattle.law_trees.proofs.tree_ends.TurnBytes.{turn_pays}
 use Rattle.law_limits.proofs.behind.Sums.{put, put_here, put_there}
 use Rattle.room_model.specs.Files.{names_written}
-use Rattle.size_model.specs.Place.{program_bytes, counted_if, to_place}
+use Rattle.room_model.specs.Place.{program_bytes, counted_if, to_place}
 use Rattle.law_limits.proofs.sizes.More.{counted_more, place_more, none_place}
 use Rattle.law_limits.proofs.sizes.Doings.{NoName, NoPhase, NoFile, Goal, a_pipe, a_file, goes_to, has, names_of, IsOld, Doing, over, in_phase, runs, IsEnding, IsOver, IsFine, IsOldPhase, ahead, of_tree, of_phase, reads_left, writes_left, may, Is}
 use Rattle.law_limits.proofs.sizes.Later.{Later, ahead_less, goes_same, phase_less, fine_still, phase_still}

@@ -18,8 +18,8 @@ use Rattle.user_calls.specs.declared.calls.Call.TheVariants.{Exit, Wait, Write}
 use Rattle.user_calls.specs.declared.calls.Mode.TheVariants.{Input as ToRead}
 use Rattle.user_progs.specs.State.{State}
 use Rattle.user_progs.specs.View.{first_state}
-use Rattle.program_model.specs.FilesAhead.{Sizes, sizes}
-use Rattle.program_model.specs.Tame.{IsTame}
+use Rattle.tree_model.specs.FilesAhead.{Sizes, sizes}
+use Rattle.tree_model.specs.Tame.{IsTame}
 use Rattle.tree_model.specs.ProgramBytes.{call_bytes, later_bytes}
 use Rattle.fd_table.specs.declared.names.Mode.TheVariants.{Input as ForReading}
 use Rattle.fd_table.specs.declared.names.Object.{Object}
@@ -48,8 +48,8 @@ use Rattle.law_runs.proofs.views.Tables.{seen_up}
 use Rattle.law_runs.proofs.room.Marks.{WritesTooMuch, tells}
 use Rattle.law_limits.proofs.behind.Sums.{total, total_zero}
 use Rattle.law_limits.proofs.behind.Runs.{in_range}
-use Rattle.size_model.specs.Place.{counted_if}
-use Rattle.size_model.specs.Sizes.{KeepsWithin}
+use Rattle.room_model.specs.Place.{counted_if}
+use Rattle.room_model.specs.Sizes.{KeepsWithin}
 use Rattle.law_limits.proofs.sizes.Doings.{a_file, goes_by, written_by, Doing, over, in_phase, runs, IsEnding, IsOver, IsOwnFile, reads_left, writes_to, may, IsRun, Is}
 use Rattle.law_limits.proofs.sizes.Keeps.{Inv, total_moves}
 use Rattle.law_limits.proofs.sizes.Runs.{IsNew, Holds, every_run_holds}

@@ -8,7 +8,7 @@ use Rattle.script_load.specs.declared.profile.Profile.{Profile}
 use Rattle.user_calls.specs.declared.calls.Call.{Call}
 use Rattle.user_calls.specs.declared.calls.Call.TheVariants.{Fork, Exec, Exit, Wait, MakePipe, Read, Write, OpenFile, Close, Dup}
 use Rattle.user_progs.specs.Turn.{Turn}
-use Rattle.program_model.specs.Tame.{Among, IsTame}
+use Rattle.tree_model.specs.Tame.{Among, IsTame}
 use Rattle.process_model.specs.Seen.{Entry, diag, reader, writer, file, fd_at, Act, zombie, live, View}
 use Rattle.process_model.specs.Own.{Owned, own_fds, Works}
 use Rattle.process_model.specs.Phases.{Stage, closes_read, closes_write, waits_two, waits_one, leaves_pipe, closes_old, dups_kept, drops_read, drops_write, plain_fds}

@@ -16,8 +16,8 @@ use Rattle.user_calls.specs.declared.calls.Call.{Call}
 use Rattle.user_calls.specs.declared.calls.Call.TheVariants.{Fork, Exec, Exit, Wait, MakePipe, Read, Write, OpenFile, Close, Dup}
 use Rattle.user_progs.specs.State.{State}
 use Rattle.user_progs.specs.View.{first_state}
-use Rattle.program_model.specs.Alone.{OwnFile}
-use Rattle.program_model.specs.Tame.{IsTame}
+use Rattle.tree_model.specs.Alone.{OwnFile}
+use Rattle.tree_model.specs.Tame.{IsTame}
 use Rattle.fd_table.specs.Entries.{is_free, free_count}
 use Rattle.sh_machine.specs.Turn.{runs, execs_found, takes_first}
 use Rattle.tree_model.specs.Residual.{Running}

@@ -13,7 +13,7 @@ use Rattle.user_calls.specs.declared.calls.Call.TheVariants.{Fork, Exec, Exit, W
 use Rattle.user_progs.specs.State.{State}
 use Rattle.user_progs.specs.Turn.{block}
 use Rattle.user_progs.specs.View.{first_state}
-use Rattle.program_model.specs.Tame.{IsTame}
+use Rattle.tree_model.specs.Tame.{IsTame}
 use Rattle.sh_machine.specs.Turn.{runs, execs_found, takes_first, call_mode}
 use Rattle.tree_model.specs.Residual.{Running}
 use Rattle.tree_model.specs.Begin.{begun_words}

@@ -8,7 +8,7 @@ use Rattle.conflict_check.specs.Clear.{has_back}
 use Rattle.script_load.specs.Line.{ScriptLine}
 use Rattle.script_load.specs.declared.profile.Profile.{Profile}
 use Rattle.meaning_model.specs.Meaning.{script_tree}
-use Rattle.program_model.specs.Tame.{Among}
+use Rattle.tree_model.specs.Tame.{Among}
 use Rattle.user_calls.specs.declared.calls.Call.{Call}
 use Rattle.fd_table.specs.declared.descriptors.TheConstants.{DESCRIPTORS}
 use Rattle.fd_table.specs.declared.entries.TheConstants.{ENTRIES}

@@ -20,7 +20,7 @@ use Rattle.conflict_check.specs.Names.{writes}
 use Rattle.script_load.specs.Line.{ScriptLine}
 use Rattle.script_load.specs.declared.profile.Profile.{Profile}
 use Rattle.meaning_model.specs.Meaning.{script_tree}
-use Rattle.program_model.specs.Tame.{Among}
+use Rattle.tree_model.specs.Tame.{Among}
 use Rattle.tree_model.specs.Residual.{Residual, left_writes}
 use Rattle.tree_model.specs.Rules.{Label, silent, takes, meets_end, puts, refused, Steps, IsMet}
 use Rattle.tree_model.specs.Step.{Move}

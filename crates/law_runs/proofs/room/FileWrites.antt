@@ -9,8 +9,8 @@ use Rattle.user_calls.specs.declared.calls.Call.TheVariants.{Fork, Exec, Exit, W
 use Rattle.user_progs.specs.State.{State}
 use Rattle.user_progs.specs.Turn.{Turn}
 use Rattle.user_progs.specs.View.{first_state}
-use Rattle.program_model.specs.Tame.{IsTame, Among}
-use Rattle.program_model.specs.FilesAhead.{Sizes}
+use Rattle.tree_model.specs.Tame.{IsTame, Among}
+use Rattle.tree_model.specs.FilesAhead.{Sizes}
 use Rattle.sh_machine.specs.Turn.{runs, execs_found}
 use Rattle.tree_model.specs.Bound.{bytes_left}
 use Rattle.tree_model.specs.ProgramBytes.{call_bytes, write_bytes}

@@ -14,7 +14,7 @@ use Rattle.user_calls.specs.declared.calls.Reply.{Reply}
 use Rattle.user_calls.specs.declared.calls.Reply.TheVariants.{Done, Refused}
 use Rattle.user_progs.specs.State.{Filter, copying, heading, counting, searching, Source, standard, file, tee_opens, tee_reads, tee_writes, tee_gives, State, begins, echo_word, echo_space, opens, works, closes, tees, told, ended}
 use Rattle.user_progs.specs.Turn.{Answer, yields, denies, strays, fd_in, bytes_in, done_in, Turn, turn, Step, reads, writes, finishes, fails, quits, turn_by, opens_next, opened_by, closed_by, after_source, begins_filter, begins_head, begins_grep, begins_program, first_step, work_step, filter_of, name_of, echo_next, echo_end, tee_opens_next, tee_opened, tee_got, tee_gives_next, tee_wrote, tee_turn}
-use Rattle.program_model.specs.Alone.{OwnFile, World, held, moved_on, closed, readable, may_write, can_open, after_read, after_file_write, after_done_write, after_write, after_call, done_if}
+use Rattle.tree_model.specs.Alone.{OwnFile, World, held, moved_on, closed, readable, may_write, can_open, after_read, after_file_write, after_done_write, after_write, after_call, done_if}
 use Rattle.tree_model.specs.Residual.{Running, alone}
 use Rattle.tree_model.specs.Begin.{begun, begun_words}
 use Rattle.tree_model.specs.Answers.{kind_of, open_reply, read_reply, reply_of, resumed, replied, answer}

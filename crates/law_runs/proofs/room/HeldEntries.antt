@@ -6,7 +6,7 @@ use Rattle.sh_tree.specs.declared.tree.Mode.TheVariants.{Input, Fresh, Over}
 use Rattle.sh_tree.specs.Tree.{Tree}
 use Rattle.mem_files.specs.Name.{Name}
 use Rattle.script_load.specs.declared.profile.Profile.{Profile}
-use Rattle.program_model.specs.Tame.{Among}
+use Rattle.tree_model.specs.Tame.{Among}
 use Rattle.process_model.specs.Seen.{Entry, input, out, diag, reader, writer, file, Fds, fd_at, Act, live, View}
 use Rattle.process_model.specs.Own.{Owned, owned_at, OwnFds}
 use Rattle.process_model.specs.Effect.{HasOpen, Holds}

@@ -2,7 +2,7 @@
 use Rattle.std.proofs.Common.{◌≡◌, inl, inr, ℕ, zero, suc, ◌+◌, ◌<◌, ◌≤◌, List, [], ◌∷◌, Option, Some, None, length, get_or, refl, sym, ap, ◌∙◌, arith}
 use Rattle.std.proofs.lemmas.List.Sums.{sum_by-cons}
 use Rattle.std.specs.Prelude.{cond}
-use Rattle.program_model.specs.Tame.{Among}
+use Rattle.tree_model.specs.Tame.{Among}
 use Rattle.fd_table.specs.Entries.{Entries, OpenFile, entry_at, is_free, free_count}
 use Rattle.process_model.specs.Shape.{same}
 use Rattle.process_model.proofs.Counts.{same_other, same_cases}

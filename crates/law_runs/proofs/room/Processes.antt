@@ -8,7 +8,7 @@ use Rattle.script_load.specs.declared.profile.Profile.{Profile}
 use Rattle.script_load.specs.Line.{ScriptLine}
 use Rattle.meaning_model.specs.Meaning.{line_tree, script_tree}
 use Rattle.prog_parts.specs.declared.program.Program.{Program}
-use Rattle.program_model.specs.Tame.{IsTame}
+use Rattle.tree_model.specs.Tame.{IsTame}
 use Rattle.user_calls.specs.declared.calls.Call.{Call}
 use Rattle.user_calls.specs.declared.calls.Call.TheVariants.{Fork, Exec, Exit, Wait, MakePipe, Read, Write, OpenFile, Close, Dup}
 use Rattle.user_progs.specs.State.{State}

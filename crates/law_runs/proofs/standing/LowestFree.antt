@@ -5,7 +5,7 @@ use Rattle.std.specs.Option.{is_some}
 use Rattle.std.specs.List.{position_or_len}
 use Rattle.std.proofs.lemmas.Bool.{ltb-true, cases_lt, both_ways}
 use Rattle.fd_table.specs.Entries.{is_free}
-use Rattle.program_model.specs.Alone.{OwnFile, World, held}
+use Rattle.tree_model.specs.Alone.{OwnFile, World, held}
 use Rattle.tree_model.specs.Answers.{all_fds, lowest, new_fd}
 use Rattle.law_trees.proofs.trees.Calls.{is_new}
 use Rattle.process_model.specs.Seen.{Entry, Fds, fd_at}

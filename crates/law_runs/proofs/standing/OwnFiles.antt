@@ -3,8 +3,8 @@ use Rattle.std.proofs.Common.{◌≡◌, ◌≢◌, ◌⊎◌, inl, inr, ℕ, �
 use Rattle.std.specs.Prelude.{if◌then◌else◌}
 use Rattle.std.specs.Option.{is_some}
 use Rattle.std.proofs.lemmas.Bool.{eqb-true, eq-eqb, ne_eqb, both_ways}
-use Rattle.program_model.specs.Alone.{held, moved_on, closed}
-use Rattle.program_model.specs.Tame.{Among, without}
+use Rattle.tree_model.specs.Alone.{held, moved_on, closed}
+use Rattle.tree_model.specs.Tame.{Among, without}
 use Rattle.process_model.specs.Seen.{file, Place, View}
 use Rattle.process_model.specs.Shape.{same, owned_names}
 use Rattle.process_model.specs.Own.{Owned, own_files, own_fds, owned_at, AreApart, place_of, ArePlaced, Appends, NoneAppends}

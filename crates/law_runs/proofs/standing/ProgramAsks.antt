@@ -17,8 +17,8 @@ use Rattle.user_calls.specs.declared.calls.Reply.{Reply}
 use Rattle.user_calls.specs.declared.calls.Reply.TheVariants.{Done, Bytes as Bytes', Refused}
 use Rattle.user_progs.specs.State.{State}
 use Rattle.user_progs.specs.Turn.{turn}
-use Rattle.program_model.specs.Alone.{held, is_to_read, left_of_file, is_writable, done_if, after_file_write, after_call}
-use Rattle.program_model.specs.Tame.{opened_after}
+use Rattle.tree_model.specs.Alone.{held, is_to_read, left_of_file, is_writable, done_if, after_file_write, after_call}
+use Rattle.tree_model.specs.Tame.{opened_after}
 use Rattle.tree_model.specs.Residual.{Running, running, alone}
 use Rattle.tree_model.specs.Answers.{asks, kind_of, read_reply, replied, files_after, answer}
 use Rattle.tree_model.specs.Rules.{silent, Steps, calls}
@@ -54,7 +54,7 @@ module _ (profile : Profile) (V W : View) (a b old : Entry) (parent p : ℕ) (ev
   pub answers : (call : Call) (reply : Reply) (g : Before call) → Answers V W p parent (program_act (goes_on.waiting call next)) reply g.has.fds → kind_of call ≡ asks → answer (run call) V.files ≡ reply → after_call call reply (alone (run call) V.files) ≡ alone (run call) V.files → opened_after call reply (own_fds owns) ≡ own_fds owns → Afterwards call
   answers call reply g f kind is same fds =
       goes_on.goes_alike profile V W a b old parent p call next put owns reply silent V.files g f.slots (λ k l. f.rest.places k) fds
-      (asked call reply owns V.files kind is (ap (λ (w : Rattle.program_model.specs.Alone.World). w.own) same) (sym (ap (λ (w : Rattle.program_model.specs.Alone.World). w.files) same)))
+      (asked call reply owns V.files kind is (ap (λ (w : Rattle.tree_model.specs.Alone.World). w.own) same) (sym (ap (λ (w : Rattle.tree_model.specs.Alone.World). w.files) same)))
       (kinds.same_of V W f.rest a, kinds.same_of V W f.rest b, f.rest.files) (goes_on.all_leave profile V W a b old parent p call next put owns f.rest)
 
   -- the entry of a file of its own goes on
@@ -154,7 +154,7 @@ module _ (profile : Profile) (V W : View) (a b old : Entry) (parent p : ℕ) (ev
         let F = with_file V.files (V.places e).name (written h (V.places e).at bytes) in
         goes_further at_fd Done g (suc (suc (suc fd))) (length bytes) o F slots change refl
         (granted true (ap (λ (c : Bool). not c && nat_le own.at (length (bytes_of (V.files own.name)))) mode ∙ within))
-        (ap (λ h. (after_file_write h bytes (alone (run at_fd) V.files)).own) o.held_is ∙ ap (λ n. Rattle.program_model.specs.Alone.moved_on (own_files owns) n (length bytes)) o.fd_is ∙ moved_files (suc (suc (suc fd))) (length bytes) owns)
+        (ap (λ h. (after_file_write h bytes (alone (run at_fd) V.files)).own) o.held_is ∙ ap (λ n. Rattle.tree_model.specs.Alone.moved_on (own_files owns) n (length bytes)) o.fd_is ∙ moved_files (suc (suc (suc fd))) (length bytes) owns)
         (ap (λ (x : Place). with_file V.files x.name (written h x.at bytes)) o.placed ∙ ap (λ l. with_file V.files own.name (written l own.at bytes)) (sym is) ∙ sym (ap (λ h. (after_file_write h bytes (alone (run at_fd) V.files)).files) o.held_is))
         refl
 

@@ -6,7 +6,7 @@ use Rattle.user_calls.specs.declared.calls.Call.{Call}
 use Rattle.user_calls.specs.declared.calls.Reply.{Reply}
 use Rattle.user_progs.specs.State.{State}
 use Rattle.user_progs.specs.Turn.{Turn, turn}
-use Rattle.program_model.specs.Tame.{AreTame, opened_after}
+use Rattle.tree_model.specs.Tame.{AreTame, opened_after}
 use Rattle.tree_model.specs.Residual.{running}
 use Rattle.tree_model.specs.Rules.{Label, Steps}
 use Rattle.process_model.specs.Seen.{Entry, Fds, View}

@@ -11,7 +11,7 @@ use Rattle.user_calls.specs.declared.calls.Mode.{Mode}
 use Rattle.user_calls.specs.declared.calls.Mode.TheVariants.{Input as ToRead, Fresh}
 use Rattle.user_calls.specs.declared.calls.Reply.TheVariants.{Fd, Refused}
 use Rattle.user_progs.specs.State.{State}
-use Rattle.program_model.specs.Alone.{opened_files, can_open}
+use Rattle.tree_model.specs.Alone.{opened_files, can_open}
 use Rattle.tree_model.specs.Residual.{alone}
 use Rattle.tree_model.specs.Rules.{silent}
 use Rattle.tree_model.specs.Answers.{open_reply}

@@ -10,7 +10,7 @@ use Rattle.user_calls.specs.declared.calls.Mode.{Mode}
 use Rattle.user_calls.specs.declared.calls.Mode.TheVariants.{Input as ToRead, Fresh}
 use Rattle.user_progs.specs.State.{State}
 use Rattle.user_progs.specs.Turn.{Turn}
-use Rattle.program_model.specs.Tame.{Among, mode_of, IsTame}
+use Rattle.tree_model.specs.Tame.{Among, mode_of, IsTame}
 use Rattle.tree_model.specs.Rules.{exits}
 use Rattle.process_model.specs.Seen.{Entry, live, View}
 use Rattle.process_model.specs.Own.{Owned, own_fds, PutFits, program_act}

@@ -14,11 +14,11 @@ use Rattle.user_calls.specs.declared.calls.Call.TheVariants.{Read}
 use Rattle.meaning_model.specs.Inputs.{found}
 use Rattle.user_progs.specs.State.{Source, standard, file, Work, cat_reads, cat_writes, head_reads, head_writes, wc_reads, wc_writes, grep_reads, grep_writes, Tee, tee_opens, tee_reads, tee_writes, tee_gives, State, begins, echo_word, echo_space, opens, works, closes, tees, told, ended}
 use Rattle.user_progs.specs.Turn.{block, fd_of}
-use Rattle.program_model.specs.Alone.{OwnFile, World, held}
-use Rattle.program_model.specs.Given.{place_or, place_in, IsAt, AreAt}
-use Rattle.program_model.specs.Waits.{IsWrite, IsOpenToRead, IsOpen, WorkWaits, TeeWaits, Waits}
-use Rattle.program_model.specs.Frame.{is_held, is_given, depends_on, may_change}
-use Rattle.program_model.specs.Calls.{IsOwn, ReadsOpen, WritesOpen, MayCall}
+use Rattle.tree_model.specs.Alone.{OwnFile, World, held}
+use Rattle.tree_model.specs.Given.{place_or, place_in, IsAt, AreAt}
+use Rattle.tree_model.specs.Waits.{IsWrite, IsOpenToRead, IsOpen, WorkWaits, TeeWaits, Waits}
+use Rattle.tree_model.specs.Frame.{is_held, is_given, depends_on, may_change}
+use Rattle.tree_model.specs.Calls.{IsOwn, ReadsOpen, WritesOpen, MayCall}
 use Rattle.law_trees.proofs.programs.Keeps.{found_short}
 use Rattle.law_trees.proofs.programs.Framing.{itself}
 use Rattle.law_trees.proofs.programs.Elsewhere.{given_here}

@@ -10,11 +10,11 @@ use Rattle.meaning_model.specs.Value.{Value}
 use Rattle.meaning_model.specs.Programs.{program_value}
 use Rattle.user_progs.specs.State.{Work, cat_reads, cat_writes, head_reads, head_writes, wc_reads, wc_writes, grep_reads, grep_writes, Tee, tee_opens, tee_reads, tee_writes, tee_gives, State, begins, echo_word, echo_space, opens, works, closes, tees, told, ended}
 use Rattle.user_progs.specs.Turn.{turn, fd_of}
-use Rattle.program_model.specs.Alone.{World, May, after_call, to_out}
-use Rattle.program_model.specs.Still.{still, after_bytes}
-use Rattle.program_model.specs.Waits.{BeginsShort, WorkWaits, TeeWaits, Waits}
-use Rattle.program_model.specs.Runs.{Process, first_process, after_reply, after_replies, MayBe, Comes}
-use Rattle.program_model.specs.Fits.{Fits}
+use Rattle.tree_model.specs.Alone.{World, May, after_call, to_out}
+use Rattle.tree_model.specs.Still.{still, after_bytes}
+use Rattle.tree_model.specs.Waits.{BeginsShort, WorkWaits, TeeWaits, Waits}
+use Rattle.tree_model.specs.ProgramRuns.{Process, first_process, after_reply, after_replies, MayBe, Comes}
+use Rattle.tree_model.specs.Fits.{Fits}
 use Rattle.law_trees.proofs.programs.Keeps.{call_kept}
 use Rattle.law_trees.proofs.programs.Fitting.{fits_on}
 use Rattle.law_trees.proofs.programs.Waiting.{waits_on}

@@ -9,8 +9,8 @@ use Rattle.prog_parts.specs.Wc.{line_ends, words_after, ends_inside, capped}
 use Rattle.user_progs.specs.State.{counting, wc_reads}
 use Rattle.user_progs.specs.Turn.{yields, counts_line, wc_got, block}
 use Rattle.prog_parts.proofs.CountsOfParts.{line_ends_more, words_more}
-use Rattle.program_model.specs.Alone.{Takes}
-use Rattle.program_model.specs.Still.{work_out}
+use Rattle.tree_model.specs.Alone.{Takes}
+use Rattle.tree_model.specs.Still.{work_out}
 use Rattle.law_trees.proofs.programs.Work.{Kept, left_over}
 
 pub capped_again : (a : ℕ) → capped (capped a) ≡ capped a

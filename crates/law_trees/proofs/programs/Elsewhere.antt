@@ -10,12 +10,12 @@ use Rattle.mem_files.specs.Name.{Name, Bytes}
 use Rattle.mem_files.specs.Files.{FileMap, bytes_of}
 use Rattle.user_calls.specs.declared.calls.Call.{Call}
 use Rattle.user_progs.specs.State.{Source, standard, file, Tee, tee_opens, tee_reads, tee_writes, tee_gives, State, begins, echo_word, echo_space, opens, works, closes, tees, told, ended}
-use Rattle.program_model.specs.Ahead.{still_opens, still_writes}
-use Rattle.program_model.specs.Alone.{OwnFile, World, held}
-use Rattle.program_model.specs.Given.{place_or, place_in, IsAt, AreAt}
-use Rattle.program_model.specs.Waits.{IsOpen, TeeWaits, Waits}
-use Rattle.program_model.specs.Frame.{is_given, tee_holds, holds, holds_to_write, depends_on, may_change}
-use Rattle.program_model.specs.Fits.{IsWithin, AreWithin, outputs, Fits}
+use Rattle.tree_model.specs.Ahead.{still_opens, still_writes}
+use Rattle.tree_model.specs.Alone.{OwnFile, World, held}
+use Rattle.tree_model.specs.Given.{place_or, place_in, IsAt, AreAt}
+use Rattle.tree_model.specs.Waits.{IsOpen, TeeWaits, Waits}
+use Rattle.tree_model.specs.Frame.{is_given, tee_holds, holds, holds_to_write, depends_on, may_change}
+use Rattle.tree_model.specs.Fits.{IsWithin, AreWithin, outputs, Fits}
 use Rattle.law_trees.proofs.programs.Framing.{itself}
 use Rattle.law_trees.proofs.programs.Holding.{cut_given, written_held}
 use Rattle.meaning_model.proofs.Bools.{not_left, not_right}

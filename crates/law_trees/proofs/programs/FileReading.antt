@@ -8,7 +8,7 @@ use Rattle.mem_files.specs.Name.{Name, Bytes}
 use Rattle.mem_files.specs.Files.{FileMap, bytes_of}
 use Rattle.prog_parts.specs.declared.program.Program.{Program}
 use Rattle.prog_parts.specs.declared.program.Program.TheVariants.{Cat, Echo, Grep, Head, Tee as Tee', Wc}
-use Rattle.prog_parts.specs.Head.{head_files, has_wrong_option}
+use Rattle.prog_parts.specs.Head.{head_files, has_wrong_option, line_count}
 use Rattle.prog_parts.specs.Program.{file_words}
 use Rattle.prog_parts.specs.NameSets.{among}
 use Rattle.user_calls.specs.Limits.{block_size}
@@ -18,13 +18,12 @@ use Rattle.user_calls.specs.declared.calls.Call.TheVariants.{Read, Write, OpenFi
 use Rattle.user_calls.specs.declared.calls.Reply.{Reply}
 use Rattle.user_calls.specs.declared.calls.Reply.TheVariants.{Done, Bytes as Bytes', Refused}
 use Rattle.meaning_model.specs.Inputs.{found}
-use Rattle.prog_parts.specs.Head.{line_count}
 use Rattle.user_progs.specs.State.{Filter, copying, heading, counting, searching, Source, standard, file, Work, Tee, tee_opens, tee_reads, tee_writes, tee_gives, State, begins, echo_word, echo_space, opens, works, closes, tees, told, ended}
 use Rattle.user_progs.specs.Turn.{Answer, yields, denies, strays, Step, reads, writes, finishes, fails, quits, bytes_in, fd_in, done_in, block, turn, turn_by, first_step, work_step, filter_of, name_of, fd_of, opens_next, begins_filter, begins_head, begins_program, echo_next, echo_end, tee_waits, tee_opens_next, tee_cannot_open, tee_opened, tee_got, tee_wrote, tee_turn}
-use Rattle.program_model.specs.Alone.{OwnFile, World, is_to_read, held, moved_on, left_of_file, left_at, Takes, MayOpen, May, done_if, after_read, after_call}
-use Rattle.program_model.specs.Waits.{IsOpen, WorkWaits, TeeWaits, Waits}
-use Rattle.program_model.specs.Frame.{is_held, depends_on}
-use Rattle.program_model.specs.FilesAhead.{Sizes, sizes, left_in_file, all_sizes, source_ahead, files_ahead, read_of_file, from_files}
+use Rattle.tree_model.specs.Alone.{OwnFile, World, is_to_read, held, moved_on, left_of_file, left_at, Takes, MayOpen, May, done_if, after_read, after_call}
+use Rattle.tree_model.specs.Waits.{IsOpen, WorkWaits, TeeWaits, Waits}
+use Rattle.tree_model.specs.Frame.{is_held, depends_on}
+use Rattle.tree_model.specs.FilesAhead.{Sizes, sizes, left_in_file, all_sizes, source_ahead, files_ahead, read_of_file, from_files}
 use Rattle.law_trees.proofs.programs.Keeps.{heard_read, found_short}
 use Rattle.law_trees.proofs.programs.Teeing.{new_file}
 use Rattle.law_trees.proofs.programs.Waiting.{IsOwnCall, own_call}

@@ -4,8 +4,8 @@ use Rattle.meaning_model.specs.Firm.{IsFirm}
 use Rattle.meaning_model.specs.Tee.{are_openable}
 use Rattle.meaning_model.proofs.Firm.{firm_if, firm_program, is_firm}
 use Rattle.user_progs.specs.State.{standard, file, tee_opens, tee_reads, tee_writes, tee_gives, State, begins, echo_word, echo_space, opens, works, closes, tees, told, ended}
-use Rattle.program_model.specs.Alone.{World}
-use Rattle.program_model.specs.Still.{still}
+use Rattle.tree_model.specs.Alone.{World}
+use Rattle.tree_model.specs.Still.{still}
 
 pub still_firm : (state : State) (world : World) → IsFirm (still state world)
 still_firm (begins program arguments) world = firm_program (Some program) arguments world.input world.files

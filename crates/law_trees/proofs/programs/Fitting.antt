@@ -16,10 +16,10 @@ use Rattle.user_calls.specs.declared.calls.Reply.{Reply}
 use Rattle.user_calls.specs.declared.calls.Mode.TheVariants.{Fresh}
 use Rattle.user_progs.specs.State.{Tee, tee_opens, tee_reads, tee_writes, tee_gives, State, tees}
 use Rattle.user_progs.specs.Turn.{Answer, yields, denies, strays, bytes_in, done_in, turn, tee_waits, tee_opens_next, tee_got, tee_wrote, tee_turn}
-use Rattle.program_model.specs.Alone.{OwnFile, World, held, moved_on, is_writable, may_write, May, after_read, after_file_write, after_done_write, after_write, after_call}
-use Rattle.program_model.specs.Given.{IsAt, AreAt}
-use Rattle.program_model.specs.Waits.{TeeWaits, Waits}
-use Rattle.program_model.specs.Fits.{IsWithin, AreWithin, outputs, Fits}
+use Rattle.tree_model.specs.Alone.{OwnFile, World, held, moved_on, is_writable, may_write, May, after_read, after_file_write, after_done_write, after_write, after_call}
+use Rattle.tree_model.specs.Given.{IsAt, AreAt}
+use Rattle.tree_model.specs.Waits.{TeeWaits, Waits}
+use Rattle.tree_model.specs.Fits.{IsWithin, AreWithin, outputs, Fits}
 use Rattle.law_trees.proofs.programs.Giving.{held_fd, held_moved, held_other}
 use Rattle.law_trees.proofs.programs.Teeing.{new_file, with_new, by_open}
 use Rattle.law_trees.proofs.programs.Next.{turn_next}

@@ -10,23 +10,22 @@ use Rattle.mem_files.specs.Name.{Name, Bytes, is_openable}
 use Rattle.mem_files.specs.Files.{FileMap, with_file, bytes_of}
 use Rattle.prog_parts.specs.declared.program.Program.{Program}
 use Rattle.prog_parts.specs.declared.program.Program.TheVariants.{Cat, Echo, Grep, Head, Tee as Tee', Wc}
-use Rattle.prog_parts.specs.Head.{head_files, has_wrong_option}
+use Rattle.prog_parts.specs.Head.{head_files, has_wrong_option, first_lines, after_lines, line_count}
 use Rattle.prog_parts.specs.NameSets.{Names, among}
 use Rattle.user_calls.specs.declared.calls.Call.{Call}
 use Rattle.meaning_model.specs.Value.{fixed, nothing}
 use Rattle.meaning_model.specs.Inputs.{of_found, of_files, filter_value}
 use Rattle.prog_parts.specs.Grep.{grep_out, grep_left}
-use Rattle.prog_parts.specs.Head.{first_lines, after_lines, line_count}
 use Rattle.prog_parts.specs.Wc.{wc_line}
 use Rattle.meaning_model.specs.Tee.{filled, are_openable}
 use Rattle.meaning_model.specs.Programs.{program_value}
 use Rattle.user_progs.specs.State.{Source, standard, file, Work, Tee, tee_opens, tee_reads, tee_writes, tee_gives, State, begins, echo_word, echo_space, opens, works, closes, tees, told, ended}
 use Rattle.user_progs.specs.Turn.{filter_of}
-use Rattle.program_model.specs.Alone.{OwnFile, World, is_to_read, held, left_of_file, left_at}
-use Rattle.program_model.specs.Given.{place_in, written_from, given, given_block, left_open}
-use Rattle.program_model.specs.Still.{of_input, work_out, work_still, tee_still, still}
-use Rattle.program_model.specs.Waits.{BeginsShort, Waits}
-use Rattle.program_model.specs.Frame.{is_held, is_given, depends_on, may_change, only_changed}
+use Rattle.tree_model.specs.Alone.{OwnFile, World, is_to_read, held, left_of_file, left_at}
+use Rattle.tree_model.specs.Given.{place_in, written_from, given, given_block, left_open}
+use Rattle.tree_model.specs.Still.{of_input, work_out, work_still, tee_still, still}
+use Rattle.tree_model.specs.Waits.{BeginsShort, Waits}
+use Rattle.tree_model.specs.Frame.{is_held, is_given, depends_on, may_change, only_changed}
 use Rattle.meaning_model.proofs.Bools.{not_left, not_right}
 
 abbrev Agree : Names → FileMap → FileMap → Type 0

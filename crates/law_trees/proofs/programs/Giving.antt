@@ -9,8 +9,8 @@ use Rattle.mem_files.specs.Name.{Name, Bytes}
 use Rattle.mem_files.specs.Files.{FileMap, with_file, bytes_of}
 use Rattle.mem_files.specs.Overlay.{written}
 use Rattle.mem_files.proofs.Overlays.{written_start, written_none, written_twice, written_again}
-use Rattle.program_model.specs.Alone.{OwnFile, World, is_to_read, held, moved_on, after_file_write, after_done_write}
-use Rattle.program_model.specs.Given.{place_or, place_in, written_from, given, given_block, IsAt, AreAt, AreOthers, AreDistinct}
+use Rattle.tree_model.specs.Alone.{OwnFile, World, is_to_read, held, moved_on, after_file_write, after_done_write}
+use Rattle.tree_model.specs.Given.{place_or, place_in, written_from, given, given_block, IsAt, AreAt, AreOthers, AreDistinct}
 
 -- what is open at a descriptor, after one of them went on
 

@@ -9,7 +9,7 @@ use Rattle.std.proofs.lemmas.List.{take_all, take-append-drop}
 use Rattle.mem_files.specs.Name.{Name, Bytes}
 use Rattle.prog_parts.specs.declared.program.Program.{Program}
 use Rattle.prog_parts.specs.declared.program.Program.TheVariants.{Cat, Echo, Grep, Head, Tee as Tee', Wc}
-use Rattle.prog_parts.specs.Head.{head_files, has_wrong_option}
+use Rattle.prog_parts.specs.Head.{head_files, has_wrong_option, line_count}
 use Rattle.prog_parts.specs.NameSets.{among}
 use Rattle.user_calls.specs.Limits.{block_size}
 use Rattle.user_calls.specs.declared.calls.Mode.TheVariants.{Input, Fresh}
@@ -17,14 +17,13 @@ use Rattle.user_calls.specs.declared.calls.Call.{Call}
 use Rattle.user_calls.specs.declared.calls.Call.TheVariants.{Write, OpenFile}
 use Rattle.user_calls.specs.declared.calls.Reply.{Reply}
 use Rattle.user_calls.specs.declared.calls.Reply.TheVariants.{Fd}
-use Rattle.prog_parts.specs.Head.{line_count}
 use Rattle.user_progs.specs.State.{Filter, copying, heading, counting, searching, Source, standard, file, Tee, tee_opens, tee_reads, tee_writes, tee_gives, State, begins, echo_word, echo_space, opens, works, closes, tees, told, ended}
 use Rattle.user_progs.specs.Turn.{Answer, yields, denies, strays, Turn, Step, reads, writes, finishes, fails, quits, bytes_in, fd_in, done_in, closed_by, turn, turn_by, first_step, work_step, filter_of, name_of, fd_of, block, opened_by, opens_next, begins_filter, begins_head, begins_program, echo_next, echo_end, tee_waits, tee_opens_next, tee_got, tee_gives_next, tee_wrote, tee_turn}
-use Rattle.program_model.specs.Ahead.{tee_opens_still, still_opens, still_writes}
-use Rattle.program_model.specs.Alone.{OwnFile, World, held, moved_on, MayOpen, May, can_open, after_read, after_file_write, after_write, after_call}
-use Rattle.program_model.specs.Given.{place_or, place_in, AreAt}
-use Rattle.program_model.specs.Waits.{TeeWaits, Waits}
-use Rattle.program_model.specs.Frame.{is_held, is_given, source_holds, tee_holds, holds, holds_to_write, depends_on, may_change}
+use Rattle.tree_model.specs.Ahead.{tee_opens_still, still_opens, still_writes}
+use Rattle.tree_model.specs.Alone.{OwnFile, World, held, moved_on, MayOpen, May, can_open, after_read, after_file_write, after_write, after_call}
+use Rattle.tree_model.specs.Given.{place_or, place_in, AreAt}
+use Rattle.tree_model.specs.Waits.{TeeWaits, Waits}
+use Rattle.tree_model.specs.Frame.{is_held, is_given, source_holds, tee_holds, holds, holds_to_write, depends_on, may_change}
 use Rattle.law_trees.proofs.programs.Giving.{opened_place, new_other}
 use Rattle.law_trees.proofs.programs.Teeing.{with_new, new_file, by_open}
 use Rattle.law_trees.proofs.programs.Keeps.{found_short}

@@ -10,7 +10,7 @@ use Rattle.mem_files.specs.Name.{Name, Bytes, is_openable}
 use Rattle.mem_files.specs.Files.{FileMap, bytes_of}
 use Rattle.prog_parts.specs.declared.program.Program.{Program}
 use Rattle.prog_parts.specs.declared.program.Program.TheVariants.{Cat, Echo, Grep, Head, Tee as Tee', Wc}
-use Rattle.prog_parts.specs.Head.{head_files, has_wrong_option}
+use Rattle.prog_parts.specs.Head.{head_files, has_wrong_option, first_lines, after_lines, line_count}
 use Rattle.user_calls.specs.Limits.{block_size}
 use Rattle.user_calls.specs.declared.calls.Mode.TheVariants.{Input}
 use Rattle.user_calls.specs.declared.calls.Call.{Call}
@@ -19,19 +19,18 @@ use Rattle.user_calls.specs.declared.calls.Reply.{Reply}
 use Rattle.user_calls.specs.declared.calls.Reply.TheVariants.{Done, Bytes as Bytes', Fd}
 use Rattle.meaning_model.specs.Value.{Value, fixed, nothing}
 use Rattle.meaning_model.specs.Inputs.{found, of_found, of_files, filter_value}
-use Rattle.prog_parts.specs.Head.{first_lines, after_lines, line_count}
 use Rattle.meaning_model.specs.Programs.{echo_out, program_value}
 use Rattle.user_progs.specs.State.{Filter, copying, heading, counting, searching, Source, standard, file, Work, cat_reads, cat_writes, head_reads, head_writes, wc_reads, wc_writes, grep_reads, grep_writes, Tee, tee_opens, tee_reads, tee_writes, tee_gives, State, begins, echo_word, echo_space, opens, works, closes, tees, told, ended}
 use Rattle.user_progs.specs.Turn.{Turn, yields, Step, reads, writes, finishes, fails, quits, turn, turn_by, first_step, work_step, filter_of, fd_of, block, opens_next, begins_filter, begins_head, begins_program, name_of, echo_next, echo_end}
-use Rattle.program_model.specs.Alone.{OwnFile, World, is_to_read, can_open, held, moved_on, left_of_file, readable, left_at, Takes, MayRead, MayOpen, may_write, done_if, May, opened_files, after_read, after_call, to_out}
-use Rattle.program_model.specs.Still.{of_input, work_out, work_rest, work_still, echo_rest, still, after_bytes, left_of}
-use Rattle.program_model.specs.Waits.{AreShort, BeginsShort, IsWrite, IsOpenToRead, IsOpen, WorkWaits, TeeWaits, Waits}
+use Rattle.tree_model.specs.Alone.{OwnFile, World, is_to_read, can_open, held, moved_on, left_of_file, readable, left_at, Takes, MayRead, MayOpen, may_write, done_if, May, opened_files, after_read, after_call, to_out}
+use Rattle.tree_model.specs.Still.{of_input, work_out, work_rest, work_still, echo_rest, still, after_bytes, left_of}
+use Rattle.tree_model.specs.Waits.{AreShort, BeginsShort, IsWrite, IsOpenToRead, IsOpen, WorkWaits, TeeWaits, Waits}
 use Rattle.user_progs.proofs.Blocks.{too_long}
-use Rattle.program_model.specs.Fits.{AreWithin, outputs, Fits}
+use Rattle.tree_model.specs.Fits.{AreWithin, outputs, Fits}
 use Rattle.law_trees.proofs.programs.Fitting.{gives_done}
 use Rattle.law_trees.proofs.programs.Teeing.{tee_next_kept, tee_open_kept, tee_read_kept, gives_next_kept, gave}
 use Rattle.law_trees.proofs.programs.Work.{Kept, GoesOn, step_out, step_rest, begins_kept, cat_kept, head_kept, head_begins}
-use Rattle.program_model.specs.Reads.{unread}
+use Rattle.tree_model.specs.Reads.{unread}
 use Rattle.law_trees.proofs.programs.Counting.{wc_kept}
 use Rattle.law_trees.proofs.programs.Search.{buffer_kept, grep_kept}
 

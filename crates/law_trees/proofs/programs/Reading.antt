@@ -7,22 +7,21 @@ use Rattle.mem_files.specs.Name.{Name, Bytes}
 use Rattle.mem_files.specs.Files.{FileMap, bytes_of}
 use Rattle.prog_parts.specs.declared.program.Program.{Program}
 use Rattle.prog_parts.specs.declared.program.Program.TheVariants.{Cat, Echo, Grep, Head, Tee as Tee', Wc}
-use Rattle.prog_parts.specs.Head.{head_files, has_wrong_option}
+use Rattle.prog_parts.specs.Head.{head_files, has_wrong_option, line_count}
 use Rattle.user_calls.specs.declared.calls.Mode.TheVariants.{Input, Fresh}
 use Rattle.user_calls.specs.declared.calls.Call.{Call}
 use Rattle.user_calls.specs.declared.calls.Call.TheVariants.{Read, Write, OpenFile, Close}
 use Rattle.user_calls.specs.declared.calls.Reply.{Reply}
 use Rattle.user_calls.specs.declared.calls.Reply.TheVariants.{Done, Fd, Refused}
 use Rattle.meaning_model.specs.Inputs.{found}
-use Rattle.prog_parts.specs.Head.{line_count}
 use Rattle.meaning_model.specs.Tee.{are_openable}
 use Rattle.user_progs.specs.State.{Filter, copying, heading, counting, searching, standard, file, Tee, tee_opens, tee_reads, tee_writes, tee_gives, State, begins, echo_word, echo_space, opens, works, closes, tees, told, ended}
 use Rattle.user_progs.specs.Turn.{Answer, yields, denies, strays, bytes_in, done_in, block, turn, turn_by, first_step, opens_next, begins_filter, begins_head, begins_program, echo_next, echo_end, tee_waits, tee_opens_next, tee_got, tee_gives_next, tee_wrote, tee_turn}
-use Rattle.program_model.specs.Alone.{OwnFile, World, can_open, held, left_of_file, left_at, Takes, MayOpen, May, may_write, done_if, after_read, after_file_write, after_done_write, after_write, after_call}
-use Rattle.program_model.specs.Waits.{TeeWaits, Waits}
-use Rattle.program_model.specs.Exits.{bytes_told, bytes_read}
-use Rattle.program_model.specs.Reads.{taken, taken_of_found, taken_of_files, taken_of_inputs, bytes_of_function}
-use Rattle.program_model.specs.Runs.{Process, after_reply, MayOrRefuse, MayBeRefused}
+use Rattle.tree_model.specs.Alone.{OwnFile, World, can_open, held, left_of_file, left_at, Takes, MayOpen, May, may_write, done_if, after_read, after_file_write, after_done_write, after_write, after_call}
+use Rattle.tree_model.specs.Waits.{TeeWaits, Waits}
+use Rattle.tree_model.specs.Exits.{bytes_told, bytes_read}
+use Rattle.tree_model.specs.Reads.{taken, taken_of_found, taken_of_files, taken_of_inputs, bytes_of_function}
+use Rattle.tree_model.specs.ProgramRuns.{Process, after_reply, MayOrRefuse, MayBeRefused}
 use Rattle.law_trees.proofs.programs.Work.{left_over, begins_kept}
 use Rattle.law_trees.proofs.programs.Keeps.{found_block, found_is, open_changes_nothing}
 use Rattle.law_trees.proofs.programs.Teeing.{new_file, with_new, by_open}

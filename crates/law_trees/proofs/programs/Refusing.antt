@@ -9,12 +9,12 @@ use Rattle.user_calls.specs.declared.calls.Call.TheVariants.{Fork, Exec, Exit, W
 use Rattle.user_calls.specs.declared.calls.Reply.TheVariants.{Refused}
 use Rattle.user_progs.specs.State.{Source, Work, cat_reads, cat_writes, head_reads, head_writes, wc_reads, wc_writes, grep_reads, grep_writes, Tee, tee_opens, tee_reads, tee_writes, tee_gives, State, begins, echo_word, echo_space, opens, works, closes, tees, told, ended}
 use Rattle.user_progs.specs.Turn.{denies, turn, work_step, name_of, filter_of, fd_of, name_of_program, tee_opens_next}
-use Rattle.program_model.specs.Ahead.{still_opens, still_writes}
-use Rattle.program_model.specs.Alone.{World, after_call, after_read}
-use Rattle.program_model.specs.Waits.{WorkWaits, TeeWaits, Waits}
-use Rattle.program_model.specs.Frame.{holds, holds_to_write, depends_on, may_change}
-use Rattle.program_model.specs.Fits.{Fits}
-use Rattle.program_model.specs.Refusals.{IsTold, PassesOrTells}
+use Rattle.tree_model.specs.Ahead.{still_opens, still_writes}
+use Rattle.tree_model.specs.Alone.{World, after_call, after_read}
+use Rattle.tree_model.specs.Waits.{WorkWaits, TeeWaits, Waits}
+use Rattle.tree_model.specs.Frame.{holds, holds_to_write, depends_on, may_change}
+use Rattle.tree_model.specs.Fits.{Fits}
+use Rattle.tree_model.specs.Refusals.{IsTold, PassesOrTells}
 use Rattle.law_trees.proofs.programs.Next.{turn_next}
 use Rattle.law_trees.proofs.programs.Waiting.{StepWaits, buffer_waits, tells_wait, turn_waits, echo_waits, echo_end_waits, program_waits}
 use Rattle.law_trees.proofs.programs.Shrinking.{opens_shrink, writes_shrink}

@@ -13,7 +13,7 @@ use Rattle.prog_parts.proofs.Cuts.{all_tail}
 use Rattle.user_calls.specs.Limits.{block_size}
 use Rattle.user_progs.specs.State.{searching, grep_reads}
 use Rattle.user_progs.specs.Turn.{yields, Step, reads, finishes, block, grep_lines, grep_goes_on, grep_got}
-use Rattle.program_model.specs.Alone.{Takes}
+use Rattle.tree_model.specs.Alone.{Takes}
 use Rattle.prog_parts.proofs.Ended.{tested_none, tested_one, out_line, out_other, untested_line}
 use Rattle.user_progs.proofs.Buffer.{at_match, at_other}
 use Rattle.law_trees.proofs.programs.Work.{Kept, left_over}

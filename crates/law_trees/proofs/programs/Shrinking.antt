@@ -5,14 +5,13 @@ use Rattle.mem_files.specs.Name.{Name, Bytes}
 use Rattle.prog_parts.specs.declared.program.Program.{Program}
 use Rattle.prog_parts.specs.declared.program.Program.TheVariants.{Cat, Echo, Grep, Head, Tee as Tee', Wc}
 use Rattle.prog_parts.specs.Program.{program_uses_input, is_empty}
-use Rattle.prog_parts.specs.Head.{head_files, has_wrong_option}
+use Rattle.prog_parts.specs.Head.{head_files, has_wrong_option, line_count}
 use Rattle.prog_parts.specs.NameSets.{among}
 use Rattle.user_calls.specs.declared.calls.Call.TheVariants.{Write}
 use Rattle.user_calls.specs.declared.calls.Reply.{Reply}
-use Rattle.prog_parts.specs.Head.{line_count}
 use Rattle.user_progs.specs.State.{Filter, copying, heading, counting, searching, Source, standard, file, Tee, tee_opens, tee_reads, tee_writes, tee_gives, State, begins, echo_word, echo_space, opens, works, closes, tees, told, ended}
 use Rattle.user_progs.specs.Turn.{Answer, yields, denies, strays, Step, reads, writes, finishes, fails, quits, closed_by, bytes_in, fd_in, done_in, turn, turn_by, first_step, work_step, filter_of, name_of, opened_by, opens_next, begins_filter, begins_head, begins_program, echo_next, echo_end, tee_waits, tee_opens_next, tee_opened, tee_cannot_open, tee_got, tee_gives_next, tee_wrote, tee_turn}
-use Rattle.program_model.specs.Ahead.{source_opens, tee_opens_still, still_opens, still_writes, source_uses, still_uses}
+use Rattle.tree_model.specs.Ahead.{source_opens, tee_opens_still, still_opens, still_writes, source_uses, still_uses}
 use Rattle.meaning_model.proofs.Bools.{not_left, not_right}
 
 -- a state opens, writes and uses no more than these say

@@ -6,15 +6,14 @@ use Rattle.mem_files.specs.Name.{Name, Bytes}
 use Rattle.grep_match.specs.Match.{matches}
 use Rattle.prog_parts.specs.declared.program.Program.{Program}
 use Rattle.prog_parts.specs.declared.program.Program.TheVariants.{Cat, Echo, Grep, Head, Tee as Tee', Wc}
-use Rattle.prog_parts.specs.Head.{head_files, has_wrong_option}
+use Rattle.prog_parts.specs.Head.{head_files, has_wrong_option, line_count}
 use Rattle.user_calls.specs.declared.calls.Call.TheVariants.{Write}
 use Rattle.user_calls.specs.declared.calls.Reply.{Reply}
 use Rattle.prog_parts.specs.Grep.{tested}
-use Rattle.prog_parts.specs.Head.{line_count}
 use Rattle.user_progs.specs.State.{Filter, copying, heading, counting, searching, Source, standard, file, Work, cat_reads, cat_writes, head_reads, head_writes, wc_reads, wc_writes, grep_reads, grep_writes, Tee, tee_opens, tee_reads, tee_writes, tee_gives, State, begins, echo_word, echo_space, opens, works, closes, tees, told, ended}
 use Rattle.user_progs.specs.Turn.{Answer, yields, denies, strays, Turn, Step, reads, writes, finishes, fails, quits, bytes_in, fd_in, done_in, closed_by, turn, turn_by, first_step, work_step, filter_of, name_of, block, tells, opened_by, opens_next, begins_filter, begins_head, begins_program, echo_next, echo_end, cat_got, cat_wrote, head_got, head_goes_on, head_wrote, wc_got, grep_got, grep_lines, tee_waits, tee_opens_next, tee_opened, tee_cannot_open, tee_got, tee_gives_next, tee_wrote, tee_turn}
-use Rattle.program_model.specs.Exits.{bytes_told}
-use Rattle.program_model.specs.Blocks.{WritesBlock, HoldsBlock}
+use Rattle.tree_model.specs.Exits.{bytes_told}
+use Rattle.tree_model.specs.Blocks.{WritesBlock, HoldsBlock}
 
 abbrev Small : Turn → Type 0
 Small t = WritesBlock t.call × HoldsBlock t.next

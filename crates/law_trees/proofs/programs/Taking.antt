@@ -13,11 +13,11 @@ use Rattle.prog_parts.specs.Head.{first_lines}
 use Rattle.meaning_model.specs.Tee.{are_openable}
 use Rattle.user_progs.specs.State.{Filter, heading, searching, Source, standard, file, Work, cat_reads, cat_writes, head_reads, head_writes, wc_reads, wc_writes, grep_reads, grep_writes, Tee, tee_opens, tee_reads, tee_writes, tee_gives, State, begins, echo_word, echo_space, opens, works, closes, tees, told, ended}
 use Rattle.user_progs.specs.Turn.{yields, Step, reads, writes, finishes, fails, quits, bytes_in, turn, turn_by, work_step, filter_of, name_of, fd_of, head_goes_on, grep_goes_on}
-use Rattle.program_model.specs.Alone.{World, left_at, Takes, May, after_read, after_call}
-use Rattle.program_model.specs.Still.{work_rest}
-use Rattle.program_model.specs.Waits.{IsWrite, IsOpen, WorkWaits}
-use Rattle.program_model.specs.Exits.{bytes_told}
-use Rattle.program_model.specs.Reads.{taken_of_files, bytes_of_function}
+use Rattle.tree_model.specs.Alone.{World, left_at, Takes, May, after_read, after_call}
+use Rattle.tree_model.specs.Still.{work_rest}
+use Rattle.tree_model.specs.Waits.{IsWrite, IsOpen, WorkWaits}
+use Rattle.tree_model.specs.Exits.{bytes_told}
+use Rattle.tree_model.specs.Reads.{taken_of_files, bytes_of_function}
 use Rattle.law_trees.proofs.programs.Work.{GoesOn, step_rest, left_over, cat_kept, head_kept, head_begins}
 use Rattle.law_trees.proofs.programs.Counting.{wc_kept}
 use Rattle.law_trees.proofs.programs.Search.{grep_kept, buffer_kept}

@@ -18,10 +18,10 @@ use Rattle.meaning_model.specs.Value.{Value, fixed, nothing}
 use Rattle.meaning_model.specs.Tee.{filled, are_openable, tee_bytes, tee_value}
 use Rattle.user_progs.specs.State.{tee_gives, tees}
 use Rattle.user_progs.specs.Turn.{Turn, yields, fd_in, block, tee_waits, tee_opens_next, tee_cannot_open, tee_opened, tee_got, tee_gives_next}
-use Rattle.program_model.specs.Alone.{OwnFile, World, held, moved_on, Takes, MayOpen, May, opened_files, after_read, after_done_write, after_call}
-use Rattle.program_model.specs.Given.{given, given_block, left_open, IsAt, AreAt, AreDistinct}
-use Rattle.program_model.specs.Still.{tee_still, after_bytes, left_of}
-use Rattle.program_model.specs.Waits.{Waits}
+use Rattle.tree_model.specs.Alone.{OwnFile, World, held, moved_on, Takes, MayOpen, May, opened_files, after_read, after_done_write, after_call}
+use Rattle.tree_model.specs.Given.{given, given_block, left_open, IsAt, AreAt, AreDistinct}
+use Rattle.tree_model.specs.Still.{tee_still, after_bytes, left_of}
+use Rattle.tree_model.specs.Waits.{Waits}
 use Rattle.user_progs.proofs.Blocks.{too_long}
 use Rattle.law_trees.proofs.programs.Giving.{block_given, none_given, opened_given, at_others, at_append, at_moved, new_other, at_opened, at_new, others_apart, distinct_more, own_write}
 use Rattle.law_trees.proofs.programs.Work.{left_over}

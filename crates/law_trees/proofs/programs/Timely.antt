@@ -8,21 +8,20 @@ use Rattle.mem_files.specs.Files.{FileMap}
 use Rattle.prog_parts.specs.declared.program.Program.{Program}
 use Rattle.prog_parts.specs.declared.program.Program.TheVariants.{Cat, Echo, Grep, Head, Tee as Tee', Wc}
 use Rattle.prog_parts.specs.Program.{program_uses_input, is_empty}
-use Rattle.prog_parts.specs.Head.{head_files, has_wrong_option}
+use Rattle.prog_parts.specs.Head.{head_files, has_wrong_option, first_lines, after_lines, line_count}
 use Rattle.user_calls.specs.declared.calls.Call.TheVariants.{Exit}
 use Rattle.user_calls.specs.declared.calls.Reply.{Reply}
 use Rattle.meaning_model.specs.Value.{fixed, nothing}
 use Rattle.meaning_model.specs.Inputs.{filter_value}
-use Rattle.prog_parts.specs.Head.{first_lines, after_lines, line_count}
 use Rattle.prog_parts.specs.Wc.{wc_line}
 use Rattle.meaning_model.specs.Tee.{are_openable, filled}
 use Rattle.meaning_model.specs.Programs.{program_value}
 use Rattle.user_progs.specs.State.{Filter, copying, counting, heading, begins}
-use Rattle.program_model.specs.Waits.{BeginsShort}
-use Rattle.program_model.specs.Tame.{Among}
-use Rattle.program_model.specs.Exits.{calls_on, bytes_read, calls_for}
-use Rattle.program_model.specs.Reads.{unread, taken_of_inputs, bytes_of_function}
-use Rattle.program_model.specs.Runs.{first_process, MayBeRefused}
+use Rattle.tree_model.specs.Waits.{BeginsShort}
+use Rattle.tree_model.specs.Tame.{Among}
+use Rattle.tree_model.specs.Exits.{calls_on, bytes_read, calls_for}
+use Rattle.tree_model.specs.Reads.{unread, taken_of_inputs, bytes_of_function}
+use Rattle.tree_model.specs.ProgramRuns.{first_process, MayBeRefused}
 use Rattle.law_trees.proofs.programs.Exiting.{exits_within}
 use Rattle.law_trees.proofs.programs.Reading.{reads_within}
 

@@ -5,9 +5,9 @@ use Rattle.mem_files.specs.Name.{Bytes}
 use Rattle.user_calls.specs.declared.calls.Call.TheVariants.{Write}
 use Rattle.user_progs.specs.State.{Tee, tee_opens, tee_reads, tee_writes, tee_gives, State, begins, echo_word, echo_space, opens, works, closes, tees, told, ended}
 use Rattle.user_progs.specs.Turn.{fd_of}
-use Rattle.program_model.specs.Alone.{World, may_write}
-use Rattle.program_model.specs.Waits.{TeeWaits, Waits}
-use Rattle.program_model.specs.Fits.{AreWithin, outputs, Fits}
+use Rattle.tree_model.specs.Alone.{World, may_write}
+use Rattle.tree_model.specs.Waits.{TeeWaits, Waits}
+use Rattle.tree_model.specs.Fits.{AreWithin, outputs, Fits}
 use Rattle.law_trees.proofs.programs.Fitting.{gives_done}
 use Rattle.law_trees.proofs.programs.Keeps.{low_done}
 use Rattle.law_trees.proofs.programs.Refusing.{to_one, work_to_one}

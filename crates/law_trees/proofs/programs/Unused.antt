@@ -6,18 +6,17 @@ use Rattle.mem_files.specs.Files.{FileMap}
 use Rattle.prog_parts.specs.declared.program.Program.{Program}
 use Rattle.prog_parts.specs.declared.program.Program.TheVariants.{Cat, Echo, Grep, Head, Tee as Tee', Wc}
 use Rattle.prog_parts.specs.Program.{program_uses_input, is_empty}
-use Rattle.prog_parts.specs.Head.{head_files, has_wrong_option}
+use Rattle.prog_parts.specs.Head.{head_files, has_wrong_option, first_lines, after_lines, line_count}
 use Rattle.user_calls.specs.declared.calls.Call.{Call}
 use Rattle.meaning_model.specs.Value.{nothing}
 use Rattle.meaning_model.specs.Inputs.{filter_value}
-use Rattle.prog_parts.specs.Head.{first_lines, after_lines, line_count}
 use Rattle.prog_parts.specs.Wc.{wc_line}
 use Rattle.meaning_model.specs.Programs.{program_value}
 use Rattle.user_progs.specs.State.{Source, standard, file, Work, State, begins, echo_word, echo_space, opens, works, closes, tees, told, ended}
-use Rattle.program_model.specs.Ahead.{still_uses}
-use Rattle.program_model.specs.Alone.{World}
-use Rattle.program_model.specs.Still.{work_still, still}
-use Rattle.program_model.specs.Waits.{IsOpen, Waits}
+use Rattle.tree_model.specs.Ahead.{still_uses}
+use Rattle.tree_model.specs.Alone.{World}
+use Rattle.tree_model.specs.Still.{work_still, still}
+use Rattle.tree_model.specs.Waits.{IsOpen, Waits}
 
 filter_unused : (write : Name → Bytes → Bytes) (left : Bytes → Bytes) (names : List Name) (before input : Bytes) (F : FileMap) → is_empty names ≡ false →
     filter_value write left names input F ≡ record (filter_value write left names before F) { rest = input }

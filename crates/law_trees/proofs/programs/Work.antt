@@ -6,9 +6,9 @@ use Rattle.prog_parts.specs.Head.{first_lines, after_lines}
 use Rattle.prog_parts.specs.Wc.{line_ends, words_after, capped}
 use Rattle.user_progs.specs.State.{Filter, copying, heading, counting, searching}
 use Rattle.user_progs.specs.Turn.{yields, Step, reads, writes, finishes, fails, quits, counts_line, first_step, filter_of, head_goes_on, head_got, cat_got}
-use Rattle.program_model.specs.Alone.{Takes}
-use Rattle.program_model.specs.Still.{of_input, work_out, work_rest}
-use Rattle.program_model.specs.Reads.{unread}
+use Rattle.tree_model.specs.Alone.{Takes}
+use Rattle.tree_model.specs.Still.{of_input, work_out, work_rest}
+use Rattle.tree_model.specs.Reads.{unread}
 
 -- what a step still writes of the bytes that are left, and what it leaves of them
 abbrev pub step_out : Step → Name → Bytes → Bytes

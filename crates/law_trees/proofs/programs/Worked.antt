@@ -7,8 +7,8 @@ use Rattle.prog_parts.specs.declared.program.Program.TheVariants.{Cat, Grep, Hea
 use Rattle.user_calls.specs.declared.calls.Call.TheVariants.{Exit}
 use Rattle.user_calls.specs.declared.calls.Reply.{Reply}
 use Rattle.user_calls.specs.declared.calls.Reply.TheVariants.{Done, Bytes, Fd}
-use Rattle.program_model.specs.Reads.{bytes_of_function}
-use Rattle.program_model.specs.Runs.{Process, first_process, after_replies, MayBe}
+use Rattle.tree_model.specs.Reads.{bytes_of_function}
+use Rattle.tree_model.specs.ProgramRuns.{Process, first_process, after_replies, MayBe}
 
 abbrev first : Process
 first = first_process Tee (codes "x" ∷ codes "x" ∷ []) (codes "ab") no_files

@@ -2,7 +2,7 @@
 use Rattle.std.proofs.Common.{◌≡◌, [], ◌∷◌, refl, codes}
 use Rattle.sh_tree.specs.Tree.{Tree, exec, pipe}
 use Rattle.mem_files.specs.Files.{no_files}
-use Rattle.program_model.specs.FilesAhead.{sizes}
+use Rattle.tree_model.specs.FilesAhead.{sizes}
 use Rattle.tree_model.specs.Bound.{tree_bytes, tree_steps}
 
 -- echo a | cat

@@ -3,7 +3,7 @@ use Rattle.std.proofs.Common.{◌≡◌, inl, inr, ℕ, zero, suc, ◌+◌, ◌-
 use Rattle.std.proofs.lemmas.List.{length-drop, length-append}
 use Rattle.mem_files.specs.Name.{Name, Bytes}
 use Rattle.script_load.specs.declared.profile.Profile.{Profile}
-use Rattle.program_model.specs.FilesAhead.{sizes}
+use Rattle.tree_model.specs.FilesAhead.{sizes}
 use Rattle.tree_model.specs.Residual.{done}
 use Rattle.tree_model.specs.Rules.{Label, silent, takes, meets_end, puts, refused, IsMet, taken, put_out}
 use Rattle.tree_model.specs.Runs.{Stage, Goes, Reaches, reached, goes_on}

@@ -13,8 +13,8 @@ use Rattle.user_calls.specs.declared.calls.Call.{Call}
 use Rattle.user_calls.specs.declared.calls.Call.TheVariants.{Fork, Exec, Exit, Wait, MakePipe, Read, Write, OpenFile, Close, Dup}
 use Rattle.user_calls.specs.declared.calls.Reply.{Reply}
 use Rattle.user_progs.specs.Turn.{Answer, yields, denies, strays, bytes_in, fd_in, done_in}
-use Rattle.program_model.specs.Alone.{OwnFile, World, held, can_open, after_call, after_read, after_write, after_file_write, after_open, after_close, opened_files}
-use Rattle.program_model.specs.FilesAhead.{sizes}
+use Rattle.tree_model.specs.Alone.{OwnFile, World, held, can_open, after_call, after_read, after_write, after_file_write, after_open, after_close, opened_files}
+use Rattle.tree_model.specs.FilesAhead.{sizes}
 use Rattle.tree_model.specs.ProgramBytes.{write_bytes, call_bytes}
 
 -- a file grows by no more than is written to it

@@ -10,9 +10,9 @@ use Rattle.sh_tree.specs.Tree.{Tree, exec, redir, pipe, list, back}
 use Rattle.mem_files.specs.Name.{Name}
 use Rattle.mem_files.specs.Files.{no_files}
 use Rattle.conflict_check.specs.Names.{names}
-use Rattle.program_model.specs.Ahead.{still_uses}
-use Rattle.program_model.specs.Exits.{width}
-use Rattle.program_model.specs.FilesAhead.{Sizes}
+use Rattle.tree_model.specs.Ahead.{still_uses}
+use Rattle.tree_model.specs.Exits.{width}
+use Rattle.tree_model.specs.FilesAhead.{Sizes}
 use Rattle.law_trees.proofs.programs.FileReading.{ahead_more}
 use Rattle.tree_model.specs.Residual.{Running, alone, Residual, done, todo, running, seq, piped, unopened, from, into, left_names}
 use Rattle.tree_model.specs.Answers.{Kind, leaves, reads_input, writes_output, asks, kind_of}

@@ -6,7 +6,7 @@ use Rattle.std.proofs.lemmas.Slice.Eq.{bytes_eq-Decides}
 use Rattle.sh_tree.specs.Tree.{Tree}
 use Rattle.mem_files.specs.Name.{Name, Bytes}
 use Rattle.mem_files.specs.Files.{FileMap, bytes_of}
-use Rattle.program_model.specs.FilesAhead.{sizes}
+use Rattle.tree_model.specs.FilesAhead.{sizes}
 use Rattle.tree_model.specs.Residual.{Residual, seq, piped, from, into, Position, byte_in, left_names, left_writes}
 use Rattle.tree_model.specs.Rules.{patch, patched}
 use Rattle.tree_model.specs.Tidy.{IsTidy}

@@ -11,11 +11,11 @@ use Rattle.user_calls.specs.declared.calls.Reply.{Reply}
 use Rattle.user_calls.specs.declared.calls.Reply.TheVariants.{Done, Bytes as Bytes', Refused}
 use Rattle.user_progs.specs.State.{State}
 use Rattle.user_progs.specs.Turn.{Turn, turn, bytes_in}
-use Rattle.program_model.specs.Ahead.{still_uses}
-use Rattle.program_model.specs.Alone.{OwnFile, World, held, can_open, may_write, done_if, Takes, May, after_call}
-use Rattle.program_model.specs.Calls.{MayCall}
-use Rattle.program_model.specs.Exits.{bytes_told, calls_left, width}
-use Rattle.program_model.specs.FilesAhead.{sizes, files_ahead, from_files}
+use Rattle.tree_model.specs.Ahead.{still_uses}
+use Rattle.tree_model.specs.Alone.{OwnFile, World, held, can_open, may_write, done_if, Takes, May, after_call}
+use Rattle.tree_model.specs.Calls.{MayCall}
+use Rattle.tree_model.specs.Exits.{bytes_told, calls_left, width}
+use Rattle.tree_model.specs.FilesAhead.{sizes, files_ahead, from_files}
 use Rattle.law_trees.proofs.programs.Exiting.{Goes, some_left, turn_goes}
 use Rattle.law_trees.proofs.programs.FileReading.{refused_ahead, call_ahead}
 use Rattle.law_trees.proofs.programs.Shrinking.{uses_shrink}

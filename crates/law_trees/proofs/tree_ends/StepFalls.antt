@@ -11,7 +11,7 @@ use Rattle.conflict_check.specs.Clear.{has_back}
 use Rattle.script_load.specs.declared.profile.Profile.{Profile}
 use Rattle.meaning_model.specs.Inputs.{found}
 use Rattle.meaning_model.specs.Meaning.{opened}
-use Rattle.program_model.specs.FilesAhead.{sizes}
+use Rattle.tree_model.specs.FilesAhead.{sizes}
 use Rattle.tree_model.specs.Residual.{Running, Residual, done, todo, running, seq, piped, unopened, from, into}
 use Rattle.tree_model.specs.Begin.{run_left, begun_words, unfolded, start_at, open_from, open_into, opens_file}
 use Rattle.tree_model.specs.Rules.{Label, silent, takes, meets_end, puts, refused, patched, taken, put_out, Steps}

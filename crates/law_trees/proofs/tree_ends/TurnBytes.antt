@@ -13,8 +13,8 @@ use Rattle.user_calls.specs.declared.calls.Reply.{Reply}
 use Rattle.meaning_model.specs.Programs.{echo_out}
 use Rattle.user_progs.specs.State.{Filter, copying, heading, counting, searching, standard, file, Work, cat_reads, cat_writes, head_reads, head_writes, wc_reads, wc_writes, grep_reads, grep_writes, Tee, tee_opens, tee_reads, tee_writes, tee_gives, State, begins, echo_word, echo_space, opens, works, closes, tees, told, ended}
 use Rattle.user_progs.specs.Turn.{Answer, yields, denies, strays, bytes_in, fd_in, done_in, closed_by, turn, first_step, work_step, filter_of, name_of, opened_by, opens_next, begins_filter, begins_head, begins_program, echo_next, echo_end, tee_waits, tee_opens_next, tee_opened, tee_cannot_open, tee_got, tee_gives_next, tee_wrote, tee_turn}
-use Rattle.program_model.specs.Exits.{bytes_told}
-use Rattle.program_model.specs.Still.{echo_rest}
+use Rattle.tree_model.specs.Exits.{bytes_told}
+use Rattle.tree_model.specs.Still.{echo_rest}
 use Rattle.law_trees.proofs.tree_ends.WorkBytes.{Pays, block_few, step_bytes, IsOf, step_pays, head_goes_pays, work_pays}
 use Rattle.tree_model.specs.ProgramBytes.{write_bytes, passes, for_each, work_bytes, tee_bytes, begin_bytes, later_bytes}
 

@@ -11,7 +11,7 @@ use Rattle.user_calls.specs.declared.calls.Reply.{Reply}
 use Rattle.user_progs.specs.State.{Filter, heading, searching, Source, standard, file, Work, cat_reads, cat_writes, head_reads, head_writes, wc_reads, wc_writes, grep_reads, grep_writes}
 use Rattle.user_progs.specs.Turn.{Answer, yields, denies, strays, Turn, Step, reads, writes, finishes, fails, quits, bytes_in, done_in, turn, turn_by, work_step, filter_of, block, cat_got, cat_wrote, head_got, head_goes_on, head_wrote, wc_got, counts_line, grep_got, grep_goes_on, grep_lines}
 use Rattle.user_progs.proofs.Buffer.{at_match, at_other}
-use Rattle.program_model.specs.Exits.{bytes_told}
+use Rattle.tree_model.specs.Exits.{bytes_told}
 use Rattle.law_trees.proofs.programs.Search.{by_lines}
 use Rattle.tree_model.specs.ProgramBytes.{call_bytes, passes, for_each, inputs_after, work_bytes, later_bytes}
 

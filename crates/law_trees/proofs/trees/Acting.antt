@@ -9,12 +9,12 @@ use Rattle.user_calls.specs.declared.calls.Call.TheVariants.{Read, Write}
 use Rattle.user_calls.specs.declared.calls.Reply.{Reply}
 use Rattle.user_calls.specs.declared.calls.Reply.TheVariants.{Done, Bytes as Bytes', Refused}
 use Rattle.user_progs.specs.Turn.{turn}
-use Rattle.program_model.specs.Ahead.{still_uses}
-use Rattle.program_model.specs.Alone.{OwnFile, Takes, May, after_call}
-use Rattle.program_model.specs.Calls.{MayCall}
-use Rattle.program_model.specs.Fits.{Fits}
-use Rattle.program_model.specs.Frame.{depends_on, may_change}
-use Rattle.program_model.specs.Waits.{Waits}
+use Rattle.tree_model.specs.Ahead.{still_uses}
+use Rattle.tree_model.specs.Alone.{OwnFile, Takes, May, after_call}
+use Rattle.tree_model.specs.Calls.{MayCall}
+use Rattle.tree_model.specs.Fits.{Fits}
+use Rattle.tree_model.specs.Frame.{depends_on, may_change}
+use Rattle.tree_model.specs.Waits.{Waits}
 use Rattle.law_trees.proofs.programs.Calling.{calls}
 use Rattle.law_trees.proofs.programs.Elsewhere.{depends_alike, changes_alike, waits_agree, fits_elsewhere}
 use Rattle.law_trees.proofs.programs.Fitting.{fits_on}

@@ -14,10 +14,10 @@ use Rattle.user_calls.specs.declared.calls.Reply.{Reply}
 use Rattle.meaning_model.specs.Inputs.{found}
 use Rattle.user_progs.specs.State.{State}
 use Rattle.user_progs.specs.Turn.{Answer, yields, denies, strays, bytes_in, fd_in, done_in, turn}
-use Rattle.program_model.specs.Ahead.{still_opens}
-use Rattle.program_model.specs.Alone.{OwnFile, World, is_to_read, held, left_of_file, is_writable, can_open, after_call, after_read, after_write, after_file_write, after_open, after_close, opened_files, done_if}
-use Rattle.program_model.specs.Calls.{IsOwn, MayCall}
-use Rattle.program_model.specs.Frame.{holds, depends_on, may_change}
+use Rattle.tree_model.specs.Ahead.{still_opens}
+use Rattle.tree_model.specs.Alone.{OwnFile, World, is_to_read, held, left_of_file, is_writable, can_open, after_call, after_read, after_write, after_file_write, after_open, after_close, opened_files, done_if}
+use Rattle.tree_model.specs.Calls.{IsOwn, MayCall}
+use Rattle.tree_model.specs.Frame.{holds, depends_on, may_change}
 use Rattle.law_trees.proofs.programs.Elsewhere.{depends_first}
 use Rattle.law_trees.proofs.programs.Keeps.{open_changes_nothing}
 use Rattle.tree_model.specs.Residual.{Running, alone}

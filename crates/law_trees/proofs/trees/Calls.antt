@@ -12,8 +12,8 @@ use Rattle.user_calls.specs.declared.calls.Reply.{Reply}
 use Rattle.user_calls.specs.declared.calls.Reply.TheVariants.{Done, Bytes as Bytes'}
 use Rattle.user_progs.specs.State.{State}
 use Rattle.user_progs.specs.Turn.{Answer, yields, denies, strays, bytes_in, fd_in, done_in, turn}
-use Rattle.program_model.specs.Alone.{OwnFile, World, held, readable, Takes, IsNew, can_open, MayOpen, MayRead, May, after_call, after_read, after_write, after_file_write, after_open, after_close}
-use Rattle.program_model.specs.Calls.{MayCall}
+use Rattle.tree_model.specs.Alone.{OwnFile, World, held, readable, Takes, IsNew, can_open, MayOpen, MayRead, May, after_call, after_read, after_write, after_file_write, after_open, after_close}
+use Rattle.tree_model.specs.Calls.{MayCall}
 use Rattle.tree_model.specs.Residual.{Running, alone}
 use Rattle.tree_model.specs.Answers.{Kind, leaves, reads_input, writes_output, asks, kind_of, all_fds, lowest, new_fd, read_reply, open_reply, reply_of, resumed, replied}
 

@@ -17,10 +17,10 @@ use Rattle.user_calls.specs.declared.calls.Call.TheVariants.{Fork, Exec, Exit, W
 use Rattle.user_calls.specs.declared.calls.Reply.{Reply}
 use Rattle.user_progs.specs.State.{State}
 use Rattle.user_progs.specs.Turn.{Answer, yields, denies, strays, bytes_in, fd_in, done_in}
-use Rattle.program_model.specs.Ahead.{still_writes, still_uses}
-use Rattle.program_model.specs.Alone.{OwnFile, World, held, can_open, after_call, after_read, after_write, after_file_write, after_open, after_close, opened_files}
-use Rattle.program_model.specs.Calls.{IsOwn, MayCall}
-use Rattle.program_model.specs.Frame.{holds_to_write, may_change}
+use Rattle.tree_model.specs.Ahead.{still_writes, still_uses}
+use Rattle.tree_model.specs.Alone.{OwnFile, World, held, can_open, after_call, after_read, after_write, after_file_write, after_open, after_close, opened_files}
+use Rattle.tree_model.specs.Calls.{IsOwn, MayCall}
+use Rattle.tree_model.specs.Frame.{holds_to_write, may_change}
 use Rattle.law_trees.proofs.programs.Keeps.{open_changes_nothing}
 use Rattle.tree_model.specs.Residual.{Running, alone}
 use Rattle.tree_model.specs.Answers.{Kind, leaves, reads_input, writes_output, asks, kind_of, answer}

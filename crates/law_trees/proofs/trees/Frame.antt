@@ -10,8 +10,8 @@ use Rattle.conflict_check.specs.Names.{names, writes, uses_input}
 use Rattle.script_load.specs.declared.profile.Profile.{Profile}
 use Rattle.meaning_model.specs.Meaning.{meaning}
 use Rattle.meaning_model.specs.Met.{met_names}
-use Rattle.program_model.specs.Ahead.{still_writes}
-use Rattle.program_model.specs.Frame.{depends_on, holds_to_write, may_change}
+use Rattle.tree_model.specs.Ahead.{still_writes}
+use Rattle.tree_model.specs.Frame.{depends_on, holds_to_write, may_change}
 use Rattle.law_trees.proofs.programs.Elsewhere.{depends_alike, depends_first, waits_agree, fits_elsewhere}
 use Rattle.tree_model.specs.Residual.{Running, alone, Residual, done, todo, running, seq, piped, unopened, from, into, left_names, left_writes, left_uses}
 use Rattle.tree_model.specs.Final.{final, left_met}

@@ -6,7 +6,7 @@ use Rattle.mem_files.specs.Name.{Name, Bytes}
 use Rattle.mem_files.specs.Files.{FileMap, bytes_of}
 use Rattle.script_load.specs.declared.profile.Profile.{Profile}
 use Rattle.user_calls.specs.declared.calls.Call.TheVariants.{Read}
-use Rattle.program_model.specs.Calls.{MayCall}
+use Rattle.tree_model.specs.Calls.{MayCall}
 use Rattle.tree_model.specs.Residual.{Running, alone, Residual, done, todo, running, seq, piped, unopened, from, into, Position, keeps_0}
 use Rattle.tree_model.specs.Answers.{Kind, leaves, reads_input, writes_output, asks, kind_of}
 use Rattle.tree_model.specs.Rules.{puts, refused, PIPE_ROOM, is_gap}

@@ -5,7 +5,7 @@ use mathlib.Core.Path.{fun_ext, transport}
 use Rattle.std.proofs.lemmas.Bool.{or_left, not-true}
 use Rattle.prog_parts.specs.Program.{is_empty}
 use Rattle.meaning_model.specs.Meaning.{meaning}
-use Rattle.program_model.specs.Alone.{to_out}
+use Rattle.tree_model.specs.Alone.{to_out}
 use Rattle.tree_model.specs.Residual.{Residual, running, seq, piped, from, left_names, left_writes, left_uses, keeps_0, keeps_1}
 use Rattle.tree_model.specs.Step.{Move, Choice, here, on_left, on_right, left_move, step}
 use Rattle.tree_model.specs.Final.{piped_value, final, pipe_met, left_met}

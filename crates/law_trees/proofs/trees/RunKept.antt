@@ -14,10 +14,10 @@ use Rattle.user_calls.specs.declared.calls.Reply.{Reply}
 use Rattle.user_calls.specs.declared.calls.Reply.TheVariants.{Done, Bytes as Bytes'}
 use Rattle.user_progs.specs.State.{ended}
 use Rattle.user_progs.specs.Turn.{turn}
-use Rattle.program_model.specs.Alone.{OwnFile, Takes, May, after_call, to_out}
-use Rattle.program_model.specs.Calls.{MayCall}
-use Rattle.program_model.specs.Still.{still, left_of}
-use Rattle.program_model.specs.Waits.{Waits}
+use Rattle.tree_model.specs.Alone.{OwnFile, Takes, May, after_call, to_out}
+use Rattle.tree_model.specs.Calls.{MayCall}
+use Rattle.tree_model.specs.Still.{still, left_of}
+use Rattle.tree_model.specs.Waits.{Waits}
 use Rattle.law_trees.proofs.programs.Chunks.{has_ended}
 use Rattle.law_trees.proofs.programs.Keeps.{call_kept}
 use Rattle.tree_model.specs.Residual.{Running, world_of, alone, running}

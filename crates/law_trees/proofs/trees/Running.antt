@@ -15,10 +15,10 @@ use Rattle.meaning_model.specs.Firm.{IsFirm}
 use Rattle.meaning_model.specs.Programs.{words_value, program_value}
 use Rattle.meaning_model.specs.Value.{Value}
 use Rattle.user_progs.specs.State.{begins}
-use Rattle.program_model.specs.Ahead.{still_opens, still_writes}
-use Rattle.program_model.specs.Alone.{to_out}
-use Rattle.program_model.specs.Frame.{depends_on, may_change, only_changed}
-use Rattle.program_model.specs.Still.{still, after_bytes}
+use Rattle.tree_model.specs.Ahead.{still_opens, still_writes}
+use Rattle.tree_model.specs.Alone.{to_out}
+use Rattle.tree_model.specs.Frame.{depends_on, may_change, only_changed}
+use Rattle.tree_model.specs.Still.{still, after_bytes}
 use Rattle.law_trees.proofs.programs.Elsewhere.{depends_alike, changes_alike, depends_first}
 use Rattle.law_trees.proofs.programs.Firm.{still_firm}
 use Rattle.law_trees.proofs.programs.Framing.{frame}

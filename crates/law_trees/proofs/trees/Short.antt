@@ -13,7 +13,7 @@ use Rattle.script_load.specs.Line.{ScriptLine, command, bad, cd}
 use Rattle.script_load.specs.Limits.{is_small_line, are_small}
 use Rattle.script_load.specs.Script.{IsLineOf, IsFine, IsScript}
 use Rattle.meaning_model.specs.Meaning.{script_tree}
-use Rattle.program_model.specs.Waits.{AreShort, BeginsShort}
+use Rattle.tree_model.specs.Waits.{AreShort, BeginsShort}
 use Rattle.tree_model.specs.Tidy.{IsShortCommand, HasShortCommands}
 
 words_short : (words : List Bytes) → list_all is_short words ≡ true → AreShort words

@@ -14,8 +14,8 @@ use Rattle.script_load.specs.declared.profile.Profile.{Profile}
 use Rattle.user_calls.specs.declared.calls.Call.{Call}
 use Rattle.user_calls.specs.declared.calls.Call.TheVariants.{Fork, Exec, Exit, Wait, MakePipe, Read, Write, OpenFile, Close, Dup}
 use Rattle.user_progs.specs.State.{State}
-use Rattle.program_model.specs.Alone.{World}
-use Rattle.program_model.specs.Calls.{MayCall}
+use Rattle.tree_model.specs.Alone.{World}
+use Rattle.tree_model.specs.Calls.{MayCall}
 use Rattle.meaning_model.specs.Inputs.{found}
 use Rattle.law_trees.proofs.programs.Elsewhere.{elsewhere, depends_alike, changes_alike}
 use Rattle.tree_model.specs.Residual.{alone, Residual, done, todo, running, seq, piped, unopened, from, into, moved_on, left_names, left_writes, left_uses, keeps_0, keeps_1}

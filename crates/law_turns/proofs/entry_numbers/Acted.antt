@@ -27,7 +27,7 @@ use Rattle.kernel_model.specs.Descriptors.{let_go_of, with_open, with_reader, wi
 use Rattle.kernel_model.specs.Opening.{emptied_if, with_bytes, open_here, open_reply, open_for_reading, open_for_writing, open_file}
 use Rattle.kernel_model.specs.Events.{acted}
 use Rattle.kernel_model.proofs.Opening.{open_mid}
-use Rattle.order_model.specs.Numbers.{Numbering, AreRenumbered, IsRenumbered, SameButNumbers, renumbered}
+use Rattle.kernel_model.specs.Numbers.{Numbering, AreRenumbered, IsRenumbered, SameButNumbers, renumbered}
 use Rattle.law_turns.proofs.entry_numbers.Opening.{with_open_so}
 use Rattle.law_turns.proofs.entry_numbers.Tables.{free_places}
 use Rattle.law_turns.proofs.entry_numbers.Calls.{let_go_of_so, here, place, fds, answering, refusing, refuses, close_so, fork_so, exit_so, wait_so, dup_call_so, read_so, write_so}

@@ -36,7 +36,7 @@ use Rattle.kernel_model.specs.Descriptors.{let_go, let_go_of, taken_away, closed
 use Rattle.kernel_model.specs.Processes.{fork_into, ended, exit, wait_by}
 use Rattle.kernel_model.specs.Reading.{read, read_file, read_mode, read_by, read_pipe, read_object, read_entry, read_held}
 use Rattle.kernel_model.specs.Writing.{lacks_memory, write, write_file, append_file, write_mode, write_by, write_pipe, write_object, write_entry, write_held}
-use Rattle.order_model.specs.Numbers.{Numbering, AreRenumbered, IsRenumbered, renumbered, renumbered_place, renumbered_fds, renumbered_table}
+use Rattle.kernel_model.specs.Numbers.{Numbering, AreRenumbered, IsRenumbered, renumbered, renumbered_place, renumbered_fds, renumbered_table}
 use Rattle.law_turns.proofs.entry_numbers.Entries.{same_answer, released_so, dup_so, advanced_so, moved_so, all_held_so}
 use Rattle.law_turns.proofs.entry_numbers.Tables.{lowest_place, held_place, fds_close, fds_dup, table_fds, table_put, ready_table, sleep_table, woken_table, fds_table, lowest_slot, wait_table, reaped_table, forked_table, exited_table}
 

@@ -10,7 +10,7 @@ use Rattle.fd_table.specs.Descriptors.{Descriptors, holders_in, close_answer, re
 use Rattle.fd_table.proofs.Holding.{entry_at-all_held}
 use Rattle.fd_table.proofs.Lists.{within_list}
 use Rattle.kernel_model.specs.KernelState.{file_at}
-use Rattle.order_model.specs.Numbers.{Numbering, AreRenumbered, renumbered_place, renumbered_fds}
+use Rattle.kernel_model.specs.Numbers.{Numbering, AreRenumbered, renumbered_place, renumbered_fds}
 use Rattle.law_turns.proofs.entry_numbers.Tables.{same_holders}
 
 -- an entry that was written by what it held

@@ -4,7 +4,7 @@ use Rattle.std.specs.Prelude.{map}
 use Rattle.fd_table.specs.Entries.{entry_at}
 use Rattle.proc_table.specs.Slots.{Slot, Table}
 use Rattle.kernel_model.specs.KernelState.{KernelState}
-use Rattle.order_model.specs.Numbers.{Numbering, renumbered_place, renumbered_slot, renumbered_table, renumbered, SameButNumbers}
+use Rattle.kernel_model.specs.Numbers.{Numbering, renumbered_place, renumbered_slot, renumbered_table, renumbered, SameButNumbers}
 
 -- ---- numberings
 

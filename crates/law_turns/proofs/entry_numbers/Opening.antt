@@ -16,7 +16,7 @@ use Rattle.proc_table.specs.Calls.{fds_set}
 use Rattle.kernel_model.specs.KernelState.{KernelState, fds_of, fds_at}
 use Rattle.kernel_model.specs.Sound.{tables}
 use Rattle.kernel_model.specs.Descriptors.{opened_at, with_open}
-use Rattle.order_model.specs.Numbers.{Numbering, AreRenumbered, SameButNumbers, renumbered, renumbered_table}
+use Rattle.kernel_model.specs.Numbers.{Numbering, AreRenumbered, SameButNumbers, renumbered, renumbered_table}
 use Rattle.law_turns.proofs.entry_numbers.Numberings.{followed_by}
 use Rattle.law_turns.proofs.entry_numbers.Tables.{fds_installed, fds_table, table_fds, table_agree}
 

@@ -12,12 +12,12 @@ use Rattle.proc_table.specs.Slots.{Slot, Table, at, is_zombie, is_running}
 use Rattle.kernel_model.specs.KernelState.{KernelState, fds_of}
 use Rattle.kernel_model.specs.Sound.{IsSound, tables}
 use Rattle.kernel_model.specs.Events.{IsFinished}
-use Rattle.order_model.specs.Idle.{idle_slot, renamed_entry, idle_kernel}
-use Rattle.order_model.specs.Alike.{HasNamesUpTo, IsStill}
-use Rattle.order_model.specs.Outcome.{SameOutcome, outcome_of}
+use Rattle.kernel_model.specs.Idle.{idle_slot, renamed_entry, idle_kernel}
+use Rattle.kernel_model.specs.Alike.{HasNamesUpTo, IsStill}
+use Rattle.kernel_model.specs.Outcome.{SameOutcome, outcome_of}
 use Rattle.law_turns.proofs.orders.Entries.{entry_renamed}
 use Rattle.law_turns.proofs.orders.Tables.{map_swap, count_map}
-use Rattle.order_model.specs.Numbers.{Numbering, AreRenumbered, SameButNumbers, renumbered, renumbered_place, renumbered_fds, renumbered_slot, renumbered_table}
+use Rattle.kernel_model.specs.Numbers.{Numbering, AreRenumbered, SameButNumbers, renumbered, renumbered_place, renumbered_fds, renumbered_slot, renumbered_table}
 use Rattle.law_turns.proofs.entry_numbers.Tables.{same_holders, slot_fds, slot_running, slot_zombie, at_slot, table_fds}
 
 -- ---- the outcome

@@ -19,7 +19,7 @@ use Rattle.proc_table.proofs.Changes.{mapped}
 use Rattle.kernel_model.specs.KernelState.{fds_of}
 use Rattle.kernel_model.specs.Sound.{tables}
 use Rattle.law_turns.proofs.orders.Tables.{map_swap, position_map, count_map}
-use Rattle.order_model.specs.Numbers.{Numbering, renumbered_place, renumbered_fds, renumbered_slot, renumbered_table}
+use Rattle.kernel_model.specs.Numbers.{Numbering, renumbered_place, renumbered_fds, renumbered_slot, renumbered_table}
 
 -- ---- descriptors
 

@@ -14,11 +14,11 @@ use Rattle.kernel_model.specs.Sound.{IsMid}
 use Rattle.kernel_model.proofs.Keeps.{mid}
 use Rattle.kernel_model.proofs.Lasting.{no_run}
 use Rattle.kernel_model.proofs.Sound.{dispatch_sound}
-use Rattle.order_model.specs.Alike.{IsStill}
-use Rattle.order_model.specs.Turns.{Turn, by_turns, turn_events, turn_notes}
+use Rattle.kernel_model.specs.Alike.{IsStill}
+use Rattle.kernel_model.specs.Turns.{Turn, by_turns, turn_events, turn_notes}
 use Rattle.law_turns.proofs.orders.Back.{could_turn}
 use Rattle.law_turns.proofs.orders.Follow.{given_0, after_turn, given_happens, turn_happens, turn_still}
-use Rattle.order_model.specs.Numbers.{SameButNumbers, renumbered_slot, renumbered_fds}
+use Rattle.kernel_model.specs.Numbers.{SameButNumbers, renumbered_slot, renumbered_fds}
 use Rattle.law_turns.specs.Taken.{IsTakenToo}
 use Rattle.law_turns.proofs.entry_numbers.Acted.{acted_same}
 use Rattle.law_turns.proofs.entry_numbers.Numberings.{same_back}

@@ -20,7 +20,7 @@ use Rattle.kernel_model.specs.KernelState.{KernelState, fds_of, fds_at}
 use Rattle.kernel_model.specs.Replies.{answered}
 use Rattle.kernel_model.specs.Processes.{fork, fork_into}
 use Rattle.kernel_model.specs.Events.{acted}
-use Rattle.order_model.specs.Woke.{woke_table, woke}
+use Rattle.kernel_model.specs.Woke.{woke_table, woke}
 use Rattle.law_turns.proofs.orders.Tables.{map_swap, position_map}
 use Rattle.law_turns.proofs.private_turns.Unseen.{position_same}
 use Rattle.law_turns.proofs.private_turns.Woken.{all_woken_woke, fds_told, put_told, ready_told, sleep_told, set_fds_told, lowest_told, forked_told, exited_told}

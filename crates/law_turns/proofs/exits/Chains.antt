@@ -12,11 +12,11 @@ use Rattle.proc_table.specs.declared.states.Status.TheVariants.{Runnable, Runnin
 use Rattle.proc_table.specs.Slots.{Slot, Table}
 use Rattle.kernel_model.specs.Pipes.{Pipes}
 use Rattle.kernel_model.specs.KernelState.{KernelState}
-use Rattle.order_model.specs.Idle.{renamed_channel, renamed_object, renamed_entry, renamed_pipe, idle_status, idle_slot, idle_kernel}
-use Rattle.order_model.specs.Alike.{IsOneToOne, HasNamesUpTo}
-use Rattle.order_model.specs.Woke.{woke_status, woke_slot, woke}
-use Rattle.order_model.specs.Numbers.{SameButNumbers, renumbered_slot}
-use Rattle.order_model.specs.Anyhow.{AlikeAnyhow}
+use Rattle.kernel_model.specs.Idle.{renamed_channel, renamed_object, renamed_entry, renamed_pipe, idle_status, idle_slot, idle_kernel}
+use Rattle.kernel_model.specs.Alike.{IsOneToOne, HasNamesUpTo}
+use Rattle.kernel_model.specs.Woke.{woke_status, woke_slot, woke}
+use Rattle.kernel_model.specs.Numbers.{SameButNumbers, renumbered_slot}
+use Rattle.kernel_model.specs.Anyhow.{AlikeAnyhow}
 use Rattle.law_turns.proofs.orders.Entries.{entry_renamed, free_renamed}
 use Rattle.law_turns.proofs.orders.Tables.{map_swap}
 use Rattle.law_turns.proofs.entry_numbers.Numberings.{same_on}

@@ -16,9 +16,9 @@ use Rattle.kernel_model.specs.KernelState.{KernelState, fds_of, fds_at, file_at}
 use Rattle.kernel_model.specs.Pipes.{pipe_of}
 use Rattle.kernel_model.specs.Descriptors.{closed, closed_below}
 use Rattle.law_kernel.specs.Ends.{EndsAgree}
-use Rattle.order_model.specs.Alike.{IsStill}
-use Rattle.order_model.specs.Anyhow.{AlikeAnyhow}
-use Rattle.order_model.specs.Closes.{FindsFree, IsClosedAtOnce, NobodyElseWrites}
+use Rattle.kernel_model.specs.Alike.{IsStill}
+use Rattle.kernel_model.specs.Anyhow.{AlikeAnyhow}
+use Rattle.kernel_model.specs.Closes.{FindsFree, IsClosedAtOnce, NobodyElseWrites}
 use Rattle.law_turns.proofs.private_turns.Staying.{Holds, holds_itself, in_own}
 use Rattle.law_turns.proofs.private_turns.Turned.{turn_keeps}
 use Rattle.law_turns.proofs.last_closes.Anyhow.{awake_anyhow}

@@ -23,13 +23,13 @@ use Rattle.kernel_model.specs.Replies.{answered, sleeps}
 use Rattle.kernel_model.specs.Descriptors.{closed_below}
 use Rattle.kernel_model.specs.Events.{acted, counted}
 use Rattle.law_kernel.proofs.kernel.Children.{none_at}
-use Rattle.order_model.specs.Idle.{idle_slot, idle_kernel}
-use Rattle.order_model.specs.Alike.{Alike, IsStill, HasNamesUpTo}
-use Rattle.order_model.specs.Woke.{woke_slot, woke_table, woke}
-use Rattle.order_model.specs.Anyhow.{AlikeAnyhow}
-use Rattle.order_model.specs.Begun.{IsBegun}
-use Rattle.order_model.specs.Closes.{FindsFree, IsClosedAtOnce}
-use Rattle.order_model.specs.Turns.{after_turn}
+use Rattle.kernel_model.specs.Idle.{idle_slot, idle_kernel}
+use Rattle.kernel_model.specs.Alike.{Alike, IsStill, HasNamesUpTo}
+use Rattle.kernel_model.specs.Woke.{woke_slot, woke_table, woke}
+use Rattle.kernel_model.specs.Anyhow.{AlikeAnyhow}
+use Rattle.kernel_model.specs.Begun.{IsBegun}
+use Rattle.kernel_model.specs.Closes.{FindsFree, IsClosedAtOnce}
+use Rattle.kernel_model.specs.Turns.{after_turn}
 use Rattle.law_turns.proofs.orders.Names.{acted_alike}
 use Rattle.law_turns.proofs.orders.Follow.{after_turn as turned, given_0, given_names, turn_still}
 use Rattle.law_turns.proofs.orders.Turning.{relike}
@@ -38,7 +38,7 @@ use Rattle.law_turns.proofs.private_turns.Begun.{begun_on, begun_still}
 use Rattle.law_turns.proofs.private_turns.Staying.{Holds, holds_itself, holds_alive, in_own}
 use Rattle.law_turns.proofs.private_turns.Turned.{turn_is, turn_keeps}
 use Rattle.law_turns.proofs.entry_numbers.Numberings.{unchanged}
-use Rattle.order_model.specs.Slots.{SameButSlots}
+use Rattle.kernel_model.specs.Slots.{SameButSlots}
 use Rattle.law_turns.proofs.slot_numbers.Acted.{Mid, but_slots, reaps}
 use Rattle.law_turns.proofs.slot_numbers.Calls.{SameEntries, here, answering}
 use Rattle.law_turns.proofs.slot_numbers.Same.{moves_itself}

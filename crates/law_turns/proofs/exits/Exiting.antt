@@ -21,8 +21,8 @@ use Rattle.kernel_model.specs.Replies.{answered}
 use Rattle.kernel_model.specs.Descriptors.{closed_by, closed, closed_below}
 use Rattle.kernel_model.specs.Processes.{ended}
 use Rattle.kernel_model.specs.Events.{acted, counted}
-use Rattle.order_model.specs.Alike.{IsStill}
-use Rattle.order_model.specs.Turns.{after_turn}
+use Rattle.kernel_model.specs.Alike.{IsStill}
+use Rattle.kernel_model.specs.Turns.{after_turn}
 use Rattle.law_turns.proofs.orders.Follow.{given_0}
 use Rattle.law_turns.proofs.private_turns.Unseen.{position_same}
 use Rattle.law_turns.proofs.private_turns.Staying.{Holds}

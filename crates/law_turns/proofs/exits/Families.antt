@@ -31,8 +31,8 @@ use Rattle.law_kernel.proofs.outcomes.Outcomes.{every_call_ends}
 use Rattle.law_kernel.specs.Sleeping.{Lives}
 use Rattle.law_kernel.proofs.kernel.Runs.{past_two}
 use Rattle.law_kernel.proofs.kernel.Children.{none_at}
-use Rattle.order_model.specs.Begun.{IsBegun}
-use Rattle.order_model.specs.Turns.{by_turns, after_turn, after_turns, quiet_turns, turn_events, turn_notes}
+use Rattle.kernel_model.specs.Begun.{IsBegun}
+use Rattle.kernel_model.specs.Turns.{by_turns, after_turn, after_turns, quiet_turns, turn_events, turn_notes}
 use Rattle.law_turns.proofs.orders.Back.{could_turn}
 use Rattle.law_turns.proofs.orders.Follow.{after_turn as turned, given_0}
 use Rattle.law_turns.proofs.private_turns.Begun.{begun_on, begun_still}

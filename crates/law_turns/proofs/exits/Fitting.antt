@@ -24,9 +24,9 @@ use Rattle.proc_table.proofs.Counts.{used_within}
 use Rattle.kernel_model.specs.KernelState.{KernelState, fds_of, fds_at, file_at}
 use Rattle.kernel_model.specs.Descriptors.{let_go_of, taken_away, closed}
 use Rattle.kernel_model.proofs.Keeps.{slot_sound}
-use Rattle.order_model.specs.Idle.{idle_slot, idle_kernel}
-use Rattle.order_model.specs.Alike.{IsStill, HasNamesUpTo}
-use Rattle.order_model.specs.Closes.{FindsFree, NobodyElseWrites, IsClosedAtOnce}
+use Rattle.kernel_model.specs.Idle.{idle_slot, idle_kernel}
+use Rattle.kernel_model.specs.Alike.{IsStill, HasNamesUpTo}
+use Rattle.kernel_model.specs.Closes.{FindsFree, NobodyElseWrites, IsClosedAtOnce}
 use Rattle.law_turns.proofs.orders.Follow.{none_runs}
 use Rattle.law_turns.proofs.orders.Tables.{count_map}
 use Rattle.law_turns.proofs.private_turns.Staying.{Holds, in_own}

@@ -3,13 +3,13 @@ use Rattle.std.proofs.Common.{◌≡◌, ◌≢◌, ◌⊎◌, ℕ, [], ◌∷�
 use Rattle.user_calls.specs.declared.calls.Call.{Call}
 use Rattle.user_calls.specs.declared.calls.Reply.{Reply}
 use Rattle.kernel_model.specs.KernelState.{KernelState}
-use Rattle.order_model.specs.Anyhow.{DoesAnyhow, itself, likened}
-use Rattle.order_model.specs.Begun.{IsBegun}
-use Rattle.order_model.specs.Reduced.{Joins}
-use Rattle.order_model.specs.Turns.{after_turn}
+use Rattle.kernel_model.specs.Anyhow.{DoesAnyhow, itself, likened}
+use Rattle.kernel_model.specs.Begun.{IsBegun}
+use Rattle.kernel_model.specs.Reduced.{Joins}
+use Rattle.kernel_model.specs.Turns.{after_turn}
 use Rattle.law_turns.proofs.private_turns.Begun.{begun_on}
 use Rattle.law_turns.proofs.read_ends.Safe.{room_on}
-use Rattle.order_model.specs.Giving.{ReapsNext}
+use Rattle.kernel_model.specs.Giving.{ReapsNext}
 use Rattle.law_turns.specs.Exits.{ExitsInRoom, InEitherOrderAnyhow, IsDoneAnyhow, InEitherOrderReaping}
 use Rattle.law_turns.proofs.exits.Whole.{exits_either, exits_stay}
 

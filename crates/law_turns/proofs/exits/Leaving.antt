@@ -26,12 +26,12 @@ use Rattle.kernel_model.specs.Replies.{answered}
 use Rattle.kernel_model.specs.Descriptors.{let_go_of, taken_away, closed_by, closed, closed_below}
 use Rattle.kernel_model.specs.Processes.{ended}
 use Rattle.kernel_model.specs.Events.{acted, counted}
-use Rattle.order_model.specs.Idle.{idle_slot, idle_kernel}
-use Rattle.order_model.specs.Alike.{IsStill, HasNamesUpTo, IsOneToOne}
-use Rattle.order_model.specs.Woke.{woke_table, woke}
-use Rattle.order_model.specs.Numbers.{SameButNumbers}
-use Rattle.order_model.specs.Anyhow.{AlikeAnyhow}
-use Rattle.order_model.specs.Turns.{after_turn}
+use Rattle.kernel_model.specs.Idle.{idle_slot, idle_kernel}
+use Rattle.kernel_model.specs.Alike.{IsStill, HasNamesUpTo, IsOneToOne}
+use Rattle.kernel_model.specs.Woke.{woke_table, woke}
+use Rattle.kernel_model.specs.Numbers.{SameButNumbers}
+use Rattle.kernel_model.specs.Anyhow.{AlikeAnyhow}
+use Rattle.kernel_model.specs.Turns.{after_turn}
 use Rattle.law_turns.proofs.orders.Tables.{exited_table}
 use Rattle.law_turns.proofs.orders.Follow.{given_0}
 use Rattle.law_turns.proofs.private_turns.Staying.{Holds}

@@ -21,10 +21,10 @@ use Rattle.kernel_model.specs.Events.{acted, counted}
 use Rattle.kernel_model.proofs.Along.{acted_along}
 use Rattle.law_kernel.specs.Ends.{EndsAgree, reads_pipe, has_object}
 use Rattle.law_kernel.proofs.kernel.EndsClosed.{closed_agrees}
-use Rattle.order_model.specs.Alike.{IsStill, HasNamesUpTo}
-use Rattle.order_model.specs.Anyhow.{AlikeAnyhow}
-use Rattle.order_model.specs.Closes.{FindsFree, FindsFreeNext, IsPlain, IsClosedAtOnce, NobodyElseWrites, ClosesNext}
-use Rattle.order_model.specs.Turns.{after_turn}
+use Rattle.kernel_model.specs.Alike.{IsStill, HasNamesUpTo}
+use Rattle.kernel_model.specs.Anyhow.{AlikeAnyhow}
+use Rattle.kernel_model.specs.Closes.{FindsFree, FindsFreeNext, IsPlain, IsClosedAtOnce, NobodyElseWrites, ClosesNext}
+use Rattle.kernel_model.specs.Turns.{after_turn}
 use Rattle.law_turns.proofs.orders.Back.{can_turn}
 use Rattle.law_turns.proofs.orders.Follow.{after_turn as turned, given_0}
 use Rattle.law_turns.proofs.private_turns.Begun.{after_still}

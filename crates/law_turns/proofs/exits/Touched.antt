@@ -21,11 +21,11 @@ use Rattle.kernel_model.specs.KernelState.{KernelState, fds_of, fds_at}
 use Rattle.kernel_model.specs.Pipes.{pipe_of, reader_gone, writer_gone}
 use Rattle.kernel_model.specs.Descriptors.{let_go, let_go_of, taken_away, closed, close, close_reply}
 use Rattle.kernel_model.specs.Events.{acted, counted}
-use Rattle.order_model.specs.Idle.{idle_slot, idle_kernel}
-use Rattle.order_model.specs.Alike.{IsOneToOne}
-use Rattle.order_model.specs.Woke.{woke_slot, woke_table, woke}
-use Rattle.order_model.specs.Numbers.{SameButNumbers, renumbered_slot}
-use Rattle.order_model.specs.Anyhow.{AlikeAnyhow}
+use Rattle.kernel_model.specs.Idle.{idle_slot, idle_kernel}
+use Rattle.kernel_model.specs.Alike.{IsOneToOne}
+use Rattle.kernel_model.specs.Woke.{woke_slot, woke_table, woke}
+use Rattle.kernel_model.specs.Numbers.{SameButNumbers, renumbered_slot}
+use Rattle.kernel_model.specs.Anyhow.{AlikeAnyhow}
 use Rattle.law_turns.proofs.orders.Calls.{acted_idle}
 use Rattle.law_turns.proofs.orders.Follow.{after_turn as turned, given_0}
 use Rattle.law_turns.specs.Retold.{Left, retold_slot, retold_table}

@@ -14,7 +14,7 @@ use Rattle.kernel_model.specs.KernelState.{KernelState}
 use Rattle.kernel_model.specs.Replies.{answered, sleeps}
 use Rattle.kernel_model.specs.Processes.{wait, wait_by}
 use Rattle.law_kernel.proofs.kernel.Children.{none_at}
-use Rattle.order_model.specs.Woke.{woke_status, woke_slot}
+use Rattle.kernel_model.specs.Woke.{woke_status, woke_slot}
 use Rattle.law_turns.proofs.orders.Tables.{position_map}
 use Rattle.law_turns.proofs.private_turns.Woken.{at_woke}
 use Rattle.law_turns.proofs.slot_numbers.Calls.{SameEntries, answering, sleeping}

@@ -26,7 +26,7 @@ use Rattle.kernel_model.specs.Processes.{fork_into, wait, wait_by}
 use Rattle.kernel_model.specs.Events.{acted}
 use Rattle.law_turns.proofs.private_turns.Unseen.{position_same}
 use Rattle.law_turns.proofs.private_turns.Holders.{free_holds_none}
-use Rattle.order_model.specs.Slots.{IsZombieOf}
+use Rattle.kernel_model.specs.Slots.{IsZombieOf}
 use Rattle.law_turns.proofs.slot_numbers.Slots.{dead, zombie_is}
 use Rattle.law_turns.proofs.slot_numbers.Calls.{Keeps, seen, Same, here, sleeping, answering, close_so, exit_so, dup_call_so, open_so, pipe_so, read_so, write_so}
 use Rattle.law_turns.proofs.forks.Held.{AreCounted, fewer, look_held, lowest_held, free_held, advance_held, move_held, copy_held, answer_held, close_held, open_held, counted_advance, counted_move, counted_close, counted_copy, counted_open, counted_held, twice_held}

@@ -10,7 +10,7 @@ use Rattle.fd_table.specs.Entries.{OpenFile, Entries, entry_at, count_of, is_fre
 use Rattle.fd_table.specs.Descriptors.{Descriptors, entry_of, is_entry, holders_in, lowest_free, installed, installed_at, close_answer, after_close, released_by_close, after_dup, held_by_dup, all_held_from, all_held}
 use Rattle.fd_table.proofs.Holding.{entry_at-all_held, length-all_held}
 use Rattle.fd_table.proofs.Lists.{position_found, same_items, within_list}
-use Rattle.order_model.specs.Idle.{renamed_entry}
+use Rattle.kernel_model.specs.Idle.{renamed_entry}
 use Rattle.law_turns.proofs.orders.Tables.{position_map, count_map}
 use Rattle.law_turns.proofs.slot_numbers.Calls.{seen}
 

@@ -21,11 +21,11 @@ use Rattle.kernel_model.specs.Sound.{IsSound, tables}
 use Rattle.kernel_model.specs.Processes.{fork_into}
 use Rattle.kernel_model.specs.Events.{acted, counted}
 use Rattle.law_kernel.specs.Sleeping.{Lives}
-use Rattle.order_model.specs.Idle.{idle_slot, idle_kernel}
-use Rattle.order_model.specs.Alike.{Alike, IsStill, HasNamesUpTo}
-use Rattle.order_model.specs.Turns.{after_turn}
-use Rattle.order_model.specs.Begun.{IsBegun}
-use Rattle.order_model.specs.Numbers.{Numbering}
+use Rattle.kernel_model.specs.Idle.{idle_slot, idle_kernel}
+use Rattle.kernel_model.specs.Alike.{Alike, IsStill, HasNamesUpTo}
+use Rattle.kernel_model.specs.Turns.{after_turn}
+use Rattle.kernel_model.specs.Begun.{IsBegun}
+use Rattle.kernel_model.specs.Numbers.{Numbering}
 use Rattle.law_turns.proofs.orders.Names.{acted_alike}
 use Rattle.law_turns.proofs.orders.Follow.{after_turn as turned, given_0, given_names}
 use Rattle.law_turns.proofs.orders.Back.{could_turn}
@@ -40,8 +40,8 @@ use Rattle.law_turns.proofs.private_turns.Shared.{given_sound}
 use Rattle.law_turns.proofs.private_turns.Begun.{begun_on, begun_still}
 use Rattle.law_turns.proofs.private_turns.Turned.{idle_told, turn_is, turn_keeps, ready_slot, runnable_by}
 use Rattle.law_turns.proofs.entry_numbers.Numberings.{unchanged}
-use Rattle.order_model.specs.Slots.{IsMoved, SameButSlots}
-use Rattle.order_model.specs.Giving.{ForksNext}
+use Rattle.kernel_model.specs.Slots.{IsMoved, SameButSlots}
+use Rattle.kernel_model.specs.Giving.{ForksNext}
 use Rattle.law_turns.proofs.slot_numbers.Slots.{exactly}
 use Rattle.law_turns.proofs.slot_numbers.Tables.{Moves, ready_moved, dispatched_moved}
 use Rattle.law_turns.proofs.slot_numbers.Calls.{Same}

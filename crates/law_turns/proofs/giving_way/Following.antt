@@ -3,13 +3,13 @@ use Rattle.std.proofs.Common.{◌≡◌, ◌⊎◌, ℕ, [], ◌∷◌, Some, in
 use Rattle.user_calls.specs.declared.calls.Call.{Call}
 use Rattle.user_calls.specs.declared.calls.Reply.{Reply}
 use Rattle.kernel_model.specs.KernelState.{KernelState}
-use Rattle.order_model.specs.Alike.{IsStill}
-use Rattle.order_model.specs.Anyhow.{AlikeAnyhow}
-use Rattle.order_model.specs.Begun.{IsBegun}
-use Rattle.order_model.specs.Linked.{AlikeButSlots, then_slots, slots_then, CanDo, itself, likened}
-use Rattle.order_model.specs.Reduced.{IsFollowing, ComesTo}
-use Rattle.order_model.specs.Slots.{SameButSlots}
-use Rattle.order_model.specs.Turns.{after_turn}
+use Rattle.kernel_model.specs.Alike.{IsStill}
+use Rattle.kernel_model.specs.Anyhow.{AlikeAnyhow}
+use Rattle.kernel_model.specs.Begun.{IsBegun}
+use Rattle.kernel_model.specs.Linked.{AlikeButSlots, then_slots, slots_then, CanDo, itself, likened}
+use Rattle.kernel_model.specs.Reduced.{IsFollowing, ComesTo}
+use Rattle.kernel_model.specs.Slots.{SameButSlots}
+use Rattle.kernel_model.specs.Turns.{after_turn}
 use Rattle.law_turns.proofs.private_turns.Begun.{IsSettled, after_still, begun_on, begun_still, begun_settled}
 use Rattle.law_turns.proofs.last_closes.Anyhow.{OneStepAnyhow, one_step_anyhow}
 use Rattle.law_turns.proofs.slot_numbers.Same.{same_back}

@@ -2,9 +2,9 @@
 use Rattle.user_calls.specs.declared.calls.Call.{Call}
 use Rattle.user_calls.specs.declared.calls.Reply.{Reply}
 use Rattle.kernel_model.specs.KernelState.{KernelState}
-use Rattle.order_model.specs.Outcome.{SameOutcome}
-use Rattle.order_model.specs.Anyhow.{DoesAnyhow, itself as the_same, likened as linked_by}
-use Rattle.order_model.specs.Linked.{AlikeButSlots, then_slots, slots_then, CanDo, itself, likened}
+use Rattle.kernel_model.specs.Outcome.{SameOutcome}
+use Rattle.kernel_model.specs.Anyhow.{DoesAnyhow, itself as the_same, likened as linked_by}
+use Rattle.kernel_model.specs.Linked.{AlikeButSlots, then_slots, slots_then, CanDo, itself, likened}
 use Rattle.law_turns.proofs.private_turns.Begun.{begun_still}
 use Rattle.law_turns.proofs.last_closes.Anyhow.{anyhow_back, outcome_on, outcome_anyhow}
 use Rattle.law_turns.proofs.slot_numbers.Same.{same_itself, same_back, outcome_so}

@@ -15,12 +15,12 @@ use Rattle.proc_table.specs.Slots.{Slot, Table, at, is_zombie, is_zombie_status,
 use Rattle.kernel_model.specs.KernelState.{KernelState, fds_of}
 use Rattle.kernel_model.specs.Sound.{IsSound, tables}
 use Rattle.kernel_model.proofs.Sound.{near_sound}
-use Rattle.order_model.specs.Idle.{renamed_channel, idle_status, idle_slot, idle_kernel, renamed_entry}
-use Rattle.order_model.specs.Alike.{HasNamesUpTo, IsStill}
-use Rattle.order_model.specs.Woke.{woke, woke_status, woke_slot, woke_table}
-use Rattle.order_model.specs.Numbers.{Numbering, renumbered_place}
-use Rattle.order_model.specs.Anyhow.{AlikeAnyhow}
-use Rattle.order_model.specs.Slots.{moved_channel, moved_status, moved_process, moved_slot, IsZombieOf, IsMoved, same, zombies, SameButSlots}
+use Rattle.kernel_model.specs.Idle.{renamed_channel, idle_status, idle_slot, idle_kernel, renamed_entry}
+use Rattle.kernel_model.specs.Alike.{HasNamesUpTo, IsStill}
+use Rattle.kernel_model.specs.Woke.{woke, woke_status, woke_slot, woke_table}
+use Rattle.kernel_model.specs.Numbers.{Numbering, renumbered_place}
+use Rattle.kernel_model.specs.Anyhow.{AlikeAnyhow}
+use Rattle.kernel_model.specs.Slots.{moved_channel, moved_status, moved_process, moved_slot, IsZombieOf, IsMoved, same, zombies, SameButSlots}
 use Rattle.law_turns.proofs.orders.Entries.{entry_renamed}
 use Rattle.law_turns.proofs.orders.Follow.{none_runs}
 use Rattle.law_turns.proofs.orders.Tables.{at_idle}

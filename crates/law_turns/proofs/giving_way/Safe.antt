@@ -5,13 +5,13 @@ use Rattle.user_calls.specs.declared.calls.Call.TheVariants.{Fork}
 use Rattle.user_calls.specs.declared.calls.Reply.{Reply}
 use Rattle.proc_table.specs.Slots.{Process, at}
 use Rattle.kernel_model.specs.KernelState.{KernelState}
-use Rattle.order_model.specs.Turns.{by_turns, after_turn, quiet_turns}
-use Rattle.order_model.specs.Reduced.{ComesTo, IsSafe, Joins}
-use Rattle.order_model.specs.Begun.{IsBegun}
-use Rattle.order_model.specs.Closes.{HasRoomAhead, ClosesOrPrivate}
-use Rattle.order_model.specs.Anyhow.{AlikeAnyhow, DoesAnyhow}
-use Rattle.order_model.specs.Giving.{ForksNext, ReapsNext, ExitsNext, HasSlotsAhead, GivesWay, privately, closes, forks, reaps, exits, GivesWayBegun}
-use Rattle.order_model.specs.Linked.{AlikeButSlots, then_slots, slots_then, CanDo, itself, likened}
+use Rattle.kernel_model.specs.Turns.{by_turns, after_turn, quiet_turns}
+use Rattle.kernel_model.specs.Reduced.{ComesTo, IsSafe, Joins}
+use Rattle.kernel_model.specs.Begun.{IsBegun}
+use Rattle.kernel_model.specs.Closes.{HasRoomAhead, ClosesOrPrivate}
+use Rattle.kernel_model.specs.Anyhow.{AlikeAnyhow, DoesAnyhow}
+use Rattle.kernel_model.specs.Giving.{ForksNext, ReapsNext, ExitsNext, HasSlotsAhead, GivesWay, privately, closes, forks, reaps, exits, GivesWayBegun}
+use Rattle.kernel_model.specs.Linked.{AlikeButSlots, then_slots, slots_then, CanDo, itself, likened}
 use Rattle.law_turns.proofs.orders.Back.{could_turn}
 use Rattle.law_turns.proofs.private_turns.Awake.{alike_awake}
 use Rattle.law_turns.proofs.private_turns.Begun.{begun_on, begun_still}

@@ -23,14 +23,14 @@ use Rattle.kernel_model.specs.Events.{acted, counted}
 use Rattle.law_kernel.specs.Outcome.{object_of, object_at}
 use Rattle.law_kernel.specs.Sleeping.{Waits, IsThere, SleepsOn}
 use Rattle.law_kernel.specs.Asking.{MaySleep}
-use Rattle.order_model.specs.Alike.{IsStill}
-use Rattle.order_model.specs.Anyhow.{AlikeAnyhow, bare_status, bare_slot, bare_table}
-use Rattle.order_model.specs.Idle.{idle_slot, idle_kernel, renamed_entry, renamed_object}
-use Rattle.order_model.specs.Linked.{AlikeButSlots, then_slots, slots_then, CanDo, itself, likened}
-use Rattle.order_model.specs.Numbers.{Numbering, renumbered_place, renumbered_fds}
-use Rattle.order_model.specs.Slots.{moved_channel, moved_process, SameButSlots}
-use Rattle.order_model.specs.Turns.{after_turn}
-use Rattle.order_model.specs.Woke.{woke, woke_table}
+use Rattle.kernel_model.specs.Alike.{IsStill}
+use Rattle.kernel_model.specs.Anyhow.{AlikeAnyhow, bare_status, bare_slot, bare_table}
+use Rattle.kernel_model.specs.Idle.{idle_slot, idle_kernel, renamed_entry, renamed_object}
+use Rattle.kernel_model.specs.Linked.{AlikeButSlots, then_slots, slots_then, CanDo, itself, likened}
+use Rattle.kernel_model.specs.Numbers.{Numbering, renumbered_place, renumbered_fds}
+use Rattle.kernel_model.specs.Slots.{moved_channel, moved_process, SameButSlots}
+use Rattle.kernel_model.specs.Turns.{after_turn}
+use Rattle.kernel_model.specs.Woke.{woke, woke_table}
 use Rattle.law_turns.proofs.entry_numbers.Tables.{held_place, table_fds}
 use Rattle.law_turns.proofs.orders.Back.{could_turn}
 use Rattle.law_turns.proofs.orders.Entries.{pipe_renamed}

@@ -7,9 +7,9 @@ use Rattle.proc_table.specs.Calls.{lowest_free as lowest_free_slot, wait_answer}
 use Rattle.kernel_model.specs.KernelState.{KernelState}
 use Rattle.kernel_model.specs.Sound.{IsMid}
 use Rattle.kernel_model.specs.Events.{acted}
-use Rattle.order_model.specs.Numbers.{SameButNumbers}
+use Rattle.kernel_model.specs.Numbers.{SameButNumbers}
 use Rattle.law_turns.proofs.entry_numbers.Numberings.{same_itself}
-use Rattle.order_model.specs.Closes.{FindsFree}
+use Rattle.kernel_model.specs.Closes.{FindsFree}
 use Rattle.law_turns.proofs.last_closes.Losing.{lost, IsShared, fork_lost, wait_lost, dup_lost, read_lost, write_lost}
 use Rattle.law_turns.proofs.last_closes.Making.{open_file_lost, make_pipe_lost}
 use Rattle.law_turns.proofs.last_closes.Closing.{CanGo, close_lost, exit_lost}

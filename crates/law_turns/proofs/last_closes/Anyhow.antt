@@ -11,14 +11,14 @@ use Rattle.proc_table.specs.declared.states.Status.{Status}
 use Rattle.proc_table.specs.declared.states.Status.TheVariants.{Runnable, Running, Asleep, Zombie}
 use Rattle.proc_table.specs.Slots.{Slot, Table}
 use Rattle.kernel_model.specs.KernelState.{KernelState}
-use Rattle.order_model.specs.Idle.{idle_slot, idle_status, idle_kernel, renamed_entry}
-use Rattle.order_model.specs.Alike.{Alike, IsStill}
-use Rattle.order_model.specs.Woke.{woke, woke_status, woke_slot, woke_table, AlikeAwake}
-use Rattle.order_model.specs.Numbers.{Numbering, SameButNumbers, renumbered, renumbered_slot, renumbered_table}
-use Rattle.order_model.specs.Outcome.{SameOutcome}
-use Rattle.order_model.specs.Turns.{Turn, after_turn}
-use Rattle.order_model.specs.Reduced.{IsFollowing, ComesTo}
-use Rattle.order_model.specs.Anyhow.{AlikeAnyhow, SameKeyAnyhow, DoesAnyhow, itself, likened, bare_status, bare_slot, bare_table}
+use Rattle.kernel_model.specs.Idle.{idle_slot, idle_status, idle_kernel, renamed_entry}
+use Rattle.kernel_model.specs.Alike.{Alike, IsStill}
+use Rattle.kernel_model.specs.Woke.{woke, woke_status, woke_slot, woke_table, AlikeAwake}
+use Rattle.kernel_model.specs.Numbers.{Numbering, SameButNumbers, renumbered, renumbered_slot, renumbered_table}
+use Rattle.kernel_model.specs.Outcome.{SameOutcome}
+use Rattle.kernel_model.specs.Turns.{Turn, after_turn}
+use Rattle.kernel_model.specs.Reduced.{IsFollowing, ComesTo}
+use Rattle.kernel_model.specs.Anyhow.{AlikeAnyhow, SameKeyAnyhow, DoesAnyhow, itself, likened, bare_status, bare_slot, bare_table}
 use Rattle.law_turns.proofs.orders.Entries.{entry_renamed}
 use Rattle.law_turns.proofs.orders.Keys.{one_place}
 use Rattle.law_turns.proofs.orders.Tables.{map_swap, count_map}

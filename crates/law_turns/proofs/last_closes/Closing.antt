@@ -8,22 +8,20 @@ use Rattle.fd_table.specs.declared.names.Object.TheVariants.{Input, Out, Diag, F
 use Rattle.fd_table.specs.declared.faults.FdFault.{FdFault}
 use Rattle.fd_table.specs.declared.descriptors.TheConstants.{DESCRIPTORS}
 use Rattle.fd_table.specs.Entries.{OpenFile as Opened, Entries, entry_at, less_held, last_object, released}
-use Rattle.fd_table.specs.Descriptors.{entry_of, close_answer, released_by_close}
-use Rattle.kernel_model.specs.KernelState.{KernelState, fds_at}
+use Rattle.fd_table.specs.Descriptors.{entry_of, close_answer, released_by_close, Descriptors, after_close}
+use Rattle.kernel_model.specs.KernelState.{KernelState, fds_at, fds_of}
 use Rattle.kernel_model.specs.Replies.{answered}
 use Rattle.kernel_model.specs.Descriptors.{let_go, let_go_of, taken_away, closed_by, closed, closed_below, close, close_reply}
 use Rattle.kernel_model.specs.Processes.{ended, exit}
 use Rattle.std.proofs.Math.ListN.{set}
-use Rattle.fd_table.specs.Descriptors.{Descriptors, after_close}
 use Rattle.proc_table.specs.declared.states.Channel.TheVariants.{PipeBytes, PipeRoom}
 use Rattle.proc_table.specs.Slots.{Slot, at}
 use Rattle.proc_table.specs.Calls.{with_fds, woken}
 use Rattle.proc_table.proofs.Changes.{written, mapped}
-use Rattle.kernel_model.specs.KernelState.{fds_of}
 use Rattle.kernel_model.proofs.Offsets.{item_cases}
 use Rattle.kernel_model.proofs.Sound.{woken_near}
 use Rattle.law_turns.proofs.entry_numbers.Entries.{changed_entry}
-use Rattle.order_model.specs.Closes.{IsPlain}
+use Rattle.kernel_model.specs.Closes.{IsPlain}
 use Rattle.law_turns.proofs.last_closes.Released.{change_both}
 use Rattle.law_turns.proofs.last_closes.Losing.{lost}
 

@@ -26,7 +26,7 @@ use Rattle.kernel_model.specs.Sound.{IsMid, tables}
 use Rattle.kernel_model.specs.Descriptors.{with_open, with_reader, with_ends, ends_reply, make_pipe}
 use Rattle.kernel_model.specs.Opening.{emptied_if, with_bytes, open_here, open_reply, open_for_reading, open_for_writing, open_file}
 use Rattle.kernel_model.proofs.Opening.{open_mid}
-use Rattle.order_model.specs.Numbers.{SameButNumbers}
+use Rattle.kernel_model.specs.Numbers.{SameButNumbers}
 use Rattle.law_turns.proofs.entry_numbers.Numberings.{same_itself, same_on}
 use Rattle.law_turns.proofs.entry_numbers.Opening.{IsFreeAt, lowest_is_free, taken, opened_there, opens_there, opened_so, open_same}
 use Rattle.law_turns.proofs.entry_numbers.Still.{sound_same}

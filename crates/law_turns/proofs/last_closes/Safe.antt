@@ -3,10 +3,10 @@ use Rattle.std.proofs.Common.{inl, inr}
 use Rattle.user_calls.specs.declared.calls.Call.{Call}
 use Rattle.user_calls.specs.declared.calls.Reply.{Reply}
 use Rattle.kernel_model.specs.KernelState.{KernelState}
-use Rattle.order_model.specs.Turns.{after_turn}
-use Rattle.order_model.specs.Reduced.{IsSafe, ComesTo}
-use Rattle.order_model.specs.Begun.{DoesAwake, itself as awake_itself, likened as awake_likened, PrivatelyBegun}
-use Rattle.order_model.specs.Anyhow.{DoesAnyhow, itself, likened}
+use Rattle.kernel_model.specs.Turns.{after_turn}
+use Rattle.kernel_model.specs.Reduced.{IsSafe, ComesTo}
+use Rattle.kernel_model.specs.Begun.{DoesAwake, itself as awake_itself, likened as awake_likened, PrivatelyBegun}
+use Rattle.kernel_model.specs.Anyhow.{DoesAnyhow, itself, likened}
 use Rattle.law_turns.proofs.private_turns.Safe.{privates_safe_awake}
 use Rattle.law_turns.proofs.last_closes.Anyhow.{awake_anyhow}
 

@@ -24,9 +24,9 @@ use Rattle.fd_table.proofs.Counting.{release_kept}
 use Rattle.fd_table.specs.Holders.{CountHolders, HasHolders, holders}
 use Rattle.proc_table.proofs.Counts.{used_within}
 use Rattle.law_turns.proofs.private_turns.Holders.{holds_one, is_open, two_holders}
-use Rattle.order_model.specs.Idle.{idle_kernel}
-use Rattle.order_model.specs.Alike.{Alike, IsStill, HasNamesUpTo}
-use Rattle.order_model.specs.Turns.{after_turn}
+use Rattle.kernel_model.specs.Idle.{idle_kernel}
+use Rattle.kernel_model.specs.Alike.{Alike, IsStill, HasNamesUpTo}
+use Rattle.kernel_model.specs.Turns.{after_turn}
 use Rattle.law_kernel.proofs.outcomes.Outcomes.{every_call_ends}
 use Rattle.law_turns.proofs.orders.Entries.{closed_renamed}
 use Rattle.law_turns.proofs.orders.Names.{acted_alike}
@@ -41,8 +41,8 @@ use Rattle.law_turns.proofs.private_turns.Staying.{Holds, holds_itself, holds_al
 use Rattle.law_turns.proofs.private_turns.Begun.{after_still}
 use Rattle.law_turns.proofs.private_turns.Shared.{given_sound, given_runs}
 use Rattle.law_turns.proofs.private_turns.Turned.{set_twice, idle_told, turn_is, turn_keeps, ready_slot}
-use Rattle.order_model.specs.Numbers.{SameButNumbers}
-use Rattle.order_model.specs.Closes.{IsPlain, FindsFree, FindsFreeNext, ClosesNext}
+use Rattle.kernel_model.specs.Numbers.{SameButNumbers}
+use Rattle.kernel_model.specs.Closes.{IsPlain, FindsFree, FindsFreeNext, ClosesNext}
 use Rattle.law_turns.specs.Either.{InEitherOrder}
 use Rattle.law_turns.proofs.last_closes.Closing.{HasPlain, no_trace_of}
 use Rattle.law_turns.proofs.last_closes.Objects.{IsOpenOn, outcome_on}

@@ -15,9 +15,9 @@ use Rattle.kernel_model.specs.declared.events.Event.TheVariants.{Dispatch, Trap}
 use Rattle.kernel_model.specs.KernelState.{KernelState}
 use Rattle.kernel_model.specs.Events.{counted, can_dispatch, happens, then_happens}
 use Rattle.kernel_model.proofs.Lasting.{no_run}
-use Rattle.order_model.specs.Idle.{idle_slot, idle_status}
-use Rattle.order_model.specs.Alike.{Alike, IsStill}
-use Rattle.order_model.specs.Turns.{Turn, callers, quiet_turns, turns_of, turn_events, turn_notes, by_turns}
+use Rattle.kernel_model.specs.Idle.{idle_slot, idle_status}
+use Rattle.kernel_model.specs.Alike.{Alike, IsStill}
+use Rattle.kernel_model.specs.Turns.{Turn, callers, quiet_turns, turns_of, turn_events, turn_notes, by_turns}
 use Rattle.law_turns.proofs.orders.Follow.{slots_alike, none_runs, after_turn, given_happens, turn_happens, turn_still}
 use Rattle.law_turns.proofs.orders.Turning.{followed}
 

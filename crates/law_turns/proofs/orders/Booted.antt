@@ -7,9 +7,9 @@ use Rattle.kernel_model.specs.KernelState.{KernelState}
 use Rattle.kernel_model.specs.Boot.{boot_kernel}
 use Rattle.kernel_model.specs.Events.{IsFinished}
 use Rattle.kernel_model.proofs.Booting.{boot_sound}
-use Rattle.order_model.specs.Idle.{idle_slot}
-use Rattle.order_model.specs.Alike.{Alike, IsStill}
-use Rattle.order_model.specs.Outcome.{SameOutcome, outcome_of}
+use Rattle.kernel_model.specs.Idle.{idle_slot}
+use Rattle.kernel_model.specs.Alike.{Alike, IsStill}
+use Rattle.kernel_model.specs.Outcome.{SameOutcome, outcome_of}
 use Rattle.law_turns.proofs.orders.Follow.{slots_alike}
 
 -- each pipe keeps its name

@@ -43,8 +43,8 @@ use Rattle.kernel_model.specs.Opening.{emptied_if, with_bytes, open_here, open_r
 use Rattle.kernel_model.specs.Reading.{read, read_file, read_mode, read_by, read_pipe, read_object, read_entry, read_held}
 use Rattle.kernel_model.specs.Writing.{lacks_memory, write, write_file, append_file, write_mode, write_by, write_pipe, write_object, write_entry, write_held}
 use Rattle.kernel_model.specs.Events.{acted}
-use Rattle.order_model.specs.Idle.{renamed_channel, renamed_object, renamed_entry, idle_kernel}
-use Rattle.order_model.specs.Alike.{IsOneToOne}
+use Rattle.kernel_model.specs.Idle.{renamed_channel, renamed_object, renamed_entry, idle_kernel}
+use Rattle.kernel_model.specs.Alike.{IsOneToOne}
 use Rattle.law_turns.proofs.orders.Tables.{idle_table, idle_fds, idle_put, ready_table, sleep_table, fds_table, idle_lowest, idle_wait, reaped_table, forked_table, woken_table, exited_table}
 use Rattle.law_turns.proofs.orders.Entries.{renamed_answer, entries_renamed, file_renamed, lowest_renamed, free_renamed, advanced_renamed, moved_renamed, added_renamed, closed_renamed, answer_renamed, dup_renamed, all_held_renamed, pipes_renamed, pipe_renamed, new_renamed, put_renamed, taken_renamed, reader_renamed, writer_renamed}
 

@@ -10,8 +10,8 @@ use Rattle.fd_table.specs.Entries.{OpenFile, Entries, entry_at, is_free, lowest_
 use Rattle.fd_table.specs.Descriptors.{Descriptors, close_answer, released_by_close, held_by_dup, holders_in, all_held_from, all_held}
 use Rattle.kernel_model.specs.KernelState.{file_at}
 use Rattle.kernel_model.specs.Pipes.{Pipes, pipe_of, with_pipe, without_pipe, with_new, kept_while_open, put_into, taken_from, reader_gone, writer_gone}
-use Rattle.order_model.specs.Idle.{renamed_object, renamed_entry, renamed_pipe}
-use Rattle.order_model.specs.Alike.{IsOneToOne}
+use Rattle.kernel_model.specs.Idle.{renamed_object, renamed_entry, renamed_pipe}
+use Rattle.kernel_model.specs.Alike.{IsOneToOne}
 use Rattle.law_turns.proofs.orders.Tables.{position_map, count_map, same_eq}
 
 -- ---- one entry

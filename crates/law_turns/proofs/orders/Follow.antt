@@ -19,8 +19,8 @@ use Rattle.kernel_model.proofs.Along.{acted_along}
 use Rattle.kernel_model.proofs.Keeps.{mid}
 use Rattle.kernel_model.proofs.Runs.{dispatch_happens}
 use Rattle.law_kernel.proofs.kernel.SoundRuns.{InOrder, InOrderIf, then_in_order, hart_runs}
-use Rattle.order_model.specs.Idle.{idle_slot, idle_status, idle_kernel}
-use Rattle.order_model.specs.Alike.{Alike, IsStill, HasNamesUpTo}
+use Rattle.kernel_model.specs.Idle.{idle_slot, idle_status, idle_kernel}
+use Rattle.kernel_model.specs.Alike.{Alike, IsStill, HasNamesUpTo}
 use Rattle.law_turns.proofs.orders.Tables.{at_idle, idle_table}
 use Rattle.law_turns.proofs.orders.Names.{more_names, acted_names}
 

@@ -5,8 +5,8 @@ use Rattle.std.specs.Prelude.{◌==◌, if◌then◌else◌}
 use Rattle.byte_pipe.specs.PipeState.{PipeState}
 use Rattle.kernel_model.specs.Pipes.{Pipes}
 use Rattle.kernel_model.specs.KernelState.{KernelState}
-use Rattle.order_model.specs.Alike.{Alike, IsOneToOne}
-use Rattle.order_model.specs.Key.{place_in, key}
+use Rattle.kernel_model.specs.Alike.{Alike, IsOneToOne}
+use Rattle.kernel_model.specs.Key.{place_in, key}
 
 place_by : (p : ℕ × PipeState) (rest : Pipes) → IsOneToOne (place_in rest) → (a b : ℕ) (x y : Bool) → (a == p.0) ≡ x → (b == p.0) ≡ y → (if x then 0 else suc (place_in rest a)) ≡ (if y then 0 else suc (place_in rest b)) → a ≡ b
 place_by p rest one a b true true at_a at_b is = eqb-true a p.0 at_a ∙ sym (eqb-true b p.0 at_b)

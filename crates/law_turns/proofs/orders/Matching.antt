@@ -7,8 +7,8 @@ use Rattle.kernel_model.specs.KernelState.{KernelState}
 use Rattle.kernel_model.specs.Events.{run}
 use Rattle.kernel_model.specs.Quiet.{no_refusals}
 use Rattle.kernel_model.proofs.Quiet.{run_quiet}
-use Rattle.order_model.specs.Alike.{Alike, IsStill}
-use Rattle.order_model.specs.Turns.{Turn, turns_of, quiet_turns, callers, by_turns}
+use Rattle.kernel_model.specs.Alike.{Alike, IsStill}
+use Rattle.kernel_model.specs.Turns.{Turn, turns_of, quiet_turns, callers, by_turns}
 use Rattle.law_turns.specs.Matched.{IsMatchedBy}
 use Rattle.law_turns.proofs.orders.Back.{matched, alike_back, quiet_is}
 use Rattle.law_turns.proofs.orders.Booted.{alike_itself, same_outcome}

@@ -1,13 +1,12 @@
 -- A call names at most one pipe more, by its event, so that alike kernels stay alike.
 use Rattle.std.proofs.Common.{◌≡◌, ℕ, zero, suc, ◌+◌, ◌≤◌, ◌<◌, Bool, true, false, refl, sym, ap, ◌∙◌, arith}
-use Rattle.std.proofs.lemmas.Bool.{eq-eqb, eqb-true}
+use Rattle.std.proofs.lemmas.Bool.{eq-eqb, eqb-true, lt-ltb, le-ltb, ltb-false, ltb-true}
 use Rattle.std.specs.Prelude.{◌==◌, nat_lt}
-use Rattle.std.proofs.lemmas.Bool.{lt-ltb, le-ltb, ltb-false, ltb-true}
 use Rattle.user_calls.specs.declared.calls.Call.{Call}
 use Rattle.kernel_model.specs.KernelState.{KernelState}
 use Rattle.kernel_model.specs.Events.{acted}
-use Rattle.order_model.specs.Idle.{idle_kernel}
-use Rattle.order_model.specs.Alike.{Alike, IsOneToOne, HasNamesUpTo}
+use Rattle.kernel_model.specs.Idle.{idle_kernel}
+use Rattle.kernel_model.specs.Alike.{Alike, IsOneToOne, HasNamesUpTo}
 use Rattle.law_turns.proofs.orders.Calls.{acted_idle}
 
 -- larger than each name that is given up to n

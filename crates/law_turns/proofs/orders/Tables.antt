@@ -16,8 +16,8 @@ use Rattle.proc_table.specs.Slots.{Slot, Table, at, same_channel, is_free, is_ch
 use Rattle.proc_table.specs.Calls.{with_status, status_set, made_ready, readied, put_to_sleep, slept, with_fds, fds_set, woken_status, woken, all_woken, given, zombie_child, some_child, buried, exited, wait_answer, wait_by, freed, reaped, lowest_free, forked, newborn}
 use Rattle.proc_table.proofs.Changes.{mapped}
 use Rattle.kernel_model.specs.KernelState.{fds_of}
-use Rattle.order_model.specs.Idle.{renamed_channel, idle_status, idle_slot}
-use Rattle.order_model.specs.Alike.{IsOneToOne}
+use Rattle.kernel_model.specs.Idle.{renamed_channel, idle_status, idle_slot}
+use Rattle.kernel_model.specs.Alike.{IsOneToOne}
 
 -- ---- what lists have in common whose elements look the same
 

@@ -14,9 +14,9 @@ use Rattle.kernel_model.specs.Events.{acted, counted, can_dispatch, trapped, hap
 use Rattle.kernel_model.proofs.Along.{acted_along}
 use Rattle.kernel_model.proofs.Lasting.{no_run}
 use Rattle.law_kernel.proofs.kernel.SoundRuns.{hart_runs}
-use Rattle.order_model.specs.Idle.{idle_kernel}
-use Rattle.order_model.specs.Alike.{Alike, IsStill, HasNamesUpTo}
-use Rattle.order_model.specs.Turns.{Turn, turns_of, by_turns}
+use Rattle.kernel_model.specs.Idle.{idle_kernel}
+use Rattle.kernel_model.specs.Alike.{Alike, IsStill, HasNamesUpTo}
+use Rattle.kernel_model.specs.Turns.{Turn, turns_of, by_turns}
 use Rattle.law_turns.proofs.orders.Names.{more_names, acted_names, acted_alike}
 use Rattle.law_turns.proofs.orders.Follow.{CanRun, dispatched_names, given_names, can_run, ready_status, dispatch_idle, given_0, after_turn, given_happens, turn_happens, turn_still, none_runs}
 

@@ -9,18 +9,18 @@ use Rattle.proc_table.specs.Slots.{Slot, Process, at, is_runnable, is_runnable_s
 use Rattle.kernel_model.specs.KernelState.{KernelState}
 use Rattle.kernel_model.specs.Events.{acted, counted, IsFinished}
 use Rattle.law_kernel.specs.Sleeping.{SleepsOn}
-use Rattle.order_model.specs.Idle.{idle_slot, idle_status, idle_kernel}
-use Rattle.order_model.specs.Alike.{Alike, HasNamesUpTo, IsStill}
-use Rattle.order_model.specs.Outcome.{SameOutcome, outcome_of}
-use Rattle.order_model.specs.Turns.{after_turn}
+use Rattle.kernel_model.specs.Idle.{idle_slot, idle_status, idle_kernel}
+use Rattle.kernel_model.specs.Alike.{Alike, HasNamesUpTo, IsStill}
+use Rattle.kernel_model.specs.Outcome.{SameOutcome, outcome_of}
+use Rattle.kernel_model.specs.Turns.{after_turn}
 use Rattle.law_turns.proofs.orders.Tables.{map_swap, at_idle}
 use Rattle.law_turns.proofs.orders.Names.{acted_alike}
 use Rattle.law_turns.proofs.orders.Follow.{after_turn as turned, given_0, given_names, dispatch_idle, none_runs}
 use Rattle.law_turns.proofs.orders.Back.{could_turn}
 use Rattle.law_turns.proofs.orders.Keys.{one_key}
-use Rattle.order_model.specs.Woke.{woke_status, woke_slot, woke_table, woke, AlikeAwake, SameKeyAwake}
-use Rattle.order_model.specs.Begun.{DoesAwake, itself, likened}
-use Rattle.order_model.specs.Reduced.{IsFollowing, ComesTo}
+use Rattle.kernel_model.specs.Woke.{woke_status, woke_slot, woke_table, woke, AlikeAwake, SameKeyAwake}
+use Rattle.kernel_model.specs.Begun.{DoesAwake, itself, likened}
+use Rattle.kernel_model.specs.Reduced.{IsFollowing, ComesTo}
 use Rattle.law_turns.proofs.private_turns.Woken.{at_woke}
 use Rattle.law_turns.proofs.private_turns.Wakes.{acted_woke}
 use Rattle.law_turns.proofs.private_turns.Fine.{FinePut, Fine}

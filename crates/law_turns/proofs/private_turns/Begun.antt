@@ -13,12 +13,12 @@ use Rattle.law_kernel.specs.Sleeping.{Rests}
 use Rattle.law_kernel.specs.Asking.{AllAsk}
 use Rattle.law_kernel.proofs.kernel.Runs.{every_run_rests, past_two}
 use Rattle.law_kernel.proofs.kernel.AskRuns.{every_run_asks}
-use Rattle.order_model.specs.Alike.{IsStill}
-use Rattle.order_model.specs.Turns.{by_turns, after_turn, after_turns, quiet_turns, turn_events, turn_notes}
+use Rattle.kernel_model.specs.Alike.{IsStill}
+use Rattle.kernel_model.specs.Turns.{by_turns, after_turn, after_turns, quiet_turns, turn_events, turn_notes}
 use Rattle.law_turns.proofs.orders.Back.{matched, could_turn}
 use Rattle.law_turns.proofs.orders.Booted.{alike_itself, boot_still}
 use Rattle.law_turns.proofs.orders.Follow.{after_turn as turned, given_0}
-use Rattle.order_model.specs.Begun.{IsBegun}
+use Rattle.kernel_model.specs.Begun.{IsBegun}
 use Rattle.law_turns.proofs.private_turns.Fine.{Fine, AllFine, fine_set, fine_running, outcome_fine}
 use Rattle.law_turns.proofs.private_turns.Turned.{turn_is, ready_slot}
 

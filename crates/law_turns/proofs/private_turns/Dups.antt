@@ -17,8 +17,8 @@ use Rattle.kernel_model.specs.KernelState.{KernelState, fds_of, fds_at}
 use Rattle.kernel_model.specs.Replies.{answered}
 use Rattle.kernel_model.specs.Descriptors.{let_go_of, taken_away, closed_by, close_reply, dup_by, copied}
 use Rattle.kernel_model.specs.Events.{acted, counted}
-use Rattle.order_model.specs.Alike.{IsStill}
-use Rattle.order_model.specs.Turns.{after_turn}
+use Rattle.kernel_model.specs.Alike.{IsStill}
+use Rattle.kernel_model.specs.Turns.{after_turn}
 use Rattle.law_turns.proofs.orders.Follow.{given_0}
 use Rattle.law_turns.specs.Retold.{Left, retold_slot, retold_table}
 use Rattle.law_turns.proofs.private_turns.Recount.{Suits, G, recount}

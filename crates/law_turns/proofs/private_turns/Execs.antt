@@ -10,8 +10,8 @@ use Rattle.proc_table.specs.Slots.{Process, at}
 use Rattle.kernel_model.specs.KernelState.{KernelState}
 use Rattle.kernel_model.specs.Replies.{answered}
 use Rattle.kernel_model.specs.Events.{acted}
-use Rattle.order_model.specs.Alike.{Alike, IsStill}
-use Rattle.order_model.specs.Turns.{after_turn}
+use Rattle.kernel_model.specs.Alike.{Alike, IsStill}
+use Rattle.kernel_model.specs.Turns.{after_turn}
 use Rattle.law_turns.proofs.private_turns.Staying.{holds_itself}
 use Rattle.law_turns.proofs.private_turns.Turned.{either, leaves}
 

@@ -35,7 +35,7 @@ use Rattle.law_kernel.specs.Outcome.{object_of}
 use Rattle.law_kernel.specs.Sleeping.{Waits, WaitsForBytes, WaitsForRoom, WaitsForChild, IsThere}
 use Rattle.law_kernel.specs.Asking.{MaySleep}
 use Rattle.law_kernel.proofs.kernel.Children.{none_at}
-use Rattle.order_model.specs.Woke.{woke_slot, woke_table, woke}
+use Rattle.kernel_model.specs.Woke.{woke_slot, woke_table, woke}
 use Rattle.law_turns.proofs.private_turns.Fine.{FinePut}
 use Rattle.law_turns.proofs.private_turns.Wakes.{unseen}
 

@@ -7,9 +7,9 @@ use Rattle.user_calls.specs.declared.calls.Reply.TheVariants.{Done, Fd}
 use Rattle.fd_table.specs.Descriptors.{Descriptors, holders_in}
 use Rattle.proc_table.specs.Slots.{Process, at}
 use Rattle.kernel_model.specs.KernelState.{KernelState}
-use Rattle.order_model.specs.Alike.{Alike, IsStill}
-use Rattle.order_model.specs.Turns.{after_turn}
-use Rattle.order_model.specs.Privately.{IsPrivateCall, executes, dups, closes, Privately}
+use Rattle.kernel_model.specs.Alike.{Alike, IsStill}
+use Rattle.kernel_model.specs.Turns.{after_turn}
+use Rattle.kernel_model.specs.Privately.{IsPrivateCall, executes, dups, closes, Privately}
 use Rattle.law_turns.proofs.private_turns.Staying.{Holds, holds_itself}
 use Rattle.law_turns.proofs.private_turns.Holders.{holds_one}
 use Rattle.law_turns.proofs.private_turns.Execs.{execs_both}

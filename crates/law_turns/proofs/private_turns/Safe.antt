@@ -2,9 +2,9 @@
 use Rattle.std.proofs.Common.{[], ◌∷◌, inr}
 use Rattle.user_calls.specs.declared.calls.Call.{Call}
 use Rattle.user_calls.specs.declared.calls.Reply.{Reply}
-use Rattle.order_model.specs.Turns.{after_turn}
-use Rattle.order_model.specs.Reduced.{IsSafe}
-use Rattle.order_model.specs.Begun.{DoesAwake, itself, likened, PrivatelyBegun}
+use Rattle.kernel_model.specs.Turns.{after_turn}
+use Rattle.kernel_model.specs.Reduced.{IsSafe}
+use Rattle.kernel_model.specs.Begun.{DoesAwake, itself, likened, PrivatelyBegun}
 use Rattle.law_turns.proofs.private_turns.Privates.{privates_both}
 use Rattle.law_turns.proofs.private_turns.Begun.{begun_on, begun_still}
 use Rattle.law_turns.proofs.private_turns.Awake.{alike_awake}

@@ -20,9 +20,9 @@ use Rattle.kernel_model.specs.Events.{acted, counted}
 use Rattle.kernel_model.proofs.Keeps.{mid}
 use Rattle.kernel_model.proofs.Closing.{closed_below_mid}
 use Rattle.law_kernel.proofs.kernel.SoundRuns.{InOrder, InOrderIf, then_in_order}
-use Rattle.order_model.specs.Idle.{renamed_entry, idle_kernel}
-use Rattle.order_model.specs.Alike.{Alike, IsStill, HasNamesUpTo}
-use Rattle.order_model.specs.Turns.{after_turn}
+use Rattle.kernel_model.specs.Idle.{renamed_entry, idle_kernel}
+use Rattle.kernel_model.specs.Alike.{Alike, IsStill, HasNamesUpTo}
+use Rattle.kernel_model.specs.Turns.{after_turn}
 use Rattle.law_turns.proofs.orders.Entries.{entry_renamed}
 use Rattle.law_turns.proofs.orders.Names.{acted_alike}
 use Rattle.law_turns.proofs.orders.Follow.{after_turn as turned, given_0, given_happens, turn_still, given_names}

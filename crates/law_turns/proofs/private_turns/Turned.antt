@@ -15,9 +15,9 @@ use Rattle.kernel_model.specs.KernelState.{KernelState}
 use Rattle.kernel_model.specs.Replies.{answered}
 use Rattle.kernel_model.specs.Events.{acted, counted, then_happens}
 use Rattle.law_kernel.proofs.outcomes.Outcomes.{every_call_ends}
-use Rattle.order_model.specs.Idle.{idle_slot, idle_kernel}
-use Rattle.order_model.specs.Alike.{Alike, IsStill, HasNamesUpTo}
-use Rattle.order_model.specs.Turns.{after_turn}
+use Rattle.kernel_model.specs.Idle.{idle_slot, idle_kernel}
+use Rattle.kernel_model.specs.Alike.{Alike, IsStill, HasNamesUpTo}
+use Rattle.kernel_model.specs.Turns.{after_turn}
 use Rattle.law_turns.proofs.orders.Names.{acted_alike}
 use Rattle.law_turns.proofs.orders.Follow.{after_turn as turned, given_0, given_happens, turn_happens, turn_still, given_names}
 use Rattle.law_turns.proofs.orders.Back.{could_turn}

@@ -43,7 +43,7 @@ use Rattle.kernel_model.specs.Opening.{emptied_if, with_bytes, open_here, open_r
 use Rattle.kernel_model.specs.Reading.{read, read_file, read_mode, read_by, read_pipe, read_object, read_entry, read_held}
 use Rattle.kernel_model.specs.Writing.{lacks_memory, write, write_file, append_file, write_mode, write_by, write_pipe, write_object, write_entry, write_held}
 use Rattle.kernel_model.specs.Events.{acted}
-use Rattle.order_model.specs.Woke.{woke_table, woke}
+use Rattle.kernel_model.specs.Woke.{woke_table, woke}
 use Rattle.law_turns.proofs.private_turns.Woken.{twice_table, all_woken_woke, fds_told, put_told, ready_told, sleep_told, set_fds_told, woken_told, lowest_told, wait_told, forked_told, reaped_told, exited_told}
 
 module _ {S : Type 0} (pid : ℕ) where

@@ -14,7 +14,7 @@ use Rattle.proc_table.specs.Calls.{with_status, status_set, made_ready, readied,
 use Rattle.proc_table.proofs.Changes.{mapped}
 use Rattle.kernel_model.specs.KernelState.{fds_of}
 use Rattle.law_turns.proofs.orders.Tables.{map_swap, position_map}
-use Rattle.order_model.specs.Woke.{woke_status, woke_slot, woke_table}
+use Rattle.kernel_model.specs.Woke.{woke_status, woke_slot, woke_table}
 
 -- ---- one slot
 

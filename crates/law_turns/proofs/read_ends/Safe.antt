@@ -6,12 +6,12 @@ use Rattle.user_calls.specs.declared.calls.Reply.{Reply}
 use Rattle.fd_table.specs.declared.names.Object.{Object}
 use Rattle.fd_table.specs.declared.names.Object.TheVariants.{Input, Out, Diag, File, PipeRead, PipeWrite}
 use Rattle.kernel_model.specs.KernelState.{KernelState}
-use Rattle.order_model.specs.Alike.{IsStill}
-use Rattle.order_model.specs.Turns.{by_turns, after_turn, quiet_turns}
-use Rattle.order_model.specs.Reduced.{IsSafe, Joins}
-use Rattle.order_model.specs.Begun.{IsBegun}
-use Rattle.order_model.specs.Anyhow.{AlikeAnyhow, DoesAnyhow, itself, likened}
-use Rattle.order_model.specs.Closes.{HasRoomAhead, IsPlain, IsClosedAtOnce, NobodyElseWrites, ClosesNext, ClosesOrPrivate, ClosesOrPrivateBegun}
+use Rattle.kernel_model.specs.Alike.{IsStill}
+use Rattle.kernel_model.specs.Turns.{by_turns, after_turn, quiet_turns}
+use Rattle.kernel_model.specs.Reduced.{IsSafe, Joins}
+use Rattle.kernel_model.specs.Begun.{IsBegun}
+use Rattle.kernel_model.specs.Anyhow.{AlikeAnyhow, DoesAnyhow, itself, likened}
+use Rattle.kernel_model.specs.Closes.{HasRoomAhead, IsPlain, IsClosedAtOnce, NobodyElseWrites, ClosesNext, ClosesOrPrivate, ClosesOrPrivateBegun}
 use Rattle.law_turns.proofs.private_turns.Begun.{begun_on, begun_still}
 use Rattle.law_turns.proofs.last_closes.Anyhow.{awake_anyhow, joined, numbers_anyhow}
 use Rattle.law_turns.proofs.last_closes.Safe.{privates_safe_anyhow}

@@ -11,9 +11,9 @@ use Rattle.proc_table.specs.Calls.{with_status}
 use Rattle.kernel_model.specs.KernelState.{KernelState, fds_at, file_at}
 use Rattle.kernel_model.specs.Pipes.{pipe_of}
 use Rattle.kernel_model.specs.Events.{counted}
-use Rattle.order_model.specs.Alike.{IsStill}
-use Rattle.order_model.specs.Closes.{ClosesNext, FindsFreeNext, NobodyElseWrites}
-use Rattle.order_model.specs.Turns.{after_turn}
+use Rattle.kernel_model.specs.Alike.{IsStill}
+use Rattle.kernel_model.specs.Closes.{ClosesNext, FindsFreeNext, NobodyElseWrites}
+use Rattle.kernel_model.specs.Turns.{after_turn}
 use Rattle.law_kernel.specs.Ends.{EndsAgree}
 use Rattle.law_kernel.proofs.outcomes.Outcomes.{every_call_ends}
 use Rattle.law_turns.proofs.orders.Back.{could_turn}

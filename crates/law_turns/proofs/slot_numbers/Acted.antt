@@ -20,9 +20,9 @@ use Rattle.kernel_model.specs.Replies.{answered, sleeps}
 use Rattle.kernel_model.specs.Processes.{fork, fork_into, wait, wait_by}
 use Rattle.kernel_model.specs.Events.{acted}
 use Rattle.law_kernel.specs.Sleeping.{Lives}
-use Rattle.order_model.specs.Numbers.{Numbering}
+use Rattle.kernel_model.specs.Numbers.{Numbering}
 use Rattle.law_turns.proofs.orders.Tables.{same_eq}
-use Rattle.order_model.specs.Slots.{moved_channel, moved_slot, IsZombieOf, IsMoved, same, zombies, SameButSlots}
+use Rattle.kernel_model.specs.Slots.{moved_channel, moved_slot, IsZombieOf, IsMoved, same, zombies, SameButSlots}
 use Rattle.law_turns.proofs.slot_numbers.Slots.{dead, zombie_is, one_to_one, stays_free, was_free, same_zombie_child}
 use Rattle.law_turns.proofs.slot_numbers.Swaps.{exchanged}
 use Rattle.law_turns.proofs.slot_numbers.Tables.{Moves, fds_moved, put_moved, ready_moved, sleep_moved, set_fds_moved, woken_moved, exited_moved, zombie_child_so, some_child_so}

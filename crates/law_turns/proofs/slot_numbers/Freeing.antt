@@ -11,8 +11,8 @@ use Rattle.proc_table.specs.declared.states.Status.TheVariants.{Runnable, Runnin
 use Rattle.proc_table.specs.Slots.{Slot, Table, at, is_free, is_number, is_child_of, is_zombie, is_zombie_status}
 use Rattle.proc_table.proofs.Changes.{kept}
 use Rattle.law_kernel.specs.Sleeping.{Lives, SleepsOn}
-use Rattle.order_model.specs.Numbers.{Numbering, renumbered_place}
-use Rattle.order_model.specs.Slots.{moved_channel, moved_status, moved_slot, IsZombieOf, IsMoved, same, zombies}
+use Rattle.kernel_model.specs.Numbers.{Numbering, renumbered_place}
+use Rattle.kernel_model.specs.Slots.{moved_channel, moved_status, moved_slot, IsZombieOf, IsMoved, same, zombies}
 use Rattle.law_turns.proofs.slot_numbers.Swaps.{Exchanged, exchanged}
 use Rattle.law_turns.proofs.slot_numbers.Tables.{Moves}
 

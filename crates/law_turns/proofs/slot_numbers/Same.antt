@@ -7,10 +7,10 @@ use Rattle.proc_table.specs.declared.states.Status.TheVariants.{Runnable, Runnin
 use Rattle.proc_table.specs.Slots.{Slot, Table, Process, at}
 use Rattle.kernel_model.specs.KernelState.{KernelState}
 use Rattle.kernel_model.specs.Events.{IsFinished}
-use Rattle.order_model.specs.Numbers.{Numbering, renumbered_place}
-use Rattle.order_model.specs.Outcome.{SameOutcome, outcome_of}
+use Rattle.kernel_model.specs.Numbers.{Numbering, renumbered_place}
+use Rattle.kernel_model.specs.Outcome.{SameOutcome, outcome_of}
 use Rattle.law_turns.proofs.entry_numbers.Numberings.{unchanged, opposite, followed_by}
-use Rattle.order_model.specs.Slots.{moved_channel, moved_status, moved_process, moved_slot, IsZombieOf, IsMoved, same, zombies, AreMoved, SameButSlots}
+use Rattle.kernel_model.specs.Slots.{moved_channel, moved_status, moved_process, moved_slot, IsZombieOf, IsMoved, same, zombies, AreMoved, SameButSlots}
 use Rattle.law_turns.proofs.slot_numbers.Slots.{stays_free}
 use Rattle.law_turns.proofs.slot_numbers.Tables.{Moves}
 

@@ -13,9 +13,9 @@ use Rattle.kernel_model.specs.Pipes.{Pipes}
 use Rattle.law_kernel.specs.Outcome.{object_of, object_at}
 use Rattle.law_kernel.specs.Sleeping.{Waits, WaitsForBytes, WaitsForRoom, IsThere, SleepsOn, AllWait, Lives, IsFamily, AreSmall}
 use Rattle.law_kernel.specs.Asking.{MaySleep}
-use Rattle.order_model.specs.Alike.{IsStill}
-use Rattle.order_model.specs.Numbers.{Numbering}
-use Rattle.order_model.specs.Slots.{moved_channel, moved_status, moved_process, moved_slot, IsMoved, same, zombies, SameButSlots}
+use Rattle.kernel_model.specs.Alike.{IsStill}
+use Rattle.kernel_model.specs.Numbers.{Numbering}
+use Rattle.kernel_model.specs.Slots.{moved_channel, moved_status, moved_process, moved_slot, IsMoved, same, zombies, SameButSlots}
 use Rattle.law_turns.proofs.private_turns.Fine.{FinePut, Fine}
 use Rattle.law_turns.proofs.private_turns.Begun.{IsSettled}
 use Rattle.law_turns.proofs.slot_numbers.Slots.{exactly, same_child, same_zombie, same_zombie_child, fds_so}

@@ -11,10 +11,10 @@ use Rattle.proc_table.specs.declared.states.Status.TheVariants.{Runnable, Runnin
 use Rattle.proc_table.specs.Slots.{Slot, same_channel, is_number, is_child_of, is_zombie, is_zombie_status, is_zombie_child_of, parent_of, parent_or_init, put_of}
 use Rattle.proc_table.specs.Calls.{with_status, made_ready, put_to_sleep, with_fds, woken_status, woken, parent_after, given}
 use Rattle.kernel_model.specs.KernelState.{fds_of}
-use Rattle.order_model.specs.Alike.{IsOneToOne}
-use Rattle.order_model.specs.Numbers.{Numbering, renumbered_place}
+use Rattle.kernel_model.specs.Alike.{IsOneToOne}
+use Rattle.kernel_model.specs.Numbers.{Numbering, renumbered_place}
 use Rattle.law_turns.proofs.orders.Tables.{same_eq}
-use Rattle.order_model.specs.Slots.{moved_channel, moved_status, moved_process, moved_slot, IsZombieOf, IsMoved, same, zombies}
+use Rattle.kernel_model.specs.Slots.{moved_channel, moved_status, moved_process, moved_slot, IsZombieOf, IsMoved, same, zombies}
 
 -- ---- what changes a slot
 

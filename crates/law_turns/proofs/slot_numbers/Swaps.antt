@@ -2,7 +2,7 @@
 use Rattle.std.proofs.Common.{◌≡◌, ◌≢◌, ◌⊎◌, ℕ, inl, inr, refl, sym, ap, ◌∙◌}
 use Rattle.std.proofs.lemmas.Bool.{cases_eq, eq-eqb, ne_eqb}
 use Rattle.std.specs.Prelude.{◌==◌, if◌then◌else◌}
-use Rattle.order_model.specs.Numbers.{Numbering}
+use Rattle.kernel_model.specs.Numbers.{Numbering}
 use Rattle.law_turns.proofs.entry_numbers.Numberings.{followed_by}
 
 abbrev swapped : ℕ → ℕ → ℕ → ℕ

@@ -14,8 +14,8 @@ use Rattle.proc_table.proofs.Changes.{written, kept, mapped}
 use Rattle.fd_table.proofs.Lists.{position_found}
 use Rattle.kernel_model.specs.KernelState.{fds_of}
 use Rattle.law_kernel.proofs.kernel.Children.{none_at}
-use Rattle.order_model.specs.Numbers.{Numbering}
-use Rattle.order_model.specs.Slots.{moved_channel, moved_slot, IsMoved, same, AreMoved}
+use Rattle.kernel_model.specs.Numbers.{Numbering}
+use Rattle.kernel_model.specs.Slots.{moved_channel, moved_slot, IsMoved, same, AreMoved}
 use Rattle.law_turns.proofs.slot_numbers.Slots.{fds_so, put_so, ready_so, sleep_so, with_fds_so, status_so, apart, woken_so, given_so, parent_so, is_given, is_woken, same_child, same_zombie_child}
 
 -- u has t's slots so, and the slot of pid exactly so, under the number me

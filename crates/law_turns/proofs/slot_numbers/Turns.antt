@@ -15,15 +15,15 @@ use Rattle.kernel_model.specs.KernelState.{KernelState}
 use Rattle.kernel_model.specs.Events.{acted, counted}
 use Rattle.kernel_model.proofs.Lasting.{no_run}
 use Rattle.law_kernel.specs.Sleeping.{Lives, SleepsOn, IsFamily}
-use Rattle.order_model.specs.Turns.{by_turns, after_turn, after_turns, quiet_turns, turn_events, turn_notes}
-use Rattle.order_model.specs.Alike.{IsStill}
-use Rattle.order_model.specs.Begun.{IsBegun}
-use Rattle.order_model.specs.Numbers.{Numbering}
+use Rattle.kernel_model.specs.Turns.{by_turns, after_turn, after_turns, quiet_turns, turn_events, turn_notes}
+use Rattle.kernel_model.specs.Alike.{IsStill}
+use Rattle.kernel_model.specs.Begun.{IsBegun}
+use Rattle.kernel_model.specs.Numbers.{Numbering}
 use Rattle.law_turns.proofs.orders.Follow.{after_turn as turned, given_0}
 use Rattle.law_turns.proofs.orders.Back.{could_turn}
 use Rattle.law_turns.proofs.private_turns.Begun.{IsSettled, begun_on, begun_still, begun_settled}
 use Rattle.law_turns.proofs.private_turns.Turned.{turn_is, ready_slot}
-use Rattle.order_model.specs.Slots.{moved_status, moved_process, moved_slot, SameButSlots}
+use Rattle.kernel_model.specs.Slots.{moved_status, moved_process, moved_slot, SameButSlots}
 use Rattle.law_turns.specs.TakenToo.{IsTurnTakenToo, AreTurnsTakenToo}
 use Rattle.law_turns.proofs.slot_numbers.Slots.{exactly}
 use Rattle.law_turns.proofs.slot_numbers.Tables.{Moves, dispatched_moved}

@@ -22,7 +22,7 @@ use Rattle.kernel_model.specs.Replies.{answered}
 use Rattle.kernel_model.specs.Processes.{fork_into, wait, wait_by}
 use Rattle.kernel_model.specs.Events.{acted}
 use Rattle.law_turns.proofs.private_turns.Unseen.{position_same}
-use Rattle.order_model.specs.Slots.{IsZombieOf}
+use Rattle.kernel_model.specs.Slots.{IsZombieOf}
 use Rattle.law_turns.proofs.slot_numbers.Slots.{zombie_given, zombie_woken, child_of, zombie_is}
 use Rattle.law_turns.proofs.slot_numbers.Calls.{Keeps, KeepsTables, SameEntries, with_entries, Same, here, sleeping, answering, close_so, exit_so, dup_call_so, open_so, pipe_so, read_so, write_so}
 

@@ -20,10 +20,10 @@ use Rattle.kernel_model.specs.Replies.{answered}
 use Rattle.kernel_model.specs.Processes.{fork_into, wait_by}
 use Rattle.kernel_model.specs.Events.{acted, counted}
 use Rattle.law_kernel.proofs.kernel.Children.{none_at}
-use Rattle.order_model.specs.Idle.{idle_slot, idle_kernel}
-use Rattle.order_model.specs.Alike.{Alike, IsStill, HasNamesUpTo}
-use Rattle.order_model.specs.Turns.{after_turn}
-use Rattle.order_model.specs.Begun.{IsBegun}
+use Rattle.kernel_model.specs.Idle.{idle_slot, idle_kernel}
+use Rattle.kernel_model.specs.Alike.{Alike, IsStill, HasNamesUpTo}
+use Rattle.kernel_model.specs.Turns.{after_turn}
+use Rattle.kernel_model.specs.Begun.{IsBegun}
 use Rattle.law_turns.proofs.orders.Names.{acted_alike}
 use Rattle.law_turns.proofs.orders.Follow.{after_turn as turned, given_0, given_names}
 use Rattle.law_turns.proofs.orders.Back.{could_turn}
@@ -36,8 +36,8 @@ use Rattle.law_turns.proofs.private_turns.Staying.{Holds, holds_itself, holds_al
 use Rattle.law_turns.proofs.private_turns.Begun.{begun_on, begun_still}
 use Rattle.law_turns.proofs.private_turns.Turned.{set_twice, idle_told, turn_is, turn_keeps, ready_slot, runnable_by}
 use Rattle.law_turns.proofs.entry_numbers.Numberings.{unchanged}
-use Rattle.order_model.specs.Slots.{IsZombieOf, SameButSlots}
-use Rattle.order_model.specs.Giving.{FindsSlotNext, ReapsNext}
+use Rattle.kernel_model.specs.Slots.{IsZombieOf, SameButSlots}
+use Rattle.kernel_model.specs.Giving.{FindsSlotNext, ReapsNext}
 use Rattle.law_turns.proofs.slot_numbers.Slots.{dead, child_of, zombie_is}
 use Rattle.law_turns.proofs.slot_numbers.Acted.{Mid, but_slots, finds_free, forks_into, reaps}
 use Rattle.law_turns.proofs.slot_numbers.Calls.{SameEntries, Same}

@@ -22,7 +22,7 @@ use Rattle.kernel_model.specs.Pipes.{Pipes, pipe_of, with_pipe, taken_from}
 use Rattle.kernel_model.specs.Replies.{sleeps}
 use Rattle.kernel_model.specs.Reading.{read_held, read_entry, read_object, read_pipe, read_by}
 use Rattle.kernel_model.specs.Events.{acted}
-use Rattle.order_model.specs.Woke.{woke_slot, woke_table}
+use Rattle.kernel_model.specs.Woke.{woke_slot, woke_table}
 use Rattle.law_turns.specs.Retold.{Left, retold_slot, retold_table}
 use Rattle.law_turns.proofs.private_turns.Turned.{set_twice}
 

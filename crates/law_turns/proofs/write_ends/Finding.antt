@@ -12,7 +12,7 @@ use Rattle.fd_table.specs.Descriptors.{entry_of}
 use Rattle.proc_table.specs.Slots.{Slot, Process, at}
 use Rattle.kernel_model.specs.KernelState.{KernelState, file_at}
 use Rattle.kernel_model.specs.Pipes.{pipe_of}
-use Rattle.order_model.specs.Begun.{IsBegun}
+use Rattle.kernel_model.specs.Begun.{IsBegun}
 use Rattle.law_kernel.specs.Ends.{reads_pipe}
 use Rattle.law_turns.specs.Writers.{FindsBytesNext, ReadsEmptyNext}
 use Rattle.law_turns.proofs.write_ends.NextCalls.{readers_put_nothing}

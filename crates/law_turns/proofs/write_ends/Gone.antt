@@ -22,7 +22,7 @@ use Rattle.kernel_model.specs.Replies.{answered}
 use Rattle.kernel_model.specs.Descriptors.{let_go, let_go_of, taken_away, closed_by, closed, closed_below, close, close_reply}
 use Rattle.kernel_model.specs.Processes.{ended}
 use Rattle.kernel_model.specs.Events.{acted}
-use Rattle.order_model.specs.Woke.{woke}
+use Rattle.kernel_model.specs.Woke.{woke}
 use Rattle.law_kernel.specs.Ends.{AreApart}
 use Rattle.law_turns.proofs.private_turns.Holders.{holds_one, free_holds_none}
 use Rattle.law_turns.proofs.private_turns.Woken.{exited_told}

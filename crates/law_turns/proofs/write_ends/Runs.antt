@@ -8,9 +8,9 @@ use Rattle.kernel_model.specs.Pipes.{pipe_of}
 use Rattle.kernel_model.proofs.Lasting.{run_later}
 use Rattle.law_kernel.specs.Ends.{EndsAgree}
 use Rattle.law_kernel.proofs.kernel.EndsRuns.{every_run_in_step}
-use Rattle.order_model.specs.Alike.{IsStill}
-use Rattle.order_model.specs.Begun.{IsBegun}
-use Rattle.order_model.specs.Turns.{quiet_turns, turn_events, turn_notes}
+use Rattle.kernel_model.specs.Alike.{IsStill}
+use Rattle.kernel_model.specs.Begun.{IsBegun}
+use Rattle.kernel_model.specs.Turns.{quiet_turns, turn_events, turn_notes}
 use Rattle.law_turns.proofs.private_turns.Begun.{begun_still}
 
 module _ {S : Type 0} (call : S → Reply → Call) (next : S → Reply → S) (k : KernelState S) (b : IsBegun call next k) where

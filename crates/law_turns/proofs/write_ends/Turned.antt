@@ -1,71 +1,56 @@
 -- A turn that closes an end of a pipe, and any other process's turn.
-use Rattle.std.proofs.Common.{◌≡◌, ◌≢◌, ℕ, ◌+◌, ◌<◌, ◌≤◌, true, false, Option, Some, None, refl, sym, ap, subst, ◌∙◌, arith}
+use Rattle.std.proofs.Common.{◌≡◌, ◌≢◌, ℕ, ◌+◌, ◌<◌, ◌≤◌, true, false, Option, Some, None, refl, sym, ap, subst, ◌∙◌, arith, get_or-set_other}
 use Rattle.std.proofs.Math.ListN.{set}
 use Rattle.user_calls.specs.declared.calls.Call.{Call}
 use Rattle.user_calls.specs.declared.calls.Call.TheVariants.{Fork, Exec, Exit, Wait, MakePipe, Read, Write, OpenFile, Close, Dup}
 use Rattle.user_calls.specs.declared.calls.Reply.{Reply}
 use Rattle.user_calls.specs.declared.calls.Reply.TheVariants.{Done}
 use Rattle.fd_table.specs.declared.names.Object.{Object}
-use Rattle.fd_table.specs.Entries.{OpenFile as Opened, entry_at, count_of, released, released}
+use Rattle.fd_table.specs.Entries.{OpenFile as Opened, entry_at, count_of, released, last_object, less_held}
 use Rattle.fd_table.specs.Descriptors.{Descriptors, entry_of, holders_in, close_answer}
-use Rattle.proc_table.specs.declared.states.Status.TheVariants.{Running}
-use Rattle.proc_table.specs.Slots.{Slot, Table, Process, at, is_running, is_runnable_status}
-use Rattle.proc_table.specs.Calls.{dispatched, with_status, fds_set, made_ready, readied}
-use Rattle.proc_table.proofs.Changes.{written, kept}
-use Rattle.kernel_model.specs.KernelState.{KernelState, fds_of, fds_at}
+use Rattle.proc_table.specs.declared.states.Status.TheVariants.{Running, Runnable}
+use Rattle.proc_table.specs.Slots.{Slot, Table, Process, at, is_running, is_runnable_status, is_free}
+use Rattle.proc_table.specs.Calls.{dispatched, with_status, fds_set, made_ready, readied, all_woken, woken, woken_status}
+use Rattle.proc_table.proofs.Changes.{written, kept, mapped}
+use Rattle.kernel_model.specs.KernelState.{KernelState, fds_of, fds_at, file_at}
 use Rattle.kernel_model.specs.Replies.{answered}
 use Rattle.kernel_model.specs.Sound.{IsSound}
-use Rattle.kernel_model.specs.Descriptors.{taken_away, closed_by, close_reply}
+use Rattle.kernel_model.specs.Descriptors.{taken_away, closed_by, close_reply, let_go_of, let_go}
 use Rattle.kernel_model.specs.Events.{acted, counted}
 use Rattle.law_turns.proofs.private_turns.Holders.{holds_one}
-use Rattle.order_model.specs.Idle.{idle_kernel}
-use Rattle.order_model.specs.Alike.{Alike, IsOneToOne, IsStill, HasNamesUpTo}
-use Rattle.order_model.specs.Turns.{after_turn}
+use Rattle.kernel_model.specs.Idle.{idle_kernel, renamed_pipe}
+use Rattle.kernel_model.specs.Alike.{Alike, IsOneToOne, IsStill, HasNamesUpTo}
+use Rattle.kernel_model.specs.Turns.{after_turn}
 use Rattle.law_kernel.proofs.outcomes.Outcomes.{every_call_ends}
 use Rattle.law_turns.proofs.orders.Names.{acted_alike}
 use Rattle.law_turns.proofs.orders.Follow.{after_turn as turned, given_0, turn_still, given_names}
 use Rattle.law_turns.proofs.orders.Back.{could_turn}
 use Rattle.law_turns.proofs.orders.Turning.{relike}
 use Rattle.law_turns.proofs.orders.Booted.{alike_itself}
-use Rattle.law_turns.specs.Retold.{retold_table, retold}
+use Rattle.law_turns.specs.Retold.{retold_table, retold, Left}
 use Rattle.law_turns.proofs.private_turns.Unseen.{status_told}
-use Rattle.law_turns.proofs.private_turns.Staying.{Holds, holds_itself, in_own}
+use Rattle.law_turns.proofs.private_turns.Staying.{Holds, holds_itself, in_own, holds_alive}
 use Rattle.law_turns.proofs.private_turns.Begun.{after_still}
 use Rattle.law_turns.proofs.private_turns.Shared.{given_sound, given_runs}
-use Rattle.law_turns.proofs.private_turns.Turned.{turn_is, turn_keeps, ready_slot, runnable_by}
-use Rattle.std.proofs.lemmas.Bool.{le-leb}
-use Rattle.std.proofs.Common.{◌≢◌}
-use Rattle.std.specs.Prelude.{map, Ok, Bool}
-use Rattle.fd_table.specs.Entries.{last_object}
-use Rattle.kernel_model.specs.KernelState.{file_at}
-use Rattle.std.proofs.Common.{get_or-set_other}
-use Rattle.std.proofs.lemmas.Bool.{leb-true, leb-false}
+use Rattle.law_turns.proofs.private_turns.Turned.{turn_is, turn_keeps, ready_slot, runnable_by, Ready}
+use Rattle.std.proofs.lemmas.Bool.{le-leb, leb-true, leb-false}
+use Rattle.std.specs.Prelude.{map, Ok, Bool, nat_le, if◌then◌else◌}
 use Rattle.law_turns.proofs.entry_numbers.Entries.{changed_entry}
-use Rattle.fd_table.specs.Entries.{less_held}
-use Rattle.kernel_model.specs.Descriptors.{let_go_of}
-use Rattle.std.specs.Prelude.{nat_le, if◌then◌else◌}
 use Rattle.fd_table.specs.declared.names.Object.TheVariants.{PipeRead}
 use Rattle.proc_table.specs.declared.states.Channel.{Channel}
-use Rattle.proc_table.specs.declared.states.Status.TheVariants.{Runnable}
-use Rattle.proc_table.specs.Calls.{all_woken, woken, woken_status}
-use Rattle.proc_table.proofs.Changes.{mapped}
 use Rattle.std.proofs.lemmas.List.{map-set}
 use Rattle.kernel_model.specs.Pipes.{Pipes, pipe_of, reader_gone, writer_gone}
-use Rattle.order_model.specs.Idle.{renamed_pipe}
-use Rattle.order_model.specs.Woke.{woke, AlikeAwake}
+use Rattle.kernel_model.specs.Woke.{woke, AlikeAwake, woke_table}
 use Rattle.law_turns.proofs.orders.Entries.{pipe_renamed, reader_renamed, writer_renamed}
 use Rattle.law_kernel.specs.Ends.{EndsAgree}
 use Rattle.law_turns.proofs.private_turns.Awake.{alike_awake}
 use Rattle.law_turns.proofs.private_turns.Wakes.{acted_woke}
 use Rattle.law_turns.proofs.private_turns.Woken.{all_woken_woke}
-use Rattle.order_model.specs.Numbers.{SameButNumbers}
+use Rattle.kernel_model.specs.Numbers.{SameButNumbers}
 use Rattle.law_turns.proofs.entry_numbers.Acted.{let_go_same}
-use Rattle.order_model.specs.Closes.{FindsFree, FindsFreeNext}
+use Rattle.kernel_model.specs.Closes.{FindsFree, FindsFreeNext, ClosesNext}
 use Rattle.law_turns.proofs.last_closes.Turned.{Closes, left, given_up, table_left, names_given, more_hold, acted_given, at_events}
-use Rattle.order_model.specs.Closes.{ClosesNext}
 use Rattle.law_turns.specs.Writers.{InEitherOrderAwake}
-use Rattle.order_model.specs.Woke.{woke_table}
-use Rattle.law_turns.specs.Retold.{Left}
 use Rattle.law_turns.proofs.write_ends.Ends.{PipeEnd, ReadEnd, WriteEnd, object_of, channel_of, IsNoEnd, let_go_end}
 use Rattle.law_turns.proofs.write_ends.Pipes.{reader_edited, writer_edited}
 use Rattle.law_turns.proofs.write_ends.Cutting.{cut, cut_pipes, CanRead, FindsBytes, ReadsBytes, acted_cut}
@@ -76,11 +61,7 @@ use Rattle.law_turns.proofs.write_ends.Gone.{Closing, IsLastOn, last_on, shared_
 use Rattle.law_turns.proofs.last_closes.Acted.{CanGoBy, goes_by}
 use Rattle.law_turns.proofs.last_closes.Objects.{IsOpenOn, outcome_on}
 use Rattle.law_turns.proofs.private_turns.Unheard.{acted_told}
-use Rattle.law_turns.proofs.private_turns.Staying.{holds_alive}
-use Rattle.law_turns.proofs.private_turns.Turned.{Ready}
 use Rattle.law_turns.proofs.entry_numbers.Numberings.{same_itself}
-use Rattle.proc_table.specs.Slots.{is_free}
-use Rattle.kernel_model.specs.Descriptors.{let_go}
 
 -- ---- wake-ups
 

@@ -19,11 +19,11 @@ use Rattle.kernel_model.specs.KernelState.{KernelState, fds_of, fds_at, file_at}
 use Rattle.kernel_model.specs.Pipes.{pipe_of}
 use Rattle.kernel_model.specs.Replies.{sleeps}
 use Rattle.kernel_model.specs.Events.{acted, counted}
-use Rattle.order_model.specs.Idle.{idle_kernel}
-use Rattle.order_model.specs.Alike.{IsStill}
-use Rattle.order_model.specs.Turns.{after_turn}
-use Rattle.order_model.specs.Woke.{woke, woke_table}
-use Rattle.order_model.specs.Closes.{ClosesNext, FindsFreeNext}
+use Rattle.kernel_model.specs.Idle.{idle_kernel}
+use Rattle.kernel_model.specs.Alike.{IsStill}
+use Rattle.kernel_model.specs.Turns.{after_turn}
+use Rattle.kernel_model.specs.Woke.{woke, woke_table}
+use Rattle.kernel_model.specs.Closes.{ClosesNext, FindsFreeNext}
 use Rattle.law_kernel.specs.Ends.{EndsAgree}
 use Rattle.law_kernel.proofs.outcomes.Outcomes.{every_call_ends}
 use Rattle.law_turns.proofs.orders.Follow.{after_turn as turned, given_0, turn_still}

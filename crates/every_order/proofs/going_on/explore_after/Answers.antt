@@ -2,7 +2,7 @@ use Rattle.std.proofs.Common.{◌≤◌, sym, subst, map, arith}
 use Rattle.proc_table.specs.declared.pid.TheConstants.{PROCS}
 use Rattle.kernel_model.specs.KernelState.{KernelState}
 use Rattle.kernel_model.specs.Boot.{boot_kernel}
-use Rattle.order_model.specs.Begun.{IsBegun}
+use Rattle.kernel_model.specs.Begun.{IsBegun}
 use Rattle.order_search.specs.Room.{HasAhead}
 use Rattle.order_search.specs.Told.{outcome_by}
 use Rattle.order_search.specs.Exploring.{ExploresAfter}

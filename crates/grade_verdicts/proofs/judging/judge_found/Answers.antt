@@ -1,7 +1,7 @@
 use Rattle.std.proofs.Common.{◌≡◌, false, map, sym, subst, rules}
 use Rattle.script_load.specs.Line.{lines_of}
 use Rattle.sh_machine.specs.Turn.{call_of, next_of}
-use Rattle.order_model.specs.Explored.{AreAllOutcomes}
+use Rattle.kernel_model.specs.Explored.{AreAllOutcomes}
 use Rattle.order_search.specs.Told.{outcome_by}
 use Rattle.order_search.proofs.Looking.{never}
 use Rattle.grade_verdicts.specs.Judged.{start_of}

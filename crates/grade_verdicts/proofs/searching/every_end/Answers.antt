@@ -2,7 +2,7 @@ use Rattle.std.proofs.Common.{◌≡◌, ◌∙◌, true, IfSome, map, sym, subs
 use Rattle.script_load.specs.Line.{lines_of}
 use Rattle.sh_machine.specs.Turn.{call_of, next_of}
 use Rattle.run_model.specs.ScriptRun.{script_kernel}
-use Rattle.order_model.specs.Explored.{AreAllOutcomes, IsNeverStuck}
+use Rattle.kernel_model.specs.Explored.{AreAllOutcomes, IsNeverStuck}
 use Rattle.order_search.specs.Told.{outcome_by, LeadsToSleep}
 use Rattle.grade_verdicts.specs.Judged.{start_of}
 use Rattle.grade_verdicts.proofs.searching.every_end.Goals as goal

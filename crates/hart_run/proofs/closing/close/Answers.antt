@@ -1,6 +1,6 @@
 use Rattle.script_load.specs.Line.{lines_of}
 use Rattle.run_model.specs.ScriptRun.{script_kernel}
-use Rattle.kernel_core.proofs.Answers.{answer, roomy_answer}
+use Rattle.hart_run.proofs.Answers.{answer, roomy_answer}
 use Rattle.hart_run.proofs.closing.close.Goals as goal
 
 pub returns-clause-so_far : goal.returns-clause-so_far

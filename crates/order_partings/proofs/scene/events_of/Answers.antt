@@ -2,7 +2,7 @@ use Rattle.std.proofs.Common.{◌≡◌, ℕ, ◌<◌, List, [], ◌∷◌, ◌+
 use Rattle.std.proofs.lemmas.List.{take_more}
 use Rattle.kernel_model.specs.declared.events.Event.{Event}
 use Rattle.kernel_model.specs.declared.events.Event.TheVariants.{Dispatch, Trap}
-use Rattle.order_model.specs.Turns.{quiet_turns, turn_events}
+use Rattle.kernel_model.specs.Turns.{quiet_turns, turn_events}
 use Rattle.order_partings.proofs.scene.events_of.Goals as goal
 
 -- one turn more has two events more

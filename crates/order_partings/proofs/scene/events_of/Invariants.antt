@@ -1,5 +1,5 @@
 use Rattle.std.proofs.Common.{◌≡◌, take}
-use Rattle.order_model.specs.Turns.{quiet_turns, turn_events}
+use Rattle.kernel_model.specs.Turns.{quiet_turns, turn_events}
 use Rattle.order_partings.proofs.scene.events_of.Given as goal
 
 -- the events of the turns so far

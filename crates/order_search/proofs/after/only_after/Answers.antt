@@ -1,4 +1,4 @@
-use Rattle.order_model.specs.Giving.{GivesWay}
+use Rattle.kernel_model.specs.Giving.{GivesWay}
 use Rattle.order_search.specs.Led.{start_kernel}
 use Rattle.order_search.specs.After.{GivesWayAfter}
 use Rattle.order_search.proofs.Looking.{if_some_more}

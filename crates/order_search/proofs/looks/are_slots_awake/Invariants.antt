@@ -1,5 +1,5 @@
 use Rattle.std.proofs.Common.{◌≡◌, take, map}
-use Rattle.order_model.specs.Woke.{woke_slot}
+use Rattle.kernel_model.specs.Woke.{woke_slot}
 use Rattle.order_search.specs.Shown.{slot_of}
 use Rattle.order_search.proofs.looks.are_slots_awake.Given as goal
 

@@ -6,7 +6,7 @@ use Rattle.kernel_model.specs.KernelState.{KernelState}
 use Rattle.kernel_model.specs.Boot.{boot_kernel}
 use Rattle.kernel_model.specs.Sound.{IsSound}
 use Rattle.kernel_model.proofs.Booting.{boot_sound}
-use Rattle.order_model.specs.Turns.{after_turns}
+use Rattle.kernel_model.specs.Turns.{after_turns}
 use Rattle.order_search.specs.Led.{start_kernel}
 use Rattle.order_search.proofs.Leading.{start_is, led_on, boot_idle}
 use Rattle.order_search.proofs.origin.remake.Goals as goal

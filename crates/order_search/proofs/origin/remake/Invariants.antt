@@ -3,7 +3,7 @@ use Rattle.std.specs.Prelude.{count_by}
 use Rattle.proc_table.specs.Slots.{is_running}
 use Rattle.order_search.specs.Led.{start_kernel}
 use Rattle.kernel_model.specs.Sound.{IsSound}
-use Rattle.order_model.specs.Turns.{after_turns}
+use Rattle.kernel_model.specs.Turns.{after_turns}
 use Rattle.order_search.proofs.origin.remake.Given as goal
 
 abbrev pub invariant-loop-pid : goal.invariant-loop-pid

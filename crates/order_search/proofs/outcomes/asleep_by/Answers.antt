@@ -1,8 +1,8 @@
 use Rattle.std.proofs.Common.{◌≡◌, ℕ, List, Some, true, false, inl, inr, refl, sym, subst, ◌∙◌, rules, arith}
 use Rattle.std.specs.Prelude.{count_by}
 use Rattle.proc_table.specs.Slots.{is_runnable}
-use Rattle.order_model.specs.Turns.{after_turns}
-use Rattle.order_model.specs.Explored.{IsFinishedOrReady}
+use Rattle.kernel_model.specs.Turns.{after_turns}
+use Rattle.kernel_model.specs.Explored.{IsFinishedOrReady}
 use Rattle.order_search.specs.Led.{start_kernel}
 use Rattle.order_search.proofs.Leading.{none_of}
 use Rattle.order_search.proofs.Looking.{never}

@@ -1,5 +1,5 @@
 use Rattle.std.proofs.Common.{arith}
-use Rattle.order_model.specs.Outcome.{outcome_of}
+use Rattle.kernel_model.specs.Outcome.{outcome_of}
 use Rattle.order_search.proofs.Telling.{untold}
 use Rattle.order_search.proofs.outcomes.is_told.Goals as goal
 

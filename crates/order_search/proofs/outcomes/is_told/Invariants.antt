@@ -1,4 +1,4 @@
-use Rattle.order_model.specs.Outcome.{outcome_of}
+use Rattle.kernel_model.specs.Outcome.{outcome_of}
 use Rattle.order_search.proofs.Telling.{IsUntold}
 use Rattle.order_search.proofs.outcomes.is_told.Given as goal
 

@@ -1,6 +1,6 @@
 use Rattle.std.proofs.Common.{◌≡◌, ℕ, List, Some, true, sym, subst, rules}
 use Rattle.kernel_model.specs.Events.{IsFinished}
-use Rattle.order_model.specs.Turns.{after_turns}
+use Rattle.kernel_model.specs.Turns.{after_turns}
 use Rattle.order_search.specs.Led.{start_kernel}
 use Rattle.order_search.proofs.outcomes.replayed.Goals as goal
 

@@ -2,7 +2,7 @@ use Rattle.std.proofs.Common.{◌≡◌, ◌≤◌, ◌<◌, ℕ, List, Ok, fals
 use Rattle.std.specs.Prelude.{All}
 use Rattle.std.proofs.lemmas.List.{map_more}
 use Rattle.kernel_model.specs.KernelState.{KernelState}
-use Rattle.order_model.specs.Explored.{IsFinishedOrBusy}
+use Rattle.kernel_model.specs.Explored.{IsFinishedOrBusy}
 use Rattle.order_search.specs.Led.{Led, kernel_of}
 use Rattle.order_search.proofs.Telling.{one_more, whole_take}
 use Rattle.order_search.proofs.outcomes.stuck_of.Goals as goal

@@ -1,6 +1,6 @@
 use Rattle.std.proofs.Common.{map, take}
 use Rattle.std.specs.Prelude.{All}
-use Rattle.order_model.specs.Explored.{IsFinishedOrBusy}
+use Rattle.kernel_model.specs.Explored.{IsFinishedOrBusy}
 use Rattle.order_search.specs.Led.{kernel_of}
 use Rattle.order_search.proofs.outcomes.stuck_of.Given as goal
 

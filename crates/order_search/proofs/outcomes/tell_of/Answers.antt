@@ -1,7 +1,7 @@
 use Rattle.std.proofs.Common.{◌≡◌, List, true, false, inr, map, sym, subst, ◌∙◌, rules}
 use Rattle.std.specs.Prelude.{Contains}
 use Rattle.kernel_model.specs.Events.{IsFinished}
-use Rattle.order_model.specs.Outcome.{outcome_of}
+use Rattle.kernel_model.specs.Outcome.{outcome_of}
 use Rattle.order_search.specs.declared.outcomes.Outcome.{Outcome}
 use Rattle.order_search.specs.Led.{Led, start_kernel}
 use Rattle.order_search.specs.Told.{outcome_by, IsAddedTo}

@@ -3,8 +3,8 @@ use Rattle.std.specs.Prelude.{option_map}
 use Rattle.std.proofs.Math.Seq.{take-length}
 use Rattle.kernel_model.specs.KernelState.{KernelState}
 use Rattle.kernel_model.specs.Pipes.{pipe_of}
-use Rattle.kernel_pipes.specs.Status.{status_of}
-use Rattle.kernel_pipes.specs.declared.status.PipeStatus.{PipeStatus}
+use Rattle.kernel_calls.specs.Status.{status_of}
+use Rattle.kernel_calls.specs.declared.status.PipeStatus.{PipeStatus}
 use Rattle.order_search.proofs.parts.push_pipe.Goals as goal
 
 pub returns : goal.returns

@@ -1,7 +1,7 @@
 use Rattle.std.proofs.Common.{◌≡◌, ℕ, ◌<◌, ◌∷◌, [], ◌++◌, None, length, refl, sym, ap, ◌∙◌, map, take, arith, rules}
 use Rattle.std.proofs.lemmas.List.{map_more}
 use Rattle.fd_table.specs.Entries.{entry_at}
-use Rattle.order_model.specs.Idle.{renamed_entry}
+use Rattle.kernel_model.specs.Idle.{renamed_entry}
 use Rattle.order_search.specs.Places.{place_among}
 use Rattle.order_search.specs.Shown.{filled}
 use Rattle.order_search.proofs.Filling.{map_rest}

@@ -2,7 +2,7 @@ use Rattle.std.proofs.Common.{◌≡◌, ℕ, ◌<◌, List, ◌∷◌, [], ◌+
 use Rattle.std.proofs.lemmas.List.{map_more, length-map}
 use Rattle.byte_pipe.specs.PipeState.{PipeState, new_pipe}
 use Rattle.kernel_model.specs.Pipes.{pipe_of}
-use Rattle.order_model.specs.Idle.{renamed_pipe}
+use Rattle.kernel_model.specs.Idle.{renamed_pipe}
 use Rattle.order_search.specs.Places.{place_among, name_of}
 use Rattle.order_search.proofs.Placing.{found, name_at}
 use Rattle.order_search.proofs.parts.read_pipes.Goals as goal

@@ -1,5 +1,5 @@
 use Rattle.std.proofs.Common.{◌≡◌, take, map}
-use Rattle.order_model.specs.Idle.{renamed_pipe}
+use Rattle.kernel_model.specs.Idle.{renamed_pipe}
 use Rattle.order_search.specs.Places.{place_among}
 use Rattle.order_search.proofs.parts.read_pipes.Given as goal
 

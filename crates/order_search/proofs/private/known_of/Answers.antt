@@ -2,7 +2,7 @@ use Rattle.std.proofs.Common.{◌≤◌, ℕ, sym, ap, subst, ◌∙◌}
 use Rattle.user_calls.specs.declared.slots.CallKind.{CallKind}
 use Rattle.user_calls.specs.Slots.{call_by, call_bytes}
 use Rattle.fd_table.specs.Descriptors.{holders_in}
-use Rattle.order_model.specs.Privately.{executes, dups, closes}
+use Rattle.kernel_model.specs.Privately.{executes, dups, closes}
 use Rattle.order_search.proofs.Looking.{some_value}
 use Rattle.order_search.proofs.private.known_of.Goals as goal
 

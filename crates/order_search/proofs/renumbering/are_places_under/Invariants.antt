@@ -1,5 +1,5 @@
 use Rattle.std.proofs.Common.{◌≡◌, take}
-use Rattle.order_model.specs.Numbers.{renumbered_fds}
+use Rattle.kernel_model.specs.Numbers.{renumbered_fds}
 use Rattle.order_search.specs.Under.{number_under}
 use Rattle.order_search.proofs.renumbering.are_places_under.Given as goal
 

@@ -1,6 +1,6 @@
 use Rattle.std.proofs.Common.{◌≡◌, take, map}
-use Rattle.order_model.specs.Woke.{woke_slot}
-use Rattle.order_model.specs.Numbers.{renumbered_table}
+use Rattle.kernel_model.specs.Woke.{woke_slot}
+use Rattle.kernel_model.specs.Numbers.{renumbered_table}
 use Rattle.order_search.specs.Shown.{slot_of}
 use Rattle.order_search.specs.Under.{number_under}
 use Rattle.order_search.proofs.renumbering.are_slots_under.Given as goal

@@ -2,7 +2,7 @@
 use Rattle.std.proofs.Common.{◌≡◌, ℕ, ◌<◌, ◌∷◌, [], ◌++◌, Ok, None, true, length, get_or, refl, sym, ap, subst, ◌∙◌, map, take, arith, rules}
 use Rattle.std.proofs.lemmas.List.{get_or_default, map_more, take_more}
 use Rattle.fd_table.specs.Entries.{Entries, entry_at}
-use Rattle.order_model.specs.Idle.{renamed_entry}
+use Rattle.kernel_model.specs.Idle.{renamed_entry}
 use Rattle.order_search.specs.Places.{place_among}
 use Rattle.order_search.specs.Shown.{filled}
 use Rattle.order_search.proofs.Filling.{at_filled, front_filled, length_filled, map_rest}

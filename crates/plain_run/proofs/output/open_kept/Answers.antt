@@ -1,5 +1,5 @@
 use Rattle.std.proofs.Common.{ap, Err}
-use Rattle.plain_progs.proofs.Full.{no_room}
+use Rattle.plain_run.proofs.Full.{no_room}
 use Rattle.plain_run.proofs.output.open_kept.Goals as goal
 
 pub returns-in-Err-FullFiles-clause-full : goal.returns-in-Err-FullFiles-clause-full

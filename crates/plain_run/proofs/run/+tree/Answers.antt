@@ -9,7 +9,7 @@ use Rattle.mem_files.specs.Listing.{max_size}
 use Rattle.meaning_model.specs.Inputs.{found}
 use Rattle.meaning_model.specs.Limits.{Outgrows}
 use Rattle.meaning_model.specs.Meaning.{meaning, over_end}
-use Rattle.plain_progs.specs.Gives.{Gives, IsDue}
+use Rattle.plain_run.specs.Gives.{Gives, IsDue}
 use Rattle.plain_run.specs.Tells.{Tells}
 use Rattle.plain_run.specs.Again.{TellsAgain}
 use Rattle.plain_run.specs.Means.{Means}

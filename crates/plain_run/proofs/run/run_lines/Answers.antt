@@ -11,7 +11,7 @@ use Rattle.conflict_check.specs.Names.{uses_input}
 use Rattle.meaning_model.specs.Limits.{Outgrows}
 use Rattle.script_load.specs.Line.{line_of, cd}
 use Rattle.meaning_model.specs.Meaning.{meaning, line_tree}
-use Rattle.plain_progs.specs.Gives.{Gives, IsDue}
+use Rattle.plain_run.specs.Gives.{Gives, IsDue}
 use Rattle.plain_run.specs.Again.{TellsAgain}
 use Rattle.plain_run.specs.Reasons.{IsReason}
 use Rattle.plain_run.specs.Spans.{all_names}

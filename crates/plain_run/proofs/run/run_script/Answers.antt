@@ -1,18 +1,16 @@
 -- The soft names are those of the run, in order.
 use Rattle.std.proofs.Common.{◌≡◌, ◌↔◌, IsTrue, subst, ap, sym, ◌∙◌, ◌++◌, rules, List, ℕ}
 use Rattle.mem_files.specs.Files.{FileMap, files}
-use Rattle.prog_parts.specs.NameSets.{among}
+use Rattle.prog_parts.specs.NameSets.{among, no_names}
 use Rattle.script_load.specs.Line.{lines_of}
-use Rattle.meaning_model.specs.Meaning.{script_meaning}
-use Rattle.plain_progs.specs.Gives.{Gives}
+use Rattle.meaning_model.specs.Meaning.{script_meaning, script_tree}
+use Rattle.plain_run.specs.Gives.{Gives}
 use Rattle.std.specs.Prelude.{All}
 use Rattle.prog_parts.specs.Program.{is_empty}
 use Rattle.plain_run.specs.Reasons.{IsReason}
 use Rattle.plain_run.specs.Told.{is_some}
 use Rattle.plain_run.specs.Tells.{Tells}
 use Rattle.plain_run.proofs.NameSets.{contained, contains}
-use Rattle.prog_parts.specs.NameSets.{no_names}
-use Rattle.meaning_model.specs.Meaning.{script_tree}
 use Rattle.meaning_model.specs.Settled.{IsSettled}
 use Rattle.plain_run.proofs.run.run_script.Goals as goal
 

@@ -1,5 +1,5 @@
 use Rattle.std.proofs.Common.{subst}
-use Rattle.room_behind.proofs.Trees.{at_once_with, left_with}
+use Rattle.room_model.proofs.Trees.{at_once_with, left_with}
 use Rattle.room_bounds.specs.Capped.{IsCapped}
 use Rattle.room_bounds.proofs.behind.and_line.Goals as goal
 

@@ -1,7 +1,7 @@
 use Rattle.std.proofs.Common.{◌+◌, sym, ap, ◌∙◌, subst}
 use Rattle.std.specs.List.{slice_get}
 use Rattle.mem_files.specs.Files.{files}
-use Rattle.program_model.specs.FilesAhead.{sizes}
+use Rattle.tree_model.specs.FilesAhead.{sizes}
 use Rattle.room_bounds.specs.Given.{IsLargestTo}
 use Rattle.room_bounds.proofs.Largest.{named, not_named, one_more, none_more}
 use Rattle.room_bounds.proofs.given.larger_with.Goals as goal

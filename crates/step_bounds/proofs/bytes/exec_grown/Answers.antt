@@ -1,7 +1,7 @@
 use Rattle.std.proofs.Common.{◌≡◌, ◌+◌, ◌∷◌, ◌∙◌, Some, None, sym, ap, subst}
 use Rattle.prog_parts.specs.Program.{program_of}
 use Rattle.prog_parts.specs.Words.{words_files, words_use_input}
-use Rattle.program_model.specs.FilesAhead.{all_sizes}
+use Rattle.tree_model.specs.FilesAhead.{all_sizes}
 use Rattle.sh_tree.specs.Tree.{exec}
 use Rattle.tree_model.specs.Bound.{input_ahead}
 use Rattle.tree_model.specs.ProgramBytes.{begin_bytes}

@@ -3,7 +3,7 @@ use Rattle.std.specs.Prelude.{option_map}
 use Rattle.xvsh_read.specs.Writing.{out_text}
 use Rattle.xvsh_ends.specs.Requests.{asked, unread_asked}
 use Rattle.xvsh_ends.proofs.Dues.{unless_any}
-use Rattle.xvsh_given.specs.Given.{file_by, input_by}
+use Rattle.xvsh_traces.specs.Given.{file_by, input_by}
 use Rattle.xvsh.specs.Drive.{due, ungiven}
 use Rattle.xvsh.proofs.Sights.{sees}
 use Rattle.xvsh.proofs.driver.given_ending.Goals as goal

@@ -1,5 +1,5 @@
 use Rattle.std.proofs.Common.{Bool, inl, subst}
-use Rattle.embed_asks.specs.Asks.{IsCheckAnswer}
+use Rattle.embed.specs.Asks.{IsCheckAnswer}
 use Rattle.xvsh_c.proofs.asks.xvsh_check_call.Goals as goal
 
 pub returns-in-Ok : goal.returns-in-Ok

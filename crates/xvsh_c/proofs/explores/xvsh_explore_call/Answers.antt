@@ -1,5 +1,5 @@
 use Rattle.std.proofs.Common.{Bool, inl, subst}
-use Rattle.embed_explores.specs.Explores.{IsExploreAnswer}
+use Rattle.embed.specs.Explores.{IsExploreAnswer}
 use Rattle.xvsh_c.proofs.explores.xvsh_explore_call.Goals as goal
 
 pub returns-in-Ok : goal.returns-in-Ok

@@ -1,5 +1,5 @@
 use Rattle.std.proofs.Common.{Bool, inl, subst}
-use Rattle.embed_grades.specs.Grades.{IsGradeAnswer}
+use Rattle.embed.specs.Grades.{IsGradeAnswer}
 use Rattle.xvsh_c.proofs.grades.xvsh_grade_call.Goals as goal
 
 pub returns-in-Ok : goal.returns-in-Ok

@@ -1,5 +1,5 @@
 use Rattle.std.proofs.Common.{Bool, inl, subst}
-use Rattle.embed_asks.specs.Tells.{IsRoomAnswer}
+use Rattle.embed.specs.Tells.{IsRoomAnswer}
 use Rattle.xvsh_c.proofs.tells.xvsh_check_room_call.Goals as goal
 
 pub returns-in-Ok : goal.returns-in-Ok

@@ -37,6 +37,6 @@ returns-clause-ran g c =
       lack = lack;
       room = subst (λ b. IsLackOfText b lack) c.as_slice-2.ensures.value c.in_ok-lack.ensures.told;
       prints = refl;
-      fine = fine_where bytes notes lack c.is_told_nothing-is_fine.result explained
-          (subst (λ ns. IsTrue c.is_told_nothing-is_fine.result ↔ ((written ns ≡ []) × (lack ≡ None))) c.as_slice-3.ensures.value c.is_told_nothing-is_fine.ensures);
+      fine = fine_where bytes notes lack c.is_nothing_noted-is_fine.result explained
+          (subst (λ ns. IsTrue c.is_nothing_noted-is_fine.result ↔ ((written ns ≡ []) × (lack ≡ None))) c.as_slice-3.ensures.value c.is_nothing_noted-is_fine.ensures);
     }

@@ -5,7 +5,7 @@ use Rattle.script_load.specs.Line.{lines_of}
 use Rattle.meaning_model.specs.Meaning.{script_meaning}
 use Rattle.meaning_model.specs.Settled.{IsSettledScript}
 use Rattle.reason_sentences.specs.Sentences.{first_text, reason_text}
-use Rattle.known_diagnostics.specs.Known.{IsKnown}
+use Rattle.every_order.specs.Known.{IsKnown}
 use Rattle.xvsh_plain.specs.Reasoned.{IsReasoned}
 use Rattle.xvsh_diagnoses.proofs.Diagnosed.{why_told}
 use Rattle.xvsh_diagnoses.proofs.running.diagnose.Goals as goal

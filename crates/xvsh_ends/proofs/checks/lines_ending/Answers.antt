@@ -1,12 +1,23 @@
-use Rattle.std.proofs.Common.{false}
-use Rattle.xvsh_ends.specs.Ends.{checked, no_check}
+use Rattle.std.proofs.Common.{[], true, false, subst}
+use Rattle.xvsh_read.specs.Status.{fault_told, status_of}
+use Rattle.xvsh_ends.specs.Ends.{check_status, checked, no_check}
+use Rattle.xvsh_ends.specs.Printed.{IsPrinted}
 use Rattle.xvsh_ends.specs.Requests.{check_asked}
-use Rattle.xvsh_ends.proofs.Dues.{due_by, due_told}
+use Rattle.xvsh_ends.proofs.Dues.{fault_is_printed, check_is_printed}
+use Rattle.xvsh_ends.proofs.Printing.{due_printed}
 use Rattle.xvsh_ends.proofs.checks.lines_ending.Goals as goal
 
 pub returns-in-Ok : goal.returns-in-Ok
 returns-in-Ok g c =
-    due_by (g.H.Host.input c.args.host.now) (g.H.Host.file c.args.host.now) (check_asked false false c.args.request.now) _ _ _ c.prints.result c.prints.ensures.out c.prints.ensures.told c.prints.ensures.status (checked c.in-Ok.checked.is_harmless c.in-Ok.ensures.ran)
+    let request = c.args.request.now in
+    let is_fine = c.in-Ok.found.is_harmless in
+    due_printed (g.H.Host.input c.args.host.now) (g.H.Host.file c.args.host.now) (check_asked false false request) request.is_json _ [] (check_status is_fine) c.print_as.result
+    (subst (λ n. IsPrinted request.is_json _ [] n c.print_as.result) c.code_of-code.ensures (c.print_as.ensures _ c.lines_made-made.ensures))
+    (check_is_printed is_fine) (checked is_fine c.in-Ok.ensures.ran)
 
 pub returns-in-Err : goal.returns-in-Err
-returns-in-Err g c = due_told (g.H.Host.input c.args.host.now) (g.H.Host.file c.args.host.now) (check_asked false false c.args.request.now) _ _ c.report_fault.result c.report_fault.ensures (no_check c.in-Err.fault c.in-Err.ensures.fault)
+returns-in-Err g c =
+    let request = c.args.request.now in
+    let fault = c.in-Err.fault in
+    due_printed (g.H.Host.input c.args.host.now) (g.H.Host.file c.args.host.now) (check_asked false false request) request.is_json [] (fault_told fault) (status_of fault) c.report_as.result
+    c.report_as.ensures (fault_is_printed fault) (no_check fault c.in-Err.ensures.fault)

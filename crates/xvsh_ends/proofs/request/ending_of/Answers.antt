@@ -50,16 +50,16 @@ returns-in-Explore-clause-nothing g c =
 pub returns-in-Check-clause-nothing : goal.returns-in-Check-clause-nothing
 returns-in-Check-clause-nothing g c =
     let request = c.in-Check.check in
-    let ending = c.check_told.result in
+    let ending = c.check_ending.result in
     subst (λ r. UnlessPrinted (asked r) ending.status (out_text ending.output ≡ [])) (sym c.in-Check.is)
-    (nothing_due (g.H.Host.input c.args.host.now) (g.H.Host.file c.args.host.now) (json_asked request.is_json (check_asked request.counts_turns request.tells_room request)) _ _ _ c.check_told.ensures)
+    (nothing_due (g.H.Host.input c.args.host.now) (g.H.Host.file c.args.host.now) (json_asked request.is_json (check_asked request.counts_turns request.tells_room request)) _ _ _ c.check_ending.ensures)
 
 pub returns-in-Explain-clause-nothing : goal.returns-in-Explain-clause-nothing
 returns-in-Explain-clause-nothing g c =
     let request = c.in-Explain.explain in
-    let ending = c.explain_told.result in
+    let ending = c.explain_ending.result in
     subst (λ r. UnlessPrinted (asked r) ending.status (out_text ending.output ≡ [])) (sym c.in-Explain.is)
-    (nothing_due (g.H.Host.input c.args.host.now) (g.H.Host.file c.args.host.now) (explain_told_asked request.fixes request) _ _ _ c.explain_told.ensures)
+    (nothing_due (g.H.Host.input c.args.host.now) (g.H.Host.file c.args.host.now) (explain_told_asked request.fixes request) _ _ _ c.explain_ending.ensures)
 
 pub returns-in-Draw-clause-nothing : goal.returns-in-Draw-clause-nothing
 returns-in-Draw-clause-nothing g c =

@@ -2,7 +2,7 @@ use Rattle.std.proofs.Common.{Option, Some, None, subst, sym, ◌∙◌}
 use Rattle.std.specs.List.{AllZip}
 use Rattle.grade_verdicts.specs.Judged.{IsJudged}
 use Rattle.grade_verdicts.specs.declared.verdict.Verdict.{Verdict}
-use Rattle.grade_ways.specs.Ways.{RunsRightInEveryWay}
+use Rattle.grade_jobs.specs.Ways.{RunsRightInEveryWay}
 use Rattle.grade_jobs.specs.Judges.{IsFoundOn, IsVerdictOn}
 use Rattle.grade_jobs.specs.declared.judging.Job.{Job}
 use Rattle.xvsh_grades.specs.Jobs.{IsFoundOf, IsJobOf}

@@ -2,7 +2,7 @@ use Rattle.std.proofs.Common.{◌≡◌, ◌<◌, ℕ, Some}
 use Rattle.fd_table.specs.Entries.{OpenFile}
 use Rattle.fd_table.specs.Descriptors.{entry_of}
 use Rattle.kernel_model.specs.KernelState.{file_at}
-use Rattle.order_model.specs.Closes.{IsClosedAtOnce}
+use Rattle.kernel_model.specs.Closes.{IsClosedAtOnce}
 use Rattle.order_search.proofs.looks.Look.are_closed_at_once.Given as goal
 
 abbrev pub invariant-loop-fd : goal.invariant-loop-fd

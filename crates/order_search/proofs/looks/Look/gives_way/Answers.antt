@@ -3,7 +3,7 @@ use Rattle.std.specs.Prelude.{not, ◌==◌}
 use Rattle.user_calls.specs.declared.calls.Call.TheVariants.{Fork, Exit, Wait}
 use Rattle.proc_table.specs.Slots.{at}
 use Rattle.kernel_model.specs.KernelState.{KernelState}
-use Rattle.order_model.specs.Closes.{IsClosedAtOnce}
+use Rattle.kernel_model.specs.Closes.{IsClosedAtOnce}
 use Rattle.order_search.specs.Shown.{slot_of, IsPrivateSlot, IsClosingSlot, IsCallingSlot, IsReadyCall}
 use Rattle.order_search.specs.Giving.{privately, closes, forks, reaps, exits}
 use Rattle.order_search.proofs.Looking.{at_kept, closes_known, forks_known, reaps_known, exits_known}

@@ -1,7 +1,7 @@
 use Rattle.std.proofs.Common.{◌≡◌, refl, sym, ap, ◌∙◌, map, rules}
 use Rattle.proc_table.specs.Slots.{Table}
 use Rattle.kernel_model.specs.KernelState.{KernelState}
-use Rattle.order_model.specs.Woke.{woke_slot}
+use Rattle.kernel_model.specs.Woke.{woke_slot}
 use Rattle.order_search.specs.Shown.{filled, slot_of}
 use Rattle.order_search.proofs.Filling.{map_filled}
 use Rattle.order_search.proofs.looks.Look.has_same_numbers.Goals as goal

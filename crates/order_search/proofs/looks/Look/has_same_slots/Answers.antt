@@ -1,7 +1,7 @@
 use Rattle.std.proofs.Common.{◌≡◌, sym, ap, subst, ◌∙◌, map}
 use Rattle.proc_table.specs.Slots.{Table}
 use Rattle.kernel_model.specs.KernelState.{KernelState}
-use Rattle.order_model.specs.Anyhow.{bare_table}
+use Rattle.kernel_model.specs.Anyhow.{bare_table}
 use Rattle.order_search.specs.Shown.{slot_of, AreApart}
 use Rattle.order_search.proofs.Looking.{apart_tables}
 use Rattle.order_search.proofs.looks.Look.has_same_slots.Goals as goal

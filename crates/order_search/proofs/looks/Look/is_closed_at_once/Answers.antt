@@ -3,7 +3,7 @@ use Rattle.fd_table.specs.declared.names.Object.{Object}
 use Rattle.fd_table.specs.declared.names.Object.TheVariants.{PipeRead}
 use Rattle.fd_table.specs.Entries.{Entries, entry_at}
 use Rattle.kernel_model.specs.KernelState.{KernelState}
-use Rattle.order_model.specs.Closes.{IsClosedAtOnce}
+use Rattle.kernel_model.specs.Closes.{IsClosedAtOnce}
 use Rattle.order_search.specs.declared.private.CloseOf.TheVariants.{ReadEnd, Other}
 use Rattle.order_search.specs.Shown.{IsCloseOf, IsNoReadEnd}
 use Rattle.order_search.proofs.Looking.{open_more, other_at_once, reads_at_once, unsaid}

@@ -2,8 +2,8 @@ use Rattle.std.proofs.Common.{◌≡◌, ℕ, refl, sym, ap, ◌∙◌, map, rul
 use Rattle.fd_table.specs.Entries.{Entries, entry_at}
 use Rattle.proc_table.specs.Slots.{Table}
 use Rattle.kernel_model.specs.KernelState.{KernelState}
-use Rattle.order_model.specs.Woke.{woke_slot}
-use Rattle.order_model.specs.Numbers.{renumbered_slot, renumbered_table}
+use Rattle.kernel_model.specs.Woke.{woke_slot}
+use Rattle.kernel_model.specs.Numbers.{renumbered_slot, renumbered_table}
 use Rattle.order_search.specs.Shown.{filled, slot_of}
 use Rattle.order_search.specs.Under.{number_under, GoBack}
 use Rattle.order_search.proofs.Filling.{at_filled, map_filled}

@@ -1,6 +1,6 @@
 use Rattle.std.proofs.Common.{List, ℕ, refl, ap, ◌∙◌, map}
 use Rattle.kernel_model.specs.KernelState.{KernelState}
-use Rattle.order_model.specs.Idle.{renamed_entry}
+use Rattle.kernel_model.specs.Idle.{renamed_entry}
 use Rattle.order_search.specs.Places.{place_among}
 use Rattle.order_search.proofs.Leading.{key_by}
 use Rattle.order_search.proofs.reading.Reader.read.Goals as goal

@@ -1,5 +1,5 @@
 use Rattle.std.proofs.Common.{◌≡◌, ℕ, refl, ap, ◌∙◌, map, take, arith}
-use Rattle.order_model.specs.Idle.{idle_slot}
+use Rattle.kernel_model.specs.Idle.{idle_slot}
 use Rattle.order_search.specs.Places.{place_among}
 use Rattle.order_search.specs.Shown.{filled}
 use Rattle.order_search.proofs.Filling.{map_rest}

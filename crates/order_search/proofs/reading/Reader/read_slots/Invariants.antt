@@ -1,5 +1,5 @@
 use Rattle.std.proofs.Common.{◌≡◌, take, map}
-use Rattle.order_model.specs.Idle.{idle_slot}
+use Rattle.kernel_model.specs.Idle.{idle_slot}
 use Rattle.order_search.specs.Places.{place_among}
 use Rattle.order_search.specs.Shown.{slot_of}
 use Rattle.order_search.proofs.reading.Reader.read_slots.Given as goal

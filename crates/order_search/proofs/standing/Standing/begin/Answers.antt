@@ -2,8 +2,8 @@ use Rattle.std.proofs.Common.{◌≡◌, ℕ, List, Some, sym, ap, subst, ◌∙
 use Rattle.std.specs.Prelude.{count_by}
 use Rattle.proc_table.specs.Slots.{is_running}
 use Rattle.kernel_model.specs.KernelState.{KernelState}
-use Rattle.order_model.specs.Key.{key}
-use Rattle.order_model.specs.Turns.{after_turns}
+use Rattle.kernel_model.specs.Key.{key}
+use Rattle.kernel_model.specs.Turns.{after_turns}
 use Rattle.order_search.specs.Led.{start_kernel}
 use Rattle.order_search.proofs.Leading.{led_orderly, led_long}
 use Rattle.order_search.proofs.standing.Standing.begin.Goals as goal

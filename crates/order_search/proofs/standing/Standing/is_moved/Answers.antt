@@ -3,7 +3,7 @@ use Rattle.std.proofs.Common.{◌≡◌, sym, ap, ◌∙◌}
 use Rattle.std.specs.Prelude.{option_map}
 use Rattle.proc_table.specs.Slots.{Table}
 use Rattle.kernel_model.specs.KernelState.{KernelState}
-use Rattle.order_model.specs.Anyhow.{bare_table}
+use Rattle.kernel_model.specs.Anyhow.{bare_table}
 use Rattle.order_search.specs.Led.{Led, kernel_of}
 use Rattle.order_search.proofs.Leading.{bare_key}
 use Rattle.order_search.proofs.Looking.{not_said}

@@ -1,6 +1,6 @@
 use Rattle.std.proofs.Common.{inl, inr, subst}
 use Rattle.kernel_model.specs.Events.{IsFinished}
-use Rattle.order_model.specs.Explored.{IsFinishedOrBusy}
+use Rattle.kernel_model.specs.Explored.{IsFinishedOrBusy}
 use Rattle.order_search.specs.Led.{Led}
 use Rattle.order_search.proofs.Leading.{key_finished}
 use Rattle.order_search.proofs.standing.Standing.is_stuck.Goals as goal

@@ -2,8 +2,8 @@ use Rattle.std.proofs.Common.{◌≡◌, false, sym, ap, ◌∙◌, rules}
 use Rattle.std.specs.Prelude.{Option}
 use Rattle.proc_table.specs.Slots.{Table}
 use Rattle.kernel_model.specs.KernelState.{KernelState}
-use Rattle.order_model.specs.Anyhow.{bare_table}
-use Rattle.order_model.specs.Turns.{after_turn}
+use Rattle.kernel_model.specs.Anyhow.{bare_table}
+use Rattle.kernel_model.specs.Turns.{after_turn}
 use Rattle.order_search.specs.Led.{Led}
 use Rattle.order_search.proofs.Leading.{bare_key}
 use Rattle.order_search.proofs.standing.Standing.note.Goals as goal

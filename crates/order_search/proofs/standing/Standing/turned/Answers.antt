@@ -3,8 +3,8 @@ use Rattle.std.proofs.Common.{◌≡◌, ℕ, List, [], ◌∷◌, ◌++◌, Som
 use Rattle.std.specs.Prelude.{count_by}
 use Rattle.proc_table.specs.Slots.{is_running}
 use Rattle.kernel_model.specs.KernelState.{KernelState}
-use Rattle.order_model.specs.Key.{key}
-use Rattle.order_model.specs.Turns.{after_turn, after_turns}
+use Rattle.kernel_model.specs.Key.{key}
+use Rattle.kernel_model.specs.Turns.{after_turn, after_turns}
 use Rattle.order_search.specs.Led.{start_kernel, Led}
 use Rattle.order_search.proofs.Leading.{last_turn, led_orderly, led_long}
 use Rattle.order_search.proofs.standing.Standing.turned.Goals as goal

@@ -1,9 +1,9 @@
 use Rattle.std.proofs.Common.{subst}
 use Rattle.kernel_model.specs.KernelState.{KernelState}
-use Rattle.order_model.specs.Key.{key}
-use Rattle.order_model.specs.Woke.{woke}
-use Rattle.order_model.specs.Numbers.{SameButNumbers}
-use Rattle.order_model.specs.Anyhow.{SameKeyAnyhow}
+use Rattle.kernel_model.specs.Key.{key}
+use Rattle.kernel_model.specs.Woke.{woke}
+use Rattle.kernel_model.specs.Numbers.{SameButNumbers}
+use Rattle.kernel_model.specs.Anyhow.{SameKeyAnyhow}
 use Rattle.order_search.specs.Led.{Led}
 use Rattle.order_search.proofs.Leading.{woken_key}
 use Rattle.order_search.proofs.standing.StandingNode.is_like.Goals as goal

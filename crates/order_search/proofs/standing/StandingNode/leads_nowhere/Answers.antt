@@ -2,7 +2,7 @@ use Rattle.std.proofs.Common.{◌≡◌, false, Some, None, sym, ap, ◌∙◌}
 use Rattle.std.specs.Prelude.{Option}
 use Rattle.proc_table.specs.Slots.{at, is_runnable}
 use Rattle.kernel_model.specs.KernelState.{KernelState}
-use Rattle.order_model.specs.Turns.{after_turn}
+use Rattle.kernel_model.specs.Turns.{after_turn}
 use Rattle.order_search.specs.Led.{Led}
 use Rattle.order_search.proofs.Leading.{key_not, no_turn}
 use Rattle.order_search.proofs.Looking.{unsaid}

@@ -1,5 +1,5 @@
 use Rattle.std.proofs.Common.{subst}
-use Rattle.order_model.specs.Giving.{GivesWay}
+use Rattle.kernel_model.specs.Giving.{GivesWay}
 use Rattle.order_search.specs.Led.{Led}
 use Rattle.order_search.specs.Giving.{IsGiving}
 use Rattle.order_search.proofs.Leading.{key_gives, ahead_led}

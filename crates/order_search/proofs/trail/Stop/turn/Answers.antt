@@ -1,7 +1,7 @@
 -- One turn more.
 use Rattle.std.proofs.Common.{◌≡◌, ◌<◌, ◌+◌, List, ℕ, Some, true, sym, ap, subst, ◌∙◌, arith, rules}
 use Rattle.kernel_model.specs.KernelState.{KernelState}
-use Rattle.order_model.specs.Turns.{after_turn, after_turns}
+use Rattle.kernel_model.specs.Turns.{after_turn, after_turns}
 use Rattle.order_search.specs.Led.{start_kernel, IsStop}
 use Rattle.order_search.proofs.Leading.{led_on}
 use Rattle.order_search.proofs.trail.Stop.turn.Goals as goal

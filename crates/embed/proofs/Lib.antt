@@ -1,0 +1,10 @@
+mod Faults
+mod FilesPut
+mod Places
+mod Agreeing
+mod Asked
+mod Explained
+mod Lines
+mod Refusals
+mod Refused
+mod Marked

@@ -1,0 +1,29 @@
+use Rattle.script_load.specs.Line.{lines_of}
+use Rattle.embed.specs.Tells.{no_start, not_found, no_memory}
+use Rattle.embed.proofs.Lines.{told_of, harmless_of}
+use Rattle.embed.proofs.turns.turns_check_of.Goals as goal
+
+pub returns-in-Err-clause-fault : goal.returns-in-Err-clause-fault
+returns-in-Err-clause-fault c = no_start c.in-Err.ensures.fault
+
+pub returns-in-Err-find_of-clause-fault : goal.returns-in-Err-find_of-clause-fault
+returns-in-Err-find_of-clause-fault c = not_found c.in-Err-find_of.ensures.fault
+
+pub returns-in-Ok-counted_result-clause-told : goal.returns-in-Ok-counted_result-clause-told
+returns-in-Ok-counted_result-clause-told c =
+    let task = c.args.task.now in
+    let begun = c.in-Ok.begun in
+    let lines = lines_of begun.script.lines in
+    let found = c.in-Ok-find_of.findings in
+    let starts = c.in-Ok.ensures.starts in
+    record {
+      lines = lines;
+      given = begun.files;
+      starts = starts;
+      told = told_of task c.args.is_strict found lines c.in-Ok-find_of.ensures.found starts.cut;
+      turns = c.turns_of-turns.ensures;
+      harmless = harmless_of task c.args.is_strict found lines c.in-Ok-find_of.ensures.found starts.cut;
+    }
+
+pub returns-clause-fault : goal.returns-clause-fault
+returns-clause-fault c = no_memory

@@ -1,0 +1,12 @@
+pub mod Packing
+pub mod Profiles
+pub mod Starting
+pub mod Plain
+pub mod Orders
+pub mod Runs
+pub mod Asks
+pub mod Tells
+pub mod Looks
+pub mod Explores
+pub mod Pairs
+pub mod Grades

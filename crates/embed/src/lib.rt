@@ -1,0 +1,53 @@
+//! The program as a library: a script, its standard input and its files as bytes in memory, and the answers of each command.
+#![tactic(auto)]
+
+mod answer;
+mod beginning;
+mod checking;
+mod drawing;
+mod drawn_trace;
+mod explaining;
+mod exploring;
+mod fault;
+mod finding;
+mod grading;
+mod looking;
+mod marking;
+mod orders;
+mod packing;
+mod plain;
+mod putting;
+mod refusal;
+mod replays;
+mod rooms;
+mod running;
+mod script_host;
+mod suite_host;
+mod task;
+mod telling;
+mod traced_run;
+mod turns;
+mod whys;
+
+pub use answer::AskAnswer;
+pub use beginning::{Begun, MAX_INPUT, begin};
+pub use checking::check_of;
+pub use drawing::{DrawAnswer, Form, draw_of, draw_two_of};
+pub use explaining::explain_of;
+pub use exploring::{ExploreAnswer, explore_of};
+pub use fault::{EmbedFault, StartFault};
+pub use grading::grade_of;
+pub use hart_run::{Full, Order};
+pub use looking::{LookAnswer, look_of};
+pub use orders::order_by;
+pub use packing::{FileSizes, Packed, pack};
+pub use plain::{PlainAnswer, plain_of};
+pub use putting::put_all;
+pub use refusal::GradeRefusal;
+pub use replays::{of_replay, replay_of, schedule_of};
+pub use rooms::{RoomAnswer, room_check_of};
+pub use running::{RunAnswer, run_of};
+pub use task::{Given, Task, profile_by};
+pub use traced_run::{TraceAnswer, trace_of};
+pub use turns::{TurnsAnswer, turns_check_of};
+pub use whys::{WhysAnswer, whys_of};

@@ -1,4 +1,0 @@
-mod Asked
-mod Explained
-mod Lines
-mod Refusals

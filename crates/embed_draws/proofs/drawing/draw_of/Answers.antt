@@ -1,5 +1,0 @@
-use Rattle.embed_runs.specs.Runs.{no_memory}
-use Rattle.embed_draws.proofs.drawing.draw_of.Goals as goal
-
-pub returns-in-None-clause-fault : goal.returns-in-None-clause-fault
-returns-in-None-clause-fault c = no_memory

@@ -1,3 +1,0 @@
-pub mod Packing
-pub mod Profiles
-pub mod Starting

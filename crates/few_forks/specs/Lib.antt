@@ -1,2 +1,0 @@
-pub mod Forks
-pub mod Left

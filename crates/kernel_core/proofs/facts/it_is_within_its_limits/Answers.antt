@@ -1,5 +1,0 @@
-use Rattle.kernel_core.proofs.Told as told
-use Rattle.kernel_core.proofs.facts.it_is_within_its_limits.Goals as goal
-
-pub returns : goal.returns
-returns g c = told.within g.M.Machine.call_of g.M.Machine.next_of c.args.kernel.now.boot c.args.kernel.now.now c.args.kernel.now.schedule c.args.kernel.now.notes c.replays.ensures c.is_booted.ensures

@@ -1,6 +1,0 @@
-mod Copied
-mod Indexing
-mod Listing
-mod Names
-mod Places
-mod Shown

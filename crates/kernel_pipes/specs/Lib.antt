@@ -1,3 +1,0 @@
-pub mod Indexed
-pub mod Placed
-pub mod Status

@@ -1,5 +1,0 @@
-use Rattle.law_every_outcome.proofs.Same.{kept_outcomes}
-use Rattle.law_every_outcome.proofs.laws.a_turn_that_gives_way_keeps_all_outcomes.Goals as goal
-
-pub returns : goal.returns
-returns g c = kept_outcomes g.M.Machine.call_of g.M.Machine.next_of

@@ -1,3 +1,0 @@
-pub mod Contrast
-pub mod Named
-pub mod Pairs

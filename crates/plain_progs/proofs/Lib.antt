@@ -1,4 +1,0 @@
-pub mod Extending
-pub mod Filling
-pub mod Full
-pub mod Prefixes

@@ -1,5 +1,0 @@
-use Rattle.room_behind.proofs.Same.{same_bound}
-use Rattle.room_behind.proofs.laws.no_back_needs_no_more.Goals as goal
-
-pub returns : goal.returns
-returns c = λ lines plain. same_bound lines plain

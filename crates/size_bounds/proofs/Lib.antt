@@ -1,5 +1,0 @@
-mod Names
-mod Places
-mod Linear
-mod Parts
-mod Growths

@@ -1,9 +1,0 @@
-use Rattle.std.proofs.Common.{sym, subst}
-use Rattle.xvsh_ends.specs.Ends.{IsDue, asks_json}
-use Rattle.xvsh_ends.specs.Requests.{check_asked}
-use Rattle.xvsh_ends.proofs.check_objects.check_json.Goals as goal
-
-pub returns-then-request : goal.returns-then-request
-returns-then-request g c =
-    let request = c.args.request.now in
-    subst (λ turns. IsDue (g.H.Host.input c.args.host.now) (g.H.Host.file c.args.host.now) (asks_json (check_asked turns request.tells_room request)) c.turns_json.result) (sym c.if-request.true) (c.turns_json.ensures request.tells_room)

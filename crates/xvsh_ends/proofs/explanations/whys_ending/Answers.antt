@@ -1,0 +1,23 @@
+use Rattle.std.proofs.Common.{[], true, false, subst}
+use Rattle.xvsh_read.specs.Status.{fault_told, status_of}
+use Rattle.xvsh_ends.specs.Ends.{check_status, whys_told, no_whys_told}
+use Rattle.xvsh_ends.specs.Printed.{IsPrinted}
+use Rattle.xvsh_ends.specs.Requests.{explain_asked}
+use Rattle.xvsh_ends.proofs.Dues.{fault_is_printed, check_is_printed}
+use Rattle.xvsh_ends.proofs.Printing.{due_printed}
+use Rattle.xvsh_ends.proofs.explanations.whys_ending.Goals as goal
+
+pub returns-in-Ok : goal.returns-in-Ok
+returns-in-Ok g c =
+    let request = c.args.request.now in
+    let is_fine = c.in-Ok.noted.is_fine in
+    due_printed (g.H.Host.input c.args.host.now) (g.H.Host.file c.args.host.now) (explain_asked true request) request.is_json _ [] (check_status is_fine) c.print_as.result
+    (subst (λ n. IsPrinted request.is_json _ [] n c.print_as.result) c.code_of-code.ensures (c.print_as.ensures _ c.whys_made-made.ensures))
+    (check_is_printed is_fine) (whys_told is_fine c.in-Ok.ensures.ran)
+
+pub returns-in-Err : goal.returns-in-Err
+returns-in-Err g c =
+    let request = c.args.request.now in
+    let fault = c.in-Err.fault in
+    due_printed (g.H.Host.input c.args.host.now) (g.H.Host.file c.args.host.now) (explain_asked true request) request.is_json [] (fault_told fault) (status_of fault) c.report_as.result
+    c.report_as.ensures (fault_is_printed fault) (no_whys_told fault c.in-Err.ensures.fault)
