@@ -3,11 +3,11 @@ ghost use Rattle.std.specs.Prelude.{IfErr, IfOk};
 ghost use Rattle.embed.specs.Pairs.{CanReplay, IsPairFault};
 ghost use Rattle.embed.specs.Runs.{IsReplayAnswer, IsRunAnswer, IsRunFault};
 
-use crate::drawn_trace::traced;
 use crate::fault::EmbedFault;
 use crate::replays::replay_of;
 use crate::running::{RunAnswer, run_of};
 use crate::task::Task;
+use crate::traces::trace_by;
 use figure_page::{pair_page, pair_svg, run_page, run_svg};
 use figure_strips::Bounds;
 use hart_run::Order;
@@ -32,7 +32,7 @@ pub enum Form {
 
 // What is drawn of the run of the task by this schedule, which took place before: so only memory can be refused.
 fn drawn_by(alloc: Global, task: &Task<'_>, schedule: &[u8], form: Form) -> Option<Vec<u8>> {
-    let Some(trace) = traced(alloc, task, schedule) else {
+    let Some(trace) = trace_by(alloc, task, schedule) else {
         return None;
     };
     let drawn = match form {
@@ -53,10 +53,10 @@ fn both_drawn_by(
     other: &[u8],
     form: Form,
 ) -> Option<Vec<u8>> {
-    let Some(first) = traced(alloc, task, one) else {
+    let Some(first) = trace_by(alloc, task, one) else {
         return None;
     };
-    let Some(second) = traced(alloc, task, other) else {
+    let Some(second) = trace_by(alloc, task, other) else {
         return None;
     };
     let drawn = match form {

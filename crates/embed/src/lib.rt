@@ -5,7 +5,6 @@ mod answer;
 mod beginning;
 mod checking;
 mod drawing;
-mod drawn_trace;
 mod explaining;
 mod exploring;
 mod fault;
@@ -26,6 +25,7 @@ mod suite_host;
 mod task;
 mod telling;
 mod traced_run;
+mod traces;
 mod turns;
 mod whys;
 

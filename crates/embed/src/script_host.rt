@@ -10,8 +10,8 @@ pub(crate) struct ScriptHost<'a> {
     pub(crate) script: &'a [u8],
 }
 
-// A copy of bytes, of which there may be as many as the limit.
-fn copied(alloc: Global, bytes: &[u8], limit: usize) -> Result<Vec<u8>, HostFault>
+/// A copy of bytes, of which there may be as many as the limit.
+pub(crate) fn copied(alloc: Global, bytes: &[u8], limit: usize) -> Result<Vec<u8>, HostFault>
     ensures whole { IfOk result (λ copy. copy.items ≡ bytes.now) }
     ensures within { IfOk result (λ copy. vec_len copy ≤ limit) }
     ensures too_long { result ≡ Err HostFault.TooLong → limit < length bytes.now }

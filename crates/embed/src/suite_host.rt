@@ -4,6 +4,7 @@ ghost use Rattle.std.specs.List.{find};
 ghost use Rattle.std.specs.Option.{option_copied};
 ghost use Rattle.std.specs.Str.{bytes_eq};
 
+use crate::script_host::copied;
 use crate::task::Given;
 use std::alloc::Global;
 use xvsh_read::{Host, HostFault};
@@ -27,22 +28,6 @@ fn first_named<'a>(files: &'a [Given<'a>], path: &str) -> Option<&'a Given<'a>>
     ensures { option_copied result ≡ find (λ file. bytes_eq file.name.now path.now) files.now }
 {
     files.iter().find(|file| is_named(*file, path))
-}
-
-// A copy of bytes, of which there may be as many as the limit.
-fn copied(alloc: Global, bytes: &[u8], limit: usize) -> Result<Vec<u8>, HostFault>
-    ensures whole { IfOk result (λ copy. copy.items ≡ bytes.now) }
-    ensures within { IfOk result (λ copy. vec_len copy ≤ limit) }
-    ensures too_long { result ≡ Err HostFault.TooLong → limit < length bytes.now }
-    ensures readable { result ≢ Err HostFault.Unreadable }
-{
-    if bytes.len() > limit {
-        return Err(HostFault::TooLong);
-    }
-    match Vec::from_slice(alloc, bytes) {
-        Ok(copy) => Ok(copy),
-        Err(_) => Err(HostFault::Memory),
-    }
 }
 
 impl Host for SuiteHost<'_> {

@@ -6,40 +6,13 @@ use figure_strips::Bounds;
 use kernel_model::Event;
 use std::alloc::{AllocError, Global};
 use trace_read::Trace;
-use xvsh_read::{Start, Unwritten};
-use xvsh_traces::{Traces, trace_run};
+use xvsh_read::Start;
+use xvsh_traces::trace_text;
 
-// A trace that is written into memory.
-#[derive(Drop)]
-struct Written {
-    text: Vec<u8>,
-}
-
-impl Traces for Written {
-    fn make_folder(&mut self, _path: &str) -> Result<(), Unwritten> {
-        Err(Unwritten)
-    }
-
-    fn begin_trace(&mut self, _path: &str) -> Result<(), Unwritten> {
-        self.text.clear();
-        Ok(())
-    }
-
-    fn write_trace(&mut self, bytes: &[u8]) -> Result<(), Unwritten> {
-        match self.text.extend_from_slice(bytes) {
-            Ok(()) => Ok(()),
-            Err(_) => Err(Unwritten),
-        }
-    }
-}
-
-// The trace of the run on one hart by a schedule. It is one, so only memory can be refused.
+// The trace of the run by a schedule. It is one, so only memory can be refused.
 fn traced(alloc: Global, start: &Start, schedule: &[Event]) -> Result<Trace<Global>, AllocError> {
-    let mut written = Written {
-        text: Vec::new(alloc),
-    };
-    match trace_run(alloc, &mut written, "", start, schedule, 1) {
-        Ok(()) => trace_of(alloc, written.text.as_slice()).map_err(|_| AllocError),
+    match trace_text(alloc, start, schedule) {
+        Ok(text) => trace_of(alloc, text.as_slice()).map_err(|_| AllocError),
         Err(_) => Err(AllocError),
     }
 }
