@@ -21,4 +21,4 @@ pub use noting::{Noted, run_note};
 pub use request::{CheckRequest, ExplainRequest};
 pub use room_found::{Growth, RoomFound};
 pub use rooms::{RoomFindings, find_room, is_fine, run_find_room};
-pub use whys::{NotedWhys, run_note_whys};
+pub use whys::{NotedWhys, find_whys, run_note_whys};

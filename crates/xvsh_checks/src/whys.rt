@@ -16,37 +16,30 @@ ghost use Rattle.xvsh_checks.specs.Whys.{RanWhys, IsWhysFault};
 use crate::lacks::lack_of;
 use crate::noting::is_nothing_noted;
 use crate::request::ExplainRequest;
+use mem_files::Files;
 use missing_names::{Missing, missing_names};
 use plain_run::{Reason, plain_with_reasons};
 use room_bounds::Lack;
+use script_load::Script;
 use script_notes::{LineNote, notes_of};
-use std::alloc::{AllocError, Global};
+use std::alloc::Global;
 use xvsh_plain::of_plain;
-use xvsh_read::{Fault, Host, MAX_INPUT, Start, prepare_read, read};
+use xvsh_read::{Fault, Host, MAX_INPUT, prepare_read, read};
 
-// Why what was read isn't settled.
-fn reasons_of<'a>(alloc: Global, start: &Start) -> Result<Vec<Reason<Global>>, Fault<'a>>
-    ensures reasons { IfOk result (λ reasons. AreReasonTexts start.now.script.profile (lines_of start.now.script.lines) start.now.stdin.items (files start.now.files) (map reason_text reasons.items)) }
-    ensures fault { IfErr result (IsMeaningFault start.now.script.profile (lines_of start.now.script.lines) start.now.stdin.items (files start.now.files)) }
+// Why a script isn't settled on this standard input and these files.
+fn reasons_of<'a>(
+    alloc: Global,
+    script: &Script<Global>,
+    stdin: &[u8],
+    given: &Files<Global>,
+) -> Result<Vec<Reason<Global>>, Fault<'a>>
+    ensures reasons { IfOk result (λ reasons. AreReasonTexts script.now.profile (lines_of script.now.lines) stdin.now (files given.now) (map reason_text reasons.items)) }
+    ensures fault { IfErr result (IsMeaningFault script.now.profile (lines_of script.now.lines) stdin.now (files given.now)) }
 {
-    match plain_with_reasons(alloc, &start.script, start.stdin.as_slice(), &start.files) {
+    match plain_with_reasons(alloc, script, stdin, given) {
         Ok(reasoned) => Ok(reasoned.reasons),
         Err(fault) => Err(of_plain(fault)),
     }
-}
-
-// The names of what was read that no file has.
-fn missing_of(alloc: Global, start: &Start) -> Result<Vec<Missing>, AllocError>
-    ensures { IfOk result (λ missing. map shown missing.items ≡ missing_names (lines_of start.now.script.lines) start.now.files) }
-{
-    missing_names(alloc, &start.script, &start.files)
-}
-
-// With which line first what was read may not have room.
-fn lack_at(start: &Start) -> Option<Lack>
-    ensures { IsLackNoted (lines_of start.now.script.lines) result }
-{
-    lack_of(&start.script)
 }
 
 // Whether there is no note, no missing name, no lack and no reason.
@@ -76,6 +69,44 @@ pub struct NotedWhys {
     pub is_fine: bool,
 }
 
+/// What `explain` finds in a script on this standard input and these files, whose notes are these: the first name of each line that no
+/// file has when the line runs, with which line first the script may need more processes, open files or descriptors than xv6 has, and
+/// each reason why it isn't settled; and whether there is no note and none of these (own). The script is run by its meaning to find that
+/// out.
+///
+/// `TooLarge` where its meaning passes a limit; `Memory` where memory is refused.
+pub fn find_whys<'a>(
+    alloc: Global,
+    notes: Vec<LineNote>,
+    script: &Script<Global>,
+    stdin: &[u8],
+    given: &Files<Global>,
+) -> Result<NotedWhys, Fault<'a>>
+    ensures notes { IfOk result (λ noted. noted.notes.items ≡ notes.items) }
+    ensures missing { IfOk result (λ noted. map shown noted.missing.items ≡ missing_names (lines_of script.now.lines) given.now) }
+    ensures lack { IfOk result (λ noted. IsLackNoted (lines_of script.now.lines) noted.lack) }
+    ensures reasons { IfOk result (λ noted. AreReasonTexts script.now.profile (lines_of script.now.lines) stdin.now (files given.now) (map reason_text noted.reasons.items)) }
+    ensures fine { IfOk result (λ noted. IsTrue noted.is_fine ↔ ((written notes.items ≡ []) × (noted.missing.items ≡ []) × (noted.lack ≡ None) × (noted.reasons.items ≡ []))) }
+    ensures fault { IfErr result (IsMeaningFault script.now.profile (lines_of script.now.lines) stdin.now (files given.now)) }
+{
+    let reasons = reasons_of(alloc, script, stdin, given)?;
+    let missing = missing_names(alloc, script, given)?;
+    let lack = lack_of(script);
+    let is_fine = is_nothing(
+        notes.as_slice(),
+        missing.as_slice(),
+        &lack,
+        reasons.as_slice(),
+    );
+    Ok(NotedWhys {
+        notes,
+        missing,
+        lack,
+        reasons,
+        is_fine,
+    })
+}
+
 /// `explain` with files: reads the script, the files in order, and standard input unless that is the script, and returns its notes on the
 /// lines, the first name of each line that no file has when the line runs, with which line first the script may need more processes, open
 /// files or descriptors than xv6 has, and each reason why it isn't settled on these files and this input; and whether there is none of
@@ -91,20 +122,7 @@ pub fn run_note_whys<'a, H: Host>(
     let bytes = read(alloc, host, request.source.script, MAX_INPUT)?;
     let notes = notes_of(alloc, bytes.as_slice())?;
     let start = prepare_read(alloc, host, &request.source, bytes.as_slice())?;
-    let reasons = reasons_of(alloc, &start)?;
-    let missing = missing_of(alloc, &start)?;
-    let lack = lack_at(&start);
-    let is_fine = is_nothing(
-        notes.as_slice(),
-        missing.as_slice(),
-        &lack,
-        reasons.as_slice(),
-    );
-    Ok(NotedWhys {
-        notes,
-        missing,
-        lack,
-        reasons,
-        is_fine,
-    })
+    let stdin = start.stdin.as_slice();
+    let noted = find_whys(alloc, notes, &start.script, stdin, &start.files)?;
+    Ok(noted)
 }
