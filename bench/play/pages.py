@@ -1,4 +1,5 @@
 """The scripts whose pages are tried, and the pages, written by a program."""
+import concurrent.futures
 import json
 import os
 import re
@@ -53,6 +54,12 @@ class Page:
         texts = self.data["B"]
         return [(row[0] == 1, texts[row[1]], texts[row[2]], tuple((texts[row[i]], texts[row[i + 1]]) for i in range(4, len(row), 2)))
                 for row in self.data["O"]]
+
+
+def made(room, maker):
+    """Returns the pages of all scripts, some of which are made side by side."""
+    with concurrent.futures.ThreadPoolExecutor(os.cpu_count()) as makers:
+        return list(makers.map(lambda name: Page(room, name, maker), SCRIPTS))
 
 
 def shown(data):

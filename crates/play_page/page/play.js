@@ -360,11 +360,11 @@ function drawBand({title, value}, columns, y, width) {
 }
 function draw() {
   const {lanes, columns, width} = layout(), base = TOP + lanes.length * LANE + 10, bands = bandsOf();
-  const height = base + bands.length * BAND + 8, row = i => base + i * BAND + 14;
+  const height = base + bands.length * BAND + 8, row = i => base + i * BAND + 14, room = Math.floor(get('names').clientWidth / 6.8);
   const turned = {id: 'hatch', width: 5, height: 5, patternUnits: 'userSpaceOnUse', patternTransform: 'rotate(45)'};
   const falls = columns.filter(c => c.isFewer).map(c => rule('fall', c.middle, middle(c.lane), c.middle, base + 2));
   put('names', make('svg', {width: 210, height, 'aria-hidden': 'true'},
-    ...lanes.map((it, i) => letters('name', Math.min(it.depth * 9, 27), middle(i) + 4, `${it.pid} ${it.name}`, make('title', {}, it.name))),
+    ...lanes.map((it, i) => letters('name', Math.min(it.depth * 9, 27), middle(i) + 4, first(`${it.pid} ${it.name}`, room - Math.min(it.depth, 3)), make('title', {}, it.name))),
     ...bands.map((it, i) => letters('name', 0, row(i), it.title))));
   put('time', make('svg', {width, height, role: 'img', 'aria-label': `${count(path.length, 'turn')}, in words below`},
     make('defs', {}, make('pattern', turned, rule('life', 0, 0, 0, 5))), ...lanes.flatMap(drawLane), ...falls,
@@ -395,5 +395,5 @@ document.addEventListener('keydown', event => {
   if (act) { event.preventDefault(); act(); }
 });
 addEventListener('hashchange', load);
-addEventListener('resize', () => { get('time').scrollLeft = get('time').scrollWidth; });
+addEventListener('resize', draw);
 load();
