@@ -93,6 +93,7 @@ pub fn explore_of(
         is_full: false,
         witness: None,
         draw: None,
+        play: None,
         pair: None,
         is_json: true,
         input: None,

@@ -9,7 +9,7 @@ use Rattle.script_load.specs.declared.profile.Profile.{Profile}
 use Rattle.script_load.specs.Line.{ScriptLine}
 use Rattle.reason_sentences.specs.Whys.{IsWhy}
 use Rattle.xvsh_read.specs.Path.{Path}
-use Rattle.xvsh_ends.specs.Ends.{verdict_text, Asked, asks_plain, asks_diagnosed, asks_run, asks_strict, asks_check, asks_turns, asks_room, asks_explain, asks_whys, asks_fix, asks_explore, asks_traced, asks_witnessed, asks_paired, asks_filed, asks_lined, asks_json, asks_draw, drawn, undrawn, asks_input, verdict_status, help, misuse, How, by_schedule, RanBy, Due, plain_ran, no_plain, diagnosed, not_diagnosed, ran, no_run, ran_strict, no_strict, checked, no_check, counted, not_counted, room_told, no_room_told, explained, not_explained, whys_told, no_whys_told, fixed, unfixed, no_fix, explored, not_explored, traced, untraced, witnessed, unwitnessed, paired, unpaired, filed, unfiled, lined, valued, unvalued, unread, helped, misused, no_memory, Writes, whole, out_stopped, err_stopped, Ends}
+use Rattle.xvsh_ends.specs.Ends.{verdict_text, Asked, asks_plain, asks_diagnosed, asks_run, asks_strict, asks_check, asks_turns, asks_room, asks_explain, asks_whys, asks_fix, asks_explore, asks_traced, asks_played, asks_witnessed, asks_paired, asks_filed, asks_lined, asks_json, asks_draw, drawn, undrawn, asks_input, verdict_status, help, misuse, How, by_schedule, RanBy, Due, plain_ran, no_plain, diagnosed, not_diagnosed, ran, no_run, ran_strict, no_strict, checked, no_check, counted, not_counted, room_told, no_room_told, explained, not_explained, whys_told, no_whys_told, fixed, unfixed, no_fix, explored, not_explored, traced, untraced, played, unplayed, witnessed, unwitnessed, paired, unpaired, filed, unfiled, lined, valued, unvalued, unread, helped, misused, no_memory, Writes, whole, out_stopped, err_stopped, Ends}
 use Rattle.xvsh_plain.specs.Running.{RanPlain}
 use Rattle.xvsh_runs.specs.Strict.{RanStrict}
 use Rattle.xvsh_ends.proofs.Dues.{some_status, some_run_status}
@@ -49,6 +49,7 @@ module _ (input : Option Bytes) (file : Path → Option Bytes) where
   DidRun (asks_fix profile script paths) text told = Unit {0}
   DidRun (asks_explore profile script paths states all) text told = Unit {0}
   DidRun (asks_traced what path) text told = Unit {0}
+  DidRun (asks_played what) text told = Unit {0}
   DidRun (asks_witnessed what path) text told = Unit {0}
   DidRun (asks_paired what word) text told = Unit {0}
   DidRun (asks_filed what path) text told = Unit {0}
@@ -87,6 +88,8 @@ module _ (input : Option Bytes) (file : Path → Option Bytes) where
   due_well request text told status (not_explored fault why) zero = tt
   due_well request text told status (traced due) zero = tt
   due_well request text told status untraced zero = tt
+  due_well request text told status (played due) zero = tt
+  due_well request text told status (unplayed report) zero = tt
   due_well request text told status (witnessed due) zero = tt
   due_well request text told status (unwitnessed of) zero = tt
   due_well request text told status (paired due) zero = tt

@@ -2,7 +2,7 @@
 
 use crate::teller::Teller;
 use crate::text::Text;
-use crate::words::{add_short, add_thing, purpose};
+use crate::words::{add_name, add_short, add_thing, purpose};
 use command_text::{Doing, append_command};
 use proc_table::Pid;
 use script_load::{Line, Script};
@@ -52,7 +52,7 @@ fn add_call<M: Machine>(text: &mut Text, teller: &Teller<'_, M>, pid: Pid, call:
         CallKind::Write(fd) => add_write(text, teller, pid, fd, call.bytes().len()),
         CallKind::OpenFile(mode) => {
             text.add("open ");
-            text.bytes(call.bytes());
+            add_name(text, call.bytes());
             text.add(purpose(mode));
         }
         CallKind::Close(fd) => add_on(text, "close", teller, pid, fd),

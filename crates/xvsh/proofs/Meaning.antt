@@ -10,7 +10,7 @@ use Rattle.script_load.specs.Script.{IsScript}
 use Rattle.xvsh_read.specs.Path.{Path}
 use Rattle.xvsh_read.specs.Reading.{ArePut, none_put, one_put}
 use Rattle.xvsh_plain.specs.Running.{RanPlain}
-use Rattle.xvsh_ends.specs.Ends.{Asked, asks_plain, Due, plain_ran, no_plain, diagnosed, not_diagnosed, ran, no_run, ran_strict, no_strict, checked, no_check, counted, not_counted, room_told, no_room_told, explained, not_explained, whys_told, no_whys_told, fixed, unfixed, no_fix, explored, not_explored, traced, untraced, witnessed, unwitnessed, paired, unpaired, filed, unfiled, lined, valued, unvalued, drawn, undrawn, unread, helped, misused, no_memory, Writes, whole, out_stopped, err_stopped, Ends}
+use Rattle.xvsh_ends.specs.Ends.{Asked, asks_plain, Due, plain_ran, no_plain, diagnosed, not_diagnosed, ran, no_run, ran_strict, no_strict, checked, no_check, counted, not_counted, room_told, no_room_told, explained, not_explained, whys_told, no_whys_told, fixed, unfixed, no_fix, explored, not_explored, traced, untraced, played, unplayed, witnessed, unwitnessed, paired, unpaired, filed, unfiled, lined, valued, unvalued, drawn, undrawn, unread, helped, misused, no_memory, Writes, whole, out_stopped, err_stopped, Ends}
 use Rattle.xvsh_ends.proofs.Dues.{some_status}
 use Rattle.xvsh.specs.Drive.{WritesMeaning}
 
@@ -69,6 +69,8 @@ module _ (input : Option Bytes) (file : Path → Option Bytes) where
   ran_of request text told status (not_explored fault why) is zero = cc
   ran_of request text told status (traced due) is zero = cc
   ran_of request text told status untraced is zero = cc
+  ran_of request text told status (played due) is zero = cc
+  ran_of request text told status (unplayed report) is zero = cc
   ran_of request text told status (witnessed due) is zero = cc
   ran_of request text told status (unwitnessed of) is zero = cc
   ran_of request text told status (paired due) is zero = cc

@@ -164,6 +164,7 @@ pub record IsExploreOf (found : Found) (request : ExploreRequest) : Type 0 where
   pub full : IsFlag found (codes "full") request.is_full
   pub witness : IsWord found (codes "witness") request.witness
   pub draw : IsWord found (codes "draw") request.draw
+  pub play : IsWord found (codes "play") request.play
   pub pair : IsWord found (codes "pair") request.pair
   pub json : IsFlag found (codes "json") request.is_json
   pub input : IsWord found (codes "input") request.input

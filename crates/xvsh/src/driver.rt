@@ -203,7 +203,7 @@ fn hint_at_bad<H: Hints>(alloc: Global, ending: &Ending, status: u8, host: &mut 
 /// have room in xv6's tables, or `nothing to tell`. `explain [--why] [--append] SCRIPT [FILE]..` with a FILE or `--why` reads what `plain` reads, and writes
 /// behind these sentences each reason why the script isn't settled, or that it is and why its pipes are safe.
 ///
-/// `explore [--states N] [--all] [--witness DIR] [--draw FILE] [--pair N,M] [--json] [--append] SCRIPT [FILE]..` reads what `plain` reads, tries
+/// `explore [--states N] [--all] [--witness DIR] [--draw FILE] [--play FILE] [--pair N,M] [--json] [--append] SCRIPT [FILE]..` reads what `plain` reads, tries
 /// every order in which the script's processes can take their turns, through at most 200,000 states or N, and writes the outcomes,
 /// each with the events of a run to it, and where two of these runs part. A settled script has one output, which is written
 /// without trying, unless with `--all`, `--witness`, `--draw` or `--pair`. With `--witness` it writes first a schedule for each outcome to

@@ -162,6 +162,13 @@ fn page_of<'m>(words: &'m ArgMatches<'_>) -> Option<&'m str>
     words.get_str("draw")
 }
 
+// The path of the page to play, if there is to be one.
+fn play_of<'m>(words: &'m ArgMatches<'_>) -> Option<&'m str>
+    ensures { IsWord (found_of words.now) (codes "play") result }
+{
+    words.get_str("play")
+}
+
 // The word of the two outcomes that are shown, if there is one.
 fn pair_of<'m>(words: &'m ArgMatches<'_>) -> Option<&'m str>
     ensures { IsWord (found_of words.now) (codes "pair") result }
@@ -268,6 +275,7 @@ fn explore_of<'m>(words: &'m ArgMatches<'_>) -> ExploreRequest<'m>
         is_full: flag_of(words, "full"),
         witness: witness_of(words),
         draw: page_of(words),
+        play: play_of(words),
         pair: pair_of(words),
         is_json: flag_of(words, "json"),
         input: input_of(words),

@@ -15,7 +15,7 @@ use Rattle.xvsh_runs.specs.declared.fault.ProcessFault.TheVariants.{Common, BadH
 use Rattle.xvsh_runs.specs.Status.{run_status}
 use Rattle.script_outcomes.specs.declared.concluding.Conclusion.{Conclusion}
 use Rattle.script_outcomes.specs.declared.concluding.Conclusion.TheVariants.{OneOutput, SeveralOutputs, Stuck, Full as Filled, Part}
-use Rattle.xvsh_ends.specs.Ends.{Asked, asks_plain, asks_diagnosed, asks_run, asks_strict, asks_check, asks_turns, asks_room, asks_explain, asks_whys, asks_fix, asks_explore, help, misuse, verdict_status, check_status, explore_status, full_status, told_text, Due, plain_ran, no_plain, diagnosed, not_diagnosed, ran, no_run, ran_strict, no_strict, checked, no_check, counted, not_counted, room_told, no_room_told, explained, not_explained, whys_told, no_whys_told, fixed, unfixed, no_fix, explored, not_explored, helped, misused, no_memory, IsDue, Tells, TellsOr, tells, lacks_memory, asks_traced, traced, untraced, beside_trace, asks_witnessed, asks_paired, asks_filed, asks_lined, asks_json, asks_draw, drawn, undrawn, asks_input, unread, witnessed, unwitnessed, paired, unpaired, filed, unfiled, lined, valued, unvalued, IsObjectStatus, PrintsAlone}
+use Rattle.xvsh_ends.specs.Ends.{Asked, asks_plain, asks_diagnosed, asks_run, asks_strict, asks_check, asks_turns, asks_room, asks_explain, asks_whys, asks_fix, asks_explore, help, misuse, verdict_status, check_status, explore_status, full_status, told_text, Due, plain_ran, no_plain, diagnosed, not_diagnosed, ran, no_run, ran_strict, no_strict, checked, no_check, counted, not_counted, room_told, no_room_told, explained, not_explained, whys_told, no_whys_told, fixed, unfixed, no_fix, explored, not_explored, helped, misused, no_memory, IsDue, Tells, TellsOr, tells, lacks_memory, asks_traced, traced, untraced, asks_played, played, unplayed, beside_trace, asks_witnessed, asks_paired, asks_filed, asks_lined, asks_json, asks_draw, drawn, undrawn, asks_input, unread, witnessed, unwitnessed, paired, unpaired, filed, unfiled, lined, valued, unvalued, IsObjectStatus, PrintsAlone}
 use Rattle.std.specs.Borrow.{Bor}
 use Rattle.xvsh_ends.specs.Requests.{UnlessPrinted, witnessed_asked, paired_asked, json_asked}
 use Rattle.xvsh_ends.specs.declared.ending.Ending.{Ending}
@@ -114,6 +114,7 @@ unless (asks_whys profile script paths) status same is = λ some three. is
 unless (asks_fix profile script paths) status same is = λ some. is
 unless (asks_explore profile script paths states all) status same is = λ some three four. is
 unless (asks_traced what path) status same is = unless what status same is
+unless (asks_played what) status same is = unless what status same is
 unless (asks_witnessed what path) status same is = unless what status same is
 unless (asks_paired what word) status same is = unless what status same is
 unless (asks_filed what path) status same is = unless what status same is
@@ -137,6 +138,7 @@ unless_implied (asks_whys profile script paths) status same other implies is = �
 unless_implied (asks_fix profile script paths) status same other implies is = λ some. implies (is some)
 unless_implied (asks_explore profile script paths states all) status same other implies is = λ some three four. implies (is some three four)
 unless_implied (asks_traced what path) status same other implies is = unless_implied what status same other implies is
+unless_implied (asks_played what) status same other implies is = unless_implied what status same other implies is
 unless_implied (asks_witnessed what path) status same other implies is = unless_implied what status same other implies is
 unless_implied (asks_paired what word) status same other implies is = unless_implied what status same other implies is
 unless_implied (asks_filed what path) status same other implies is = unless_implied what status same other implies is
@@ -161,6 +163,7 @@ unless_any (asks_whys profile script paths) status same is some one three four =
 unless_any (asks_fix profile script paths) status same is some one three four = is some
 unless_any (asks_explore profile script paths states all) status same is some one three four = is some three four
 unless_any (asks_traced what path) status same is some one three four = unless_any what status same is some one three four
+unless_any (asks_played what) status same is some one three four = unless_any what status same is some one three four
 unless_any (asks_witnessed what path) status same is some one three four = unless_any what status same is some one three four
 unless_any (asks_paired what word) status same is some one three four = unless_any what status same is some one three four
 unless_any (asks_filed what path) status same is some one three four = unless_any what status same is some one three four
@@ -211,6 +214,8 @@ module _ (input : Option Bytes) (file : Path → Option Bytes) where
   nothing_due asked text told status (not_explored fault why) = λ some three four. refl
   nothing_due asked text told status (traced {what = what} {path = path} {text = inner} due) = unless_implied what status (inner ≡ []) (beside_trace path inner ≡ []) (beside_nothing (bytes_eq path (codes "-")) inner) (nothing_due what inner told status due)
   nothing_due asked text told status (untraced {what = what}) = unless what 1 ([] ≡ []) refl
+  nothing_due asked text told status (played {what = what} due) = nothing_due what text told status due
+  nothing_due asked text told status (unplayed {what = what} report) = unless what 4 ([] ≡ []) refl
   nothing_due asked text told status (witnessed {what = what} due) = nothing_due what text told status due
   nothing_due asked text told status (unwitnessed {what = what} of) = unless what 1 ([] ≡ []) refl
   nothing_due asked text told status (paired {what = what} due) = nothing_due what text told status due

@@ -68,6 +68,8 @@ pub data Asked : Type 0 where
   asks_explore : Profile → Path → List (Bor Path) → ℕ → Bool → Asked
   -- the same, with a trace of the run at a path
   asks_traced : Asked → Path → Asked
+  -- the same, where a page to play can be made
+  asks_played : Asked → Asked
   -- the same, with a schedule of each outcome in the folder at a path
   asks_witnessed : Asked → Path → Asked
   -- the same, of the two outcomes that a word names
@@ -201,6 +203,9 @@ module _ (input : Option Bytes) (file : Path → Option Bytes) where
     -- the same of a request with a trace or a page, beside this; or that it can't be written
     traced : {what : Asked} {path : Path} {text told : Bytes} {status : ℕ} → Due what text told status → Due (asks_traced what path) (beside_trace path text) told status
     untraced : {what : Asked} {path : Path} → Due (asks_traced what path) [] (untraced_told path) 1
+    -- the same of a request with a page to play; or some report that there is none, since not every order could be tried
+    played : {what : Asked} {text told : Bytes} {status : ℕ} → Due what text told status → Due (asks_played what) text told status
+    unplayed : {what : Asked} (told : Bytes) → Due (asks_played what) [] told 4
     -- the same of a request with schedules in a folder, beside these; or that the folder or one of them can't be written
     witnessed : {what : Asked} {path : Path} {text told : Bytes} {status : ℕ} → Due what text told status → Due (asks_witnessed what path) text told status
     unwitnessed : {what : Asked} {path place : Path} → IsOfWitness path place → Due (asks_witnessed what path) [] (untraced_told place) 1

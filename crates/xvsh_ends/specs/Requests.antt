@@ -11,7 +11,7 @@ use Rattle.xvsh_checks.specs.declared.request.ExplainRequest.{ExplainRequest}
 use Rattle.xvsh_explores.specs.declared.request.ExploreRequest.{ExploreRequest}
 use Rattle.xvsh_ends.specs.declared.request.Request.{Request}
 use Rattle.xvsh_ends.specs.declared.request.Request.TheVariants.{Run, Replay, Plain, Check, Explain, Explore, Draw}
-use Rattle.xvsh_ends.specs.Ends.{Asked, asks_plain, asks_diagnosed, asks_run, asks_strict, asks_check, asks_turns, asks_room, asks_explain, asks_whys, asks_fix, asks_explore, help, misuse, on_harts, by_schedule, Ends, asks_traced, asks_witnessed, asks_paired, asks_filed, asks_lined, asks_json, asks_draw, asks_input}
+use Rattle.xvsh_ends.specs.Ends.{Asked, asks_plain, asks_diagnosed, asks_run, asks_strict, asks_check, asks_turns, asks_room, asks_explain, asks_whys, asks_fix, asks_explore, help, misuse, on_harts, by_schedule, Ends, asks_traced, asks_played, asks_witnessed, asks_paired, asks_filed, asks_lined, asks_json, asks_draw, asks_input}
 
 -- a run by processes, strictly or not
 abbrev pub run_asked : Bool → RunRequest → Asked
@@ -93,8 +93,13 @@ abbrev pub traced_asked : Option (Bor Path) → Asked → Asked
 traced_asked None what = what
 traced_asked (Some path) what = asks_traced what path.now
 
+-- the same, with a page to play at a path, if there is to be one
+abbrev pub played_asked : Option (Bor Path) → Asked → Asked
+played_asked None what = what
+played_asked (Some path) what = asks_played (asks_traced what path.now)
+
 abbrev pub explore_asked : ExploreRequest → Asked
-explore_asked request = traced_asked request.draw (json_asked request.is_json (explore_told_asked request))
+explore_asked request = played_asked request.play (traced_asked request.draw (json_asked request.is_json (explore_told_asked request)))
 
 -- notes, as an object or as a text; or the script mended in their place
 abbrev pub explain_told_asked : Bool → ExplainRequest → Asked
@@ -141,6 +146,7 @@ UnlessPrinted (asks_whys profile script paths) status same = status ≢ 0 → st
 UnlessPrinted (asks_fix profile script paths) status same = status ≢ 0 → same
 UnlessPrinted (asks_explore profile script paths states all) status same = status ≢ 0 → status ≢ 3 → status ≢ 4 → same
 UnlessPrinted (asks_traced what path) status same = UnlessPrinted what status same
+UnlessPrinted (asks_played what) status same = UnlessPrinted what status same
 UnlessPrinted (asks_witnessed what path) status same = UnlessPrinted what status same
 UnlessPrinted (asks_paired what word) status same = UnlessPrinted what status same
 UnlessPrinted (asks_filed what path) status same = UnlessPrinted what status same

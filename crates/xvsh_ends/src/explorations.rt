@@ -10,11 +10,12 @@ ghost use Rattle.xvsh_ends.specs.Requests.{explore_asked, explore_told_asked, js
 use crate::ending::{Ending, Line, no_output, report_no_memory, report_untraced};
 use crate::objects::{made_valued, valued};
 use crate::pages::drawn;
+use crate::playing::play;
 use crate::unpaired::{exploring_fault_result, report_exploring};
 use crate::witnesses::{WitnessFault, write_schedules};
 use sh_lexer::Bytes;
 use std::alloc::Global;
-use xvsh_explores::{Conclusion, ExploreRequest, Explored, Watch, concluded, run_explore};
+use xvsh_explores::{Conclusion, ExploreRequest, Explored, Played, Watch, concluded, run_explore};
 use xvsh_read::{Host, Output};
 use xvsh_traces::Traces;
 
@@ -87,6 +88,7 @@ fn written_at<T: Traces>(alloc: Global, explored: Explored, folder: &str, traces
 struct Told {
     ending: Ending,
     page: Option<Vec<u8>>,
+    played: Played,
 }
 
 // Explores a script, writes schedules, if there are to be any, and returns what is told of its outcomes, or why nothing is.
@@ -100,12 +102,18 @@ fn told_ending<H: Host + Traces + Watch>(
     match run_explore(alloc, request, host) {
         Ok(mut explored) => {
             let page = explored.page.take();
+            let played = explored.played.take();
             let ending = written(alloc, explored, request.witness, host);
-            Told { ending, page }
+            Told {
+                ending,
+                page,
+                played,
+            }
         }
         Err(fault) => Told {
             ending: report_exploring(alloc, request, fault),
             page: None,
+            played: Played::Unasked,
         },
     }
 }
@@ -121,10 +129,12 @@ fn explore_json<H: Host + Traces + Watch>(
     match run_explore(alloc, request, host) {
         Ok(mut explored) => {
             let page = explored.page.take();
+            let played = explored.played.take();
             let ending = written(alloc, explored, request.witness, host);
             Told {
                 ending: valued(alloc, ending, "explore"),
                 page,
+                played,
             }
         }
         Err(fault) => {
@@ -133,6 +143,7 @@ fn explore_json<H: Host + Traces + Watch>(
             Told {
                 ending: made_valued(alloc, ending, made),
                 page: None,
+                played: Played::Unasked,
             }
         }
     }
@@ -153,7 +164,7 @@ fn told_or_json<H: Host + Traces + Watch>(
     }
 }
 
-/// Explores a script, writes schedules and a page, if there are to be any, and returns what is told of its outcomes, as text or as
+/// Explores a script, writes schedules and pages, if there are to be any, and returns what is told of its outcomes, as text or as
 /// an object, or why nothing is.
 pub fn explore_ending<H: Host + Traces + Watch>(
     alloc: Global,
@@ -162,6 +173,11 @@ pub fn explore_ending<H: Host + Traces + Watch>(
 ) -> Ending
     ensures { IsDue (H.input host.old) (H.file host.old) (explore_asked request.now) result }
 {
-    let Told { ending, page } = told_or_json(alloc, request, host);
-    drawn(alloc, ending, page, request.draw, host)
+    let Told {
+        ending,
+        page,
+        played,
+    } = told_or_json(alloc, request, host);
+    let drawn = drawn(alloc, ending, page, request.draw, host);
+    play(alloc, drawn, played, request.play, host)
 }

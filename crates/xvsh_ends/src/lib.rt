@@ -12,6 +12,7 @@ mod lining;
 mod objects;
 mod pages;
 mod plain;
+mod playing;
 mod printing;
 mod process_faults;
 mod processes;

@@ -11,6 +11,7 @@ use crate::drawing::page_of;
 use crate::fault::ExploringFault;
 use crate::findings::{Findings, findings_of, schedules_of};
 use crate::objects::{object_of, object_of_settled};
+use crate::playing::{Played, page_to_play};
 use crate::request::ExploreRequest;
 use crate::telling::{told, told_settled};
 use dead_lines::{bad_lines, dead_lines};
@@ -35,6 +36,8 @@ pub struct Explored {
     pub pair: Option<Pair>,
     /// Where a page is asked for and an outcome was found, the page of these two, or of the only outcome.
     pub page: Option<Vec<u8>>,
+    /// What became of the page to play.
+    pub played: Played,
     /// The numbers, from 1, of the script's lines that are no command.
     pub bad: Vec<usize>,
 }
@@ -91,7 +94,7 @@ fn text_of(
     }
 }
 
-// What is shown of what was found.
+// What is shown of what was found, but for the page to play.
 fn show(
     alloc: Global,
     start: &Start,
@@ -132,7 +135,11 @@ fn show(
 
 // Whether something is asked for that only trying orders shows: every turn, a schedule of each outcome, a page, or a pair.
 fn needs_orders(request: &ExploreRequest<'_>) -> bool {
-    request.is_full || request.witness.is_some() || request.draw.is_some() || request.pair.is_some()
+    request.is_full
+        || request.witness.is_some()
+        || request.draw.is_some()
+        || request.play.is_some()
+        || request.pair.is_some()
 }
 
 // How far to search: a settled script too where a schedule of its outcome is to be shown.
@@ -189,6 +196,7 @@ pub fn explore_start<'a, W: Watch>(
         pair,
         page,
     } = show(alloc, start, request, asked, &found)?;
+    let played = page_to_play(alloc, start, request, watch)?;
     let bad = bad_lines(alloc, start.script.lines.as_slice())?;
     Ok(Explored {
         found,
@@ -196,6 +204,7 @@ pub fn explore_start<'a, W: Watch>(
         schedules,
         pair,
         page,
+        played,
         bad,
     })
 }

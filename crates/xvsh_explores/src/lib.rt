@@ -7,11 +7,14 @@ mod exploring;
 mod fault;
 mod findings;
 mod objects;
+mod playing;
 mod replays;
 mod request;
 mod telling;
 
 pub use exploring::{Explored, explore_start, run_explore};
 pub use fault::ExploringFault;
+pub use play_page::PageFault;
+pub use playing::Played;
 pub use request::{ExploreRequest, MAX_STATES};
 pub use script_outcomes::{Conclusion, Found, Tried, Watch, concluded};

@@ -1,8 +1,9 @@
-//! How a schedule is replayed.
+//! How a schedule is replayed, and a script stepped through.
 
 use crate::request::ExploreRequest;
 use script_load::Profile;
-use std::alloc::AllocError;
+use std::alloc::{AllocError, Global};
+use xvsh_read::STDIN;
 
 // Whether a byte of a word stands for itself in a shell.
 fn is_plain(byte: u8) -> bool {
@@ -43,12 +44,8 @@ fn add_schedule(text: &mut Vec<u8>, folder: &str) -> Result<(), AllocError> {
     text.extend_from_slice(b"/1.schedule".as_slice())
 }
 
-/// Adds a line with the command that replays the first schedule, where schedules are written.
-pub fn add_replay(text: &mut Vec<u8>, request: &ExploreRequest<'_>) -> Result<(), AllocError> {
-    let Some(folder) = request.witness else {
-        return Ok(());
-    };
-    text.extend_from_slice(b"replay 1 by: xvsh replay".as_slice())?;
+// Adds the words that stand before a script's own: what `>>` means, the standard input, and that the script is among the words.
+fn add_flags(text: &mut Vec<u8>, request: &ExploreRequest<'_>) -> Result<(), AllocError> {
     if request.source.profile == Profile::Append {
         add_word(text, "--append")?;
     }
@@ -56,11 +53,43 @@ pub fn add_replay(text: &mut Vec<u8>, request: &ExploreRequest<'_>) -> Result<()
     if request.text.is_some() {
         add_word(text, "-c")?;
     }
-    add_schedule(text, folder)?;
+    Ok(())
+}
+
+// Adds the words of the script and its files.
+fn add_script(text: &mut Vec<u8>, request: &ExploreRequest<'_>) -> Result<(), AllocError> {
     add_word(text, request.text.unwrap_or(request.source.script))?;
     for path in request.source.files {
         add_word(text, path)?;
     }
+    Ok(())
+}
+
+/// Adds a line with the command that replays the first schedule, where schedules are written.
+pub fn add_replay(text: &mut Vec<u8>, request: &ExploreRequest<'_>) -> Result<(), AllocError> {
+    let Some(folder) = request.witness else {
+        return Ok(());
+    };
+    text.extend_from_slice(b"replay 1 by: xvsh replay".as_slice())?;
+    add_flags(text, request)?;
+    add_schedule(text, folder)?;
+    add_script(text, request)?;
     text.push(b'\n')?;
     Ok(())
+}
+
+/// The words of `xvsh step` behind its schedule, by which the script is stepped through; nothing where the script came by standard input,
+/// which can't be read again.
+pub fn stepped(alloc: Global, request: &ExploreRequest<'_>) -> Result<Vec<u8>, AllocError> {
+    let mut text = Vec::new(alloc);
+    if request.text.is_none() && request.source.script == STDIN {
+        return Ok(text);
+    }
+    add_flags(&mut text, request)?;
+    add_script(&mut text, request)?;
+    // without the space before its first word
+    if !text.is_empty() {
+        text.remove(0);
+    }
+    Ok(text)
 }

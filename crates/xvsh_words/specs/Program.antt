@@ -65,7 +65,7 @@ check_shape = record (new_shape (codes "check")) {
 -- `explore` by the most states that it may keep
 abbrev pub explore_shape : ℕ → Shape
 explore_shape states = record (new_shape (codes "explore")) {
-  rules = number_rule (codes "states") states ∷ flag_rule (codes "all") ∷ flag_rule (codes "full") ∷ path_rule (codes "witness") ∷ path_rule (codes "draw") ∷ path_rule (codes "pair") ∷ flag_rule (codes "json") ∷ flag_rule (codes "append") ∷ input_rule ∷ text_rule ∷ word_rule (codes "script") ∷ files_rule ∷ [];
+  rules = number_rule (codes "states") states ∷ flag_rule (codes "all") ∷ flag_rule (codes "full") ∷ path_rule (codes "witness") ∷ path_rule (codes "draw") ∷ path_rule (codes "play") ∷ path_rule (codes "pair") ∷ flag_rule (codes "json") ∷ flag_rule (codes "append") ∷ input_rule ∷ text_rule ∷ word_rule (codes "script") ∷ files_rule ∷ [];
 }
 
 abbrev pub explain_shape : Shape

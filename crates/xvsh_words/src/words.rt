@@ -90,7 +90,8 @@ processes can take their turns, and writes a line for each output that the
 script can have, with the events of a run to it, and then where two of these
 runs part. With `--witness DIR` it writes the schedule of each run to
 DIR, and with `--draw FILE` a page that draws two of them to FILE; `--pair N,M`
-names the two outcomes by their numbers.
+names the two outcomes by their numbers. With `--play FILE` it writes a page on
+which a reader chooses who goes next, and sees what can still come out.
 
 `xvsh step SCRIPT [FILE]..` reads commands from standard input, a line each, and
 answers each on standard output: a number is a turn of that process, `ps` lists
@@ -449,6 +450,9 @@ const WITNESS_HELP: &str =
 const DRAW_HELP: &str =
     "Write a page of HTML that draws runs to two outcomes to FILE; for `-` to standard output, and nothing else there";
 
+const PLAY_HELP: &str =
+    "Write a page of HTML to FILE on which a reader chooses who goes next; for `-` to standard output, and nothing else there";
+
 const PAIR_HELP: &str =
     "Tell apart, and draw, the outcomes N and M; without it, those whose difference is easiest to see";
 
@@ -463,6 +467,7 @@ fn explore_command<'a>(alloc: Global, most_states: u64) -> Result<Command<'a>, A
         flag(alloc, "full", FULL_HELP),
         path_option(alloc, "witness", "DIR", WITNESS_HELP),
         path_option(alloc, "draw", "FILE", DRAW_HELP),
+        path_option(alloc, "play", "FILE", PLAY_HELP),
         path_option(alloc, "pair", "N,M", PAIR_HELP),
         flag(alloc, "json", EXPLORED_JSON_HELP),
         flag(alloc, "append", APPEND_HELP),

@@ -1,0 +1,157 @@
+//! From a script to its page.
+
+ghost use Rattle.std.specs.Prelude.{◌≡◌};
+ghost use Rattle.script_load.specs.Line.{lines_of};
+
+use crate::fault::PageFault;
+use crate::page::{Beginning, Words, page_of};
+use crate::walk::{Reach, Walk};
+use play_states::{Exploration, Ground, Setting, Watch, explore_watched};
+use script_outcomes::sorted;
+use sh_machine::{Naming, User};
+use std::alloc::{Allocator, Global};
+use std::marker::Brand;
+use step_answers::Scene;
+use user_calls::Machine;
+
+/// How much is searched and shown.
+#[derive(Clone, Copy, Debug)]
+pub struct Limits {
+    /// The most states that a search may keep.
+    pub states: usize,
+    /// How many states are shown, about: those that follow without a choice come besides.
+    pub shown: usize,
+}
+
+// About how many bytes the rows of a page take at most, so that the page has less than 1,000,000 bytes (own).
+const MOST_BYTES: usize = 850_000;
+
+// Of a script with at most so many states every turn is shown, if that makes at most so many states (own).
+const FEW_STATES: usize = 100;
+
+const FEW_SHOWN: usize = 600;
+
+// What can still come is found for each state that is shown, by a search of its own. So many states are tried by these at most, if each
+// were as long as that from the start, so that a page takes seconds and no hours; but some states are shown of every script (own).
+const MOST_TRIED: usize = 1_500_000;
+
+const FEWEST_SHOWN: usize = 100;
+
+// A walk over the states, with every turn where that makes few of them.
+fn walked<'w, 't, M: Machine, C: Allocator, W: Watch>(
+    alloc: Global,
+    ground: &'w Ground<'t, M, C>,
+    scene: &'w Scene<'t, M>,
+    reach: Reach,
+    watch: &mut W,
+) -> Result<Walk<'w, 't, M, C>, PageFault> {
+    let mut walk = Walk::new(alloc, ground, scene, reach)?;
+    walk.go(watch)?;
+    Ok(walk)
+}
+
+// The page of what was found.
+fn page_by<'b, M: Machine, C: Allocator, W: Watch>(
+    ground: &Ground<'b, M, C>,
+    scene: &Scene<'b, M>,
+    found: Exploration,
+    making: &Making<'b>,
+    watch: &mut W,
+) -> Result<Vec<u8>, PageFault> {
+    let Exploration {
+        whole,
+        states,
+        outcomes,
+        stuck,
+    } = found;
+    if !whole {
+        return Err(PageFault::Many(states));
+    }
+    let alloc = making.alloc;
+    let outcomes = sorted(alloc, outcomes)?;
+    let mut is_whole = states <= FEW_STATES;
+    let mut walk = walked(alloc, ground, scene, making.reach(states, is_whole), watch)?;
+    if is_whole && walk.is_cut {
+        is_whole = false;
+        walk = walked(alloc, ground, scene, making.reach(states, false), watch)?;
+    }
+    let spots = walk.spots()?;
+    let play = ground.tell(alloc, outcomes, spots, making.limits.states, watch)?;
+    let beginning = Beginning {
+        words: making.words,
+        stdin: scene.stdin,
+        files: scene.files,
+        states,
+        stuck: match &stuck {
+            Some(way) => Some(way.as_slice()),
+            None => None,
+        },
+    };
+    page_of(&mut walk, &play, &beginning, is_whole)
+}
+
+// How many states are shown at most of a script with so many.
+fn most_shown(states: usize) -> usize {
+    (MOST_TRIED / states.max(1)).max(FEWEST_SHOWN)
+}
+
+// What is asked for.
+#[derive(Clone, Copy)]
+struct Making<'a> {
+    alloc: Global,
+    words: &'a Words<'a>,
+    limits: Limits,
+}
+
+impl Making<'_> {
+    // How far to walk.
+    fn reach(&self, states: usize, is_full: bool) -> Reach {
+        Reach {
+            most: if is_full {
+                FEW_SHOWN
+            } else {
+                self.limits.shown.min(most_shown(states))
+            },
+            bytes: MOST_BYTES,
+            is_full,
+        }
+    }
+}
+
+// The page of the script that `N` names.
+fn page_named<'b, N: Naming, W: Watch>(
+    setting: &Setting<'b, Global, Global>,
+    making: &Making<'b>,
+    watch: &mut W,
+) -> Result<Vec<u8>, PageFault>
+    requires { lines_of setting.now.script.now.lines ≡ N.script }
+{
+    let ground = Ground::<User<Global, N>, Global>::of_script(setting);
+    let scene = Scene {
+        init: User::<Global, N>::init(),
+        shell: User::shell(setting.script),
+        script: setting.script,
+        stdin: setting.stdin,
+        files: setting.files,
+    };
+    let found = explore_watched(making.alloc, setting, making.limits.states, watch)?;
+    page_by(&ground, &scene, found, making, watch)
+}
+
+/// The page of a script, in which its reader chooses who goes next. `watch` is told how far it is.
+///
+/// `Many` where the script leads to more states than may be kept.
+pub fn play_page<'b, W: Watch>(
+    alloc: Global,
+    setting: &Setting<'b, Global, Global>,
+    words: &'b Words<'b>,
+    limits: Limits,
+    watch: &mut W,
+) -> Result<Vec<u8>, PageFault> {
+    let making = Making {
+        alloc,
+        words,
+        limits,
+    };
+    page_named::<Brand, W>(setting, &making, watch)
+}
