@@ -66,6 +66,7 @@ complete -c xvsh -n '__fish_seen_subcommand_from explore' -l all -d 'Try every o
 complete -c xvsh -n '__fish_seen_subcommand_from explore' -l full -d 'Try every turn in every state, where one would do: the same outcomes of more states, to compare'
 complete -c xvsh -n '__fish_seen_subcommand_from explore' -l witness -x -a '(__fish_complete_directories)' -d 'Write a schedule for each outcome to DIR/1.schedule and so on, for `xvsh replay`'
 complete -c xvsh -n '__fish_seen_subcommand_from explore' -l draw -r -F -d 'Write a page of HTML that draws runs to two outcomes to FILE; for `-` to standard output, and nothing else there'
+complete -c xvsh -n '__fish_seen_subcommand_from explore' -l play -r -F -d 'Write a page of HTML to FILE on which a reader chooses who goes next; for `-` to standard output, and nothing else there'
 complete -c xvsh -n '__fish_seen_subcommand_from explore' -l pair -x -d 'Tell apart, and draw, the outcomes N and M; without it, those whose difference is easiest to see'
 complete -c xvsh -n '__fish_seen_subcommand_from explore' -l json -d 'Write one object of JSON'
 complete -c xvsh -n '__fish_seen_subcommand_from explore' -l append -d '`>>` writes at a file\'s end; without it, from its beginning, as xv6 does'

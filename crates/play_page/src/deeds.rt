@@ -120,43 +120,56 @@ fn program_of<M: Machine>(
     text.end()
 }
 
+// What the descriptor of the process's call has open.
+fn object_of<'f, M: Machine>(
+    follow: &'f Follow<'_, M>,
+    pid: Pid,
+    call: CallKind,
+) -> Option<&'f Object> {
+    let fd = descriptor_of(call)?;
+    follow.kernel().object(pid, fd)
+}
+
+// The pipe that an object is an end of.
+fn pipe_in(object: &Object) -> Option<u64> {
+    match object {
+        Object::PipeRead(name) | Object::PipeWrite(name) => Some(*name),
+        _ => None,
+    }
+}
+
 // What is known before the process on hart 0 makes its call.
 fn known_before<M: Machine>(
     book: &mut Book,
     follow: &Follow<'_, M>,
     pid: Pid,
 ) -> Result<Before, AllocError> {
-    let kernel = follow.kernel();
+    let alloc = book.alloc;
     let mut call = CallSlot::new();
-    kernel.ask(0, pid.index(), &mut call);
-    let object = match descriptor_of(call.kind()) {
-        Some(fd) => kernel.object(pid, fd),
-        None => None,
-    };
-    let (thing, letters) = match object {
-        Some(object) => {
-            let (thing, letters) = thing_of(book, follow, object)?;
-            (Some(thing), letters)
-        }
-        None => (None, Vec::new(book.alloc)),
-    };
-    let pipe = match object {
-        Some(Object::PipeRead(name) | Object::PipeWrite(name)) => Some(*name),
-        _ => None,
-    };
-    Ok(Before {
-        thing,
-        letters,
-        pipe,
-        held: match pipe {
-            Some(name) => held_in(kernel, name),
-            None => 0,
-        },
-        is_there: kernel.files().get(call.bytes()).is_some(),
-        program: program_of(book.alloc, follow, pid)?,
-        open: open_of(book.alloc, follow)?,
+    follow.kernel().ask(0, pid.index(), &mut call);
+    let is_there = follow.kernel().files().get(call.bytes()).is_some();
+    let program = program_of(alloc, follow, pid)?;
+    let open = open_of(alloc, follow)?;
+    let mut before = Before {
         call,
-    })
+        thing: None,
+        letters: Vec::new(alloc),
+        pipe: None,
+        held: 0,
+        is_there,
+        program,
+        open,
+    };
+    if let Some(object) = object_of(follow, pid, before.call.kind()) {
+        let (thing, letters) = thing_of(book, follow, object)?;
+        before.thing = Some(thing);
+        before.letters = letters;
+        before.pipe = pipe_in(object);
+    }
+    if let Some(name) = before.pipe {
+        before.held = held_in(follow.kernel(), name);
+    }
+    Ok(before)
 }
 
 // The first bytes of what is written, as they are shown, in at most so many characters.

@@ -214,29 +214,48 @@ fn add_only(row: &mut Text, node: &Node) {
     }
 }
 
+// A state of which this is the row of what can still come out: what is shown of it, and its turns.
+fn add_node(row: &mut Text, node: &Node, set: usize) {
+    add_only(row, node);
+    add_item(row, set);
+    row.add(",");
+    row.bytes(&node.shown);
+    for edge in &node.edges {
+        add_item(row, usize::from(edge.pid));
+        add_item(row, edge.deed);
+        add_item(row, edge.next);
+    }
+    row.add("]");
+}
+
+// The row of the state of that place.
+fn state_of<M: Machine, C: Allocator>(
+    walk: &mut Walk<'_, '_, M, C>,
+    play: &Play,
+    place: usize,
+) -> Result<Vec<u8>, PageFault> {
+    let Some(shown) = play.shown.get(place) else {
+        return Err(PageFault::Astray);
+    };
+    let set = set_of(&mut walk.book, shown, play.outcomes.len())?;
+    let mut row = Text::new(walk.book.alloc);
+    match walk.nodes.get(place) {
+        Some(node) => add_node(&mut row, node, set),
+        None => return Err(PageFault::Astray),
+    }
+    let row = row.end()?;
+    Ok(row)
+}
+
 // The rows of the states.
 fn states_of<M: Machine, C: Allocator>(
     walk: &mut Walk<'_, '_, M, C>,
     play: &Play,
-) -> Result<Vec<Vec<u8>>, AllocError> {
-    let alloc = walk.book.alloc;
-    let mut rows = Vec::new(alloc);
-    for (node, shown) in walk.nodes.iter().zip(play.shown.iter()) {
-        let mut row = Text::new(alloc);
-        add_only(&mut row, node);
-        add_item(
-            &mut row,
-            set_of(&mut walk.book, shown, play.outcomes.len())?,
-        );
-        row.add(",");
-        row.bytes(&node.shown);
-        for edge in &node.edges {
-            add_item(&mut row, usize::from(edge.pid));
-            add_item(&mut row, edge.deed);
-            add_item(&mut row, edge.next);
-        }
-        row.add("]");
-        rows.push(row.end()?)?;
+) -> Result<Vec<Vec<u8>>, PageFault> {
+    let mut rows = Vec::new(walk.book.alloc);
+    for place in 0..walk.nodes.len() {
+        let row = state_of(walk, play, place)?;
+        rows.push(row)?;
     }
     Ok(rows)
 }

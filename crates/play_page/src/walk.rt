@@ -116,14 +116,12 @@ impl<'w, 't, M: Machine, C: Allocator> Walk<'w, 't, M, C> {
         let place = self.nodes.len();
         let key = Vec::from_slice(self.alloc, &shown)?;
         self.size = self.size.saturating_add(shown.len()).saturating_add(16);
-        match self.places.get_mut(&key) {
-            Some(places) => places.push(place)?,
-            None => {
-                let mut places = Vec::new(self.alloc);
-                places.push(place)?;
-                self.places.insert(key, places)?;
-            }
-        }
+        let mut places = match self.places.remove(&key) {
+            Some(places) => places,
+            None => Vec::new(self.alloc),
+        };
+        places.push(place)?;
+        self.places.insert(key, places)?;
         self.nodes.push(Node {
             pids,
             shown,
@@ -154,11 +152,11 @@ impl<'w, 't, M: Machine, C: Allocator> Walk<'w, 't, M, C> {
                 offered.push(index as u8)?;
             }
         }
-        let only = match (only, offered.as_slice()) {
-            (None, [one]) => Some(usize::from(*one)),
-            (only, _) => only,
+        let alone = match offered.as_slice() {
+            [one] => Some(usize::from(*one)),
+            _ => None,
         };
-        Ok((offered, only))
+        Ok((offered, only.or(alone)))
     }
 
     // Whether the process can take a turn that does more than put it to sleep; with every turn, whether it can take one.
