@@ -1,2 +1,2 @@
 pub mod Dues
-pub mod Printing
+pub mod Made

@@ -4,7 +4,7 @@ use Rattle.xvsh_ends.specs.Ends.{check_status, room_told, no_room_told}
 use Rattle.xvsh_ends.specs.Printed.{IsPrinted}
 use Rattle.xvsh_ends.specs.Requests.{check_asked}
 use Rattle.xvsh_ends.proofs.Dues.{fault_is_printed, check_is_printed}
-use Rattle.xvsh_ends.proofs.Printing.{due_printed}
+use Rattle.xvsh_ends.proofs.Made.{due_printed}
 use Rattle.xvsh_ends.proofs.checks.room_ending.Goals as goal
 
 pub returns-in-Ok : goal.returns-in-Ok

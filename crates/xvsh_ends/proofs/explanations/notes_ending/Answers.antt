@@ -4,7 +4,7 @@ use Rattle.xvsh_ends.specs.Ends.{check_status, explained, not_explained}
 use Rattle.xvsh_ends.specs.Printed.{IsPrinted}
 use Rattle.xvsh_ends.specs.Requests.{explain_asked}
 use Rattle.xvsh_ends.proofs.Dues.{fault_is_printed, check_is_printed}
-use Rattle.xvsh_ends.proofs.Printing.{due_printed}
+use Rattle.xvsh_ends.proofs.Made.{due_printed}
 use Rattle.xvsh_ends.proofs.explanations.notes_ending.Goals as goal
 
 pub returns-in-Ok : goal.returns-in-Ok

@@ -1,4 +1,4 @@
-use Rattle.xvsh_ends.proofs.Printing.{prints_made}
+use Rattle.xvsh_ends.proofs.Made.{prints_made}
 use Rattle.xvsh_ends.proofs.printing.print_as.Goals as goal
 
 pub returns : goal.returns

@@ -4,7 +4,7 @@ use Rattle.xvsh_read.specs.declared.fault.Fault.TheVariants.{Memory}
 use Rattle.xvsh_read.specs.Status.{fault_told, status_of}
 use Rattle.xvsh_ends.specs.Ends.{PrintsAlone, Tells}
 use Rattle.xvsh_ends.specs.Printed.{IsPrinted}
-use Rattle.xvsh_ends.proofs.Printing.{prints_object, prints_report}
+use Rattle.xvsh_ends.proofs.Made.{prints_object, prints_report}
 use Rattle.xvsh_ends.proofs.printing.report_as.Goals as goal
 
 pub returns-then-is_json : goal.returns-then-is_json
