@@ -37,6 +37,14 @@ pub fn held_in<M: Machine>(kernel: &Kernel<M, Global>, name: u64) -> usize {
     }
 }
 
+// The bytes without the first ones, of which there may be fewer.
+fn without_first(alloc: Global, bytes: &[u8], count: usize) -> Result<Vec<u8>, AllocError> {
+    match bytes.get(count..) {
+        Some(rest) => Vec::from_slice(alloc, rest),
+        None => Ok(Vec::new(alloc)),
+    }
+}
+
 impl<'t, M: Machine> Follow<'t, M> {
     // At the start.
     pub fn start(alloc: Global, scene: &Scene<'t, M>) -> Result<Self, AllocError> {
@@ -140,8 +148,8 @@ impl<'t, M: Machine> Follow<'t, M> {
         };
         let alloc = self.alloc;
         if let Some(pipe) = find(&mut self.pipes, name) {
-            let rest = pipe.bytes.get(taken..).unwrap_or(&[]);
-            pipe.bytes = Vec::from_slice(alloc, rest)?;
+            let rest = without_first(alloc, pipe.bytes.as_slice(), taken)?;
+            pipe.bytes = rest;
         }
         Ok(())
     }

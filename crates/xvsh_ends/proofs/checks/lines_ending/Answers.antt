@@ -1,4 +1,5 @@
 use Rattle.std.proofs.Common.{[], true, false, subst}
+use Rattle.xvsh_checks.specs.Values.{findings_text}
 use Rattle.xvsh_read.specs.Status.{fault_told, status_of}
 use Rattle.xvsh_ends.specs.Ends.{check_status, checked, no_check}
 use Rattle.xvsh_ends.specs.Printed.{IsPrinted}
@@ -11,8 +12,9 @@ pub returns-in-Ok : goal.returns-in-Ok
 returns-in-Ok g c =
     let request = c.args.request.now in
     let is_fine = c.in-Ok.found.is_harmless in
-    due_printed (g.H.Host.input c.args.host.now) (g.H.Host.file c.args.host.now) (check_asked false false request) request.is_json _ [] (check_status is_fine) c.print_as.result
-    (subst (λ n. IsPrinted request.is_json _ [] n c.print_as.result) c.code_of-code.ensures (c.print_as.ensures _ c.lines_made-made.ensures))
+    let text = findings_text c.in-Ok.found.list.items in
+    due_printed (g.H.Host.input c.args.host.now) (g.H.Host.file c.args.host.now) (check_asked false false request) request.is_json text [] (check_status is_fine) c.print_as.result
+    (subst (λ n. IsPrinted request.is_json text [] n c.print_as.result) c.code_of-code.ensures (c.print_as.ensures text c.lines_made-made.ensures))
     (check_is_printed is_fine) (checked is_fine c.in-Ok.ensures.ran)
 
 pub returns-in-Err : goal.returns-in-Err

@@ -1,4 +1,10 @@
-use Rattle.std.proofs.Common.{[], true, false, subst}
+use Rattle.std.proofs.Common.{[], ◌++◌, true, false, subst}
+use Rattle.std.specs.Prelude.{map}
+use Rattle.script_notes.specs.Written.{written}
+use Rattle.missing_names.specs.Texts.{missing_texts, shown}
+use Rattle.reason_sentences.specs.Sentences.{reason_text, why_text}
+use Rattle.reason_sentences.specs.Ways.{ways_text}
+use Rattle.xvsh_checks.specs.Lacks.{lack_noted}
 use Rattle.xvsh_read.specs.Status.{fault_told, status_of}
 use Rattle.xvsh_ends.specs.Ends.{check_status, whys_told, no_whys_told}
 use Rattle.xvsh_ends.specs.Printed.{IsPrinted}
@@ -11,8 +17,9 @@ pub returns-in-Ok : goal.returns-in-Ok
 returns-in-Ok g c =
     let request = c.args.request.now in
     let is_fine = c.in-Ok.noted.is_fine in
-    due_printed (g.H.Host.input c.args.host.now) (g.H.Host.file c.args.host.now) (explain_asked true request) request.is_json _ [] (check_status is_fine) c.print_as.result
-    (subst (λ n. IsPrinted request.is_json _ [] n c.print_as.result) c.code_of-code.ensures (c.print_as.ensures _ c.whys_made-made.ensures))
+    let text = written c.in-Ok.noted.notes.items ++ (missing_texts (map shown c.in-Ok.noted.missing.items) ++ (lack_noted c.in-Ok.noted.lack ++ (why_text (map reason_text c.in-Ok.noted.reasons.items) ++ ways_text c.in-Ok.noted.reasons.items))) in
+    due_printed (g.H.Host.input c.args.host.now) (g.H.Host.file c.args.host.now) (explain_asked true request) request.is_json text [] (check_status is_fine) c.print_as.result
+    (subst (λ n. IsPrinted request.is_json text [] n c.print_as.result) c.code_of-code.ensures (c.print_as.ensures text c.whys_made-made.ensures))
     (check_is_printed is_fine) (whys_told is_fine c.in-Ok.ensures.ran)
 
 pub returns-in-Err : goal.returns-in-Err

@@ -12,7 +12,7 @@ returns-then-is_json c =
     let fault = c.args.fault in
     subst (λ is. IsPrinted is [] (fault_told fault) (status_of fault) c.print_made.result) (sym c.if-is_json.true)
     (prints_object c.fault_result.result (λ found. found.items) (fault_told fault) (status_of fault) c.print_made.result
-    (subst (λ n. MatchResult c.fault_result.result (λ found. PrintsAlone found.items n c.print_made.result) (λ _. Tells (fault_told Memory) 4 c.print_made.result)) c.status.ensures c.print_made.ensures))
+    (subst (λ n. MatchResult c.fault_result.result (λ found. PrintsAlone found.items n c.print_made.result) (λ _. Tells (fault_told Memory) 4 c.print_made.result)) c.status-status.ensures c.print_made.ensures))
 
 pub returns-else-is_json : goal.returns-else-is_json
 returns-else-is_json c =
