@@ -141,11 +141,19 @@ impl<'t, M: Machine> Follow<'t, M> {
         Ok(())
     }
 
+    // How many bytes the process's call took.
+    fn taken_by(&self, pid: Pid) -> usize {
+        if !self.teller.is_done(pid) {
+            return 0;
+        }
+        match self.kernel().reply(pid) {
+            Some(reply) => reply.bytes().len(),
+            None => 0,
+        }
+    }
+
     fn note_taken(&mut self, pid: Pid, name: u64) -> Result<(), AllocError> {
-        let taken = match self.kernel().reply(pid) {
-            Some(reply) if self.teller.is_done(pid) => reply.bytes().len(),
-            _ => 0,
-        };
+        let taken = self.taken_by(pid);
         let alloc = self.alloc;
         if let Some(pipe) = find(&mut self.pipes, name) {
             let rest = without_first(alloc, pipe.bytes.as_slice(), taken)?;
