@@ -1,18 +1,18 @@
 //! The notes of a script in sentences, and behind them what else is found of it.
 ghost use Rattle.std.specs.Prelude.{◌≡◌, ◌++◌, IfOk, OnOk, map, string_bytes};
-ghost use Rattle.script_notes.specs.Written.{written};
+ghost use Rattle.note_texts.specs.Texts.{written};
 ghost use Rattle.missing_names.specs.Texts.{missing_texts, shown};
 ghost use Rattle.reason_sentences.specs.Sentences.{reason_text, why_text};
 ghost use Rattle.reason_sentences.specs.Ways.{ways_text};
-ghost use Rattle.xvsh_checks.specs.Explain.{written_of};
-ghost use Rattle.xvsh_checks.specs.Lacks.{lack_noted, noted_place};
+ghost use Rattle.check_texts.specs.Explanations.{lack_noted, noted_place, noted_text, whys_text};
 
 use crate::rooms::{add_need, table_text};
 use missing_names::{Missing, text_of_missing};
+use note_texts::text_of_notes;
 use plain_run::Reason;
 use reason_sentences::{ways, why};
 use room_bounds::Lack;
-use script_notes::{LineNote, text_of_notes};
+use script_notes::LineNote;
 use std::alloc::{AllocError, Global};
 use xvsh_checks::{Noted, NotedWhys};
 
@@ -63,7 +63,7 @@ fn notes_and_lack(
 ///
 /// `AllocError` where memory is refused.
 pub fn text_of_noted(alloc: Global, noted: &Noted) -> Result<Vec<u8>, AllocError>
-    ensures { IfOk result (λ text. text.items ≡ written_of (written noted.now.notes.items ++ lack_noted noted.now.lack)) }
+    ensures { IfOk result (λ text. text.items ≡ noted_text noted.now) }
 {
     let text = notes_and_lack(alloc, noted.notes.as_slice(), &noted.lack)?;
     if text.as_slice().is_empty() {
@@ -110,7 +110,7 @@ fn names_and_why(
 ///
 /// `AllocError` where memory is refused.
 pub fn text_of_whys(alloc: Global, noted: &NotedWhys) -> Result<Vec<u8>, AllocError>
-    ensures { IfOk result (λ text. text.items ≡ written noted.now.notes.items ++ (missing_texts (map shown noted.now.missing.items) ++ (lack_noted noted.now.lack ++ (why_text (map reason_text noted.now.reasons.items) ++ ways_text noted.now.reasons.items)))) }
+    ensures { IfOk result (λ text. text.items ≡ whys_text noted.now) }
 {
     let mut text = text_of_notes(alloc, noted.notes.as_slice())?;
     let rest = names_and_why(

@@ -3,7 +3,6 @@ mod FilesPut
 mod Places
 mod Agreeing
 mod Asked
-mod Explained
 mod Lines
 mod Refusals
 mod Refused

@@ -4,7 +4,7 @@ use Rattle.mem_files.specs.Name.{Bytes}
 use Rattle.script_load.specs.declared.fault.LoadFault.TheVariants.{LineTooLong as load_long, ByteZero as load_zero}
 use Rattle.script_load.specs.Line.{ScriptLine}
 use Rattle.script_load.specs.Script.{AllFine, IsScript, HasLoadFault}
-use Rattle.script_notes.specs.Explained.{HasNothingToTell}
+use Rattle.script_notes.specs.Noted.{HasNoNotes}
 use Rattle.xvsh_read.specs.declared.fault.Fault.{Fault}
 use Rattle.xvsh_read.specs.declared.fault.Fault.TheVariants.{Unreadable as unreadable, TooLong as too_long, LineTooLong as line_too_long, ByteZero as byte_zero, BadName as bad_name, TakenName as taken_name, TooManyFiles as too_many_files, TooLarge as too_large, Memory as refused}
 use Rattle.room_bounds.specs.declared.lack.Lack.{Lack}
@@ -19,11 +19,6 @@ use Rattle.embed.specs.declared.fault.EmbedFault.{EmbedFault}
 use Rattle.embed.specs.declared.fault.EmbedFault.TheVariants.{Start, TooLarge, Memory, BadTurns, Spent, NoEvent, NotRunnable, NotRunning, Unfinished, BadOrder, BadStates}
 use Rattle.embed.specs.Starting.{max_input}
 use Rattle.embed.specs.declared.answer.AskAnswer.{AskAnswer}
-
--- the status with which the program ends
-abbrev pub code_of : Bool → ℕ
-code_of false = 3
-code_of true = 0
 
 -- the program's fault of a script that is its standard input, as one of the task
 abbrev pub of_fault : Fault → EmbedFault
@@ -84,4 +79,4 @@ pub record IsExplainAnswer (task : Task) (answer : AskAnswer) : Type 0 where
   pub short : length task.script.now ≤ max_input
   pub lack : Option Lack
   pub room : IsLackOfText task.script.now lack
-  pub fine : IsTrue answer.is_fine ↔ (HasNothingToTell task.script.now × (lack ≡ None))
+  pub fine : IsTrue answer.is_fine ↔ (HasNoNotes task.script.now × (lack ≡ None))

@@ -1,5 +1,5 @@
 -- What is told of a task's script on its input and its files before any run by its processes, and why nothing is.
-use Rattle.std.specs.Prelude.{◌≡◌, ◌↔◌, ◌⊎◌, Bool, IsTrue, List, [], None, map}
+use Rattle.std.specs.Prelude.{◌↔◌, Bool, IsTrue, List}
 use Rattle.mem_files.specs.Name.{Name, Bytes}
 use Rattle.mem_files.specs.Files.{files}
 use Rattle.script_load.specs.declared.profile.Profile.{Profile}
@@ -8,20 +8,12 @@ use Rattle.script_load.specs.Line.{ScriptLine}
 use Rattle.script_load.specs.Script.{HasLoadFault}
 use Rattle.meaning_model.specs.Limits.{Outgrows}
 use Rattle.meaning_model.specs.Meaning.{script_tree}
-use Rattle.meaning_model.specs.Settled.{IsSettledScript}
 use Rattle.room_model.specs.Roomy.{IsRoomyScript}
-use Rattle.script_notes.specs.Explained.{IsExplained, HasNothingToTell}
-use Rattle.script_notes.specs.Written.{written}
-use Rattle.missing_names.specs.Missing.{missing_names}
-use Rattle.missing_names.specs.Texts.{shown}
-use Rattle.reason_sentences.specs.Sentences.{reason_text}
-use Rattle.reason_sentences.specs.Whys.{AreReasonTexts}
-use Rattle.xvsh_checks.specs.declared.whys.NotedWhys.{NotedWhys}
 use Rattle.xvsh_checks.specs.Check.{AreTold, AreHarmless}
 use Rattle.xvsh_checks.specs.Values.{findings_text, turns_told}
 use Rattle.xvsh_checks.specs.Turns.{AreTurnsTold}
 use Rattle.xvsh_checks.specs.Room.{IsRoomFound}
-use Rattle.xvsh_checks.specs.Lacks.{IsLackNoted}
+use Rattle.xvsh_checks.specs.Whys.{AreWhysOf}
 use Rattle.embed.specs.declared.task.Task.{Task}
 use Rattle.embed.specs.declared.fault.StartFault.{StartFault}
 use Rattle.embed.specs.declared.fault.EmbedFault.{EmbedFault}
@@ -53,21 +45,12 @@ pub record IsRoomAnswer (task : Task) (strict : Bool) (answer : RoomAnswer) : Ty
   pub room : IsRoomFound lines task.stdin.now given answer.found
   pub fine : IsTrue answer.findings.is_harmless ↔ (AreHarmless strict lines × IsRoomyScript lines task.stdin.now given)
 
--- these are the notes on the task's script, which has these lines, the names that none of these files has, with which line first it may
--- not have room, and why it isn't settled under a profile; and it is fine exactly where there is none of these
-pub record AreWhysOf (task : Task) (profile : Profile) (lines : List ScriptLine) (given : List (Name × Bytes)) (noted : NotedWhys) : Type 0 where
-  pub notes : IsExplained task.script.now (written noted.notes.items)
-  pub missing : map shown noted.missing.items ≡ missing_names lines given
-  pub room : IsLackNoted lines noted.lack
-  pub reasons : AreReasonTexts profile lines task.stdin.now (files given) (map reason_text noted.reasons.items)
-  pub fine : IsTrue noted.is_fine ↔ (HasNothingToTell task.script.now × (missing_names lines given ≡ []) × (noted.lack ≡ None) × IsSettledScript profile lines task.stdin.now (files given))
-
--- the answer tells that of the task's script on the task's input and files
+-- the answer tells of the task's script what `explain` finds in it on the task's input and files
 pub record IsWhysAnswer (task : Task) (answer : WhysAnswer) : Type 0 where
   pub lines : List ScriptLine
   pub given : List (Name × Bytes)
   pub starts : Starts task lines given
-  pub whys : AreWhysOf task (profile_by task.appends) lines given answer.noted
+  pub whys : AreWhysOf task.script.now (profile_by task.appends) lines task.stdin.now given answer.noted
 
 -- why nothing is told: the run can't begin, the script is refused, or memory was
 pub data IsTellFault (task : Task) : EmbedFault → Type 0 where

@@ -2,7 +2,7 @@
 ghost use Rattle.std.specs.Prelude.{IfErr, IfOk};
 ghost use Rattle.embed.specs.Asks.{IsAskFault, IsExplainAnswer};
 
-use crate::answer::{AskAnswer, code_of, of_fault};
+use crate::answer::{AskAnswer, of_fault};
 use crate::beginning::MAX_INPUT;
 use crate::fault::{EmbedFault, StartFault};
 use crate::script_host::ScriptHost;
@@ -10,10 +10,10 @@ use crate::task::{Task, profile_by};
 use result_json::{ExplainValues, explain_result};
 use std::alloc::{AllocError, Global};
 use xvsh_checks::{ExplainRequest, Noted, run_note};
-use xvsh_read::{STDIN, Source};
+use xvsh_read::{STDIN, Source, Status};
 
 // The object of these notes.
-fn object_of(alloc: Global, noted: &Noted, code: u8) -> Result<Vec<u8>, AllocError> {
+fn object_of(alloc: Global, noted: &Noted, code: Status) -> Result<Vec<u8>, AllocError> {
     let values = ExplainValues {
         notes: noted.notes.as_slice(),
         missing: &[],
@@ -53,7 +53,7 @@ pub fn explain_of(alloc: Global, task: &Task<'_>) -> Result<AskAnswer, EmbedFaul
         Err(fault) => return Err(of_fault(fault)),
     };
     let is_fine = noted.is_fine;
-    match object_of(alloc, &noted, code_of(is_fine)) {
+    match object_of(alloc, &noted, Status::by(is_fine)) {
         Ok(json) => Ok(AskAnswer { json, is_fine }),
         Err(_) => Err(EmbedFault::Memory),
     }

@@ -7,6 +7,7 @@ use crate::beginning::{Begun, begin};
 use crate::fault::EmbedFault;
 use crate::task::{Task, profile_by};
 use closed_search::Unwatched;
+use explore_texts::object_of_found;
 use script_outcomes::{Found, is_single, is_whole};
 use std::alloc::Global;
 use xvsh_explores::{ExploreRequest, MAX_STATES, explore_start};
@@ -43,7 +44,7 @@ fn start_of(alloc: Global, begun: Begun, stdin: &[u8]) -> Result<Start, EmbedFau
     }
 }
 
-// Why nothing is told.
+// Why nothing is reported.
 fn of_explored(fault: Fault<'_>) -> EmbedFault
     ensures { result ≡ explored_fault fault.entry }
 {
@@ -99,13 +100,17 @@ pub fn explore_of(
         input: None,
         text: None,
     };
-    match explore_start(alloc, &start, &request, None, &mut Unwatched) {
-        Ok(explored) => Ok(ExploreAnswer {
-            is_whole: is_whole(&explored.found),
-            is_single: is_single(&explored.found),
-            found: explored.found,
-            json: explored.text,
+    let found = match explore_start(alloc, &start, &request, &mut Unwatched) {
+        Ok(found) => found,
+        Err(fault) => return Err(of_explored(fault)),
+    };
+    match object_of_found(alloc, &start, &found) {
+        Ok(json) => Ok(ExploreAnswer {
+            is_whole: is_whole(&found),
+            is_single: is_single(&found),
+            found,
+            json,
         }),
-        Err(fault) => Err(of_explored(fault)),
+        Err(_) => Err(EmbedFault::Memory),
     }
 }

@@ -24,7 +24,7 @@ pub struct LookAnswer {
     pub is_finished: bool,
 }
 
-// Lets the events happen, and tells whether the run is finished then.
+// Lets the events happen, and returns whether the run is finished then.
 fn carry_out(
     alloc: Global,
     begun: &Begun,

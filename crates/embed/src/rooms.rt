@@ -2,7 +2,6 @@
 ghost use Rattle.std.specs.Prelude.{IfErr, IfOk};
 ghost use Rattle.embed.specs.Tells.{IsRoomAnswer, IsTellFault};
 
-use crate::answer::code_of;
 use crate::beginning::begin;
 use crate::fault::EmbedFault;
 use crate::finding::find_of;
@@ -10,19 +9,20 @@ use crate::task::Task;
 use result_json::room_result;
 use std::alloc::Global;
 use xvsh_checks::{Findings, RoomFound, find_room, is_fine};
+use xvsh_read::Status;
 
-/// What is told of a script and of its room.
+/// What is reported of a script and of its room.
 #[derive(Drop)]
 pub struct RoomAnswer {
     /// What is found in its lines; they are harmless where they have room, too.
     pub findings: Findings,
     /// What is known of its room.
     pub found: RoomFound,
-    /// The object of JSON that tells both, and LF.
+    /// The object of JSON that has both, and LF.
     pub json: Vec<u8>,
 }
 
-/// Checks the script of a task, strictly or not, and tells how much of xv6's tables it needs at most on the task's input and files,
+/// Checks the script of a task, strictly or not, and returns how much of xv6's tables it needs at most on the task's input and files,
 /// whatever the order of its processes, and with which line first it may need more than there is, as `xvsh check --room --json`. Nothing
 /// is run.
 ///
@@ -45,7 +45,7 @@ pub fn room_check_of(
         Err(fault) => return Err(fault),
     };
     findings.is_harmless = is_fine(findings.is_harmless, &found);
-    match room_result(alloc, &findings, &found, code_of(findings.is_harmless)) {
+    match room_result(alloc, &findings, &found, Status::by(findings.is_harmless)) {
         Ok(json) => Ok(RoomAnswer {
             findings,
             found,

@@ -26,7 +26,7 @@ pub struct RunAnswer {
     pub full: Option<Full>,
 }
 
-/// What is told of a report.
+/// What is reported of a run.
 pub(crate) fn told_of(alloc: Global, report: Report<Global>) -> Result<RunAnswer, AllocError>
     ensures { IfOk result (IsReportTold report) }
 {

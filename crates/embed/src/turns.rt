@@ -6,7 +6,6 @@ ghost use Rattle.xvsh_checks.specs.Turns.{AreTurnsTold};
 ghost use Rattle.xvsh_checks.specs.Values.{turns_told};
 ghost use Rattle.embed.specs.Tells.{IsTellFault, IsTurnsAnswer};
 
-use crate::answer::code_of;
 use crate::beginning::{Begun, begin};
 use crate::fault::EmbedFault;
 use crate::finding::find_of;
@@ -15,15 +14,16 @@ use result_json::counted_result;
 use std::alloc::Global;
 use step_bounds::turns_enough;
 use xvsh_checks::Findings;
+use xvsh_read::Status;
 
-/// What is told of a script and of its turns.
+/// What is reported of a script and of its turns.
 #[derive(Drop)]
 pub struct TurnsAnswer {
     /// What is found in its lines.
     pub findings: Findings,
     /// In how many turns it runs to its end; nothing where these are more than 1,000,000,000.
     pub turns: Option<u64>,
-    /// The object of JSON that tells both, and LF.
+    /// The object of JSON that has both, and LF.
     pub json: Vec<u8>,
 }
 
@@ -34,7 +34,7 @@ fn turns_of(begun: &Begun, stdin: &[u8]) -> Option<u64>
     turns_enough(&begun.script, stdin, &begun.files)
 }
 
-/// Checks the script of a task, strictly or not, and tells in how many turns a run by its processes on the task's input and files is
+/// Checks the script of a task, strictly or not, and returns in how many turns a run by its processes on the task's input and files is
 /// finished, whatever their order, as `xvsh check --turns --json`. Nothing is run.
 ///
 /// `Start` where the run can't begin; `Memory` where memory is refused.
@@ -55,7 +55,7 @@ pub fn turns_check_of(
         Err(fault) => return Err(fault),
     };
     let turns = turns_of(&begun, task.stdin);
-    match counted_result(alloc, &findings, turns, code_of(findings.is_harmless)) {
+    match counted_result(alloc, &findings, turns, Status::by(findings.is_harmless)) {
         Ok(json) => Ok(TurnsAnswer {
             findings,
             turns,

@@ -4,12 +4,12 @@ ghost use Rattle.mem_files.specs.Name.{Bytes, Name};
 ghost use Rattle.mem_files.specs.Files.{files};
 ghost use Rattle.script_load.specs.declared.profile.Profile.{Profile};
 ghost use Rattle.script_load.specs.Line.{ScriptLine, lines_of};
-ghost use Rattle.script_notes.specs.Explained.{IsExplained};
-ghost use Rattle.script_notes.specs.Written.{written};
+ghost use Rattle.script_notes.specs.Noted.{IsNoted};
+ghost use Rattle.script_notes.specs.Values.{values_of};
 ghost use Rattle.xvsh_plain.specs.Running.{IsMeaningFault};
-ghost use Rattle.embed.specs.Tells.{AreWhysOf, IsNotesFault, IsReasonsFault, IsWhysAnswer, IsWhysFault};
+ghost use Rattle.xvsh_checks.specs.Whys.{AreWhysOf};
+ghost use Rattle.embed.specs.Tells.{IsNotesFault, IsReasonsFault, IsWhysAnswer, IsWhysFault};
 
-use crate::answer::code_of;
 use crate::beginning::{Begun, begin};
 use crate::fault::{EmbedFault, StartFault};
 use crate::task::Task;
@@ -17,20 +17,20 @@ use result_json::{ExplainValues, explain_result};
 use script_notes::{LineNote, notes_of};
 use std::alloc::{AllocError, Global};
 use xvsh_checks::{NotedWhys, find_whys};
-use xvsh_read::Fault;
+use xvsh_read::{Fault, Status};
 
-/// What is told of a script on its files and its input.
+/// What is reported of a script on its files and its input.
 #[derive(Drop)]
 pub struct WhysAnswer {
     /// The notes, the names that no file has, with which line first it may not have room, and why it isn't settled.
     pub noted: NotedWhys,
-    /// The object of JSON that tells it, and LF.
+    /// The object of JSON that has it, and LF.
     pub json: Vec<u8>,
 }
 
 // The notes on a script.
 fn notes_on(alloc: Global, script: &[u8]) -> Result<Vec<LineNote>, EmbedFault>
-    ensures told { IfOk result (λ notes. IsExplained script.now (written notes.items)) }
+    ensures notes { IfOk result (λ notes. IsNoted script.now (values_of notes.items)) }
     ensures fault { IfErr result (IsNotesFault script.now) }
 {
     match notes_of(alloc, script) {
@@ -51,7 +51,7 @@ fn of_whys_fault(fault: Fault<'_>) -> EmbedFault
 
 // What is found in what was begun, whose script has these bytes.
 fn noted_of(alloc: Global, begun: &Begun, task: &Task<'_>) -> Result<NotedWhys, EmbedFault>
-    ensures told { IfOk result (AreWhysOf task.now begun.now.script.profile (lines_of begun.now.script.lines) begun.now.files) }
+    ensures told { IfOk result (AreWhysOf task.now.script.now begun.now.script.profile (lines_of begun.now.script.lines) task.now.stdin.now begun.now.files) }
     ensures fault { IfErr result (λ fault. IsNotesFault task.now.script.now fault ⊎ IsReasonsFault begun.now.script.profile (lines_of begun.now.script.lines) task.now.stdin.now begun.now.files fault) }
 {
     let notes = match notes_on(alloc, task.script) {
@@ -64,7 +64,7 @@ fn noted_of(alloc: Global, begun: &Begun, task: &Task<'_>) -> Result<NotedWhys, 
     }
 }
 
-// The object of what is told.
+// The object of what is reported.
 fn object_of(alloc: Global, noted: &NotedWhys) -> Result<Vec<u8>, AllocError> {
     let values = ExplainValues {
         notes: noted.notes.as_slice(),
@@ -72,7 +72,7 @@ fn object_of(alloc: Global, noted: &NotedWhys) -> Result<Vec<u8>, AllocError> {
         lack: noted.lack,
         reasons: Some(noted.reasons.as_slice()),
     };
-    explain_result(alloc, &values, code_of(noted.is_fine))
+    explain_result(alloc, &values, Status::by(noted.is_fine))
 }
 
 /// The notes on the script of a task, the first name of each line that no file has when the line runs, with which line first it may need

@@ -6,6 +6,7 @@ use grade_verdicts::{Difference, Place, Race, Refusal, Verdict};
 use result_json::{begin_result, full_word};
 use std::alloc::{AllocError, Global};
 use trace_lines::Line;
+use xvsh_read::Status;
 
 fn write_text(line: &mut Line, key: &str, text: Option<&Vec<u8>>) -> Result<(), AllocError> {
     match text {
@@ -105,11 +106,11 @@ fn write_script(alloc: Global, line: &mut Line, rows: &[Row<'_>]) -> Result<(), 
 pub fn object_text(alloc: Global, rows: &[Row<'_>]) -> Result<Vec<u8>, AllocError> {
     let sum = sum_of(rows);
     let (status, code) = if sum.unjudged > 0 {
-        ("not all judged", 4)
+        ("not all judged", Status::NoRoom)
     } else if sum.passed == sum.tests {
-        ("all passed", 0)
+        ("all passed", Status::Done)
     } else {
-        ("not all passed", 3)
+        ("not all passed", Status::Amiss)
     };
     let mut line = begin_result(alloc, "grade", status, code)?;
     write_sum(&mut line, sum)?;

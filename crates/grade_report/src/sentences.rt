@@ -2,6 +2,7 @@
 
 use grade_verdicts::{Difference, Place, Race, Refusal, Verdict};
 use kernel_model::Full;
+use note_texts::sentence;
 use result_json::full_word;
 use script_notes::NoteKind;
 use shown::add_shown;
@@ -88,7 +89,7 @@ fn add_refusal(alloc: Global, text: &mut Vec<u8>, refusal: &Refusal) -> Result<(
         Refusal::Line(line, kind) => {
             let begin = format!(in alloc; "line {line}: ")?;
             add(text, begin.as_str())?;
-            text.extend_from_slice(kind.sentence())
+            text.extend_from_slice(sentence(*kind))
         }
     }
 }
@@ -151,7 +152,7 @@ fn brief_of(kind: NoteKind) -> &'static str {
     }
 }
 
-/// The same in a report that told the sentences of these kinds before, of lines that are no command: such a sentence stands once, and
+/// The same in a report that printed the sentences of these kinds before, of lines that are no command: such a sentence stands once, and
 /// then a few words for it.
 ///
 /// `AllocError` where memory is refused.

@@ -1,11 +1,12 @@
 //! Why nothing is graded.
 
 ghost use Rattle.std.specs.Prelude.{◌≡◌};
+ghost use Rattle.xvsh_read.specs.Status.{status_code};
 ghost use Rattle.grade_tests.specs.Status.{grade_status};
 
 use std::alloc::{AllocError, AllocFailed};
 use thiserror::Error;
-use xvsh_read::Fault;
+use xvsh_read::{Fault, Status};
 
 /// Why nothing is graded.
 #[derive(Debug, Drop, Error)]
@@ -26,12 +27,13 @@ pub enum GradeFault<'a> {
 
 impl GradeFault<'_> {
     /// The status with which the program ends: 2 where the suite is wrong, or the scripts don't fit it.
-    pub fn status(&self) -> u8
-        ensures { result ≡ grade_status self.now }
+    pub fn status(&self) -> Status
+        ensures { status_code result ≡ grade_status self.now }
     {
         match self {
             GradeFault::Common(fault) => fault.status(),
-            GradeFault::Suite(_, _, _) | GradeFault::Twice(_) | GradeFault::Unused(_) => 2,
+            GradeFault::Suite(_, _, _) | GradeFault::Twice(_) | GradeFault::Unused(_) =>
+                Status::Misused,
         }
     }
 }

@@ -321,7 +321,7 @@ pub fn read_script(
     }
 }
 
-/// What the test says of these bytes as a script (own): its verdict is due (`IsJudged`). `Pass` is told only where the script
+/// What the test says of these bytes as a script (own): its verdict is due (`IsJudged`). `Pass` is returned only where the script
 /// is settled on this input and these files, its meaning's output and files, and those of every finished run in which nothing
 /// was full, are what is expected, and there is such a run; `PassEveryOrder` only where all outcomes are, and there is such a run;
 /// `Wrong` only where no finished run in which nothing was full leaves what is expected, `WrongSoFar` only where those that were found

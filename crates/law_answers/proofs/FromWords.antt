@@ -22,8 +22,8 @@ use Rattle.xvsh_ends.specs.Ends.{Asked, Ends, Writes, asks_input, asks_strict}
 use Rattle.xvsh_ends.specs.Requests.{asked, filed_asked, json_asked, lined_asked, run_asked, traced_asked, unread_asked}
 use Rattle.xvsh_ends.specs.declared.request.Request.{Request}
 use Rattle.xvsh_ends.specs.declared.request.Request.TheVariants.{Run, Replay, Plain, Check, Explain, Explore, Draw}
-use Rattle.xvsh_traces.specs.Given.{Sees, Sight}
-use Rattle.xvsh_traces.specs.declared.given.Inputs.{Inputs}
+use Rattle.xvsh_read.specs.Given.{Sees, Sight}
+use Rattle.xvsh_read.specs.declared.given.Inputs.{Inputs}
 use Rattle.xvsh.specs.Drive.{EndsOn, IsAskedBy, asks, asks_nothing, asks_unread, of_command, of_help, of_misuse, of_no_memory}
 use Rattle.xvsh.specs.Parsing.{IsParse, are_apart, own_program}
 use Rattle.xvsh.specs.Words.{AreInputsIn, AreInputsOf, IsFlag, IsPath, IsRequestOf, IsRunOf, IsTextOf, IsWord, Names}

@@ -11,7 +11,7 @@ use Rattle.reason_sentences.specs.Whys.{IsWhy}
 use Rattle.xvsh_read.specs.Path.{Path}
 use Rattle.xvsh_ends.specs.Ends.{verdict_text, Asked, asks_plain, asks_diagnosed, asks_run, asks_strict, asks_check, asks_turns, asks_room, asks_explain, asks_whys, asks_fix, asks_explore, asks_traced, asks_played, asks_witnessed, asks_paired, asks_filed, asks_lined, asks_json, asks_draw, drawn, undrawn, asks_input, verdict_status, help, misuse, How, by_schedule, RanBy, Due, plain_ran, no_plain, diagnosed, not_diagnosed, ran, no_run, ran_strict, no_strict, checked, no_check, counted, not_counted, room_told, no_room_told, explained, not_explained, whys_told, no_whys_told, fixed, unfixed, no_fix, explored, not_explored, traced, untraced, played, unplayed, witnessed, unwitnessed, paired, unpaired, filed, unfiled, lined, valued, unvalued, unread, helped, misused, no_memory, Writes, whole, out_stopped, err_stopped, Ends}
 use Rattle.xvsh_plain.specs.Running.{RanPlain}
-use Rattle.xvsh_runs.specs.Strict.{RanStrict}
+use Rattle.xvsh_ends.specs.Strictly.{RanStrictly}
 use Rattle.xvsh_ends.proofs.Dues.{some_status, some_run_status}
 use Rattle.law_answers.specs.Told.{IsTold, IsSettledAt}
 use Rattle.law_answers.specs.Written.{AddsTheSame, no_lists}
@@ -40,7 +40,7 @@ module _ (input : Option Bytes) (file : Path → Option Bytes) where
   DidRun (asks_plain profile script paths lists strict) text told = (is_settled : Bool) × RanPlain input file profile script paths lists is_settled text × (told ≡ verdict_text is_settled) × (verdict_status strict is_settled ≡ 0)
   DidRun (asks_diagnosed profile script paths lists strict) text told = Unit {0}
   DidRun (asks_run profile script paths how lists) text told = (diag : Bytes) × RanBy input file how profile script paths lists None text diag
-  DidRun (asks_strict profile script paths harts turns lists) text told = (why : Bytes) × (diag : Bytes) × RanStrict input file profile script paths harts turns lists None true why text diag
+  DidRun (asks_strict profile script paths harts turns lists) text told = (why : Bytes) × (diag : Bytes) × RanStrictly input file profile script paths harts turns lists None true why text diag
   DidRun (asks_check script strict) text told = Unit {0}
   DidRun (asks_turns script paths strict) text told = Unit {0}
   DidRun (asks_room script paths strict) text told = Unit {0}
@@ -68,7 +68,7 @@ module _ (input : Option Bytes) (file : Path → Option Bytes) where
   due_well request text told status (ran diag None gave) zero = (diag, gave)
   due_well request text told status (ran diag (Some full) gave) zero = cc
   due_well request text told status (no_run fault why) zero = absurd (some_run_status fault zero)
-  due_well request text told status (ran_strict {profile = profile} {script = script} {paths = paths} {harts = harts} {turns = turns} {lists = lists} diag why is_settled None gave) zero = (why, diag, subst (λ is. RanStrict input file profile script paths harts turns lists None is why text diag) (strictly_settled is_settled zero) gave)
+  due_well request text told status (ran_strict {profile = profile} {script = script} {paths = paths} {harts = harts} {turns = turns} {lists = lists} diag why is_settled None gave) zero = (why, diag, subst (λ is. RanStrictly input file profile script paths harts turns lists None is why text diag) (strictly_settled is_settled zero) gave)
   due_well request text told status (ran_strict diag why is_settled (Some full) gave) zero = cc
   due_well request text told status (no_strict fault why) zero = absurd (some_run_status fault zero)
   due_well request text told status (checked is_harmless gave) zero = tt
@@ -77,9 +77,9 @@ module _ (input : Option Bytes) (file : Path → Option Bytes) where
   due_well request text told status (not_counted fault why) zero = tt
   due_well request text told status (room_told is_fine gave) zero = tt
   due_well request text told status (no_room_told fault why) zero = tt
-  due_well request text told status (explained is_fine gave) zero = tt
+  due_well request text told status (explained noted gave) zero = tt
   due_well request text told status (not_explained fault why) zero = tt
-  due_well request text told status (whys_told is_fine gave) zero = tt
+  due_well request text told status (whys_told noted gave) zero = tt
   due_well request text told status (no_whys_told fault why) zero = tt
   due_well request text told status (fixed gave) zero = tt
   due_well request text told status (unfixed gave) zero = tt

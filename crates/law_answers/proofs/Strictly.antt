@@ -10,7 +10,7 @@ use Rattle.meaning_model.specs.Settled.{IsSettledScript}
 use Rattle.xvsh_read.specs.Path.{Path}
 use Rattle.xvsh_runs.specs.declared.report.Lists.{Lists}
 use Rattle.xvsh_ends.specs.Ends.{Ends, asks_strict}
-use Rattle.xvsh_runs.specs.Strict.{RanStrict}
+use Rattle.xvsh_ends.specs.Strictly.{RanStrictly}
 use Rattle.law_answers.specs.Told.{IsTold}
 use Rattle.law_answers.specs.Written.{AddsTheSame, IsMeaningAt, no_lists}
 use Rattle.law_answers.proofs.Meant.{means}
@@ -18,7 +18,7 @@ use Rattle.law_answers.proofs.Readings.{as_begun}
 use Rattle.law_answers.proofs.Statuses.{ended_well}
 
 module _ (input : Option Bytes) (file : Path → Option Bytes) (profile : Profile) (script : Path) (paths : List (Bor Path)) where
-  run_means : (harts : ℕ) (turns : Option ℕ) (lists : Lists) (why text diag : Bytes) → RanStrict input file profile script paths harts turns lists None true why text diag → IsMeaningAt input file profile script paths lists text
+  run_means : (harts : ℕ) (turns : Option ℕ) (lists : Lists) (why text diag : Bytes) → RanStrictly input file profile script paths harts turns lists None true why text diag → IsMeaningAt input file profile script paths lists text
   run_means harts turns lists why text diag gave =
       let run = gave.ran in
       let settled : IsSettledScript profile run.lines run.stdin (files run.given) = gave.settled.0 refl in

@@ -5,8 +5,8 @@ use Rattle.clap.specs.Walk.{Row, first_of, one_of, rows_of}
 use Rattle.clap.specs.declared.parser.matches.Found.{Found}
 use Rattle.xvsh_read.specs.Console.{Known}
 use Rattle.xvsh_runs.specs.declared.request.RunRequest.{RunRequest}
-use Rattle.xvsh_traces.specs.Given.{Sees, Sight}
-use Rattle.xvsh_traces.specs.declared.given.Inputs.{Inputs}
+use Rattle.xvsh_read.specs.Given.{Sees, Sight}
+use Rattle.xvsh_read.specs.declared.given.Inputs.{Inputs}
 use Rattle.xvsh.specs.Parsing.{AreParsed, own_program}
 use Rattle.xvsh.specs.Words.{AreInputsIn, IsRunOf}
 use Rattle.law_answers.specs.Settings.{Outputs, Setting, WritesMeaningIn}

@@ -1,5 +1,5 @@
 -- Why a script isn't settled: what each reason is, as a property of the script's lines, the input and the files.
-use Rattle.std.specs.Prelude.{◌≡◌, ◌≢◌, ◌<◌, ℕ, ◌+◌, true, List, [], take, get_or, length}
+use Rattle.std.specs.Prelude.{◌≡◌, ◌≢◌, ◌<◌, ◌↔◌, ℕ, ◌+◌, true, List, [], All, take, get_or, length}
 use Rattle.sh_tree.specs.Tree.{Tree}
 use Rattle.mem_files.specs.Name.{Name, Bytes}
 use Rattle.mem_files.specs.Files.{FileMap}
@@ -11,6 +11,7 @@ use Rattle.conflict_check.specs.Names.{names, uses_input}
 use Rattle.script_load.specs.declared.profile.Profile.{Profile}
 use Rattle.script_load.specs.Line.{ScriptLine, cd}
 use Rattle.meaning_model.specs.Meaning.{meaning, line_tree, script_meaning}
+use Rattle.meaning_model.specs.Settled.{IsSettledScript}
 use Rattle.meaning_model.specs.Value.{Value}
 use Rattle.plain_run.specs.Again.{named_again, reuses_input}
 use Rattle.plain_run.specs.declared.reason.Reason.{Reason}
@@ -41,3 +42,15 @@ pub data IsReason {A : _} (profile : Profile) (lines : List ScriptLine) (input :
   used_within : {k : ℕ} → k < length lines → reuses_input profile (tree_at lines k) (value_before profile lines input F k).rest (value_before profile lines input F k).files ≡ true → IsReason profile lines input F (LooseInput (k + 1) (k + 1))
   -- after a loose line another line uses the input
   used_later : {k user : ℕ} → k < user → user < length lines → (value_at profile lines input F k).loose ≡ true → uses_input (tree_at lines user) ≡ true → IsReason profile lines input F (LooseInput (k + 1) (user + 1))
+
+-- these are why a script isn't settled: each is a reason, and there is none just where the script is settled
+pub record AreReasons {A : _} (profile : Profile) (lines : List ScriptLine) (input : Bytes) (F : FileMap) (reasons : List (Reason A)) : Type 0 where
+  pub each : All (IsReason profile lines input F) reasons
+  pub none : (reasons ≡ []) ↔ IsSettledScript profile lines input F
+
+-- the line of a reason
+abbrev pub line_at : {A : _} → Reason A → ℕ
+line_at (Background line) = line
+line_at (Clash line kind name) = line
+line_at (CutPipe line name again) = line
+line_at (LooseInput line user) = line

@@ -1,4 +1,6 @@
 //! Why a script isn't settled.
+ghost use Rattle.std.specs.Prelude.{◌≡◌};
+ghost use Rattle.plain_run.specs.Reasons.{line_at};
 
 use conflict_check::ClashKind;
 use sh_lexer::Bytes;
@@ -30,4 +32,18 @@ pub enum Reason<A: Allocator> {
         line: usize,
         user: usize,
     },
+}
+
+impl<A: Allocator> Reason<A> {
+    /// The line that isn't settled, counted from 1.
+    pub fn line(&self) -> usize
+        ensures { result ≡ line_at self.now }
+    {
+        match self {
+            Reason::Background { line }
+            | Reason::Clash { line, .. }
+            | Reason::CutPipe { line, .. }
+            | Reason::LooseInput { line, .. } => *line,
+        }
+    }
 }

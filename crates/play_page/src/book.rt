@@ -58,10 +58,10 @@ fn code_of(kind: Kind) -> usize {
 }
 
 impl Book {
-    pub fn new(alloc: Global) -> Result<Book, AllocError> {
+    pub fn new(alloc: Global) -> Book {
         let mut texts = Pool::new(alloc);
-        texts.put(&[])?;
-        Ok(Book {
+        texts.put(&[]);
+        Book {
             alloc,
             texts,
             things: Pool::new(alloc),
@@ -69,43 +69,59 @@ impl Book {
             worlds: Pool::new(alloc),
             deeds: Pool::new(alloc),
             sets: Pool::new(alloc),
-        })
+        }
     }
 
     // The row of a text.
-    pub fn text(&mut self, text: Text) -> Result<usize, AllocError> {
-        let bytes = text.end()?;
-        self.texts.put(&bytes)
+    pub fn text(&mut self, text: Text) -> usize {
+        self.texts.put_text(text)
     }
 
     // The row of bytes as they are shown.
-    pub fn shown(&mut self, bytes: &[u8]) -> Result<usize, AllocError> {
+    pub fn shown(&mut self, bytes: &[u8]) -> usize {
         let mut text = Text::new(self.alloc);
         text.shown(bytes);
         self.text(text)
     }
 
     // The row of a word.
-    pub fn word(&mut self, word: &str) -> Result<usize, AllocError> {
+    pub fn word(&mut self, word: &str) -> usize {
         self.texts.put(word.as_bytes())
     }
 
     // The row of the name of a file.
-    pub fn name(&mut self, name: &[u8]) -> Result<usize, AllocError> {
+    pub fn name(&mut self, name: &[u8]) -> usize {
         let mut text = Text::new(self.alloc);
         add_name(&mut text, name);
         self.text(text)
     }
 
     // The row of a thing, of which this is the row of the text.
-    pub fn thing(&mut self, kind: Kind, text: usize) -> Result<usize, AllocError> {
+    pub fn thing(&mut self, kind: Kind, text: usize) -> usize {
         let mut row = Text::new(self.alloc);
         row.add("[");
         row.number(code_of(kind) as u64);
         add_item(&mut row, text);
         row.add("]");
-        let bytes = row.end()?;
-        self.things.put(&bytes)
+        self.things.put_text(row)
+    }
+
+    // Whether memory was refused to a row.
+    fn is_refused(&self) -> bool {
+        self.texts.is_refused()
+            || self.things.is_refused()
+            || self.processes.is_refused()
+            || self.worlds.is_refused()
+            || self.deeds.is_refused()
+            || self.sets.is_refused()
+    }
+
+    // `AllocError` where memory was refused to a row: then no row of it is right.
+    pub fn check(&self) -> Result<(), AllocError> {
+        if self.is_refused() {
+            return Err(AllocError);
+        }
+        Ok(())
     }
 
     // About how many bytes all of it takes on the page.

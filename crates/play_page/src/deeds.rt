@@ -7,7 +7,7 @@ use crate::states::{letter_of, pipe_of};
 use fd_table::Object;
 use proc_table::Pid;
 use std::alloc::{AllocError, Global};
-use step_answers::{Text, add_deed, add_object, plan_of};
+use step_answers::{Plan, Text, add_deed, add_object, add_pipe, plan_of};
 use user_calls::{CallKind, CallSlot, Machine, Mode, ReplyKind};
 
 // How many characters of what is written are told on a box.
@@ -17,16 +17,16 @@ const SHORT: usize = 10;
 #[derive(Drop)]
 struct Before {
     call: CallSlot,
-    // What its descriptor has open, as a thing, and in a few letters.
+    plan: Plan,
+    // What its descriptor has open, as a thing.
     thing: Option<usize>,
-    letters: Vec<u8>,
     // The pipe of its descriptor, and how many bytes that holds.
     pipe: Option<u64>,
     held: usize,
     // Whether the file that it opens is there.
     is_there: bool,
-    // The program that it runs.
-    program: Vec<u8>,
+    // A few letters on what it is about to do: the program that it runs, the first bytes that it writes, or what it closes or dups.
+    short: Vec<u8>,
     // The pipes that are open, each with whether it is open to read and to write.
     open: Vec<(u64, bool, bool)>,
 }
@@ -57,38 +57,43 @@ fn descriptor_of(call: CallKind) -> Option<usize> {
     }
 }
 
-// The thing that an object is, and its letters.
-fn thing_of<M: Machine>(
+// The thing that an object is.
+fn thing_of<M: Machine>(book: &mut Book, follow: &Follow<'_, M>, object: &Object) -> usize {
+    match object {
+        Object::Input => book.thing(Kind::Input, 0),
+        Object::Out => book.thing(Kind::Output, 0),
+        Object::Diag => book.thing(Kind::Diagnostics, 0),
+        Object::File(name, _) => {
+            let name = book.name(name.as_slice());
+            book.thing(Kind::File, name)
+        }
+        Object::PipeRead(name) | Object::PipeWrite(name) => pipe_of(book, follow, *name),
+    }
+}
+
+// The same, if there is an object.
+fn thing_in<M: Machine>(
     book: &mut Book,
     follow: &Follow<'_, M>,
-    object: &Object,
-) -> Result<(usize, Vec<u8>), AllocError> {
-    let mut letters = Text::new(book.alloc);
-    let thing = match object {
-        Object::Input => {
-            letters.add("input");
-            book.thing(Kind::Input, 0)?
-        }
-        Object::Out => {
-            letters.add("output");
-            book.thing(Kind::Output, 0)?
-        }
-        Object::Diag => {
-            letters.add("diag");
-            book.thing(Kind::Diagnostics, 0)?
-        }
-        Object::File(name, _) => {
-            add_object(&mut letters, &follow.teller, object);
-            let name = book.name(name.as_slice())?;
-            book.thing(Kind::File, name)?
-        }
+    object: Option<&Object>,
+) -> Option<usize> {
+    match object {
+        Some(object) => Some(thing_of(book, follow, object)),
+        None => None,
+    }
+}
+
+// An object in a few letters.
+fn add_letters<M: Machine>(text: &mut Text, follow: &Follow<'_, M>, object: &Object) {
+    match object {
+        Object::Input => text.add("input"),
+        Object::Out => text.add("output"),
+        Object::Diag => text.add("diag"),
+        Object::File(_, _) => add_object(text, &follow.teller, object),
         Object::PipeRead(name) | Object::PipeWrite(name) => {
-            step_answers::add_pipe(&mut letters, &follow.teller, *name);
-            pipe_of(book, follow, *name)?
+            add_pipe(text, &follow.teller, *name);
         }
-    };
-    let letters = letters.end()?;
-    Ok((thing, letters))
+    }
 }
 
 // The pipes that are open.
@@ -106,18 +111,12 @@ fn open_of<M: Machine>(
 }
 
 // The name of the program that the process runs by its next call.
-fn program_of<M: Machine>(
-    alloc: Global,
-    follow: &Follow<'_, M>,
-    pid: Pid,
-) -> Result<Vec<u8>, AllocError> {
-    let mut text = Text::new(alloc);
+fn add_program<M: Machine>(text: &mut Text, follow: &Follow<'_, M>, pid: Pid) {
     if let Some(words) = follow.teller.doing(pid).words() {
         if let Some(name) = words.as_slice().first() {
             text.shown(name.as_slice());
         }
     }
-    text.end()
 }
 
 // What the descriptor of the process's call has open.
@@ -131,11 +130,61 @@ fn object_of<'f, M: Machine>(
 }
 
 // The pipe that an object is an end of.
-fn pipe_in(object: &Object) -> Option<u64> {
+fn pipe_in(object: Option<&Object>) -> Option<u64> {
     match object {
-        Object::PipeRead(name) | Object::PipeWrite(name) => Some(*name),
+        Some(Object::PipeRead(name) | Object::PipeWrite(name)) => Some(*name),
         _ => None,
     }
+}
+
+// How many bytes the pipe of that name holds, if there is a name.
+fn held_of<M: Machine>(follow: &Follow<'_, M>, pipe: Option<u64>) -> usize {
+    match pipe {
+        Some(name) => held_in(follow.kernel(), name),
+        None => 0,
+    }
+}
+
+// A byte as it is shown.
+fn shown_byte(alloc: Global, byte: u8) -> Result<Vec<u8>, AllocError> {
+    let mut one = Text::new(alloc);
+    one.shown(&[byte]);
+    one.end()
+}
+
+// The first bytes of what is written, as they are shown, in at most so many characters.
+fn add_first(text: &mut Text, alloc: Global, bytes: &[u8]) -> Result<(), AllocError> {
+    let mut size: usize = 0;
+    for byte in bytes {
+        let one = shown_byte(alloc, *byte)?;
+        size = size.saturating_add(one.len());
+        if size > SHORT {
+            break;
+        }
+        text.bytes(&one);
+    }
+    Ok(())
+}
+
+// A few letters on what the call is about to do.
+fn short_before<M: Machine>(
+    alloc: Global,
+    follow: &Follow<'_, M>,
+    pid: Pid,
+    call: &CallSlot,
+) -> Result<Vec<u8>, AllocError> {
+    let mut text = Text::new(alloc);
+    match call.kind() {
+        CallKind::Exec(_) => add_program(&mut text, follow, pid),
+        CallKind::Write(_) => add_first(&mut text, alloc, call.bytes())?,
+        CallKind::Close(_) | CallKind::Dup(_) => {
+            if let Some(object) = object_of(follow, pid, call.kind()) {
+                add_letters(&mut text, follow, object);
+            }
+        }
+        _ => {}
+    }
+    text.end()
 }
 
 // What is known before the process on hart 0 makes its call.
@@ -144,48 +193,22 @@ fn known_before<M: Machine>(
     follow: &Follow<'_, M>,
     pid: Pid,
 ) -> Result<Before, AllocError> {
-    let alloc = book.alloc;
-    let mut call = CallSlot::new();
-    follow.kernel().ask(0, pid.index(), &mut call);
-    let is_there = follow.kernel().files().get(call.bytes()).is_some();
-    let program = program_of(alloc, follow, pid)?;
-    let open = open_of(alloc, follow)?;
-    let mut before = Before {
+    let open = open_of(book.alloc, follow)?;
+    let call = follow.call_of(pid);
+    let short = short_before(book.alloc, follow, pid, &call)?;
+    let plan = plan_of(book.alloc, &follow.teller, pid)?;
+    let object = object_of(follow, pid, call.kind());
+    let pipe = pipe_in(object);
+    Ok(Before {
+        plan,
+        thing: thing_in(book, follow, object),
+        pipe,
+        held: held_of(follow, pipe),
+        is_there: follow.has_file(call.bytes()),
         call,
-        thing: None,
-        letters: Vec::new(alloc),
-        pipe: None,
-        held: 0,
-        is_there,
-        program,
+        short,
         open,
-    };
-    if let Some(object) = object_of(follow, pid, before.call.kind()) {
-        let (thing, letters) = thing_of(book, follow, object)?;
-        before.thing = Some(thing);
-        before.letters = letters;
-        before.pipe = pipe_in(object);
-    }
-    if let Some(name) = before.pipe {
-        before.held = held_in(follow.kernel(), name);
-    }
-    Ok(before)
-}
-
-// The first bytes of what is written, as they are shown, in at most so many characters.
-fn add_first(text: &mut Text, alloc: Global, bytes: &[u8]) -> Result<(), AllocError> {
-    let mut size: usize = 0;
-    for byte in bytes {
-        let mut one = Text::new(alloc);
-        one.shown(&[*byte]);
-        let one = one.end()?;
-        size = size.saturating_add(one.len());
-        if size > SHORT {
-            return Ok(());
-        }
-        text.bytes(&one);
-    }
-    Ok(())
+    })
 }
 
 // How many bytes a read got, or that it met the end.
@@ -222,35 +245,49 @@ fn is_refused<M: Machine>(follow: &Follow<'_, M>, pid: Pid, call: CallKind) -> b
     }
 }
 
-// A few letters on what the call did.
+// What is known of a call only when it is carried out, behind what was known before.
+fn add_answer<M: Machine>(text: &mut Text, follow: &Follow<'_, M>, pid: Pid, call: CallKind) {
+    match call {
+        CallKind::Fork => add_other(text, "new ", "", follow.teller.child()),
+        CallKind::Wait => add_other(text, "takes ", "no child", follow.teller.gone()),
+        CallKind::Read(_, _) => add_read(text, follow, pid),
+        _ => {}
+    }
+}
+
+// A few letters on what the call did, which was carried out.
+fn done_of<M: Machine>(
+    book: &mut Book,
+    follow: &Follow<'_, M>,
+    pid: Pid,
+    before: &Before,
+) -> usize {
+    match before.call.kind() {
+        CallKind::MakePipe => letter_of(book, follow, follow.kernel().schedule().len() as u64),
+        CallKind::OpenFile(_) => book.name(before.call.bytes()),
+        call => {
+            let mut text = Text::new(book.alloc);
+            text.bytes(&before.short);
+            add_answer(&mut text, follow, pid, call);
+            book.text(text)
+        }
+    }
+}
+
+// A few letters on what came of the call.
 fn short_of<M: Machine>(
     book: &mut Book,
     follow: &Follow<'_, M>,
     pid: Pid,
     before: &Before,
-) -> Result<usize, AllocError> {
-    let mut text = Text::new(book.alloc);
-    let call = before.call.kind();
+) -> usize {
     if follow.teller.is_asleep(pid) {
-        return book.word("sleeps");
+        book.word("sleeps")
+    } else if is_refused(follow, pid, before.call.kind()) {
+        book.word("refused")
+    } else {
+        done_of(book, follow, pid, before)
     }
-    if is_refused(follow, pid, call) {
-        return book.word("refused");
-    }
-    match call {
-        CallKind::Fork => add_other(&mut text, "new ", "", follow.teller.child()),
-        CallKind::Wait => add_other(&mut text, "takes ", "no child", follow.teller.gone()),
-        CallKind::Exec(_) => text.bytes(&before.program),
-        CallKind::Exit => {}
-        CallKind::MakePipe => {
-            return letter_of(book, follow, follow.kernel().schedule().len() as u64);
-        }
-        CallKind::Read(_, _) => add_read(&mut text, follow, pid),
-        CallKind::Write(_) => add_first(&mut text, book.alloc, before.call.bytes())?,
-        CallKind::OpenFile(_) => return book.name(before.call.bytes()),
-        CallKind::Close(_) | CallKind::Dup(_) => text.bytes(&before.letters),
-    }
-    book.text(text)
 }
 
 // How an open touches its file: it changes it, makes it, or looks whether it is there.
@@ -264,24 +301,35 @@ fn opening(mode: Mode, is_there: bool, is_refused: bool) -> usize {
     }
 }
 
+// Whether the pipe is open to read and to write.
+fn ends_in<M: Machine>(follow: &Follow<'_, M>, name: u64) -> (bool, bool) {
+    match follow.kernel().pipe(name) {
+        Some(status) => (status.reader_open, status.writer_open),
+        None => (false, false),
+    }
+}
+
 // The pipes of which an end was closed for good.
 fn add_closed<M: Machine>(
     row: &mut Text,
     book: &mut Book,
     follow: &Follow<'_, M>,
     before: &Before,
-) -> Result<(), AllocError> {
+) {
     for (name, reader, writer) in &before.open {
-        let (reads, writes) = match follow.kernel().pipe(*name) {
-            Some(status) => (status.reader_open, status.writer_open),
-            None => (false, false),
-        };
+        let (reads, writes) = ends_in(follow, *name);
         if (*reader && !reads) || (*writer && !writes) {
-            add_item(row, pipe_of(book, follow, *name)?);
+            add_item(row, pipe_of(book, follow, *name));
             add_item(row, 4);
         }
     }
-    Ok(())
+}
+
+// The file that an open touched, and how.
+fn add_opened(row: &mut Text, book: &mut Book, name: &[u8], how: usize) {
+    let name = book.name(name);
+    add_item(row, book.thing(Kind::File, name));
+    add_item(row, how);
 }
 
 // What the call touched, and how.
@@ -291,7 +339,7 @@ fn add_touched<M: Machine>(
     follow: &Follow<'_, M>,
     pid: Pid,
     before: &Before,
-) -> Result<(), AllocError> {
+) {
     let call = before.call.kind();
     match (call, before.thing) {
         (CallKind::Read(_, _), Some(thing)) => {
@@ -303,17 +351,11 @@ fn add_touched<M: Machine>(
             add_item(row, 1);
         }
         (CallKind::OpenFile(mode), _) => {
-            let name = book.name(before.call.bytes())?;
-            let thing = book.thing(Kind::File, name)?;
-            add_item(row, thing);
-            add_item(
-                row,
-                opening(mode, before.is_there, is_refused(follow, pid, call)),
-            );
+            let how = opening(mode, before.is_there, is_refused(follow, pid, call));
+            add_opened(row, book, before.call.bytes(), how);
         }
         _ => {}
     }
-    add_closed(row, book, follow, before)
 }
 
 // Whether nothing came of the turn but that the process sleeps, or that it exited.
@@ -321,11 +363,40 @@ fn ends_of<M: Machine>(follow: &Follow<'_, M>, pid: Pid, before: &Before) -> usi
     if let CallKind::Exit = before.call.kind() {
         return 2;
     }
-    let held = match before.pipe {
-        Some(name) => held_in(follow.kernel(), name),
-        None => 0,
-    };
+    let held = held_of(follow, before.pipe);
     usize::from(follow.teller.is_asleep(pid) && held == before.held)
+}
+
+// What the turn did, in words.
+fn words_of<M: Machine>(book: &mut Book, follow: &Follow<'_, M>, pid: Pid, plan: &Plan) -> usize {
+    let mut words = Text::new(book.alloc);
+    add_deed(&mut words, &follow.teller, pid, plan);
+    book.text(words)
+}
+
+// The row of what a turn did, of which this was known before.
+fn row_of<M: Machine>(book: &mut Book, follow: &Follow<'_, M>, pid: Pid, before: &Before) -> usize {
+    let word = book.word(word_of(before.call.kind()));
+    let short = short_of(book, follow, pid, before);
+    let words = words_of(book, follow, pid, &before.plan);
+    let mut row = Text::new(book.alloc);
+    row.add("[");
+    row.number(word as u64);
+    add_item(&mut row, short);
+    add_item(&mut row, words);
+    add_item(&mut row, ends_of(follow, pid, before));
+    add_optional(&mut row, index_of(follow.teller.child()));
+    add_touched(&mut row, book, follow, pid, before);
+    add_closed(&mut row, book, follow, before);
+    row.add("]");
+    book.deeds.put_text(row)
+}
+
+fn index_of(pid: Option<Pid>) -> Option<usize> {
+    match pid {
+        Some(pid) => Some(pid.index()),
+        None => None,
+    }
 }
 
 // The process takes a turn; the row of what it did.
@@ -336,21 +407,6 @@ pub fn deed_of<M: Machine>(
 ) -> Result<usize, PageFault> {
     follow.dispatch(pid)?;
     let before = known_before(book, follow, pid)?;
-    let plan = plan_of(book.alloc, &follow.teller, pid)?;
     follow.trap(pid, &before.call)?;
-    let mut words = Text::new(book.alloc);
-    add_deed(&mut words, &follow.teller, pid, &plan);
-    let mut row = Text::new(book.alloc);
-    row.add("[");
-    row.number(book.word(word_of(before.call.kind()))? as u64);
-    add_item(&mut row, short_of(book, follow, pid, &before)?);
-    add_item(&mut row, book.text(words)?);
-    add_item(&mut row, ends_of(follow, pid, &before));
-    let child = follow.teller.child();
-    add_optional(&mut row, child.map(|child| child.index()));
-    add_touched(&mut row, book, follow, pid, &before)?;
-    row.add("]");
-    let bytes = row.end()?;
-    let place = book.deeds.put(&bytes)?;
-    Ok(place)
+    Ok(row_of(book, follow, pid, &before))
 }

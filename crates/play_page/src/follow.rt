@@ -45,16 +45,23 @@ fn without_first(alloc: Global, bytes: &[u8], count: usize) -> Result<Vec<u8>, A
     }
 }
 
+// Nothing is put of any process's write.
+fn none_put(alloc: Global) -> Result<Vec<usize>, AllocError> {
+    let mut put = Vec::new(alloc);
+    for _ in 0..PROCS {
+        put.push(0)?;
+    }
+    Ok(put)
+}
+
 impl<'t, M: Machine> Follow<'t, M> {
     // At the start.
     pub fn start(alloc: Global, scene: &Scene<'t, M>) -> Result<Self, AllocError> {
-        let mut put = Vec::new(alloc);
-        for _ in 0..PROCS {
-            put.push(0)?;
-        }
+        let put = none_put(alloc)?;
+        let teller = Teller::new(alloc, scene)?;
         Ok(Follow {
             alloc,
-            teller: Teller::new(alloc, scene)?,
+            teller,
             pipes: Vec::new(alloc),
             put,
         })
@@ -72,6 +79,18 @@ impl<'t, M: Machine> Follow<'t, M> {
         }
     }
 
+    // The call that the process on hart 0 makes next.
+    pub fn call_of(&self, pid: Pid) -> CallSlot {
+        let mut call = CallSlot::new();
+        self.kernel().ask(0, pid.index(), &mut call);
+        call
+    }
+
+    // Whether there is a file of that name.
+    pub fn has_file(&self, name: &[u8]) -> bool {
+        self.kernel().files().get(name).is_some()
+    }
+
     // The process on hart 0 makes its call, which is this one.
     pub fn trap(&mut self, pid: Pid, call: &CallSlot) -> Result<(), PageFault> {
         let pipe = self.pipe_of(pid, call);
@@ -79,23 +98,38 @@ impl<'t, M: Machine> Follow<'t, M> {
             Some(name) => held_in(self.kernel(), name),
             None => 0,
         };
-        if self.teller.trap(pid, Vec::new(self.alloc))?.is_none() {
-            return Err(PageFault::Memory);
-        }
-        match (call.kind(), pipe) {
-            (CallKind::MakePipe, _) => self.note_made(pid)?,
-            (CallKind::Write(_), Some(name)) => self.note_put(pid, call.bytes(), name, before)?,
-            (CallKind::Read(_, _), Some(name)) => self.note_taken(pid, name)?,
-            _ => {}
-        }
+        self.make_call(pid)?;
+        self.note(pid, call, pipe, before)?;
         Ok(())
+    }
+
+    fn make_call(&mut self, pid: Pid) -> Result<(), PageFault> {
+        match self.teller.trap(pid, Vec::new(self.alloc))? {
+            Some(_) => Ok(()),
+            None => Err(PageFault::Memory),
+        }
+    }
+
+    // Keeps what the call did to pipes: it may be of this one, which held so many bytes before.
+    fn note(
+        &mut self,
+        pid: Pid,
+        call: &CallSlot,
+        pipe: Option<u64>,
+        before: usize,
+    ) -> Result<(), AllocError> {
+        match (call.kind(), pipe) {
+            (CallKind::MakePipe, _) => self.note_made(pid),
+            (CallKind::Write(_), Some(name)) => self.note_put(pid, call.bytes(), name, before),
+            (CallKind::Read(_, _), Some(name)) => self.note_taken(pid, name),
+            _ => Ok(()),
+        }
     }
 
     // The process takes a turn.
     pub fn turn(&mut self, pid: Pid) -> Result<(), PageFault> {
         self.dispatch(pid)?;
-        let mut call = CallSlot::new();
-        self.kernel().ask(0, pid.index(), &mut call);
+        let call = self.call_of(pid);
         self.trap(pid, &call)
     }
 
@@ -162,13 +196,21 @@ impl<'t, M: Machine> Follow<'t, M> {
         Ok(())
     }
 
+    fn is_child(&self, child: Pid, pid: Pid) -> bool {
+        child != pid && self.kernel().parent(child) == Some(pid)
+    }
+
+    fn is_zombie(&self, pid: Pid) -> bool {
+        matches!(self.kernel().state(pid), State::Zombie)
+    }
+
     // Whether the process has a child, and none of its children is a zombie.
     fn waits(&self, pid: Pid) -> bool {
         let mut has_child = false;
         for index in 0..PROCS {
             if let Some(child) = Pid::new(index) {
-                if child != pid && self.kernel().parent(child) == Some(pid) {
-                    if let State::Zombie = self.kernel().state(child) {
+                if self.is_child(child, pid) {
+                    if self.is_zombie(child) {
                         return false;
                     }
                     has_child = true;
@@ -178,16 +220,9 @@ impl<'t, M: Machine> Follow<'t, M> {
         has_child
     }
 
-    // Whether the process is Runnable, and its next turn would do nothing but put it to sleep.
-    pub fn would_sleep(&self, pid: Pid) -> bool {
-        let mut call = CallSlot::new();
-        if !matches!(self.kernel().state(pid), State::Runnable) {
-            return false;
-        }
-        if !self.teller.next_call(pid, &mut call) {
-            return false;
-        }
-        let status = match self.pipe_of(pid, &call) {
+    // Whether the call of the process would do nothing but put it to sleep.
+    fn would_sleep_by(&self, pid: Pid, call: &CallSlot) -> bool {
+        let status = match self.pipe_of(pid, call) {
             Some(name) => self.kernel().pipe(name),
             None => None,
         };
@@ -201,6 +236,15 @@ impl<'t, M: Machine> Follow<'t, M> {
             }
             _ => false,
         }
+    }
+
+    // Whether the process is Runnable, and its next turn would do nothing but put it to sleep.
+    pub fn would_sleep(&self, pid: Pid) -> bool {
+        if !matches!(self.kernel().state(pid), State::Runnable) {
+            return false;
+        }
+        let mut call = CallSlot::new();
+        self.teller.next_call(pid, &mut call) && self.would_sleep_by(pid, &call)
     }
 }
 

@@ -6,7 +6,7 @@ ghost use Rattle.script_load.specs.Line.{lines_of};
 use crate::fault::PageFault;
 use crate::page::{Beginning, Words, page_of};
 use crate::walk::{Reach, Walk};
-use play_states::{Exploration, Ground, Setting, Watch, explore_watched};
+use play_states::{Budget, Exploration, Ground, Outcome, Play, Setting, Watch, explore_watched};
 use script_outcomes::sorted;
 use sh_machine::{Naming, User};
 use std::alloc::{Allocator, Global};
@@ -37,7 +37,7 @@ const MOST_TRIED: usize = 1_500_000;
 
 const FEWEST_SHOWN: usize = 100;
 
-// A walk over the states, with every turn where that makes few of them.
+// A walk over the states that reaches so far.
 fn walked<'w, 't, M: Machine, C: Allocator, W: Watch>(
     alloc: Global,
     ground: &'w Ground<'t, M, C>,
@@ -45,9 +45,52 @@ fn walked<'w, 't, M: Machine, C: Allocator, W: Watch>(
     reach: Reach,
     watch: &mut W,
 ) -> Result<Walk<'w, 't, M, C>, PageFault> {
-    let mut walk = Walk::new(alloc, ground, scene, reach)?;
+    let mut walk = Walk::new(alloc, ground, scene, reach);
     walk.go(watch)?;
     Ok(walk)
+}
+
+// A walk over the states of a script that has so many, with every turn where that makes few of them.
+fn walk_over<'w, 't, M: Machine, C: Allocator, W: Watch>(
+    ground: &'w Ground<'t, M, C>,
+    scene: &'w Scene<'t, M>,
+    making: &Making<'_>,
+    states: usize,
+    watch: &mut W,
+) -> Result<Walk<'w, 't, M, C>, PageFault> {
+    if states <= FEW_STATES {
+        let walk = walked(
+            making.alloc,
+            ground,
+            scene,
+            making.reach(states, true),
+            watch,
+        )?;
+        if walk.is_whole() {
+            return Ok(walk);
+        }
+    }
+    walked(
+        making.alloc,
+        ground,
+        scene,
+        making.reach(states, false),
+        watch,
+    )
+}
+
+// What is told of the states of the walk.
+fn play_of<M: Machine, C: Allocator, W: Watch>(
+    ground: &Ground<'_, M, C>,
+    walk: &Walk<'_, '_, M, C>,
+    outcomes: Vec<Outcome>,
+    making: &Making<'_>,
+    watch: &mut W,
+) -> Result<Play, PageFault> {
+    let spots = walk.spots()?;
+    let outcomes = sorted(making.alloc, outcomes)?;
+    let play = ground.tell(making.budget(), outcomes, spots, watch)?;
+    Ok(play)
 }
 
 // The page of what was found.
@@ -67,16 +110,8 @@ fn page_by<'b, M: Machine, C: Allocator, W: Watch>(
     if !whole {
         return Err(PageFault::Many(states));
     }
-    let alloc = making.alloc;
-    let outcomes = sorted(alloc, outcomes)?;
-    let mut is_whole = states <= FEW_STATES;
-    let mut walk = walked(alloc, ground, scene, making.reach(states, is_whole), watch)?;
-    if is_whole && walk.is_cut {
-        is_whole = false;
-        walk = walked(alloc, ground, scene, making.reach(states, false), watch)?;
-    }
-    let spots = walk.spots()?;
-    let play = ground.tell(alloc, outcomes, spots, making.limits.states, watch)?;
+    let mut walk = walk_over(ground, scene, making, states, watch)?;
+    let play = play_of(ground, &walk, outcomes, making, watch)?;
     let beginning = Beginning {
         words: making.words,
         stdin: scene.stdin,
@@ -87,7 +122,7 @@ fn page_by<'b, M: Machine, C: Allocator, W: Watch>(
             None => None,
         },
     };
-    page_of(&mut walk, &play, &beginning, is_whole)
+    page_of(&mut walk, &play, &beginning)
 }
 
 // How many states are shown at most of a script with so many.
@@ -104,6 +139,14 @@ struct Making<'a> {
 }
 
 impl Making<'_> {
+    // What the searches may take.
+    fn budget(&self) -> Budget {
+        Budget {
+            alloc: self.alloc,
+            states: self.limits.states,
+        }
+    }
+
     // How far to walk.
     fn reach(&self, states: usize, is_full: bool) -> Reach {
         Reach {

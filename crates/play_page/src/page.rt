@@ -4,7 +4,7 @@ use crate::book::{Book, add_comma, add_item};
 use crate::fault::PageFault;
 use crate::parts::{HEAD, TAIL};
 use crate::walk::{Node, Walk};
-use kernel_events::Kernel;
+use kernel_events::{Full, Kernel};
 use mem_files::Files;
 use play_states::{Outcome, Play, Shown};
 use result_json::full_word;
@@ -23,16 +23,21 @@ pub struct Words<'a> {
     pub command: &'a [u8],
 }
 
-// The same as a string of JSON: what is printable ASCII, with escapes for a quote, a backslash and `<`.
+// A byte of a string of JSON, with an escape for a quote, a backslash and `<`.
+fn add_byte(text: &mut Text, byte: u8) {
+    match byte {
+        b'"' => text.add("\\\""),
+        b'\\' => text.add("\\\\"),
+        b'<' => text.add("\\u003c"),
+        other => text.bytes(&[other]),
+    }
+}
+
+// What is printable ASCII as a string of JSON.
 fn add_string(text: &mut Text, bytes: &[u8]) {
     text.add("\"");
     for byte in bytes {
-        match *byte {
-            b'"' => text.add("\\\""),
-            b'\\' => text.add("\\\\"),
-            b'<' => text.add("\\u003c"),
-            other => text.bytes(&[other]),
-        }
+        add_byte(text, *byte);
     }
     text.add("\"");
 }
@@ -90,34 +95,33 @@ fn add_script(alloc: Global, text: &mut Text, script: &[u8]) -> Result<(), Alloc
 }
 
 // The files: the name and the bytes of each, behind what is there.
-fn add_files<A: Allocator>(
-    row: &mut Text,
-    book: &mut Book,
-    files: &Files<A>,
-) -> Result<(), AllocError> {
+fn add_files<A: Allocator>(row: &mut Text, book: &mut Book, files: &Files<A>) {
     for at in 0..files.count() {
         if let Some(name) = files.name_at(at) {
-            let bytes = book.shown(files.get(name).unwrap_or(&[]))?;
-            add_item(row, book.name(name)?);
+            let bytes = book.shown(files.get(name).unwrap_or(&[]));
+            add_item(row, book.name(name));
             add_item(row, bytes);
         }
     }
-    Ok(())
 }
 
-// An outcome: what kind it is, and what it left.
-fn outcome_of(book: &mut Book, kind: u64, outcome: &Outcome) -> Result<Vec<u8>, AllocError> {
-    let mut row = Text::new(book.alloc);
-    row.add("[");
-    row.number(kind);
-    add_item(&mut row, book.shown(&outcome.out)?);
-    add_item(&mut row, book.shown(&outcome.diag)?);
-    let full = match outcome.full {
-        Some(full) => book.word(full_word(full))?,
+// What was full, if something was.
+fn add_full(row: &mut Text, book: &mut Book, full: Option<Full>) {
+    let full = match full {
+        Some(full) => book.word(full_word(full)),
         None => 0,
     };
-    add_item(&mut row, full);
-    add_files(&mut row, book, &outcome.files)?;
+    add_item(row, full);
+}
+
+// An outcome: what it left, and that all finished.
+fn outcome_of(book: &mut Book, outcome: &Outcome) -> Result<Vec<u8>, AllocError> {
+    let mut row = Text::new(book.alloc);
+    row.add("[0");
+    add_item(&mut row, book.shown(&outcome.out));
+    add_item(&mut row, book.shown(&outcome.diag));
+    add_full(&mut row, book, outcome.full);
+    add_files(&mut row, book, &outcome.files);
     row.add("]");
     row.end()
 }
@@ -151,19 +155,23 @@ fn ranges_of(
     Ok(ranges)
 }
 
+// Ranges, each as its first place and its last one.
+fn add_ranges(row: &mut Text, ranges: &[(usize, usize)]) {
+    for (place, (first, last)) in ranges.iter().enumerate() {
+        add_comma(row, place);
+        row.number(*first as u64);
+        add_item(row, *last);
+    }
+}
+
 // The row of the outcomes that can still come.
 fn set_of(book: &mut Book, shown: &Shown, outcomes: usize) -> Result<usize, AllocError> {
     let ranges = ranges_of(book.alloc, shown, outcomes)?;
     let mut row = Text::new(book.alloc);
     row.add("[");
-    for (place, (first, last)) in ranges.iter().enumerate() {
-        add_comma(&mut row, place);
-        row.number(*first as u64);
-        add_item(&mut row, *last);
-    }
+    add_ranges(&mut row, &ranges);
     row.add("]");
-    let bytes = row.end()?;
-    book.sets.put(&bytes)
+    Ok(book.sets.put_text(row))
 }
 
 // Where all sleep: what is there then, as an outcome that sleeps for ever.
@@ -173,31 +181,42 @@ fn sleep_of<M: Machine>(
 ) -> Result<Vec<u8>, AllocError> {
     let mut row = Text::new(book.alloc);
     row.add("[1");
-    add_item(&mut row, book.shown(kernel.out())?);
-    add_item(&mut row, book.shown(kernel.diag())?);
-    let full = match kernel.full() {
-        Some(full) => book.word(full_word(full))?,
-        None => 0,
-    };
-    add_item(&mut row, full);
-    add_files(&mut row, book, kernel.files())?;
+    add_item(&mut row, book.shown(kernel.out()));
+    add_item(&mut row, book.shown(kernel.diag()));
+    add_full(&mut row, book, kernel.full());
+    add_files(&mut row, book, kernel.files());
     row.add("]");
     row.end()
+}
+
+// Where these turns lead, at which all sleep.
+fn sleep_after<M: Machine, C: Allocator>(
+    walk: &mut Walk<'_, '_, M, C>,
+    pids: &[u8],
+) -> Result<Vec<u8>, PageFault> {
+    let follow = walk.replay(pids)?;
+    let row = sleep_of(&mut walk.book, follow.kernel())?;
+    Ok(row)
+}
+
+// The rows of the outcomes.
+fn finished_of(book: &mut Book, outcomes: &[Outcome]) -> Result<Vec<Vec<u8>>, AllocError> {
+    let mut rows = Vec::new(book.alloc);
+    for outcome in outcomes {
+        rows.push(outcome_of(book, outcome)?)?;
+    }
+    Ok(rows)
 }
 
 // The rows of the outcomes, and of where all sleep, if turns lead there.
 fn outcomes_of<M: Machine, C: Allocator>(
     walk: &mut Walk<'_, '_, M, C>,
-    play: &Play,
+    outcomes: &[Outcome],
     stuck: Option<&[u8]>,
 ) -> Result<Vec<Vec<u8>>, PageFault> {
-    let mut rows = Vec::new(walk.book.alloc);
-    for outcome in &play.outcomes {
-        rows.push(outcome_of(&mut walk.book, 0, outcome)?)?;
-    }
+    let mut rows = finished_of(&mut walk.book, outcomes)?;
     if let Some(pids) = stuck {
-        let follow = walk.replay(pids)?;
-        rows.push(sleep_of(&mut walk.book, follow.kernel())?)?;
+        rows.push(sleep_after(walk, pids)?)?;
     }
     Ok(rows)
 }
@@ -228,6 +247,13 @@ fn add_node(row: &mut Text, node: &Node, set: usize) {
     row.add("]");
 }
 
+// The row of a state of which this is the row of what can still come out.
+fn row_of(alloc: Global, node: &Node, set: usize) -> Result<Vec<u8>, AllocError> {
+    let mut row = Text::new(alloc);
+    add_node(&mut row, node, set);
+    row.end()
+}
+
 // The row of the state of that place.
 fn state_of<M: Machine, C: Allocator>(
     walk: &mut Walk<'_, '_, M, C>,
@@ -238,12 +264,10 @@ fn state_of<M: Machine, C: Allocator>(
         return Err(PageFault::Astray);
     };
     let set = set_of(&mut walk.book, shown, play.outcomes.len())?;
-    let mut row = Text::new(walk.book.alloc);
-    match walk.nodes.get(place) {
-        Some(node) => add_node(&mut row, node, set),
-        None => return Err(PageFault::Astray),
-    }
-    let row = row.end()?;
+    let Some(node) = walk.nodes.get(place) else {
+        return Err(PageFault::Astray);
+    };
+    let row = row_of(walk.book.alloc, node, set)?;
     Ok(row)
 }
 
@@ -254,10 +278,31 @@ fn states_of<M: Machine, C: Allocator>(
 ) -> Result<Vec<Vec<u8>>, PageFault> {
     let mut rows = Vec::new(walk.book.alloc);
     for place in 0..walk.nodes.len() {
-        let row = state_of(walk, play, place)?;
-        rows.push(row)?;
+        rows.push(state_of(walk, play, place)?)?;
     }
     Ok(rows)
+}
+
+// The files at the beginning.
+fn add_first_files(
+    text: &mut Text,
+    book: &mut Book,
+    files: &Files<Global>,
+) -> Result<(), AllocError> {
+    let mut row = Text::new(book.alloc);
+    add_files(&mut row, book, files);
+    let row = row.end()?;
+    text.bytes(row.get(1..).unwrap_or(&[]));
+    Ok(())
+}
+
+// The standard input at the beginning.
+fn add_input(text: &mut Text, book: &mut Book, stdin: &[u8]) {
+    if stdin.is_empty() {
+        text.add("-1");
+    } else {
+        text.number(book.shown(stdin) as u64);
+    }
 }
 
 // The fields that are the same for all states.
@@ -272,17 +317,10 @@ fn add_head(
     add_shown(alloc, text, beginning.words.program.as_bytes())?;
     text.add(",\n");
     add_script(alloc, text, beginning.words.script)?;
-    let mut files = Text::new(alloc);
-    add_files(&mut files, book, beginning.files)?;
-    let files = files.end()?;
     text.add("\"files\":[");
-    text.bytes(files.get(1..).unwrap_or(&[]));
+    add_first_files(text, book, beginning.files)?;
     text.add("],\n\"input\":");
-    if beginning.stdin.is_empty() {
-        text.add("-1");
-    } else {
-        text.number(book.shown(beginning.stdin)? as u64);
-    }
+    add_input(text, book, beginning.stdin);
     text.add(",\n\"command\":");
     add_shown(alloc, text, beginning.words.command)?;
     text.add(",\n\"whole\":");
@@ -305,28 +343,54 @@ pub struct Beginning<'a> {
     pub stuck: Option<&'a [u8]>,
 }
 
+// What stands before the data.
+fn add_front(text: &mut Text) {
+    text.add(HEAD);
+}
+
+// What stands behind the data.
+fn add_back(text: &mut Text) {
+    text.add(TAIL);
+}
+
+// The rows of the book, and between them those of the outcomes.
+fn add_book(text: &mut Text, book: &Book, outcomes: &[Vec<u8>]) {
+    add_texts(text, book.texts.rows());
+    add_rows(text, "N", book.things.rows());
+    add_rows(text, "O", outcomes);
+    add_rows(text, "Q", book.sets.rows());
+    add_rows(text, "P", book.processes.rows());
+    add_rows(text, "W", book.worlds.rows());
+    add_rows(text, "T", book.deeds.rows());
+}
+
+// The page with these rows of outcomes and of states.
+fn written<M: Machine, C: Allocator>(
+    walk: &mut Walk<'_, '_, M, C>,
+    beginning: &Beginning<'_>,
+    outcomes: &[Vec<u8>],
+    states: &[Vec<u8>],
+) -> Result<Vec<u8>, AllocError> {
+    let is_whole = walk.is_whole();
+    let mut text = Text::new(walk.book.alloc);
+    add_front(&mut text);
+    add_head(&mut text, &mut walk.book, beginning, is_whole)?;
+    walk.book.check()?;
+    add_book(&mut text, &walk.book, outcomes);
+    add_rows(&mut text, "S", states);
+    text.add("}\n");
+    add_back(&mut text);
+    text.end()
+}
+
 // The page of what was told of the states of this walk.
 pub fn page_of<M: Machine, C: Allocator>(
     walk: &mut Walk<'_, '_, M, C>,
     play: &Play,
     beginning: &Beginning<'_>,
-    is_whole: bool,
 ) -> Result<Vec<u8>, PageFault> {
-    let outcomes = outcomes_of(walk, play, beginning.stuck)?;
+    let outcomes = outcomes_of(walk, &play.outcomes, beginning.stuck)?;
     let states = states_of(walk, play)?;
-    let mut text = Text::new(walk.book.alloc);
-    text.add(HEAD);
-    add_head(&mut text, &mut walk.book, beginning, is_whole)?;
-    add_texts(&mut text, walk.book.texts.rows());
-    add_rows(&mut text, "N", walk.book.things.rows());
-    add_rows(&mut text, "O", &outcomes);
-    add_rows(&mut text, "Q", walk.book.sets.rows());
-    add_rows(&mut text, "P", walk.book.processes.rows());
-    add_rows(&mut text, "W", walk.book.worlds.rows());
-    add_rows(&mut text, "T", walk.book.deeds.rows());
-    add_rows(&mut text, "S", &states);
-    text.add("}\n");
-    text.add(TAIL);
-    let page = text.end()?;
+    let page = written(walk, beginning, &outcomes, &states)?;
     Ok(page)
 }

@@ -14,4 +14,4 @@ pub use every_order::{
 };
 pub use fault::PlayFault;
 pub use ground::Ground;
-pub use spots::{Play, Shown, Spot, Turn};
+pub use spots::{Budget, Play, Shown, Spot, Turn};

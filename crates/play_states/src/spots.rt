@@ -1,6 +1,7 @@
 //! States, the turns that lead from one to another, and what can come of each.
 
 use every_order::Outcome;
+use std::alloc::Global;
 
 /// A turn that is offered.
 #[derive(Clone, Copy, Debug, PartialEq, Eq)]
@@ -32,6 +33,15 @@ pub struct Shown {
     pub sleeps: bool,
     /// A process whose turn gives way to nobody's, if one was found.
     pub only: Option<usize>,
+}
+
+/// What a search may take for each state.
+#[derive(Clone, Copy)]
+pub struct Budget {
+    /// From where its memory comes.
+    pub alloc: Global,
+    /// How many states it may keep at most.
+    pub states: usize,
 }
 
 /// States that are shown, and the outcomes of which is told which can still come.

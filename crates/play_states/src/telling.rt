@@ -8,7 +8,7 @@ ghost use Rattle.play_states.specs.Plays.{IsAlikeTo, IsCovered, IsLedTo, IsPlay,
 use crate::fault::PlayFault;
 use crate::ground::Ground;
 use crate::places::places_of;
-use crate::spots::{Play, Shown, Spot, Turn};
+use crate::spots::{Budget, Play, Shown, Spot, Turn};
 use every_order::{Exploration, Outcome, Unwatched, Watch, explore_after};
 use law_turns::every_outcome::kernels_with_the_same_key_have_the_same_outcomes;
 use mem_files::laws::are_files;
@@ -174,19 +174,13 @@ impl<'t, M: Machine, C: Allocator> Ground<'t, M, C> {
     }
 
     // What is told of a state.
-    fn show(
-        &self,
-        alloc: Global,
-        outcomes: &[Outcome],
-        spot: Spot,
-        states: usize,
-    ) -> Result<Shown, PlayFault>
+    fn show(&self, budget: Budget, outcomes: &[Outcome], spot: Spot) -> Result<Shown, PlayFault>
         ensures { IfOk result (IsShown M.call_of M.next_of self.now outcomes.now) }
     {
-        let found = self.rest_after(alloc, &spot.pids, states)?;
-        let possible = places_of(alloc, outcomes, &found.outcomes)?;
+        let found = self.rest_after(budget.alloc, &spot.pids, budget.states)?;
+        let possible = places_of(budget.alloc, outcomes, &found.outcomes)?;
         let sleeps = sleeps_after(&found, &spot.pids)?;
-        let only = self.only_after(alloc, &spot.pids)?;
+        let only = self.only_after(budget.alloc, &spot.pids)?;
         Ok(Shown {
             spot,
             possible,
@@ -198,18 +192,17 @@ impl<'t, M: Machine, C: Allocator> Ground<'t, M, C> {
     // What is told of each.
     fn show_all<W: Watch>(
         &self,
-        alloc: Global,
+        budget: Budget,
         outcomes: &[Outcome],
         spots: Vec<Spot>,
-        states: usize,
         watch: &mut W,
     ) -> Result<Vec<Shown>, PlayFault>
         ensures { IfOk result (λ shown. All (IsShown M.call_of M.next_of self.now outcomes.now) shown.items) }
     {
-        let mut shown = Vec::new(alloc);
+        let mut shown = Vec::new(budget.alloc);
         for spot in spots {
             watch.found(shown.len());
-            let it = self.show(alloc, outcomes, spot, states)?;
+            let it = self.show(budget, outcomes, spot)?;
             push_shown(&mut shown, it)?;
         }
         watch.ended();
@@ -265,7 +258,7 @@ impl<'t, M: Machine, C: Allocator> Ground<'t, M, C> {
     }
 
     /// Tells of each of these states which of the outcomes can still come of it, and whether all processes can come to sleep, through at
-    /// most so many states after each. `watch` is told of how many states it was told, each time before it is told of one more.
+    /// most as many states after each as the budget has. `watch` is told of how many states it was told, each time before it is told of one more.
     ///
     /// The outcomes that are told of a state are those of all finished runs that go on after its turns, in any order and on any harts, at
     /// which memory is never refused or nothing is full; and so they are after each turn that is offered there (`IsPlay`). Each
@@ -275,18 +268,17 @@ impl<'t, M: Machine, C: Allocator> Ground<'t, M, C> {
     /// leads elsewhere than is said, or where a turn that isn't offered could add an outcome.
     pub fn tell<W: Watch>(
         &self,
-        alloc: Global,
+        budget: Budget,
         outcomes: Vec<Outcome>,
         spots: Vec<Spot>,
-        states: usize,
         watch: &mut W,
     ) -> Result<Play, PlayFault>
         ensures { IfOk result (IsPlay M.call_of M.next_of self.now) }
     {
         are_files(self.origin.files);
         kernels_with_the_same_key_have_the_same_outcomes::<M>();
-        let shown = self.show_all(alloc, &outcomes, spots, states, watch)?;
-        self.check_all_turns(alloc, &shown)?;
+        let shown = self.show_all(budget, &outcomes, spots, watch)?;
+        self.check_all_turns(budget.alloc, &shown)?;
         if !are_covered(&shown) {
             return Err(PlayFault::Astray);
         }

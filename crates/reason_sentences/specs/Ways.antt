@@ -5,14 +5,8 @@ use Rattle.mem_files.specs.Name.{Bytes}
 use Rattle.conflict_check.specs.declared.conflict.ClashKind.{ClashKind}
 use Rattle.conflict_check.specs.declared.conflict.ClashKind.TheVariants.{PipeSides, Enclosing}
 use Rattle.plain_run.specs.declared.reason.Reason.{Reason}
+use Rattle.plain_run.specs.Reasons.{line_at}
 use Rattle.plain_run.specs.declared.reason.Reason.TheVariants.{Background, Clash, CutPipe, LooseInput}
-
--- the line of the reason
-abbrev pub line_at : {A : _} → Reason A → ℕ
-line_at (Background line) = line
-line_at (Clash line kind name) = line
-line_at (CutPipe line name again) = line
-line_at (LooseInput line user) = line
 
 abbrev pub clash_way : ClashKind → Bytes
 clash_way PipeSides = codes "put the two sides of the pipe on two lines, with another file between them: LEFT > OTHER, and then RIGHT < OTHER\n"

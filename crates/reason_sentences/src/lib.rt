@@ -6,4 +6,4 @@ mod saying;
 mod to_settle;
 
 pub use saying::{add_reason, first_reason, why};
-pub use to_settle::{line_at, ways};
+pub use to_settle::ways;

@@ -1,22 +1,10 @@
 //! What mends each reason.
 ghost use Rattle.std.specs.Prelude.{◌≡◌, ◌++◌, OnOk, IfOk, string_bytes};
-ghost use Rattle.reason_sentences.specs.Ways.{clash_way, cut_way, line_at, way_of, way_text, ways_text};
+ghost use Rattle.reason_sentences.specs.Ways.{clash_way, cut_way, way_of, way_text, ways_text};
 
 use conflict_check::ClashKind;
 use plain_run::Reason;
 use std::alloc::{AllocError, Global};
-
-/// The line of a reason, counted from 1.
-pub fn line_at(reason: &Reason<Global>) -> usize
-    ensures { result ≡ line_at reason.now }
-{
-    match reason {
-        Reason::Background { line } => *line,
-        Reason::Clash { line, .. } => *line,
-        Reason::CutPipe { line, .. } => *line,
-        Reason::LooseInput { line, .. } => *line,
-    }
-}
 
 fn clash_way(kind: ClashKind) -> &'static [u8]
     ensures { result.now ≡ clash_way kind }
@@ -52,7 +40,7 @@ fn way_of(reason: &Reason<Global>) -> &'static [u8]
 fn add_way(alloc: Global, reason: &Reason<Global>, text: &mut Vec<u8>) -> Result<(), AllocError>
     ensures { OnOk result (text.new.items ≡ text.old.items ++ way_text reason.now) }
 {
-    let line = line_at(reason);
+    let line = reason.line();
     let head = format!(in alloc; "line {line}: to settle it: ")?;
     text.extend_from_slice(head.as_bytes())?;
     text.extend_from_slice(way_of(reason))

@@ -7,6 +7,7 @@ use sh_tree::ParseFault;
 use std::alloc::{AllocError, Global};
 use trace_lines::Line;
 use xvsh_checks::{Finding, Findings, Growth, RoomFound};
+use xvsh_read::Status;
 
 // The number, the name and the place of a fault, as `check` reports them.
 fn parts_of(fault: ParseFault) -> (u64, &'static str, usize) {
@@ -68,7 +69,7 @@ fn status_word(findings: &Findings) -> &'static str {
     }
 }
 
-// The same where the room is told.
+// The same where the room is listed.
 fn room_status(findings: &Findings, found: &RoomFound) -> &'static str {
     match found {
         RoomFound::Known { lack: Some(_), .. } => "without room",
@@ -77,7 +78,12 @@ fn room_status(findings: &Findings, found: &RoomFound) -> &'static str {
 }
 
 // The object of a check, up to its turns or its room.
-fn begin(alloc: Global, findings: &Findings, status: &str, code: u8) -> Result<Line, AllocError> {
+fn begin(
+    alloc: Global,
+    findings: &Findings,
+    status: &str,
+    code: Status,
+) -> Result<Line, AllocError> {
     let mut object = begin_result(alloc, "check", status, code)?;
     write_findings(&mut object, findings.list.as_slice())?;
     Ok(object)
@@ -90,7 +96,11 @@ fn begin(alloc: Global, findings: &Findings, status: &str, code: u8) -> Result<L
 ///
 /// Bytes are a string where they are UTF-8, else an object whose member `base64` is their base64. `AllocError` where memory for
 /// the text is refused.
-pub fn check_result(alloc: Global, findings: &Findings, code: u8) -> Result<Vec<u8>, AllocError> {
+pub fn check_result(
+    alloc: Global,
+    findings: &Findings,
+    code: Status,
+) -> Result<Vec<u8>, AllocError> {
     let object = begin(alloc, findings, status_word(findings), code)?;
     object.end()
 }
@@ -103,7 +113,7 @@ pub fn counted_result(
     alloc: Global,
     findings: &Findings,
     turns: Option<u64>,
-    code: u8,
+    code: Status,
 ) -> Result<Vec<u8>, AllocError> {
     let mut object = begin(alloc, findings, status_word(findings), code)?;
     match turns {
@@ -195,7 +205,7 @@ pub(crate) fn write_lack(object: &mut Line, lack: &Lack) -> Result<(), AllocErro
     object.end_object()
 }
 
-/// The same of a check that tells the room that the script needs (own): beside it `room`, which has a member of each of `processes`,
+/// The same of a check that lists the room that the script needs (own): beside it `room`, which has a member of each of `processes`,
 /// `open_files`, `descriptors`, `files` and `size`: how much of it the script may `need` at most, `null` where that is more than
 /// 1,000,000, and how much there is at `most`; and where it may not have room `lack`, with the `line`, the `table`, the `need` up to
 /// that line and the `most`; `status` is then `without room`. Where a line has a clash or a `&`, `room` is `null`, and `room_part` has
@@ -207,7 +217,7 @@ pub fn room_result(
     alloc: Global,
     findings: &Findings,
     found: &RoomFound,
-    code: u8,
+    code: Status,
 ) -> Result<Vec<u8>, AllocError> {
     let mut object = begin(alloc, findings, room_status(findings, found), code)?;
     match found {

@@ -4,11 +4,13 @@ use crate::check::write_lack;
 use crate::head::begin_result;
 use crate::reasons::write_reasons;
 use missing_names::Missing;
+use note_texts::sentence;
 use plain_run::Reason;
 use room_bounds::Lack;
 use script_notes::{LineNote, NoteKind, Span};
 use std::alloc::{AllocError, Global};
 use trace_lines::Line;
+use xvsh_read::Status;
 
 // The name of a kind of note.
 fn kind_word(kind: NoteKind) -> &'static str {
@@ -85,12 +87,12 @@ fn write_note(object: &mut Line, note: &LineNote) -> Result<(), AllocError> {
     object.word("kind", kind_word(note.kind))?;
     object.count("line", note.line as u64)?;
     write_places(object, note.spans.as_slice())?;
-    object.bytes("sentence", note.kind.sentence())?;
+    object.bytes("sentence", sentence(note.kind))?;
     object.bytes("text", note.text.as_slice())?;
     object.end_object()
 }
 
-/// What is told of a script in an explanation.
+/// What is reported of a script in an explanation.
 #[derive(Clone, Copy)]
 pub struct ExplainValues<'a> {
     /// The notes on its lines.
@@ -115,7 +117,7 @@ fn write_missing(object: &mut Line, missing: &[Missing]) -> Result<(), AllocErro
     object.end_list()
 }
 
-// The word of the status: what is told first.
+// The word of the status: what comes first.
 fn status_word(values: &ExplainValues<'_>) -> &'static str {
     if !values.notes.is_empty() {
         return "notes";
@@ -140,7 +142,7 @@ fn status_word(values: &ExplainValues<'_>) -> &'static str {
 pub fn explain_result(
     alloc: Global,
     values: &ExplainValues<'_>,
-    code: u8,
+    code: Status,
 ) -> Result<Vec<u8>, AllocError> {
     let mut object = begin_result(alloc, "explain", status_word(values), code)?;
     object.begin_list("notes")?;

@@ -3,7 +3,7 @@
 use crate::head::begin_result;
 use std::alloc::{AllocError, Global};
 use trace_lines::Line;
-use xvsh_read::Fault;
+use xvsh_read::{Fault, Status};
 
 /// What a fault is about, as far as it says.
 #[derive(Clone, Copy, Debug)]
@@ -31,7 +31,7 @@ impl FaultPlace<'_> {
     };
 }
 
-/// What is told of a fault.
+/// What is reported of a fault.
 #[derive(Clone, Copy, Debug)]
 pub struct FaultValues<'a> {
     /// Its number, which no other fault has.
@@ -104,7 +104,7 @@ pub fn told_fault_result(
     alloc: Global,
     command: &str,
     told: &FaultValues<'_>,
-    code: u8,
+    code: Status,
 ) -> Result<Vec<u8>, AllocError> {
     let mut line = begin_result(alloc, command, "fault", code)?;
     line.begin_object("fault")?;

@@ -2,6 +2,7 @@
 
 use std::alloc::{AllocError, Global};
 use trace_lines::Line;
+use xvsh_read::Status;
 
 /// The version of the format.
 const VERSION: u64 = 1;
@@ -14,13 +15,13 @@ pub fn begin_result(
     alloc: Global,
     command: &str,
     status: &str,
-    code: u8,
+    code: Status,
 ) -> Result<Line, AllocError> {
     let mut line = Line::begin(alloc, Vec::new(alloc))?;
     line.word("format", "xvsh-result")?;
     line.count("version", VERSION)?;
     line.word("command", command)?;
     line.word("status", status)?;
-    line.count("code", u64::from(code))?;
+    line.count("code", u64::from(code.code()))?;
     Ok(line)
 }

@@ -6,6 +6,7 @@ use crate::reasons::write_reasons;
 use crate::run::write_dead;
 use plain_run::Reasoned;
 use std::alloc::{AllocError, Global};
+use xvsh_read::Status;
 
 /// The result of a run of a script by its meaning as one object of JSON, and LF (own): `format`, `version`, `command` `plain`,
 /// `status` `settled` or `not settled`, `code`, the status with which the program ends, `output`, `files`, `settled`,
@@ -17,7 +18,7 @@ pub fn plain_result(
     alloc: Global,
     reasoned: &Reasoned<Global>,
     dead: &[usize],
-    code: u8,
+    code: Status,
 ) -> Result<Vec<u8>, AllocError> {
     let plain = &reasoned.plain;
     let status = if plain.settled {

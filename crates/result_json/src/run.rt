@@ -12,6 +12,7 @@ use script_load::Line as ScriptLine;
 use sh_lexer::Bytes;
 use std::alloc::{AllocError, Global};
 use trace_lines::Line;
+use xvsh_read::Status;
 
 /// What is known of a script by its meaning.
 #[derive(Clone, Copy)]
@@ -24,7 +25,7 @@ pub struct Verdict<'a> {
     pub reasons: &'a [Reason<Global>],
 }
 
-/// What is told of a finished run.
+/// What is reported of a finished run.
 #[derive(Clone, Copy)]
 pub struct RunValues<'a> {
     /// What was written to standard output.
@@ -109,7 +110,7 @@ pub fn run_result(
     alloc: Global,
     command: &str,
     values: &RunValues<'_>,
-    code: u8,
+    code: Status,
 ) -> Result<Vec<u8>, AllocError> {
     let mut line = begin_result(alloc, command, status_word(values), code)?;
     line.bytes("output", values.output)?;

@@ -12,9 +12,8 @@ use Rattle.script_load.specs.Script.{HasLoadFault, IsScript}
 use Rattle.meaning_model.specs.Limits.{Outgrows}
 use Rattle.meaning_model.specs.Meaning.{script_tree}
 use Rattle.meaning_model.specs.Settled.{IsSettledScript}
-use Rattle.plain_run.specs.Reasons.{IsReason}
+use Rattle.plain_run.specs.Reasons.{IsReason, line_at}
 use Rattle.plain_run.specs.declared.reason.Reason.{Reason}
-use Rattle.reason_sentences.specs.Ways.{line_at}
 use Rattle.script_mends.specs.Lines.{IsLineAt, ends_in}
 use Rattle.script_mends.specs.Mends.{mend_of}
 

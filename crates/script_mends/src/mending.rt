@@ -1,7 +1,7 @@
 //! Mends a line of a script.
 ghost use Rattle.std.specs.Prelude.{◌≡◌, ◌-◌, ◌++◌, map, IfOk, MatchOption, None, Some};
 ghost use Rattle.mem_files.specs.Files.{files};
-ghost use Rattle.reason_sentences.specs.Ways.{line_at};
+ghost use Rattle.plain_run.specs.Reasons.{line_at};
 ghost use Rattle.script_mends.specs.Mended.{HasNoMend, HasNoRule, IsMend, IsMendOver, IsReasonOf, new_name};
 ghost use Rattle.script_mends.specs.Mends.{clash_mend, mend_of, waiting};
 
@@ -11,7 +11,6 @@ use crate::pipes::over_file;
 use crate::task::Task;
 use conflict_check::ClashKind;
 use plain_run::Reason;
-use reason_sentences::line_at;
 use std::alloc::{AllocError, Global};
 
 fn waiting(byte: u8) -> u8
@@ -76,7 +75,7 @@ fn joined(alloc: Global, cut: &Cut<'_>, lines: &[u8]) -> Result<Vec<u8>, AllocEr
 fn count_before(reason: &Reason<Global>) -> usize
     ensures { result ≡ line_at reason.now - 1 }
 {
-    line_at(reason).saturating_sub(1)
+    reason.line().saturating_sub(1)
 }
 
 // The script with the line of a reason mended, over the file of this number and name, if a rule mends it.

@@ -8,8 +8,8 @@ use Rattle.sh_tree.specs.declared.fault.ParseFault.{ParseFault}
 use Rattle.sh_tree.specs.declared.fault.ParseFault.TheVariants.{MissingFile, MissingParen, TooManyWords, Unexpected, Leftover, Memory}
 use Rattle.sh_tree.specs.Fault.{HasFault, StopsAt, place_of, place_told}
 use Rattle.mem_files.specs.Name.{Bytes}
-use Rattle.script_notes.specs.declared.marks.Span.{Span}
-use Rattle.script_notes.specs.Marks.{AreSpansFrom}
+use Rattle.script_notes.specs.declared.span.Span.{Span}
+use Rattle.script_notes.specs.Spans.{AreSpansFrom}
 use Rattle.script_notes.specs.Letters.{text_of}
 use Rattle.script_notes.specs.Segments.{is_word}
 use Rattle.script_notes.specs.Whole.{places_of}

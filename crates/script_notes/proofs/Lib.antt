@@ -1,6 +1,7 @@
 pub mod Adding
 pub mod Inside
 pub mod Reading
-pub mod Silence
-pub mod OneText
+pub mod NoNotes
+pub mod OneList
+pub mod Found
 pub mod Saying

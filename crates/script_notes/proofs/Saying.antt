@@ -1,11 +1,10 @@
 -- What is said behind one more token.
-use Rattle.std.proofs.Common.{◌≡◌, ℕ, Bool, true, false, ◌||◌, ◌&&◌, List, [], ◌∷◌, Option, Some, None, refl, sym, ◌∙◌, ap, subst}
+use Rattle.std.proofs.Common.{◌≡◌, ℕ, Bool, true, false, ◌&&◌, List, [], ◌∷◌, Option, Some, None, refl, sym, subst}
 use Rattle.std.specs.Prelude.{if◌then◌else◌}
 use Rattle.sh_lexer.specs.declared.token.Kind.{Kind}
 use Rattle.sh_lexer.specs.declared.token.Kind.TheVariants.{Word}
 use Rattle.sh_lexer.specs.declared.token.Token.{Token}
 use Rattle.mem_files.specs.Name.{Bytes}
-use Rattle.prog_parts.specs.Program.{program_of}
 use Rattle.script_notes.specs.declared.habits.Said.{Said}
 use Rattle.script_notes.specs.Letters.{text_of}
 use Rattle.script_notes.specs.Segments.{is_sign, is_word, names_file}

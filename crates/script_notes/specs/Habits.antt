@@ -1,5 +1,5 @@
 -- Notes on habits from other shells and systems, by a line's tokens, whatever the line is. Own: xv6's shell has no `||`, `&&`, `|&`, `<<`, `2>`, variables, `$( )`, `~`, braces and patterns (`user/sh.c`'s `gettoken`, `parseline` and `parseexec`), and its programs have no such options.
-use Rattle.std.specs.Prelude.{ℕ, ◌-◌, ◌≤◌, Bool, true, false, not, ◌&&◌, ◌||◌, ◌==◌, nat_le, if◌then◌else◌, List, [], ◌∷◌, ◌++◌, length, map, take, Option, Some, None, slice_get, slice_index}
+use Rattle.std.specs.Prelude.{ℕ, ◌-◌, Bool, true, false, not, ◌&&◌, ◌||◌, ◌==◌, nat_le, if◌then◌else◌, List, [], ◌∷◌, ◌++◌, length, map, take, Option, Some, None, slice_get, slice_index}
 use Rattle.std.specs.List.{list_any}
 use Rattle.sh_lexer.specs.declared.token.Kind.{Kind}
 use Rattle.sh_lexer.specs.declared.token.Kind.TheVariants.{Word, Less, More, MoreMore, Bar, Amp, Semi, LeftParen, RightParen}
@@ -13,7 +13,7 @@ use Rattle.script_notes.specs.declared.kind.NoteKind.TheVariants.{NoOr, NoAnd, N
 use Rattle.script_notes.specs.declared.habits.Said.{Said}
 use Rattle.script_notes.specs.Letters.{letter_notes, text_of}
 use Rattle.script_notes.specs.Notes.{Note, note_where}
-use Rattle.script_notes.specs.Segments.{is_word, is_output, is_sign, names_file}
+use Rattle.script_notes.specs.Segments.{is_word, is_sign, names_file}
 
 abbrev pub kinds : List Token → List Kind
 kinds ts = map (λ t. t.kind) ts

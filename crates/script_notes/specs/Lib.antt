@@ -1,5 +1,4 @@
-pub mod Sentences
-pub mod Marks
+pub mod Spans
 pub mod Notes
 pub mod Letters
 pub mod Segments
@@ -7,5 +6,5 @@ pub mod Habits
 pub mod Others
 pub mod Commands
 pub mod Whole
-pub mod Explained
-pub mod Written
+pub mod Noted
+pub mod Values

@@ -1,28 +1,23 @@
--- Notes of a line, and their text.
-use Rattle.std.specs.Prelude.{ℕ, Bool, true, false, List, [], ◌∷◌, ◌++◌, flat_map, codes}
-use Rattle.std.specs.Fmt.{decimal}
+-- Notes of a line.
+use Rattle.std.specs.Prelude.{ℕ, Bool, true, false, List, [], ◌∷◌, map}
 use Rattle.mem_files.specs.Name.{Bytes}
 use Rattle.script_notes.specs.declared.kind.NoteKind.{NoteKind}
-use Rattle.script_notes.specs.declared.marks.Span.{Span}
-use Rattle.script_notes.specs.Marks.{shown, marks}
-use Rattle.script_notes.specs.Sentences.{sentence}
+use Rattle.script_notes.specs.declared.span.Span.{Span}
 
 -- a note: what it says, and of which places of the line
 pub record Note : Type 0 where
   pub kind : NoteKind
   pub spans : List Span
 
--- `line N: SENTENCE` and LF
-abbrev pub head_text : ℕ → NoteKind → Bytes
-head_text number kind = codes "line " ++ (decimal number ++ (codes ": " ++ (sentence kind ++ 10 ∷ [])))
+-- a note of the line that has this number, counted from 1, and this text
+pub record NoteAt : Type 0 where
+  pub line : ℕ
+  pub text : Bytes
+  pub note : Note
 
--- behind it the line behind two spaces, and marks under its places, behind two spaces too
-abbrev pub note_text : ℕ → Bytes → Note → Bytes
-note_text number text note =
-    head_text number note.kind ++ (codes "  " ++ (shown text ++ (codes "\n  " ++ (marks text 0 note.spans ++ 10 ∷ []))))
-
-abbrev pub notes_text : ℕ → Bytes → List Note → Bytes
-notes_text number text notes = flat_map (note_text number text) notes
+-- notes of that line
+abbrev pub notes_at : ℕ → Bytes → List Note → List NoteAt
+notes_at number text notes = map (λ note. record { line = number; text = text; note = note }) notes
 
 -- a note of one place
 abbrev pub note_of : NoteKind → ℕ → ℕ → Note

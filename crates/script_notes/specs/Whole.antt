@@ -12,7 +12,7 @@ use Rattle.conflict_check.specs.Clash.{IsFirstClash}
 use Rattle.conflict_check.specs.Clear.{IsClear}
 use Rattle.script_notes.specs.declared.kind.NoteKind.{NoteKind}
 use Rattle.script_notes.specs.declared.kind.NoteKind.TheVariants.{NoDirectories, MissingName, OpenParen, TenthWord, LateParen, StrayParen, LeftOver, PipeClash, RedirectionClash}
-use Rattle.script_notes.specs.declared.marks.Span.{Span}
+use Rattle.script_notes.specs.declared.span.Span.{Span}
 use Rattle.script_notes.specs.Letters.{text_of}
 use Rattle.script_notes.specs.Notes.{Note, note_of}
 use Rattle.script_notes.specs.Segments.{is_word}

@@ -5,14 +5,14 @@ ghost use Rattle.sh_lexer.specs.Tokens.{IsToken, IsTokenList};
 ghost use Rattle.sh_tree.specs.Tree.{tree_of};
 ghost use Rattle.script_notes.specs.Commands.{lacks_program, lacks_file, over_kind, senses_by, senses_of, command_notes};
 ghost use Rattle.script_notes.specs.Letters.{text_of};
-ghost use Rattle.script_notes.specs.Notes.{notes_text};
-ghost use Rattle.script_notes.specs.Written.{written};
+ghost use Rattle.script_notes.specs.Values.{notes_on, so_far};
 ghost use Rattle.script_notes.specs.Segments.{seen_of};
 
 use crate::kind::NoteKind;
-use crate::letters::{add_where, span_of, text_of};
-use crate::line_note::LineNote;
+use crate::letters::{span_of, text_of};
+use crate::note_list::NoteList;
 use crate::others::lacking_kind;
+use crate::row::Row;
 use conflict_check::names_it;
 use mem_files::is_openable;
 use prog_parts::Program;
@@ -91,81 +91,59 @@ fn over_kind(has_output: bool) -> NoteKind
 
 // Adds the notes of a word of a command.
 fn add_word(
-    alloc: Global,
-    number: usize,
-    text: &[u8],
+    row: Row<'_>,
     tree: &Cmd<Global>,
     seen: Seen,
     token: &Token,
-    told: &mut Vec<LineNote>,
+    notes: &mut NoteList,
 ) -> Result<(), AllocError>
-    requires { IsToken text.now token.now }
-    ensures { OnOk result (written told.new.items ≡ written told.old.items ++ notes_text number text.now (senses_by Kind.Word (tree_of tree.now) seen (text_of text.now token.now) token.now)) }
+    requires { IsToken row.text.now token.now }
+    ensures { OnOk result (so_far notes.new ≡ so_far notes.old ++ notes_on row.entry (senses_by Kind.Word (tree_of tree.now) seen (text_of row.entry.text.now token.now) token.now)) }
 {
-    let word = text_of(text, token);
+    let word = text_of(row.text, token);
     let span = span_of(token);
     let is_unknown = lacks_program(seen, word);
-    add_where(
-        alloc,
-        number,
-        text,
-        is_unknown,
-        lacking_kind(word),
-        span,
-        told,
-    )?;
+    notes.add_where(row, is_unknown, lacking_kind(word), span)?;
     let is_no_name = lacks_file(tree, word);
-    add_where(
-        alloc,
-        number,
-        text,
-        is_no_name,
-        NoteKind::NoFileName,
-        span,
-        told,
-    )
+    notes.add_where(row, is_no_name, NoteKind::NoFileName, span)
 }
 
 // Adds the notes of a token of a command.
 fn add_senses(
-    alloc: Global,
-    number: usize,
-    text: &[u8],
+    row: Row<'_>,
     tree: &Cmd<Global>,
     seen: Seen,
     token: &Token,
-    told: &mut Vec<LineNote>,
+    notes: &mut NoteList,
 ) -> Result<(), AllocError>
-    requires { IsToken text.now token.now }
-    ensures { OnOk result (written told.new.items ≡ written told.old.items ++ notes_text number text.now (senses_of text.now (tree_of tree.now) seen token.now)) }
+    requires { IsToken row.text.now token.now }
+    ensures { OnOk result (so_far notes.new ≡ so_far notes.old ++ notes_on row.entry (senses_of row.entry.text.now (tree_of tree.now) seen token.now)) }
 {
     let (holds, kind) = match token.kind {
-        Kind::Word => return add_word(alloc, number, text, tree, seen, token, told),
+        Kind::Word => return add_word(row, tree, seen, token, notes),
         Kind::Less => (seen.has_input, NoteKind::InputUnread),
         Kind::More => (seen.has_output, NoteKind::OutputEmptied),
         Kind::MoreMore => (true, over_kind(seen.has_output)),
         Kind::Amp => (true, NoteKind::Background),
         Kind::Bar | Kind::Semi | Kind::LeftParen | Kind::RightParen => return Ok(()),
     };
-    add_where(alloc, number, text, holds, kind, span_of(token), told)
+    notes.add_where(row, holds, kind, span_of(token))
 }
 
 /// Adds the notes of a command's tokens.
 pub fn add_command_notes(
-    alloc: Global,
-    number: usize,
-    text: &[u8],
+    row: Row<'_>,
     tree: &Cmd<Global>,
     tokens: &[Token],
-    told: &mut Vec<LineNote>,
+    notes: &mut NoteList,
 ) -> Result<(), AllocError>
-    requires { IsTokenList text.now tokens.now }
-    ensures { OnOk result (written told.new.items ≡ written told.old.items ++ notes_text number text.now (command_notes text.now (tree_of tree.now) [] tokens.now)) }
+    requires { IsTokenList row.text.now tokens.now }
+    ensures { OnOk result (so_far notes.new ≡ so_far notes.old ++ notes_on row.entry (command_notes row.entry.text.now (tree_of tree.now) [] tokens.now)) }
 {
     let mut seen = NOTHING;
     let mut rest = tokens;
     while let Some((token, after)) = rest.split_first() {
-        add_senses(alloc, number, text, tree, seen, token, told)?;
+        add_senses(row, tree, seen, token, notes)?;
         seen = seen.after(token.kind);
         rest = after;
     }

@@ -4,13 +4,13 @@ ghost use Rattle.sh_lexer.specs.declared.token.Token.{Token};
 ghost use Rattle.sh_lexer.specs.Tokens.{IsToken, IsTokenList};
 ghost use Rattle.script_notes.specs.Habits.{after_word, begins_option, behind, ends_in_dollar, habit_notes, habits_of, has_braces, has_glob, has_variable, here_kind, is_argument, is_bar, is_digit, is_grep, is_home, is_less, is_less_byte, is_numbered, is_option, is_pattern, known_notes, made_notes, note_if, option_kind, pair_kind, said_of, token_notes, word_habits};
 ghost use Rattle.script_notes.specs.Letters.{text_of};
-ghost use Rattle.script_notes.specs.Notes.{notes_text};
-ghost use Rattle.script_notes.specs.Written.{written};
+ghost use Rattle.script_notes.specs.Values.{notes_on, so_far};
 
 use crate::kind::NoteKind;
-use crate::letters::{add_letter_notes, add_where, span_of, text_of};
-use crate::line_note::LineNote;
-use crate::marks::Span;
+use crate::letters::{add_letter_notes, span_of, text_of};
+use crate::note_list::NoteList;
+use crate::row::Row;
+use crate::span::Span;
 use prog_parts::Program;
 use sh_lexer::{Kind, Token};
 use std::alloc::{AllocError, Global};
@@ -67,11 +67,11 @@ fn ends_in_dollar(word: &[u8]) -> bool
     }
 }
 
-// Where a word ends, if that is told.
-fn end_where(is_told: bool, past: usize) -> Option<usize>
-    ensures { result ≡ (if is_told then Some past else None) }
+// Where a word ends, if it is such a word.
+fn end_where(is_such: bool, past: usize) -> Option<usize>
+    ensures { result ≡ (if is_such then Some past else None) }
 {
-    if is_told { Some(past) } else { None }
+    if is_such { Some(past) } else { None }
 }
 
 impl Said {
@@ -270,124 +270,80 @@ fn here_kind(next: Option<u8>) -> NoteKind
 
 // Adds the note of this kind and place, if there is a kind and the condition holds.
 fn add_if(
-    alloc: Global,
-    number: usize,
-    text: &[u8],
+    row: Row<'_>,
     holds: bool,
     kind: Option<NoteKind>,
     span: Span,
-    told: &mut Vec<LineNote>,
+    notes: &mut NoteList,
 ) -> Result<(), AllocError>
     requires order { span.first ≤ span.past }
-    requires inside { span.past ≤ length text.now }
-    ensures { OnOk result (written told.new.items ≡ written told.old.items ++ notes_text number text.now (note_if holds kind span.first span.past)) }
+    requires inside { span.past ≤ length row.text.now }
+    ensures { OnOk result (so_far notes.new ≡ so_far notes.old ++ notes_on row.entry (note_if holds kind span.first span.past)) }
 {
     match kind {
-        Some(kind) => add_where(alloc, number, text, holds, kind, span, told),
+        Some(kind) => notes.add_where(row, holds, kind, span),
         None => Ok(()),
     }
 }
 
 // Adds the notes of a word for what other shells know: variables and files.
 fn add_known(
-    alloc: Global,
-    number: usize,
-    text: &[u8],
+    row: Row<'_>,
     said: Said,
     token: &Token,
-    told: &mut Vec<LineNote>,
+    notes: &mut NoteList,
 ) -> Result<(), AllocError>
-    requires { IsToken text.now token.now }
-    ensures { OnOk result (written told.new.items ≡ written told.old.items ++ notes_text number text.now (known_notes said (text_of text.now token.now) token.now)) }
+    requires { IsToken row.text.now token.now }
+    ensures { OnOk result (so_far notes.new ≡ so_far notes.old ++ notes_on row.entry (known_notes said (text_of row.entry.text.now token.now) token.now)) }
 {
-    let word = text_of(text, token);
+    let word = text_of(row.text, token);
     let span = span_of(token);
     let is_variable = has_variable(word) && !said.is_pattern();
-    add_where(
-        alloc,
-        number,
-        text,
-        is_variable,
-        NoteKind::NoVariable,
-        span,
-        told,
-    )?;
+    notes.add_where(row, is_variable, NoteKind::NoVariable, span)?;
     let is_glob = has_glob(word) && !said.is_pattern();
-    add_where(
-        alloc,
-        number,
-        text,
-        is_glob,
-        NoteKind::NoPattern,
-        span,
-        told,
-    )
+    notes.add_where(row, is_glob, NoteKind::NoPattern, span)
 }
 
 // Adds the notes of a word for what other shells make of it: a path, and words.
-fn add_made(
-    alloc: Global,
-    number: usize,
-    text: &[u8],
-    said: Said,
-    token: &Token,
-    told: &mut Vec<LineNote>,
-) -> Result<(), AllocError>
-    requires { IsToken text.now token.now }
-    ensures { OnOk result (written told.new.items ≡ written told.old.items ++ notes_text number text.now (made_notes said (text_of text.now token.now) token.now)) }
+fn add_made(row: Row<'_>, said: Said, token: &Token, notes: &mut NoteList) -> Result<(), AllocError>
+    requires { IsToken row.text.now token.now }
+    ensures { OnOk result (so_far notes.new ≡ so_far notes.old ++ notes_on row.entry (made_notes said (text_of row.entry.text.now token.now) token.now)) }
 {
-    let word = text_of(text, token);
+    let word = text_of(row.text, token);
     let span = span_of(token);
     let is_home = is_home(word) && !said.is_pattern();
-    add_where(alloc, number, text, is_home, NoteKind::NoHome, span, told)?;
+    notes.add_where(row, is_home, NoteKind::NoHome, span)?;
     let is_braced = has_braces(word) && !said.is_pattern();
-    add_where(
-        alloc,
-        number,
-        text,
-        is_braced,
-        NoteKind::NoBraces,
-        span,
-        told,
-    )
+    notes.add_where(row, is_braced, NoteKind::NoBraces, span)
 }
 
 // Adds the notes of a word.
-fn add_word(
-    alloc: Global,
-    number: usize,
-    text: &[u8],
-    said: Said,
-    token: &Token,
-    told: &mut Vec<LineNote>,
-) -> Result<(), AllocError>
-    requires { IsToken text.now token.now }
-    ensures { OnOk result (written told.new.items ≡ written told.old.items ++ notes_text number text.now (word_habits said (text_of text.now token.now) token.now)) }
+fn add_word(row: Row<'_>, said: Said, token: &Token, notes: &mut NoteList) -> Result<(), AllocError>
+    requires { IsToken row.text.now token.now }
+    ensures { OnOk result (so_far notes.new ≡ so_far notes.old ++ notes_on row.entry (word_habits said (text_of row.entry.text.now token.now) token.now)) }
 {
-    add_known(alloc, number, text, said, token, told)?;
-    add_made(alloc, number, text, said, token, told)?;
-    let word = text_of(text, token);
+    add_known(row, said, token, notes)?;
+    add_made(row, said, token, notes)?;
+    let word = text_of(row.text, token);
     let span = span_of(token);
     let is_option = is_option(word) && said.is_argument();
     let kind = option_kind(said.program, !said.has_argument);
-    add_if(alloc, number, text, is_option, kind, span, told)
+    add_if(row, is_option, kind, span, notes)
 }
 
 // Adds the notes of a token.
 fn add_habits(
-    alloc: Global,
-    number: usize,
-    text: &[u8],
+    row: Row<'_>,
     said: Said,
     token: &Token,
-    told: &mut Vec<LineNote>,
+    notes: &mut NoteList,
 ) -> Result<(), AllocError>
-    requires { IsToken text.now token.now }
-    ensures { OnOk result (written told.new.items ≡ written told.old.items ++ notes_text number text.now (habits_of text.now said token.now)) }
+    requires { IsToken row.text.now token.now }
+    ensures { OnOk result (so_far notes.new ≡ so_far notes.old ++ notes_on row.entry (habits_of row.entry.text.now said token.now)) }
 {
     let span = span_of(token);
     let (holds, kind) = match token.kind {
-        Kind::Word => return add_word(alloc, number, text, said, token, told),
+        Kind::Word => return add_word(row, said, token, notes),
         Kind::More | Kind::MoreMore => {
             let holds = is_numbered(said.number_end, token.first);
             (holds, Some(NoteKind::NoNumber))
@@ -395,7 +351,7 @@ fn add_habits(
         Kind::Bar | Kind::Amp | Kind::Semi => (true, pair_kind(said.last, token.kind)),
         Kind::Less => {
             let holds = is_less(said.last) && !is_less(said.before);
-            (holds, Some(here_kind(text.get(token.past).copied())))
+            (holds, Some(here_kind(row.text.get(token.past).copied())))
         }
         Kind::LeftParen => {
             let holds = is_numbered(said.dollar_end, token.first);
@@ -403,7 +359,7 @@ fn add_habits(
         }
         Kind::RightParen => return Ok(()),
     };
-    add_if(alloc, number, text, holds, kind, span, told)
+    add_if(row, holds, kind, span, notes)
 }
 
 fn is_bar(last: Option<Kind>) -> bool
@@ -413,42 +369,34 @@ fn is_bar(last: Option<Kind>) -> bool
 }
 
 // Adds the notes on habits by a line's tokens.
-fn add_habit_notes(
-    alloc: Global,
-    number: usize,
-    text: &[u8],
-    tokens: &[Token],
-    told: &mut Vec<LineNote>,
-) -> Result<(), AllocError>
-    requires { IsTokenList text.now tokens.now }
-    ensures { OnOk result (written told.new.items ≡ written told.old.items ++ notes_text number text.now (habit_notes text.now [] tokens.now)) }
+fn add_habit_notes(row: Row<'_>, tokens: &[Token], notes: &mut NoteList) -> Result<(), AllocError>
+    requires { IsTokenList row.text.now tokens.now }
+    ensures { OnOk result (so_far notes.new ≡ so_far notes.old ++ notes_on row.entry (habit_notes row.entry.text.now [] tokens.now)) }
 {
     let mut said = NOTHING;
     let mut rest = tokens;
     while let Some((token, after)) = rest.split_first() {
-        add_habits(alloc, number, text, said, token, told)?;
-        said = said.after(text, token);
+        add_habits(row, said, token, notes)?;
+        said = said.after(row.text, token);
         rest = after;
     }
     let end = Span {
-        first: text.len(),
-        past: text.len(),
+        first: row.text.len(),
+        past: row.text.len(),
     };
     let is_open = is_bar(said.last);
-    add_where(alloc, number, text, is_open, NoteKind::LastBar, end, told)
+    notes.add_where(row, is_open, NoteKind::LastBar, end)
 }
 
 /// Adds the notes by a line's tokens: by their letters, and on habits from other shells and systems.
 pub fn add_token_notes(
-    alloc: Global,
-    number: usize,
-    text: &[u8],
+    row: Row<'_>,
     tokens: &[Token],
-    told: &mut Vec<LineNote>,
+    notes: &mut NoteList,
 ) -> Result<(), AllocError>
-    requires { IsTokenList text.now tokens.now }
-    ensures { OnOk result (written told.new.items ≡ written told.old.items ++ notes_text number text.now (token_notes text.now tokens.now)) }
+    requires { IsTokenList row.text.now tokens.now }
+    ensures { OnOk result (so_far notes.new ≡ so_far notes.old ++ notes_on row.entry (token_notes row.entry.text.now tokens.now)) }
 {
-    add_letter_notes(alloc, number, text, tokens, told)?;
-    add_habit_notes(alloc, number, text, tokens, told)
+    add_letter_notes(row, tokens, notes)?;
+    add_habit_notes(row, tokens, notes)
 }

@@ -3,34 +3,14 @@ ghost use Rattle.std.specs.Prelude.{◌≡◌, ◌++◌, ◌≤◌, length, OnOk
 ghost use Rattle.std.specs.List.{list_any};
 ghost use Rattle.sh_lexer.specs.Tokens.{IsToken, IsTokenList};
 ghost use Rattle.script_notes.specs.Letters.{begins_with_mark, ends_in_return, mark_notes, return_notes, byte_notes, text_of, begins_comment, is_back_quote, is_quote, letters_of, letter_notes};
-ghost use Rattle.script_notes.specs.Notes.{note_where, notes_text};
-ghost use Rattle.script_notes.specs.Written.{written};
+ghost use Rattle.script_notes.specs.Values.{notes_on, so_far};
 
 use crate::kind::NoteKind;
-use crate::line_note::{LineNote, add_note};
-use crate::marks::Span;
+use crate::note_list::NoteList;
+use crate::row::Row;
+use crate::span::Span;
 use sh_lexer::Token;
 use std::alloc::{AllocError, Global};
-
-/// Adds a note of this kind and place where the condition holds.
-pub fn add_where(
-    alloc: Global,
-    number: usize,
-    text: &[u8],
-    holds: bool,
-    kind: NoteKind,
-    span: Span,
-    told: &mut Vec<LineNote>,
-) -> Result<(), AllocError>
-    requires order { span.first ≤ span.past }
-    requires inside { span.past ≤ length text.now }
-    ensures { OnOk result (written told.new.items ≡ written told.old.items ++ notes_text number text.now (note_where holds kind span.first span.past)) }
-{
-    if holds {
-        add_note(alloc, number, text, kind, &[span], told)?;
-    }
-    Ok(())
-}
 
 fn begins_with_mark(text: &[u8]) -> bool
     ensures same { result ≡ begins_with_mark text.now }
@@ -47,51 +27,36 @@ fn ends_in_return(text: &[u8]) -> bool
 }
 
 // Adds the note of the byte order mark that a script begins with.
-fn add_mark_note(
-    alloc: Global,
-    number: usize,
-    text: &[u8],
-    told: &mut Vec<LineNote>,
-) -> Result<(), AllocError>
-    ensures { OnOk result (written told.new.items ≡ written told.old.items ++ notes_text number text.now (mark_notes number text.now)) }
+fn add_mark_note(row: Row<'_>, notes: &mut NoteList) -> Result<(), AllocError>
+    ensures { OnOk result (so_far notes.new ≡ so_far notes.old ++ notes_on row.entry (mark_notes row.entry.number row.entry.text.now)) }
 {
-    if number == 1 && begins_with_mark(text) {
+    if row.number == 1 && begins_with_mark(row.text) {
         let span = Span { first: 0, past: 3 };
-        add_note(alloc, number, text, NoteKind::ByteOrderMark, &[span], told)?;
+        notes.add(row, NoteKind::ByteOrderMark, &[span])?;
     }
     Ok(())
 }
 
 // Adds the note of the carriage return that a line ends in.
-fn add_return_note(
-    alloc: Global,
-    number: usize,
-    text: &[u8],
-    told: &mut Vec<LineNote>,
-) -> Result<(), AllocError>
-    ensures { OnOk result (written told.new.items ≡ written told.old.items ++ notes_text number text.now (return_notes text.now)) }
+fn add_return_note(row: Row<'_>, notes: &mut NoteList) -> Result<(), AllocError>
+    ensures { OnOk result (so_far notes.new ≡ so_far notes.old ++ notes_on row.entry (return_notes row.entry.text.now)) }
 {
-    if ends_in_return(text) {
+    if ends_in_return(row.text) {
         let span = Span {
-            first: text.len() - 1,
-            past: text.len(),
+            first: row.text.len() - 1,
+            past: row.text.len(),
         };
-        add_note(alloc, number, text, NoteKind::CarriageReturn, &[span], told)?;
+        notes.add(row, NoteKind::CarriageReturn, &[span])?;
     }
     Ok(())
 }
 
 /// Adds the notes by a line's first and last bytes.
-pub fn add_byte_notes(
-    alloc: Global,
-    number: usize,
-    text: &[u8],
-    told: &mut Vec<LineNote>,
-) -> Result<(), AllocError>
-    ensures { OnOk result (written told.new.items ≡ written told.old.items ++ notes_text number text.now (byte_notes number text.now)) }
+pub fn add_byte_notes(row: Row<'_>, notes: &mut NoteList) -> Result<(), AllocError>
+    ensures { OnOk result (so_far notes.new ≡ so_far notes.old ++ notes_on row.entry (byte_notes row.entry.number row.entry.text.now)) }
 {
-    add_mark_note(alloc, number, text, told)?;
-    add_return_note(alloc, number, text, told)
+    add_mark_note(row, notes)?;
+    add_return_note(row, notes)
 }
 
 /// The bytes of a token.
@@ -146,64 +111,32 @@ fn has_back_quote(word: &[u8]) -> bool
     word.iter().any(|byte| is_back_quote(*byte))
 }
 
-fn add_letters(
-    alloc: Global,
-    number: usize,
-    text: &[u8],
-    token: &Token,
-    told: &mut Vec<LineNote>,
-) -> Result<(), AllocError>
-    requires { IsToken text.now token.now }
-    ensures { OnOk result (written told.new.items ≡ written told.old.items ++ notes_text number text.now (letters_of text.now token.now)) }
+fn add_letters(row: Row<'_>, token: &Token, notes: &mut NoteList) -> Result<(), AllocError>
+    requires { IsToken row.text.now token.now }
+    ensures { OnOk result (so_far notes.new ≡ so_far notes.old ++ notes_on row.entry (letters_of row.entry.text.now token.now)) }
 {
-    let word = text_of(text, token);
+    let word = text_of(row.text, token);
     let span = span_of(token);
     let is_comment = begins_comment(word);
-    add_where(
-        alloc,
-        number,
-        text,
-        is_comment,
-        NoteKind::NoComment,
-        span,
-        told,
-    )?;
+    notes.add_where(row, is_comment, NoteKind::NoComment, span)?;
     let is_quoted = has_quote(word);
-    add_where(
-        alloc,
-        number,
-        text,
-        is_quoted,
-        NoteKind::NoQuote,
-        span,
-        told,
-    )?;
+    notes.add_where(row, is_quoted, NoteKind::NoQuote, span)?;
     let is_run = has_back_quote(word);
-    add_where(
-        alloc,
-        number,
-        text,
-        is_run,
-        NoteKind::NoBackQuote,
-        span,
-        told,
-    )
+    notes.add_where(row, is_run, NoteKind::NoBackQuote, span)
 }
 
 /// Adds the notes by the letters of a line's tokens.
 pub fn add_letter_notes(
-    alloc: Global,
-    number: usize,
-    text: &[u8],
+    row: Row<'_>,
     tokens: &[Token],
-    told: &mut Vec<LineNote>,
+    notes: &mut NoteList,
 ) -> Result<(), AllocError>
-    requires { IsTokenList text.now tokens.now }
-    ensures { OnOk result (written told.new.items ≡ written told.old.items ++ notes_text number text.now (letter_notes text.now tokens.now)) }
+    requires { IsTokenList row.text.now tokens.now }
+    ensures { OnOk result (so_far notes.new ≡ so_far notes.old ++ notes_on row.entry (letter_notes row.entry.text.now tokens.now)) }
 {
     let mut rest = tokens;
     while let Some((token, after)) = rest.split_first() {
-        add_letters(alloc, number, text, token, told)?;
+        add_letters(row, token, notes)?;
         rest = after;
     }
     Ok(())

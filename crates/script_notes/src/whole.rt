@@ -3,31 +3,27 @@ ghost use Rattle.std.specs.Prelude.{◌≡◌, ◌≤◌, ◌++◌, [], ◌∷�
 ghost use Rattle.sh_lexer.specs.Tokens.{IsTokenList};
 ghost use Rattle.sh_tree.specs.Fault.{place_told};
 ghost use Rattle.sh_tree.specs.Tree.{tree_of};
-ghost use Rattle.script_notes.specs.Notes.{Note, note_of, notes_text};
-ghost use Rattle.script_notes.specs.Written.{written};
+ghost use Rattle.script_notes.specs.Notes.{Note, note_of};
+ghost use Rattle.script_notes.specs.Values.{notes_on, so_far};
 ghost use Rattle.script_notes.specs.Whole.{cd_note, fault_notes, is_paren, left_kind, places_of, clash_kind, IsClashNoted};
 
 use crate::kind::NoteKind;
 use crate::letters::{span_of, text_of};
-use crate::line_note::{LineNote, add_note};
-use crate::marks::Span;
+use crate::note_list::NoteList;
+use crate::row::Row;
+use crate::span::Span;
 use conflict_check::{ClashKind, clash};
 use sh_lexer::{Kind, Token};
 use sh_tree::{Cmd, ParseFault};
 use std::alloc::{AllocError, Global};
 
 /// Adds the note of a line that begins with `cd `.
-pub fn add_cd_note(
-    alloc: Global,
-    number: usize,
-    text: &[u8],
-    told: &mut Vec<LineNote>,
-) -> Result<(), AllocError>
-    requires { 2 ≤ length text.now }
-    ensures { OnOk result (written told.new.items ≡ written told.old.items ++ notes_text number text.now (cd_note ∷ [])) }
+pub fn add_cd_note(row: Row<'_>, notes: &mut NoteList) -> Result<(), AllocError>
+    requires { 2 ≤ length row.text.now }
+    ensures { OnOk result (so_far notes.new ≡ so_far notes.old ++ notes_on row.entry (cd_note ∷ [])) }
 {
     let span = Span { first: 0, past: 2 };
-    add_note(alloc, number, text, NoteKind::NoDirectories, &[span], told)
+    notes.add(row, NoteKind::NoDirectories, &[span])
 }
 
 // The kind of the note of what is left, by its first byte.
@@ -42,7 +38,7 @@ fn left_kind(byte: Option<u8>) -> NoteKind
 
 // The kind of the note of a fault, and its place.
 fn fault_note(text: &[u8], fault: ParseFault) -> Option<(NoteKind, usize)>
-    ensures { MatchOption result (fault_notes text.now fault ≡ []) (λ told. (fault_notes text.now fault ≡ note_of told.0 told.1 told.1 ∷ []) × (told.1 ≡ place_told fault)) }
+    ensures { MatchOption result (fault_notes text.now fault ≡ []) (λ note. (fault_notes text.now fault ≡ note_of note.0 note.1 note.1 ∷ []) × (note.1 ≡ place_told fault)) }
 {
     match fault {
         ParseFault::MissingFile(at) => Some((NoteKind::MissingName, at)),
@@ -56,23 +52,21 @@ fn fault_note(text: &[u8], fault: ParseFault) -> Option<(NoteKind, usize)>
 
 /// Adds the note of a line's fault.
 pub fn add_fault_note(
-    alloc: Global,
-    number: usize,
-    text: &[u8],
+    row: Row<'_>,
     fault: ParseFault,
-    told: &mut Vec<LineNote>,
+    notes: &mut NoteList,
 ) -> Result<(), AllocError>
-    requires { place_told fault ≤ length text.now }
-    ensures { OnOk result (written told.new.items ≡ written told.old.items ++ notes_text number text.now (fault_notes text.now fault)) }
+    requires { place_told fault ≤ length row.text.now }
+    ensures { OnOk result (so_far notes.new ≡ so_far notes.old ++ notes_on row.entry (fault_notes row.entry.text.now fault)) }
 {
-    let Some((kind, at)) = fault_note(text, fault) else {
+    let Some((kind, at)) = fault_note(row.text, fault) else {
         return Ok(());
     };
     let span = Span {
         first: at,
         past: at,
     };
-    add_note(alloc, number, text, kind, &[span], told)
+    notes.add(row, kind, &[span])
 }
 
 // The words of the line that are this name.
@@ -107,27 +101,18 @@ fn clash_kind(kind: ClashKind) -> NoteKind
 
 /// Adds the note of a command's first clash, if it has one.
 pub fn add_clash_note(
-    alloc: Global,
-    number: usize,
-    text: &[u8],
+    row: Row<'_>,
     tree: &Cmd<Global>,
     tokens: &[Token],
-    told: &mut Vec<LineNote>,
+    notes: &mut NoteList,
 ) -> Result<(), AllocError>
-    requires { IsTokenList text.now tokens.now }
-    ensures { OnOk result ((last : List Note) × IsClashNoted (tree_of tree.now) text.now tokens.now last
-        × (written told.new.items ≡ written told.old.items ++ notes_text number text.now last)) }
+    requires { IsTokenList row.text.now tokens.now }
+    ensures { OnOk result ((last : List Note) × IsClashNoted (tree_of tree.now) row.entry.text.now tokens.now last
+        × (so_far notes.new ≡ so_far notes.old ++ notes_on row.entry last)) }
 {
     let Some(found) = clash(tree) else {
         return Ok(());
     };
-    let spans = places_of(alloc, text, found.name, tokens)?;
-    add_note(
-        alloc,
-        number,
-        text,
-        clash_kind(found.kind),
-        spans.as_slice(),
-        told,
-    )
+    let spans = places_of(notes.alloc, row.text, found.name, tokens)?;
+    notes.add(row, clash_kind(found.kind), spans.as_slice())
 }

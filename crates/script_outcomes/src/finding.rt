@@ -133,7 +133,7 @@ fn known<B: Allocator, C: Allocator>(
 ///
 /// Of a settled script no file of which is soft, and of which a run ends in which nothing is full, that is its meaning, unless the
 /// search is to be thorough. Of any other all orders are tried, unless they lead to more states than are to be kept; then the script
-/// is also run in a few orders, and what these leave is added. `watch` is told how many states were found.
+/// is also run in a few orders, and what these leave is added. `watch` is shown how many states were found.
 ///
 /// `Memory` where memory is refused, to a call of a process too; `TooLong` where a run has more turns than can be counted.
 pub fn outcomes_of<B: Allocator, C: Allocator, W: Watch>(

@@ -117,7 +117,7 @@ fn add_mistake(sentence: &mut Text, mistake: &Mistake<'_>) {
 // That the teller's kernel had memory which was refused to the session's.
 const APART: &str = "memory was refused to a process: what it did may differ from what is told\n";
 
-// Why it isn't told what can still come out.
+// Why it isn't known what can still come out.
 fn no_rest(fault: RestFault) -> &'static str {
     match fault {
         RestFault::Full => "something was full, so it isn't told what can still come out",
@@ -379,7 +379,7 @@ impl<M: Machine> Play<'_, M> {
         Ok(text.end()?)
     }
 
-    // The answers are told after each turn from now on, or no more.
+    // The answers are printed after each turn from now on, or no more.
     fn answer_watch(&mut self, is_on: bool, text: Vec<u8>) -> Result<Vec<u8>, PlayFault> {
         if self.is_json {
             return self.fault(text, NO_WATCH.as_bytes());

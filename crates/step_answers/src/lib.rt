@@ -1,7 +1,7 @@
 //! What `xvsh step` answers: what a turn did, and what there is of processes, pipes, descriptors and files, as text and as JSON.
 //!
 //! A `Play` is a session and a teller beside it: a second kernel in which the same events happen, one by one, so that each can be
-//! told. All is for readers: no law speaks of it, and tests compare it with worked runs.
+//! printed. All is for readers: no law speaks of it, and tests compare it with worked runs.
 #![tactic(auto)]
 
 mod answers;

@@ -43,7 +43,7 @@ pub enum Pace {
     Until(Goal),
 }
 
-// What is told of turns: text, or the records of a trace, a line each; and how many turns there were.
+// What is printed of turns: text, or the records of a trace, a line each; and how many turns there were.
 #[derive(Drop)]
 pub struct Told {
     pub text: Text,
@@ -53,7 +53,7 @@ pub struct Told {
     pub is_cut: bool,
 }
 
-/// A session that is told.
+/// A session that is printed.
 #[derive(Drop)]
 pub struct Play<'t, M: Machine> {
     pub(crate) alloc: Global,
@@ -61,12 +61,12 @@ pub struct Play<'t, M: Machine> {
     session: Session<'t, M, Global>,
     pub(crate) teller: Teller<'t, M>,
     pub(crate) is_json: bool,
-    // Whether the answers are told after each turn.
+    // Whether the answers are printed after each turn.
     pub(crate) watches: bool,
 }
 
 impl<'t, M: Machine> Play<'t, M> {
-    /// A session from its start, told as text or as JSON.
+    /// A session from its start, printed as text or as JSON.
     pub fn start(
         alloc: Global,
         scene: Scene<'t, M>,
@@ -163,7 +163,7 @@ impl<'t, M: Machine> Play<'t, M> {
         }
     }
 
-    // Tells the turn that the process took, which happens in the teller's kernel now.
+    // Prints the turn that the process took, which happens in the teller's kernel now.
     fn tell(&mut self, pid: Pid, told: &mut Told) -> Result<(), PlayFault> {
         if self.is_json {
             return self.tell_records(pid, told);
@@ -248,7 +248,7 @@ impl<'t, M: Machine> Play<'t, M> {
         }
     }
 
-    // Takes one more turn, if that can be done, and tells it; and returns whether another one may follow.
+    // Takes one more turn, if that can be done, and prints it; and returns whether another one may follow.
     fn take_turn(&mut self, pace: Pace, out: usize, told: &mut Told) -> Result<bool, PlayFault> {
         if self.is_over(pace) {
             return Ok(false);
@@ -263,7 +263,7 @@ impl<'t, M: Machine> Play<'t, M> {
         }
     }
 
-    // Takes turns, as far as that can be done, and tells each; and returns whether they ended because there were too many.
+    // Takes turns, as far as that can be done, and prints each; and returns whether they ended because there were too many.
     fn take_most(&mut self, pace: Pace, told: &mut Told) -> Result<bool, PlayFault> {
         let out = self.kernel().out().len();
         for _ in 0..MOST_TURNS {
@@ -274,7 +274,7 @@ impl<'t, M: Machine> Play<'t, M> {
         Ok(true)
     }
 
-    // Takes turns, as far as that can be done, and tells each.
+    // Takes turns, as far as that can be done, and prints each.
     pub(crate) fn take_turns(&mut self, pace: Pace) -> Result<Told, PlayFault> {
         let mut told = Told {
             text: Text::new(self.alloc),

@@ -67,7 +67,7 @@ fn add_turns(text: &mut Text, pids: &[u8]) {
     }
 }
 
-// What was told in an outcome and what was full, if anything.
+// The diagnostics of an outcome and what was full, if anything.
 fn add_marks(text: &mut Text, outcome: &Outcome) {
     if !outcome.diag.is_empty() {
         text.add("\n   diagnostics ");
@@ -79,7 +79,7 @@ fn add_marks(text: &mut Text, outcome: &Outcome) {
     }
 }
 
-// The lines of an outcome: its output and the turns to it; what was told and what was full, if anything; and its files.
+// The lines of an outcome: its output and the turns to it; its diagnostics and what was full, if anything; and its files.
 fn add_outcome(text: &mut Text, number: usize, outcome: &Outcome, taken: usize) {
     text.number(number as u64);
     text.add(": output ");

@@ -1,4 +1,4 @@
-//! A second kernel, in which each event of a session is made again and told.
+//! A second kernel, in which each event of a session is made again and printed.
 
 use crate::scene::Scene;
 use command_text::{Doing, Followed};
@@ -10,7 +10,7 @@ use std::alloc::{AllocError, Global};
 use trace_lines::TraceLines;
 use user_calls::{CallKind, CallSlot, Machine, ReplyKind};
 
-/// Follows a session event by event: a kernel in which each event is made again and told.
+/// Follows a session event by event: a kernel in which each event is made again and printed.
 #[derive(Drop)]
 pub struct Teller<'t, M: Machine> {
     script: &'t Script<Global>,

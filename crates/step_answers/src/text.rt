@@ -4,7 +4,7 @@ use itoa::Buffer;
 use shown::add_shown;
 use std::alloc::{AllocError, Global};
 
-/// Text to which pieces are added, one after the other. That memory was refused to one is kept, and told at the end: so no piece needs a
+/// Text to which pieces are added, one after the other. That memory was refused to one is kept, and reported at the end: so no piece needs a
 /// look at how the one before it went.
 #[derive(Drop)]
 pub struct Text {

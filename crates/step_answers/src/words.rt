@@ -7,10 +7,10 @@ use fd_table::Object;
 use proc_table::Pid;
 use user_calls::{Machine, Mode};
 
-// How many bytes of a command, or of what is written, are told.
+// How many bytes of a command, or of what is written, are shown.
 const SHOWN: usize = 60;
 
-// How many bytes of a command are told where processes are listed.
+// How many bytes of a command are shown where processes are listed.
 const LISTED: usize = 24;
 
 // The letters of pipes.

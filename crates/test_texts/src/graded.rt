@@ -24,7 +24,10 @@ fn ended(
         Ok(report) => Ok((if report.has_passed { 0 } else { 3 }, report.text)),
         Err(fault) => {
             let sentence = format!(in alloc; "{fault}")?;
-            Ok((fault.status(), Vec::from_slice(alloc, sentence.as_bytes())?))
+            Ok((
+                fault.status().code(),
+                Vec::from_slice(alloc, sentence.as_bytes())?,
+            ))
         }
     }
 }

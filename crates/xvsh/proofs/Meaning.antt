@@ -58,9 +58,9 @@ module _ (input : Option Bytes) (file : Path → Option Bytes) where
   ran_of request text told status (not_counted fault why) is zero = cc
   ran_of request text told status (room_told is_fine gave) is zero = cc
   ran_of request text told status (no_room_told fault why) is zero = cc
-  ran_of request text told status (explained is_fine gave) is zero = cc
+  ran_of request text told status (explained noted gave) is zero = cc
   ran_of request text told status (not_explained fault why) is zero = cc
-  ran_of request text told status (whys_told is_fine gave) is zero = cc
+  ran_of request text told status (whys_told noted gave) is zero = cc
   ran_of request text told status (no_whys_told fault why) is zero = cc
   ran_of request text told status (fixed gave) is zero = cc
   ran_of request text told status (unfixed gave) is zero = cc

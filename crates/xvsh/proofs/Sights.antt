@@ -4,8 +4,8 @@ use Rattle.std.specs.Borrow.{Bor}
 use Rattle.clap.specs.declared.parser.matches.ArgMatches.{ArgMatches}
 use Rattle.mem_files.specs.Name.{Bytes}
 use Rattle.xvsh_read.specs.Path.{Path}
-use Rattle.xvsh_traces.specs.Given.{IsGiven, Sees, Sight, file_by, input_by}
-use Rattle.xvsh_traces.specs.declared.given.Inputs.{Inputs}
+use Rattle.xvsh_read.specs.Given.{IsGiven, Sees, Sight, file_by, input_by}
+use Rattle.xvsh_read.specs.declared.given.Inputs.{Inputs}
 use Rattle.xvsh_ends.specs.Ends.{Asked, IsDue}
 use Rattle.xvsh_ends.specs.Requests.{asked, unread_asked}
 use Rattle.xvsh_ends.specs.declared.ending.Ending.{Ending}

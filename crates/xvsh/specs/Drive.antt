@@ -18,10 +18,10 @@ use Rattle.xvsh_ends.specs.Ends.{Asked, Ends, IsDue, Tells, Writes, help, misuse
 use Rattle.xvsh_ends.specs.declared.ending.Ending.{Ending}
 use Rattle.xvsh_ends.specs.Requests.{asked, unread_asked}
 use Rattle.xvsh_ends.specs.declared.request.Request.{Request}
-use Rattle.xvsh_traces.specs.Given.{Sees, Sight}
+use Rattle.xvsh_read.specs.Given.{Sees, Sight}
 use Rattle.xvsh.specs.Parsing.{AreForHelp, AreMisused, IsParse}
 use Rattle.xvsh.specs.Words.{AreInputsOf, IsNamed, IsRequestOf}
-use Rattle.xvsh_traces.specs.declared.given.Inputs.{Inputs}
+use Rattle.xvsh_read.specs.declared.given.Inputs.{Inputs}
 
 -- where the host states its input and the writer what it holds, the output of the input's script under
 -- xv6's profile, on an empty standard input and no files, is added to the writer, and nothing else

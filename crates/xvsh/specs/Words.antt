@@ -20,8 +20,8 @@ use Rattle.xvsh_explores.specs.declared.request.ExploreRequest.{ExploreRequest}
 use Rattle.xvsh_draws.specs.declared.request.DrawRequest.{DrawRequest}
 use Rattle.xvsh_ends.specs.declared.request.Request.{Request}
 use Rattle.xvsh_ends.specs.declared.request.Request.TheVariants.{Run, Replay, Plain, Check, Explain, Explore, Draw}
-use Rattle.xvsh_traces.specs.Given.{text_path}
-use Rattle.xvsh_traces.specs.declared.given.Inputs.{Inputs}
+use Rattle.xvsh_read.specs.Given.{text_path}
+use Rattle.xvsh_read.specs.declared.given.Inputs.{Inputs}
 use Rattle.xvsh.specs.declared.request.TheConstants.{HARTS, STATES}
 
 -- whether a flag is among the words: it is where it has the value `true`, and not where it has `false` or no value
@@ -131,7 +131,7 @@ pub record IsPlainOf (found : Found) (request : PlainRequest) : Type 0 where
   pub files_to : IsWord found (codes "files-to") request.files_to
   pub strict : IsFlag found (codes "strict") request.is_strict
   pub json : IsFlag found (codes "json") request.is_json
-  pub diagnostics : IsFlag found (codes "diagnostics") request.tells_diagnostics
+  pub diagnostics : IsFlag found (codes "diagnostics") request.finds_diagnostics
 
 pub record IsCheckOf (found : Found) (request : CheckRequest) : Type 0 where
   pub script : IsScriptOf found request.script.now

@@ -6,7 +6,8 @@ ghost use Rattle.xvsh_read.specs.Writing.{out_text};
 ghost use Rattle.xvsh_ends.specs.Ends.{Asked, IsDue, asks_plain};
 ghost use Rattle.xvsh_ends.specs.Requests.{EndsAt};
 ghost use Rattle.xvsh.specs.Drive.{EndsOn, IsAskedBy, IsDueGiven, IsDueOn, WritesMeaning, completed, help_words};
-ghost use Rattle.xvsh_traces.specs.Given.{Sight};
+ghost use Rattle.xvsh_read.specs.Given.{Sight};
+ghost use Rattle.xvsh_read.specs.Status.{status_code};
 
 use crate::parsing::parsed_words;
 use crate::request::{inputs_of, request_of};
@@ -23,8 +24,7 @@ use xvsh_ends::{
     unread_ending, write_ending,
 };
 use xvsh_explores::Watch;
-use xvsh_read::{Console, Hints, Host, STDIN, Source};
-use xvsh_traces::{Given, Inputs, Traces, read_given};
+use xvsh_read::{Console, Given, Hints, Host, Inputs, STDIN, Source, Status, Traces, read_given};
 
 // How the request ends with the standard input and the script that the words give, if they do.
 fn given_ending<R: Threads + Wait + Clock + Sync, H: Host + Traces + Watch>(
@@ -35,7 +35,7 @@ fn given_ending<R: Threads + Wait + Clock + Sync, H: Host + Traces + Watch>(
     host: &mut H,
 ) -> Ending
     ensures due { IsDueGiven (H.input host.old) (H.file host.old) inputs.now request.now result }
-    ensures nothing { result.status ≢ 0 → result.status ≢ 1 → result.status ≢ 3 → result.status ≢ 4 → out_text result.output ≡ [] }
+    ensures nothing { status_code result.status ≢ 0 → status_code result.status ≢ 1 → status_code result.status ≢ 3 → status_code result.status ≢ 4 → out_text result.output ≡ [] }
 {
     match read_given(alloc, host, inputs.input) {
         Ok(input) => {
@@ -58,11 +58,11 @@ fn command_ending<R: Threads + Wait + Clock + Sync, H: Host + Traces + Watch>(
     host: &mut H,
 ) -> Ending
     ensures due { (sight : Sight) × (asked : Asked) × IsAskedBy (H.input host.old) (H.file host.old) matches.now sight asked × IsDue sight.input sight.file asked result }
-    ensures nothing { result.status ≢ 0 → result.status ≢ 1 → result.status ≢ 3 → result.status ≢ 4 → out_text result.output ≡ [] }
+    ensures nothing { status_code result.status ≢ 0 → status_code result.status ≢ 1 → status_code result.status ≢ 3 → status_code result.status ≢ 4 → out_text result.output ≡ [] }
 {
     match request_of(matches) {
         Some(request) => given_ending(rt, alloc, &request, &inputs_of(matches), host),
-        None => report(alloc, Line::Fixed(""), 2),
+        None => report(alloc, Line::Fixed(""), Status::Misused),
     }
 }
 
@@ -74,7 +74,7 @@ fn words_ending<R: Threads + Wait + Clock + Sync, H: Host + Traces + Watch>(
     host: &mut H,
 ) -> Ending
     ensures due { IsDueOn (H.input host.old) (H.file host.old) (map string_bytes words.now) result }
-    ensures nothing { result.status ≢ 0 → result.status ≢ 1 → result.status ≢ 3 → result.status ≢ 4 → out_text result.output ≡ [] }
+    ensures nothing { status_code result.status ≢ 0 → status_code result.status ≢ 1 → status_code result.status ≢ 3 → status_code result.status ≢ 4 → out_text result.output ≡ [] }
 {
     match parsed_words(alloc, words) {
         Ok(matches) => command_ending(rt, alloc, &matches, host),
@@ -89,7 +89,7 @@ fn no_words_ending<R: Threads + Wait + Clock + Sync, H: Host + Traces + Watch>(
     host: &mut H,
 ) -> Ending
     ensures due { IsDue (H.input host.old) (H.file host.old) (asks_plain Profile.Xv6 (codes "-") [] false false) result }
-    ensures nothing { result.status ≢ 0 → out_text result.output ≡ [] }
+    ensures nothing { status_code result.status ≢ 0 → out_text result.output ≡ [] }
 {
     let request = Request::Plain(PlainRequest {
         source: Source {
@@ -101,7 +101,7 @@ fn no_words_ending<R: Threads + Wait + Clock + Sync, H: Host + Traces + Watch>(
         files_to: None,
         is_strict: false,
         is_json: false,
-        tells_diagnostics: false,
+        finds_diagnostics: false,
     });
     ending_of(rt, alloc, &request, host)
 }
@@ -147,8 +147,8 @@ fn ending_on<R: Threads + Wait + Clock + Sync, H: Host + Traces + Watch>(
 ) -> Ending
     ensures no_words { words.items ≡ [] → IsDue (H.input host.old) (H.file host.old) (asks_plain Profile.Xv6 (codes "-") [] false false) result }
     ensures due { words.items ≢ [] → IsDueOn (H.input host.old) (H.file host.old) (completed (map string_bytes words.items)) result }
-    ensures nothing { result.status ≢ 0 → result.status ≢ 1 → result.status ≢ 3 → result.status ≢ 4 → out_text result.output ≡ [] }
-    ensures no_words_nothing { words.items ≡ [] → result.status ≢ 0 → out_text result.output ≡ [] }
+    ensures nothing { status_code result.status ≢ 0 → status_code result.status ≢ 1 → status_code result.status ≢ 3 → status_code result.status ≢ 4 → out_text result.output ≡ [] }
+    ensures no_words_nothing { words.items ≡ [] → status_code result.status ≢ 0 → out_text result.output ≡ [] }
 {
     if words.is_empty() {
         return no_words_ending(rt, alloc, host);
@@ -159,8 +159,8 @@ fn ending_on<R: Threads + Wait + Clock + Sync, H: Host + Traces + Watch>(
     }
 }
 
-// Tells whoever sits at a terminal which lines of the script are no command, if what the ending says was written.
-fn hint_at_bad<H: Hints>(alloc: Global, ending: &Ending, status: u8, host: &mut H) {
+// Shows whoever sits at a terminal which lines of the script are no command, if what the ending says was written.
+fn hint_at_bad<H: Hints>(alloc: Global, ending: &Ending, status: Status, host: &mut H) {
     if status != ending.status {
         return;
     }
@@ -218,10 +218,10 @@ fn hint_at_bad<H: Hints>(alloc: Global, ending: &Ending, status: u8, host: &mut 
 /// the script's standard input is what that file holds, which is read first, and with `--input none` it is empty; then `-` is
 /// `/dev/stdin`. A FILE that can't be read is a fault as above.
 ///
-/// A fault goes to standard error as one line, but with `--json`, and then nothing of the script was written. The host is told
+/// A fault goes to standard error as one line, but with `--json`, and then nothing of the script was written. The host is shown
 /// what helps then, which it may show on a terminal; and once a text on a run was written, which of the script's lines are no command. The status is 1 for what can't be
 /// read or is refused, and for a schedule that is not of a finished run; 2 for words that are no command line; 3 where `check`
-/// reported a clash or a `&`, or `explain` told of anything, or `explore` found more than one output or set of files, or as above; 4 for an
+/// reported a clash or a `&`, or `explain` reported anything, or `explore` found more than one output or set of files, or as above; 4 for an
 /// exploration that didn't try every order, and for a run that is too large, is past its turns, is out of
 /// memory, or met something full, which alone is reported after what it wrote. `--help` and `--version` go to standard output.
 /// Where standard output or standard error takes no more, it holds a beginning of what was due, nothing more is written, and the
@@ -242,5 +242,5 @@ pub fn drive<
     let status = write_ending(&ending, &mut console.out, &mut console.err);
     console.host.hint(hint_of(&ending, status));
     hint_at_bad(alloc, &ending, status, &mut console.host);
-    status
+    status.code()
 }

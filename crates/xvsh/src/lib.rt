@@ -10,5 +10,4 @@ pub use parsing::{MAX_JOBS, parsed_words};
 pub use request::{OWN_INPUT, STATES, inputs_of, request_of};
 pub use xvsh_ends::Request;
 pub use xvsh_explores::Watch;
-pub use xvsh_read::Console;
-pub use xvsh_traces::{Inputs, NOTHING};
+pub use xvsh_read::{Console, Inputs, NOTHING};

@@ -7,7 +7,7 @@ ghost use Rattle.clap.specs.Takes.{is_given};
 ghost use Rattle.clap.specs.Values.{kind_of};
 ghost use Rattle.clap.specs.Walk.{rows_of};
 ghost use Rattle.clap.specs.declared.error.kind.ErrorKind.TheVariants.{OutOfMemory};
-ghost use Rattle.xvsh_read.specs.Status.{fault_told};
+ghost use Rattle.xvsh_read.specs.Status.{fault_told, status_code};
 ghost use Rattle.xvsh_read.specs.declared.fault.Fault.TheVariants.{Memory};
 ghost use Rattle.xvsh_read.specs.Path.{Path};
 ghost use Rattle.xvsh_read.specs.Writing.{out_text};
@@ -23,7 +23,7 @@ use std::alloc::{AllocError, Global};
 use xvsh_ends::{
     Ending, Line, MAX_HARTS, MAX_STATES, MAX_TURNS, no_output, report_made, report_no_memory,
 };
-use xvsh_read::Output;
+use xvsh_read::{Output, Status};
 use xvsh_words::{Most, command_line};
 
 /// The most threads that grade (own).
@@ -195,7 +195,7 @@ fn told_of(alloc: Global, words: &[String]) -> Result<String, AllocError> {
 fn help_ending(alloc: Global, text: String) -> Ending
     ensures out { out_text result.output ≡ string_bytes text }
     ensures told { told_text result ≡ [] }
-    ensures status { result.status ≡ 0 }
+    ensures status { status_code result.status ≡ 0 }
 {
     Ending {
         output: Output {
@@ -203,7 +203,7 @@ fn help_ending(alloc: Global, text: String) -> Ending
             ..no_output(alloc)
         },
         line: Line::Fixed(""),
-        status: 0,
+        status: Status::Done,
         recording: None,
         left: None,
         hint: "",
@@ -216,7 +216,7 @@ fn misuse_ending(alloc: Global, words: &[String]) -> Ending
     ensures due { (input : Option (List ℕ)) (file : Path → Option (List ℕ)) → IsDue input file misuse result }
     ensures nothing { out_text result.output ≡ [] }
 {
-    report_made(alloc, told_of(alloc, words), 2)
+    report_made(alloc, told_of(alloc, words), Status::Misused)
 }
 
 // How it ends where the words are no command with its words, by the first fault of them.
@@ -224,7 +224,7 @@ fn error_ending(alloc: Global, words: &[String], error: &clap::Error) -> Ending
     ensures memory { kind_of error.now ≡ OutOfMemory → Tells (fault_told Memory) 4 result }
     ensures help { kind_of error.now ≢ OutOfMemory → is_shown (kind_of error.now) ≡ true → (input : Option (List ℕ)) (file : Path → Option (List ℕ)) → IsDue input file help result }
     ensures misuse { kind_of error.now ≢ OutOfMemory → is_shown (kind_of error.now) ≡ false → (input : Option (List ℕ)) (file : Path → Option (List ℕ)) → IsDue input file misuse result }
-    ensures nothing { result.status ≢ 0 → out_text result.output ≡ [] }
+    ensures nothing { status_code result.status ≢ 0 → out_text result.output ≡ [] }
 {
     match error.kind() {
         ErrorKind::OutOfMemory => report_no_memory(alloc),
@@ -243,7 +243,7 @@ fn error_ending(alloc: Global, words: &[String], error: &clap::Error) -> Ending
 pub fn parsed_words<'w>(alloc: Global, words: &'w [String]) -> Result<ArgMatches<'w>, Ending>
     ensures parsed { IfOk result (IsParse (map string_bytes words.now)) }
     ensures unparsed { IfErr result (λ ending. (input : Option (List ℕ)) (file : Path → Option (List ℕ)) → IsUnparsed input file (map string_bytes words.now) ending) }
-    ensures nothing { IfErr result (λ ending. ending.status ≢ 0 → out_text ending.output ≡ []) }
+    ensures nothing { IfErr result (λ ending. status_code ending.status ≢ 0 → out_text ending.output ≡ []) }
 {
     let Ok(command) = own_command_line(alloc, false) else {
         return Err(report_no_memory(alloc));

@@ -9,8 +9,7 @@ use xvsh_ends::{
     Bounds, CheckRequest, DrawRequest, ExplainRequest, ExploreRequest, Lists, PlainRequest,
     ReplayRequest, Request, RunRequest,
 };
-use xvsh_read::{STDIN, Source, profile_of};
-use xvsh_traces::{Inputs, TEXT_PATH};
+use xvsh_read::{Inputs, STDIN, Source, TEXT_PATH, profile_of};
 
 /// How many harts a run has, if the words name none (own).
 const HARTS: u8 = 4;
@@ -226,7 +225,7 @@ fn plain_of<'m>(words: &'m ArgMatches<'_>) -> PlainRequest<'m>
         files_to: files_to_of(words),
         is_strict: flag_of(words, "strict"),
         is_json: flag_of(words, "json"),
-        tells_diagnostics: flag_of(words, "diagnostics"),
+        finds_diagnostics: flag_of(words, "diagnostics"),
     }
 }
 
@@ -243,7 +242,7 @@ fn check_of<'m>(words: &'m ArgMatches<'_>) -> CheckRequest<'m>
     }
 }
 
-// Whether it is told why a script is settled: where that is requested, or the words give a standard input or files.
+// Whether it is printed why a script is settled: where that is requested, or the words give a standard input or files.
 fn tells_why(is_asked: bool, input: Option<&str>, files: &[&str]) -> bool
     ensures { result ≡ tells_why is_asked input.entry files.now }
 {

@@ -1,6 +1,5 @@
 pub mod Counted
 pub mod Nothing
-pub mod Sentences
 pub mod Telling
 pub mod Reasoned
 mod RoomTold

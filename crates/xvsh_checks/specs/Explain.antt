@@ -1,24 +1,17 @@
--- What `explain` prints of a script (own).
-use Rattle.std.specs.Prelude.{◌≡◌, ◌↔◌, Bool, IsTrue, [], ◌∷◌, ◌++◌, Option, None, codes}
+-- What `explain` finds in a script (own).
+use Rattle.std.specs.Prelude.{◌≡◌, ◌↔◌, IsTrue, Option, None}
 use Rattle.mem_files.specs.Name.{Bytes}
-use Rattle.room_bounds.specs.declared.lack.Lack.{Lack}
-use Rattle.script_notes.specs.Explained.{IsExplained, HasNothingToTell}
+use Rattle.script_notes.specs.Noted.{IsNoted, HasNoNotes}
+use Rattle.script_notes.specs.Values.{values_of}
 use Rattle.xvsh_read.specs.Path.{Path}
 use Rattle.xvsh_read.specs.Reading.{Agree, told_at}
-use Rattle.xvsh_checks.specs.Lacks.{IsLackOfText, lack_noted}
+use Rattle.xvsh_checks.specs.declared.noting.Noted.{Noted}
+use Rattle.xvsh_checks.specs.Lacks.{IsLackOfText}
 
--- of nothing, that there is nothing to tell
-abbrev pub written_of : Bytes → Bytes
-written_of [] = codes "nothing to tell\n"
-written_of (byte ∷ told) = byte ∷ told
-
--- this is what is printed of it, and whether no line of the script has a note and none may not have room
-pub record RanExplain (input : Option Bytes) (file : Path → Option Bytes) (script : Path) (is_fine : Bool) (text : Bytes) : Type 0 where
+-- these are the notes on the script, and with which line first it may not have room; and whether there is neither
+pub record RanExplain (input : Option Bytes) (file : Path → Option Bytes) (script : Path) (noted : Noted) : Type 0 where
   pub bytes : Bytes
   pub own : Agree (told_at input file script) bytes
-  pub notes : Bytes
-  pub explained : IsExplained bytes notes
-  pub lack : Option Lack
-  pub room : IsLackOfText bytes lack
-  pub prints : text ≡ written_of (notes ++ lack_noted lack)
-  pub fine : IsTrue is_fine ↔ (HasNothingToTell bytes × (lack ≡ None))
+  pub notes : IsNoted bytes (values_of noted.notes.items)
+  pub room : IsLackOfText bytes noted.lack
+  pub fine : IsTrue noted.is_fine ↔ (HasNoNotes bytes × (noted.lack ≡ None))

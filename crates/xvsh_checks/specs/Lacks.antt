@@ -1,6 +1,5 @@
--- What `explain` tells of the room that a script needs (own).
-use Rattle.std.specs.Prelude.{◌⊎◌, ℕ, false, List, [], ◌++◌, Option, Some, None, codes}
-use Rattle.std.specs.Fmt.{decimal}
+-- What `explain` finds of the room that a script needs (own).
+use Rattle.std.specs.Prelude.{◌⊎◌, false, List, Option, Some, None}
 use Rattle.mem_files.specs.Name.{Bytes}
 use Rattle.script_load.specs.Line.{ScriptLine}
 use Rattle.script_load.specs.Script.{IsScript}
@@ -8,7 +7,6 @@ use Rattle.room_bounds.specs.Crowd.{HasSlots, IsFirstCrowded}
 use Rattle.room_bounds.specs.Behind.{FitsBehind, IsFirstBehind}
 use Rattle.room_bounds.specs.declared.lack.Lack.{Lack}
 use Rattle.xvsh_checks.specs.Check.{AreHarmless}
-use Rattle.xvsh_checks.specs.Room.{with_need, table_text}
 
 -- the first line with which a script may need more processes, open files or descriptors than there are, or none; of a script with a
 -- clash or a `&` the first with which it may need more processes or descriptors
@@ -19,12 +17,3 @@ IsLackNoted lines (Some lack) = (AreHarmless false lines × IsFirstCrowded lines
 -- the same of the script of these bytes
 abbrev pub IsLackOfText : Bytes → Option Lack → Type 0
 IsLackOfText bytes lack = (lines : List ScriptLine) × IsScript bytes lines × IsLackNoted lines lack
-
--- which line it is
-abbrev pub noted_place : ℕ → Bytes
-noted_place line = codes "line " ++ (decimal line ++ codes ": with this line the script may need ")
-
--- `line N: with this line the script may need M processes at once; xv6 has 64` and LF, and so of the other tables; nothing of none
-abbrev pub lack_noted : Option Lack → Bytes
-lack_noted None = []
-lack_noted (Some lack) = with_need (noted_place lack.line) lack.need (table_text lack.table)

@@ -1,9 +1,7 @@
 //! What `explain` finds in a script.
-ghost use Rattle.std.specs.Prelude.{◌≡◌, ◌++◌, ◌↔◌, [], None, IfOk, IfErr, IsTrue};
-ghost use Rattle.script_notes.specs.Written.{written};
-ghost use Rattle.xvsh_checks.specs.Explain.{RanExplain, written_of};
+ghost use Rattle.std.specs.Prelude.{◌≡◌, ◌↔◌, [], None, IfOk, IfErr, IsTrue};
+ghost use Rattle.xvsh_checks.specs.Explain.{RanExplain};
 ghost use Rattle.xvsh_checks.specs.Check.{IsCheckFault};
-ghost use Rattle.xvsh_checks.specs.Lacks.{lack_noted};
 
 use crate::lacks::lack_of_text;
 use crate::request::ExplainRequest;
@@ -12,19 +10,12 @@ use script_notes::{LineNote, notes_of};
 use std::alloc::Global;
 use xvsh_read::{Fault, Host, MAX_INPUT, read};
 
-// Whether there are none.
-fn are_none(notes: &[LineNote]) -> bool
-    ensures { IsTrue result ↔ (written notes.now ≡ []) }
-{
-    notes.is_empty()
-}
-
 /// Whether there is no note, and no line that may not have room.
 pub(crate) fn is_nothing_noted(notes: &[LineNote], lack: &Option<Lack>) -> bool
-    ensures { IsTrue result ↔ ((written notes.now ≡ []) × (lack.now ≡ None)) }
+    ensures { IsTrue result ↔ ((notes.now ≡ []) × (lack.now ≡ None)) }
 {
     match lack {
-        None => are_none(notes),
+        None => notes.is_empty(),
         Some(_) => false,
     }
 }
@@ -47,7 +38,7 @@ pub fn run_note<'a, H: Host>(
     request: &ExplainRequest<'a>,
     host: &mut H,
 ) -> Result<Noted, Fault<'a>>
-    ensures ran { IfOk result (λ noted. RanExplain (H.input host.old) (H.file host.old) request.now.source.script.now noted.is_fine (written_of (written noted.notes.items ++ lack_noted noted.lack))) }
+    ensures ran { IfOk result (λ noted. RanExplain (H.input host.old) (H.file host.old) request.now.source.script.now noted) }
     ensures fault { IfErr result (IsCheckFault (H.input host.old) (H.file host.old) request.now.source.script.now) }
 {
     let bytes = read(alloc, host, request.source.script, MAX_INPUT)?;

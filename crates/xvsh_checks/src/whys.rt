@@ -1,16 +1,14 @@
 //! What `explain` reports of a script on its files and its input: its notes, the names that no file has, with which line first it
 //! may not have room, and why it is settled or isn't.
-ghost use Rattle.std.specs.Prelude.{◌≡◌, ◌++◌, ◌↔◌, [], None, IfOk, IfErr, IsTrue, map};
+ghost use Rattle.std.specs.Prelude.{◌≡◌, ◌↔◌, [], All, None, IfOk, IfErr, IsTrue, map};
 ghost use Rattle.mem_files.specs.Files.{files};
 ghost use Rattle.script_load.specs.Line.{lines_of};
-ghost use Rattle.script_notes.specs.Written.{written};
 ghost use Rattle.xvsh_plain.specs.Running.{IsMeaningFault};
 ghost use Rattle.missing_names.specs.Missing.{missing_names};
-ghost use Rattle.missing_names.specs.Texts.{missing_texts, shown};
-ghost use Rattle.reason_sentences.specs.Sentences.{reason_text, why_text};
-ghost use Rattle.reason_sentences.specs.Ways.{ways_text};
-ghost use Rattle.reason_sentences.specs.Whys.{AreReasonTexts};
-ghost use Rattle.xvsh_checks.specs.Lacks.{IsLackNoted, lack_noted};
+ghost use Rattle.missing_names.specs.Texts.{shown};
+ghost use Rattle.meaning_model.specs.Settled.{IsSettledScript};
+ghost use Rattle.plain_run.specs.Reasons.{IsReason};
+ghost use Rattle.xvsh_checks.specs.Lacks.{IsLackNoted};
 ghost use Rattle.xvsh_checks.specs.Whys.{RanWhys, IsWhysFault};
 
 use crate::lacks::lack_of;
@@ -33,7 +31,8 @@ fn reasons_of<'a>(
     stdin: &[u8],
     given: &Files<Global>,
 ) -> Result<Vec<Reason<Global>>, Fault<'a>>
-    ensures reasons { IfOk result (λ reasons. AreReasonTexts script.now.profile (lines_of script.now.lines) stdin.now (files given.now) (map reason_text reasons.items)) }
+    ensures each { IfOk result (λ reasons. All (IsReason script.now.profile (lines_of script.now.lines) stdin.now (files given.now)) reasons.items) }
+    ensures none { IfOk result (λ reasons. (reasons.items ≡ []) ↔ IsSettledScript script.now.profile (lines_of script.now.lines) stdin.now (files given.now)) }
     ensures fault { IfErr result (IsMeaningFault script.now.profile (lines_of script.now.lines) stdin.now (files given.now)) }
 {
     match plain_with_reasons(alloc, script, stdin, given) {
@@ -49,7 +48,7 @@ fn is_nothing(
     lack: &Option<Lack>,
     reasons: &[Reason<Global>],
 ) -> bool
-    ensures { IsTrue result ↔ ((written notes.now ≡ []) × (missing.now ≡ []) × (lack.now ≡ None) × (reasons.now ≡ [])) }
+    ensures { IsTrue result ↔ ((notes.now ≡ []) × (missing.now ≡ []) × (lack.now ≡ None) × (reasons.now ≡ [])) }
 {
     is_nothing_noted(notes, lack) && missing.is_empty() && reasons.is_empty()
 }
@@ -85,8 +84,9 @@ pub fn find_whys<'a>(
     ensures notes { IfOk result (λ noted. noted.notes.items ≡ notes.items) }
     ensures missing { IfOk result (λ noted. map shown noted.missing.items ≡ missing_names (lines_of script.now.lines) given.now) }
     ensures lack { IfOk result (λ noted. IsLackNoted (lines_of script.now.lines) noted.lack) }
-    ensures reasons { IfOk result (λ noted. AreReasonTexts script.now.profile (lines_of script.now.lines) stdin.now (files given.now) (map reason_text noted.reasons.items)) }
-    ensures fine { IfOk result (λ noted. IsTrue noted.is_fine ↔ ((written notes.items ≡ []) × (noted.missing.items ≡ []) × (noted.lack ≡ None) × (noted.reasons.items ≡ []))) }
+    ensures each { IfOk result (λ noted. All (IsReason script.now.profile (lines_of script.now.lines) stdin.now (files given.now)) noted.reasons.items) }
+    ensures none { IfOk result (λ noted. (noted.reasons.items ≡ []) ↔ IsSettledScript script.now.profile (lines_of script.now.lines) stdin.now (files given.now)) }
+    ensures fine { IfOk result (λ noted. IsTrue noted.is_fine ↔ ((notes.items ≡ []) × (noted.missing.items ≡ []) × (noted.lack ≡ None) × (noted.reasons.items ≡ []))) }
     ensures fault { IfErr result (IsMeaningFault script.now.profile (lines_of script.now.lines) stdin.now (files given.now)) }
 {
     let reasons = reasons_of(alloc, script, stdin, given)?;
@@ -116,7 +116,7 @@ pub fn run_note_whys<'a, H: Host>(
     request: &ExplainRequest<'a>,
     host: &mut H,
 ) -> Result<NotedWhys, Fault<'a>>
-    ensures ran { IfOk result (λ noted. RanWhys (H.input host.old) (H.file host.old) request.now.source.profile request.now.source.script.now request.now.source.files.now noted.is_fine (written noted.notes.items ++ (missing_texts (map shown noted.missing.items) ++ (lack_noted noted.lack ++ (why_text (map reason_text noted.reasons.items) ++ ways_text noted.reasons.items))))) }
+    ensures ran { IfOk result (λ noted. RanWhys (H.input host.old) (H.file host.old) request.now.source.profile request.now.source.script.now request.now.source.files.now noted) }
     ensures fault { IfErr result (IsWhysFault (H.input host.old) (H.file host.old) request.now.source.profile request.now.source.script.now request.now.source.files.now) }
 {
     let bytes = read(alloc, host, request.source.script, MAX_INPUT)?;

@@ -3,7 +3,7 @@
 use std::alloc::AllocError;
 use std::fmt;
 use trace_read::TraceFault;
-use xvsh_read::Fault;
+use xvsh_read::{Fault, Status};
 
 /// Why there is no page. Each is reported as one line on standard error after `xvsh: `.
 #[derive(Clone, Copy, Debug)]
@@ -18,11 +18,11 @@ pub enum DrawFault<'a> {
 
 impl DrawFault<'_> {
     /// The status with which the program ends: 4 where memory is refused, else 1.
-    pub fn status(self) -> u8 {
+    pub fn status(self) -> Status {
         match self {
             DrawFault::Read(fault) => fault.status(),
-            DrawFault::NoTrace(_, TraceFault::Memory) => 4,
-            DrawFault::NoTrace(_, _) | DrawFault::OtherScript => 1,
+            DrawFault::NoTrace(_, TraceFault::Memory) => Status::NoRoom,
+            DrawFault::NoTrace(_, _) | DrawFault::OtherScript => Status::Failed,
         }
     }
 }

@@ -8,16 +8,16 @@ use Rattle.kernel_model.specs.declared.events.Full.{Full}
 use Rattle.xvsh_read.specs.declared.fault.Fault.{Fault}
 use Rattle.xvsh_read.specs.declared.fault.Fault.TheVariants.{Unreadable, TooLong, LineTooLong, ByteZero, BadName, TakenName, TooManyFiles, TooLarge, Memory}
 use Rattle.xvsh_read.specs.Path.{Path}
-use Rattle.xvsh_read.specs.Status.{status_of, fault_told}
+use Rattle.xvsh_read.specs.Status.{check_status, fault_told, status_code, status_of}
 use Rattle.xvsh_read.specs.Writing.{out_text}
 use Rattle.xvsh_runs.specs.declared.fault.ProcessFault.{ProcessFault}
 use Rattle.xvsh_runs.specs.declared.fault.ProcessFault.TheVariants.{Common, BadHarts, BadTurns, BadOrder, Spent, SharedInput, NoEvent, NotRunnable, NotRunning, Unfinished}
 use Rattle.xvsh_runs.specs.Status.{run_status}
 use Rattle.script_outcomes.specs.declared.concluding.Conclusion.{Conclusion}
 use Rattle.script_outcomes.specs.declared.concluding.Conclusion.TheVariants.{OneOutput, SeveralOutputs, Stuck, Full as Filled, Part}
-use Rattle.xvsh_ends.specs.Ends.{Asked, asks_plain, asks_diagnosed, asks_run, asks_strict, asks_check, asks_turns, asks_room, asks_explain, asks_whys, asks_fix, asks_explore, help, misuse, verdict_status, check_status, explore_status, full_status, told_text, Due, plain_ran, no_plain, diagnosed, not_diagnosed, ran, no_run, ran_strict, no_strict, checked, no_check, counted, not_counted, room_told, no_room_told, explained, not_explained, whys_told, no_whys_told, fixed, unfixed, no_fix, explored, not_explored, helped, misused, no_memory, IsDue, Tells, TellsOr, tells, lacks_memory, asks_traced, traced, untraced, asks_played, played, unplayed, beside_trace, asks_witnessed, asks_paired, asks_filed, asks_lined, asks_json, asks_draw, drawn, undrawn, asks_input, unread, witnessed, unwitnessed, paired, unpaired, filed, unfiled, lined, valued, unvalued, IsObjectStatus, PrintsAlone}
+use Rattle.xvsh_ends.specs.Ends.{Asked, asks_plain, asks_diagnosed, asks_run, asks_strict, asks_check, asks_turns, asks_room, asks_explain, asks_whys, asks_fix, asks_explore, help, misuse, verdict_status, explore_status, full_status, told_text, Due, plain_ran, no_plain, diagnosed, not_diagnosed, ran, no_run, ran_strict, no_strict, checked, no_check, counted, not_counted, room_told, no_room_told, explained, not_explained, whys_told, no_whys_told, fixed, unfixed, no_fix, explored, not_explored, helped, misused, no_memory, IsDue, Tells, TellsOr, tells, lacks_memory, asks_traced, traced, untraced, asks_played, played, unplayed, beside_trace, asks_witnessed, asks_paired, asks_filed, asks_lined, asks_json, asks_draw, drawn, undrawn, asks_input, unread, witnessed, unwitnessed, paired, unpaired, filed, unfiled, lined, valued, unvalued, IsObjectStatus, PrintsAlone}
 use Rattle.std.specs.Borrow.{Bor}
-use Rattle.xvsh_ends.specs.Requests.{UnlessPrinted, witnessed_asked, paired_asked, json_asked}
+use Rattle.xvsh_ends.specs.Requests.{UnlessPrinted, witnessed_asked, paired_asked}
 use Rattle.xvsh_ends.specs.declared.ending.Ending.{Ending}
 
 -- what is known stays where nothing changes
@@ -51,7 +51,7 @@ some_run_status (Unfinished count) is = cc
 
 module _ (input : Option Bytes) (file : Path → Option Bytes) (asked : Asked) where
   -- an ending with these texts and this status is due where they are
-  pub due_by : (text told : Bytes) (status : ℕ) (ending : Ending) → out_text ending.output ≡ text → told_text ending ≡ told → ending.status ≡ status → Due input file asked text told status → IsDue input file asked ending
+  pub due_by : (text told : Bytes) (status : ℕ) (ending : Ending) → out_text ending.output ≡ text → told_text ending ≡ told → status_code ending.status ≡ status → Due input file asked text told status → IsDue input file asked ending
   due_by text told status ending same_out same_err same_status due =
       subst (Due input file asked (out_text ending.output) (told_text ending)) (sym same_status)
       (subst (λ t. Due input file asked (out_text ending.output) t status) (sym same_err)
@@ -203,9 +203,9 @@ module _ (input : Option Bytes) (file : Path → Option Bytes) where
   nothing_due asked text told status (not_counted fault why) = λ some three. refl
   nothing_due asked text told status (room_told is_fine gave) = λ some three. check_prints is_fine some three
   nothing_due asked text told status (no_room_told fault why) = λ some three. refl
-  nothing_due asked text told status (explained is_fine gave) = λ some three. check_prints is_fine some three
+  nothing_due asked text told status (explained noted gave) = λ some three. check_prints noted.is_fine some three
   nothing_due asked text told status (not_explained fault why) = λ some three. refl
-  nothing_due asked text told status (whys_told is_fine gave) = λ some three. check_prints is_fine some three
+  nothing_due asked text told status (whys_told noted gave) = λ some three. check_prints noted.is_fine some three
   nothing_due asked text told status (no_whys_told fault why) = λ some three. refl
   nothing_due asked text told status (fixed gave) = λ some. absurd (some refl)
   nothing_due asked text told status (unfixed gave) = λ some. refl
@@ -239,8 +239,8 @@ module _ (input : Option Bytes) (file : Path → Option Bytes) (what : Asked) wh
   due_valued (Err refused) bytes text told status ending is with due = due_memory input file (asks_json what) ending is
 
 -- with another status nothing is printed in place of an object
-pub object_or_nothing : {T E : Type 0} (made : Result T E) (bytes : T → Bytes) (status : ℕ) (ending : Ending) (what : Asked) → MatchResult made (λ json. PrintsAlone (bytes json) status ending) (λ _. Tells (fault_told Memory) 4 ending) → IsObjectStatus status → UnlessPrinted (asks_json what) ending.status (out_text ending.output ≡ [])
-object_or_nothing (Ok json) bytes status ending what is with = λ some one three four. object_prints ending.status (subst IsObjectStatus (sym is.with) with) some one three four
+pub object_or_nothing : {T E : Type 0} (made : Result T E) (bytes : T → Bytes) (status : ℕ) (ending : Ending) (what : Asked) → MatchResult made (λ json. PrintsAlone (bytes json) status ending) (λ _. Tells (fault_told Memory) 4 ending) → IsObjectStatus status → UnlessPrinted (asks_json what) (status_code ending.status) (out_text ending.output ≡ [])
+object_or_nothing (Ok json) bytes status ending what is with = λ some one three four. object_prints (status_code ending.status) (subst IsObjectStatus (sym is.with) with) some one three four
 object_or_nothing (Err refused) bytes status ending what is with = λ some one three four. is.nothing
 
 -- a report prints nothing

@@ -1,2 +1,4 @@
 pub mod Dues
 pub mod Made
+pub mod Meant
+pub mod Strict

@@ -13,7 +13,7 @@ use Rattle.xvsh_read.specs.declared.fault.Fault.{Fault}
 use Rattle.xvsh_read.specs.declared.fault.Fault.TheVariants.{Memory}
 use Rattle.xvsh_read.specs.Path.{Path}
 use Rattle.xvsh_read.specs.Reading.{IsReadFault, max_input, told_at}
-use Rattle.xvsh_read.specs.Status.{status_of, fault_told}
+use Rattle.xvsh_read.specs.Status.{check_status, status_code, status_of, fault_told}
 use Rattle.xvsh_read.specs.Writing.{AppendsPart, out_text}
 use Rattle.xvsh_runs.specs.declared.fault.ProcessFault.{ProcessFault}
 use Rattle.xvsh_runs.specs.declared.report.Lists.{Lists}
@@ -23,20 +23,24 @@ use Rattle.xvsh_runs.specs.Why.{IsRunFault, IsReplayingFault}
 use Rattle.xvsh_plain.specs.Running.{RanPlain, IsPlainFault}
 use Rattle.every_order.specs.Known.{IsKnown}
 use Rattle.every_order.specs.declared.known.Diagnostics.{Diagnostics}
-use Rattle.xvsh_diagnoses.specs.Telling.{told}
 use Rattle.xvsh_checks.specs.Check.{RanCheck, IsCheckFault}
+use Rattle.xvsh_checks.specs.declared.noting.Noted.{Noted}
+use Rattle.xvsh_checks.specs.declared.whys.NotedWhys.{NotedWhys}
 use Rattle.xvsh_checks.specs.Explain.{RanExplain}
 use Rattle.xvsh_checks.specs.Turns.{RanTurns, IsTurnsFault}
 use Rattle.xvsh_checks.specs.Room.{RanRoom, IsRoomFault}
 use Rattle.xvsh_checks.specs.Whys.{RanWhys, IsWhysFault}
+use Rattle.check_texts.specs.Explanations.{noted_text, whys_text}
 use Rattle.xvsh_checks.specs.Fixes.{RanFix, RanNoFix}
 use Rattle.script_outcomes.specs.declared.concluding.Conclusion.{Conclusion}
 use Rattle.script_outcomes.specs.declared.concluding.Conclusion.TheVariants.{OneOutput, SeveralOutputs, Stuck, Full as Filled, Part}
 use Rattle.script_outcomes.specs.declared.finding.Found.{Found}
 use Rattle.script_outcomes.specs.Found.{Concludes}
 use Rattle.xvsh_explores.specs.Explores.{RanExplore, IsExploreFault}
-use Rattle.xvsh_runs.specs.Strict.{RanStrict, IsStrictFault}
+use Rattle.xvsh_runs.specs.Strict.{IsStrictFault}
 use Rattle.xvsh_traces.specs.Lined.{IsLined}
+use Rattle.xvsh_ends.specs.Reports.{diagnostics_text}
+use Rattle.xvsh_ends.specs.Strictly.{RanStrictly}
 use Rattle.xvsh_ends.specs.declared.ending.Ending.{Ending}
 use Rattle.xvsh_ends.specs.declared.ending.Line.{Line}
 use Rattle.xvsh_ends.specs.declared.ending.Line.TheVariants.{Fixed, Made}
@@ -97,12 +101,6 @@ abbrev pub verdict_status : Bool → Bool → ℕ
 verdict_status false is_settled = 0
 verdict_status true true = 0
 verdict_status true false = 3
-
--- the status of a check, by whether the script's lines are harmless, and of notes in sentences, by whether there is
--- none
-abbrev pub check_status : Bool → ℕ
-check_status true = 0
-check_status false = 3
 
 -- what is reported where no mends make a script settled
 abbrev pub unmended_told : Bytes
@@ -170,13 +168,13 @@ module _ (input : Option Bytes) (file : Path → Option Bytes) where
     plain_ran : {profile : Profile} {script : Path} {paths : List (Bor Path)} {lists strict : Bool} {text : Bytes} (is_settled : Bool) (why : Bytes) (gave : RanPlain input file profile script paths lists is_settled text) → IsWhy profile gave.lines gave.stdin (files gave.given) strict is_settled why → Due (asks_plain profile script paths lists strict) text (verdict_text is_settled ++ why) (verdict_status strict is_settled)
     no_plain : {profile : Profile} {script : Path} {paths : List (Bor Path)} {lists strict : Bool} (fault : Fault) → IsPlainFault input file profile script paths fault → Due (asks_plain profile script paths lists strict) [] (fault_told fault) (status_of fault)
     -- the same, with what is known of the diagnostics of all runs of the lines that were read, on the same files and input, before its verdict
-    diagnosed : {profile : Profile} {script : Path} {paths : List (Bor Path)} {lists strict : Bool} {text : Bytes} (is_settled : Bool) (why : Bytes) (known : Diagnostics) (gave : RanPlain input file profile script paths lists is_settled text) → IsWhy profile gave.lines gave.stdin (files gave.given) strict is_settled why → IsKnown profile gave.lines gave.stdin gave.given known → Due (asks_diagnosed profile script paths lists strict) text (told known ++ (verdict_text is_settled ++ why)) (verdict_status strict is_settled)
+    diagnosed : {profile : Profile} {script : Path} {paths : List (Bor Path)} {lists strict : Bool} {text : Bytes} (is_settled : Bool) (why : Bytes) (known : Diagnostics) (gave : RanPlain input file profile script paths lists is_settled text) → IsWhy profile gave.lines gave.stdin (files gave.given) strict is_settled why → IsKnown profile gave.lines gave.stdin gave.given known → Due (asks_diagnosed profile script paths lists strict) text (diagnostics_text known ++ (verdict_text is_settled ++ why)) (verdict_status strict is_settled)
     not_diagnosed : {profile : Profile} {script : Path} {paths : List (Bor Path)} {lists strict : Bool} (fault : Fault) → IsPlainFault input file profile script paths fault → Due (asks_diagnosed profile script paths lists strict) [] (fault_told fault) (status_of fault)
     -- its run by its processes, with its diagnostics and then what was full, if something was; or why there is none
     ran : {profile : Profile} {script : Path} {paths : List (Bor Path)} {how : How} {lists : Lists} {text : Bytes} (diag : Bytes) (full : Option Full) → RanBy how profile script paths lists full text diag → Due (asks_run profile script paths how lists) text (diag ++ full_text full) (full_status full 0)
     no_run : {profile : Profile} {script : Path} {paths : List (Bor Path)} {how : How} {lists : Lists} (fault : ProcessFault) → IsFaultBy how profile script paths fault → Due (asks_run profile script paths how lists) [] (run_fault_told fault) (run_status fault)
     -- the same of a strict run, with a reason behind its diagnostics why the script isn't settled, whose status says that too, where nothing was full
-    ran_strict : {profile : Profile} {script : Path} {paths : List (Bor Path)} {harts : ℕ} {turns : Option ℕ} {lists : Lists} {text : Bytes} (diag why : Bytes) (is_settled : Bool) (full : Option Full) → RanStrict input file profile script paths harts turns lists full is_settled why text diag → Due (asks_strict profile script paths harts turns lists) text ((diag ++ why) ++ full_text full) (full_status full (verdict_status true is_settled))
+    ran_strict : {profile : Profile} {script : Path} {paths : List (Bor Path)} {harts : ℕ} {turns : Option ℕ} {lists : Lists} {text : Bytes} (diag why : Bytes) (is_settled : Bool) (full : Option Full) → RanStrictly input file profile script paths harts turns lists full is_settled why text diag → Due (asks_strict profile script paths harts turns lists) text ((diag ++ why) ++ full_text full) (full_status full (verdict_status true is_settled))
     no_strict : {profile : Profile} {script : Path} {paths : List (Bor Path)} {harts : ℕ} {turns : Option ℕ} {lists : Lists} (fault : ProcessFault) → IsStrictFault input file profile script paths harts turns fault → Due (asks_strict profile script paths harts turns lists) [] (run_fault_told fault) (run_status fault)
     -- the report of a check, by whether the script holds no `&` and no clash, and strictly no line that is no command; or why there is none
     checked : {script : Path} {strict : Bool} {text : Bytes} (is_harmless : Bool) → RanCheck input file script strict is_harmless text → Due (asks_check script strict) text [] (check_status is_harmless)
@@ -188,10 +186,10 @@ module _ (input : Option Bytes) (file : Path → Option Bytes) where
     room_told : {script : Path} {paths : List (Bor Path)} {strict : Bool} {text : Bytes} (is_fine : Bool) → RanRoom input file script paths strict is_fine text → Due (asks_room script paths strict) text [] (check_status is_fine)
     no_room_told : {script : Path} {paths : List (Bor Path)} {strict : Bool} (fault : Fault) → IsRoomFault input file script paths fault → Due (asks_room script paths strict) [] (fault_told fault) (status_of fault)
     -- the notes on a script in sentences; or why there are none
-    explained : {script : Path} {text : Bytes} (is_fine : Bool) → RanExplain input file script is_fine text → Due (asks_explain script) text [] (check_status is_fine)
+    explained : {script : Path} (noted : Noted) → RanExplain input file script noted → Due (asks_explain script) (noted_text noted) [] (check_status noted.is_fine)
     not_explained : {script : Path} (fault : Fault) → IsCheckFault input file script fault → Due (asks_explain script) [] (fault_told fault) (status_of fault)
     -- the same with why the script is settled, or isn't, after its notes
-    whys_told : {profile : Profile} {script : Path} {paths : List (Bor Path)} {text : Bytes} (is_fine : Bool) → RanWhys input file profile script paths is_fine text → Due (asks_whys profile script paths) text [] (check_status is_fine)
+    whys_told : {profile : Profile} {script : Path} {paths : List (Bor Path)} (noted : NotedWhys) → RanWhys input file profile script paths noted → Due (asks_whys profile script paths) (whys_text noted) [] (check_status noted.is_fine)
     no_whys_told : {profile : Profile} {script : Path} {paths : List (Bor Path)} (fault : Fault) → IsWhysFault input file profile script paths fault → Due (asks_whys profile script paths) [] (fault_told fault) (status_of fault)
     -- the script mended by rules, so that it is settled; that no mends make it so; or why that isn't known
     fixed : {profile : Profile} {script : Path} {paths : List (Bor Path)} {text : Bytes} → RanFix input file profile script paths text → Due (asks_fix profile script paths) text [] 0
@@ -256,19 +254,19 @@ told_text ending = ending.output.err.items ++ line_text ending.line
 
 -- the ending is the one that is due for what was asked
 abbrev pub IsDue : Option Bytes → (Path → Option Bytes) → Asked → Ending → Type 0
-IsDue input file asked ending = Due input file asked (out_text ending.output) (told_text ending) ending.status
+IsDue input file asked ending = Due input file asked (out_text ending.output) (told_text ending) (status_code ending.status)
 
 -- it prints nothing to standard output, and this to standard error, with this status
 pub record Tells (text : Bytes) (status : ℕ) (ending : Ending) : Type 0 where
   pub nothing : out_text ending.output ≡ []
   pub reported : told_text ending ≡ text
-  pub with : ending.status ≡ status
+  pub with : status_code ending.status ≡ status
 
 -- it prints this to standard output, and nothing to standard error, with this status
 pub record PrintsAlone (text : Bytes) (status : ℕ) (ending : Ending) : Type 0 where
   pub out : out_text ending.output ≡ text
   pub reported : told_text ending ≡ []
-  pub with : ending.status ≡ status
+  pub with : status_code ending.status ≡ status
 
 -- the same, or that memory was refused
 pub data TellsOr (text : Bytes) (status : ℕ) (ending : Ending) : Type 0 where

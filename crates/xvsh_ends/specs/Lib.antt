@@ -1,3 +1,5 @@
+pub mod Reports
+pub mod Strictly
 pub mod Ends
 pub mod Filing
 pub mod Requests

@@ -22,21 +22,18 @@ abbrev pub replay_asked : ReplayRequest → Asked
 replay_asked request = asks_run request.source.profile request.source.script.now request.source.files.now (by_schedule request.schedule.now) request.lists
 
 -- a run by meaning, strictly or not
-abbrev pub strictly_asked : Bool → PlainRequest → Asked
-strictly_asked strict request = asks_plain request.source.profile request.source.script.now request.source.files.now request.lists_files strict
-
 abbrev pub plain_asked : PlainRequest → Asked
-plain_asked request = strictly_asked request.is_strict request
+plain_asked request = asks_plain request.source.profile request.source.script.now request.source.files.now request.lists_files request.is_strict
 
 -- the same, with what is known of its diagnostics or without
 abbrev pub diagnosed_asked : Bool → PlainRequest → Asked
 diagnosed_asked false request = plain_asked request
 diagnosed_asked true request = asks_diagnosed request.source.profile request.source.script.now request.source.files.now request.lists_files request.is_strict
 
--- the same as an object, which tells no diagnostics, or as a text
-abbrev pub plain_told_asked : Bool → PlainRequest → Asked
-plain_told_asked false request = diagnosed_asked request.tells_diagnostics request
-plain_told_asked true request = asks_json (plain_asked request)
+-- the same as an object, which has no diagnostics, or as a text
+abbrev pub plain_printed_asked : Bool → PlainRequest → Asked
+plain_printed_asked false request = diagnosed_asked request.finds_diagnostics request
+plain_printed_asked true request = asks_json (plain_asked request)
 
 -- a check, with its turns, with its room or with neither
 abbrev pub check_asked : Bool → Bool → CheckRequest → Asked
@@ -110,7 +107,7 @@ explain_told_asked true request = fix_asked request
 abbrev pub asked : Request → Asked
 asked (Run request) = traced_asked request.trace (traced_asked request.schedule_to (filed_asked request.files_to (lined_asked request.is_lined (json_asked request.is_json (run_asked request.is_strict request)))))
 asked (Replay request) = traced_asked request.trace (filed_asked request.files_to (lined_asked request.is_lined (json_asked request.is_json (replay_asked request))))
-asked (Plain request) = filed_asked request.files_to (plain_told_asked request.is_json request)
+asked (Plain request) = filed_asked request.files_to (plain_printed_asked request.is_json request)
 asked (Check request) = json_asked request.is_json (check_asked request.counts_turns request.tells_room request)
 asked (Explain request) = explain_told_asked request.fixes request
 asked (Explore request) = explore_asked request

@@ -6,21 +6,21 @@ ghost use Rattle.xvsh_ends.specs.Ends.{IsDue};
 ghost use Rattle.xvsh_ends.specs.Requests.{check_asked, json_asked};
 
 use crate::ending::Ending;
-use crate::printing::{code_of, print_as, report_as};
+use crate::printing::{print_as, report_as};
 use check_texts::{text_of_counted, text_of_findings, text_of_room};
 use result_json::{check_result, counted_result, room_result};
 use std::alloc::{AllocError, Global};
 use xvsh_checks::{
     CheckRequest, CountedFindings, Findings, RoomFindings, run_count, run_find, run_find_room,
 };
-use xvsh_read::Host;
+use xvsh_read::{Host, Status};
 
 // What is printed of the findings in a script's lines.
 fn lines_made(
     alloc: Global,
     is_json: bool,
     found: &Findings,
-    code: u8,
+    code: Status,
 ) -> Result<Vec<u8>, AllocError>
     ensures { is_json ≡ false → IfOk result (λ made. made.items ≡ findings_text found.now.list.items) }
 {
@@ -37,7 +37,7 @@ fn lines_ending<H: Host>(alloc: Global, request: &CheckRequest<'_>, host: &mut H
 {
     match run_find(alloc, request, host) {
         Ok(found) => {
-            let code = code_of(found.is_harmless);
+            let code = Status::by(found.is_harmless);
             let made = lines_made(alloc, request.is_json, &found, code);
             print_as(alloc, request.is_json, made, code)
         }
@@ -50,7 +50,7 @@ fn turns_made(
     alloc: Global,
     is_json: bool,
     counted: &CountedFindings,
-    code: u8,
+    code: Status,
 ) -> Result<Vec<u8>, AllocError>
     ensures { is_json ≡ false → IfOk result (λ made. made.items ≡ findings_text counted.now.findings.list.items ++ turns_told counted.now.turns) }
 {
@@ -67,7 +67,7 @@ fn turns_ending<H: Host>(alloc: Global, request: &CheckRequest<'_>, host: &mut H
 {
     match run_count(alloc, request, host) {
         Ok(counted) => {
-            let code = code_of(counted.findings.is_harmless);
+            let code = Status::by(counted.findings.is_harmless);
             let made = turns_made(alloc, request.is_json, &counted, code);
             print_as(alloc, request.is_json, made, code)
         }
@@ -80,7 +80,7 @@ fn room_made(
     alloc: Global,
     is_json: bool,
     room: &RoomFindings,
-    code: u8,
+    code: Status,
 ) -> Result<Vec<u8>, AllocError>
     ensures { is_json ≡ false → IfOk result (λ made. made.items ≡ findings_text room.now.findings.list.items ++ room_told room.now.found) }
 {
@@ -97,7 +97,7 @@ fn room_ending<H: Host>(alloc: Global, request: &CheckRequest<'_>, host: &mut H)
 {
     match run_find_room(alloc, request, host) {
         Ok(room) => {
-            let code = code_of(room.findings.is_harmless);
+            let code = Status::by(room.findings.is_harmless);
             let made = room_made(alloc, request.is_json, &room, code);
             print_as(alloc, request.is_json, made, code)
         }

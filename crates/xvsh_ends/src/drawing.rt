@@ -2,18 +2,19 @@
 ghost use Rattle.std.specs.Prelude.{◌≡◌, []};
 ghost use Rattle.xvsh_read.specs.Writing.{out_text};
 ghost use Rattle.xvsh_ends.specs.Ends.{IsDue, asks_draw, told_text};
+ghost use Rattle.xvsh_read.specs.Status.{status_code};
 
 use crate::ending::{Ending, Line, no_output, report, report_no_memory};
 use sh_lexer::Bytes;
 use std::alloc::Global;
 use xvsh_draws::{DrawFault, DrawRequest, run_draw};
-use xvsh_read::{Host, Output};
+use xvsh_read::{Host, Output, Status};
 
 // Prints a page.
 fn prints(alloc: Global, page: Vec<u8>) -> Ending
     ensures out { out_text result.output ≡ page.items }
     ensures told { told_text result ≡ [] }
-    ensures status { result.status ≡ 0 }
+    ensures status { status_code result.status ≡ 0 }
 {
     Ending {
         output: Output {
@@ -21,7 +22,7 @@ fn prints(alloc: Global, page: Vec<u8>) -> Ending
             ..no_output(alloc)
         },
         line: Line::Fixed(""),
-        status: 0,
+        status: Status::Done,
         recording: None,
         left: None,
         hint: "",

@@ -1,7 +1,7 @@
 //! How the program ends: what it prints, with which status, and how that is written.
 ghost use Rattle.std.specs.Prelude.{◌≡◌, [], OnErr, OnOk, MatchResult, string_bytes};
 ghost use Rattle.std.specs.Io.KnownBytes.{Appends};
-ghost use Rattle.xvsh_read.specs.Status.{fault_told, status_of};
+ghost use Rattle.xvsh_read.specs.Status.{fault_told, status_of, status_code};
 ghost use Rattle.xvsh_read.specs.Writing.{AppendsPart, out_text};
 ghost use Rattle.xvsh_runs.specs.Status.{run_fault_told, run_status};
 ghost use Rattle.xvsh_ends.specs.Ends.{Tells, TellsOr, Writes, line_text, told_text, untraced_told};
@@ -10,7 +10,7 @@ use mem_files::Files;
 use sh_lexer::Bytes;
 use std::alloc::{AllocError, Global};
 use std::io::Write;
-use xvsh_read::{Fault, Output, Unwritten, write, write_out};
+use xvsh_read::{Fault, Output, Status, Unwritten, write, write_out};
 use xvsh_runs::{ProcessFault, Recording};
 
 /// What the program itself reports on standard error: a text of its own, or one that was made.
@@ -36,12 +36,12 @@ impl Line {
 
 /// How the program ends: what it prints, and after its diagnostics a report of its own on standard error, and the status; and
 /// what makes the run once more, where it was one by processes; the files that it leaves, where a script ran; and for whoever sits at
-/// a terminal what helps, if anything does, and the numbers of the script's lines that are no command, where a text tells of a run.
+/// a terminal what helps, if anything does, and the numbers of the script's lines that are no command, where a text reports a run.
 #[derive(Drop)]
 pub struct Ending {
     pub output: Output,
     pub line: Line,
-    pub status: u8,
+    pub status: Status,
     pub recording: Option<Recording>,
     pub left: Option<Files<Global>>,
     pub hint: &'static str,
@@ -64,8 +64,8 @@ pub fn no_output(alloc: Global) -> Output
 }
 
 // This report alone, the status, and what helps.
-fn report_with(alloc: Global, line: Line, status: u8, hint: &'static str) -> Ending
-    ensures { Tells (line_text line) status result }
+fn report_with(alloc: Global, line: Line, status: Status, hint: &'static str) -> Ending
+    ensures { Tells (line_text line) (status_code status) result }
 {
     Ending {
         output: no_output(alloc),
@@ -79,8 +79,8 @@ fn report_with(alloc: Global, line: Line, status: u8, hint: &'static str) -> End
 }
 
 /// This report alone, and the status.
-pub fn report(alloc: Global, line: Line, status: u8) -> Ending
-    ensures { Tells (line_text line) status result }
+pub fn report(alloc: Global, line: Line, status: Status) -> Ending
+    ensures { Tells (line_text line) (status_code status) result }
 {
     report_with(alloc, line, status, "")
 }
@@ -89,12 +89,12 @@ pub fn report(alloc: Global, line: Line, status: u8) -> Ending
 pub fn report_no_memory(alloc: Global) -> Ending
     ensures { Tells (fault_told Fault.Memory) 4 result }
 {
-    report(alloc, Line::Fixed("xvsh: no memory\n"), 4)
+    report(alloc, Line::Fixed("xvsh: no memory\n"), Status::NoRoom)
 }
 
 /// A report that was made, with this status, or that memory was refused for it.
-pub fn report_made(alloc: Global, made: Result<String, AllocError>, status: u8) -> Ending
-    ensures { MatchResult made (λ text. Tells (string_bytes text) status result) (λ _. Tells (fault_told Fault.Memory) 4 result) }
+pub fn report_made(alloc: Global, made: Result<String, AllocError>, status: Status) -> Ending
+    ensures { MatchResult made (λ text. Tells (string_bytes text) (status_code status) result) (λ _. Tells (fault_told Fault.Memory) 4 result) }
 {
     match made {
         Ok(text) => report(alloc, Line::Made(text), status),
@@ -106,10 +106,10 @@ pub fn report_made(alloc: Global, made: Result<String, AllocError>, status: u8) 
 fn report_hinted(
     alloc: Global,
     made: Result<String, AllocError>,
-    status: u8,
+    status: Status,
     hint: &'static str,
 ) -> Ending
-    ensures { MatchResult made (λ text. Tells (string_bytes text) status result) (λ _. Tells (fault_told Fault.Memory) 4 result) }
+    ensures { MatchResult made (λ text. Tells (string_bytes text) (status_code status) result) (λ _. Tells (fault_told Fault.Memory) 4 result) }
 {
     match made {
         Ok(text) => report_with(alloc, Line::Made(text), status, hint),
@@ -147,7 +147,11 @@ pub fn report_run_fault(alloc: Global, fault: ProcessFault<'_>) -> Ending
 pub fn report_untraced(alloc: Global, path: &str) -> Ending
     ensures { TellsOr (untraced_told path.now) 1 result }
 {
-    report_made(alloc, format!(in alloc; "xvsh: cannot write {path}\n"), 1)
+    report_made(
+        alloc,
+        format!(in alloc; "xvsh: cannot write {path}\n"),
+        Status::Failed,
+    )
 }
 
 // Writes what goes to standard error.
@@ -161,16 +165,16 @@ fn write_told<E: Write>(err: &mut E, ending: &Ending) -> Result<(), Unwritten>
 
 /// Writes how the program ends, first to standard output and then to standard error, and returns its status; 1 where one of
 /// them takes no more, after which nothing more is written.
-pub fn write_ending<W: Write, E: Write>(ending: &Ending, out: &mut W, err: &mut E) -> u8
-    ensures writes { Writes (out_text ending.now.output) (told_text ending.now) ending.now.status (W.contents out.old) (W.contents out.new) (E.contents err.old) (E.contents err.new) result }
+pub fn write_ending<W: Write, E: Write>(ending: &Ending, out: &mut W, err: &mut E) -> Status
+    ensures writes { Writes (out_text ending.now.output) (told_text ending.now) (status_code ending.now.status) (W.contents out.old) (W.contents out.new) (E.contents err.old) (E.contents err.new) (status_code result) }
     ensures nothing { out_text ending.now.output ≡ [] → out.new ≡ out.old }
 {
     match write_out(out, &ending.output) {
         Ok(()) => match write_told(err, ending) {
             Ok(()) => ending.status,
-            Err(Unwritten) => 1,
+            Err(Unwritten) => Status::Failed,
         },
-        Err(Unwritten) => 1,
+        Err(Unwritten) => Status::Failed,
     }
 }
 
@@ -179,7 +183,7 @@ const UNWRITTEN: &str = "standard output or standard error takes no more, or is 
 
 /// What helps whoever sits at a terminal once an ending was written, and the program ends with this status; empty where nothing
 /// does.
-pub fn hint_of(ending: &Ending, status: u8) -> &'static str {
+pub fn hint_of(ending: &Ending, status: Status) -> &'static str {
     if status == ending.status {
         ending.hint
     } else {

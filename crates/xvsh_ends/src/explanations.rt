@@ -1,26 +1,26 @@
 //! How explanations end: with a text, or with one object of JSON, of the same values; or with the script mended.
-ghost use Rattle.std.specs.Prelude.{◌≡◌, ◌++◌, true, false, IfOk, map};
-ghost use Rattle.script_notes.specs.Written.{written};
-ghost use Rattle.missing_names.specs.Texts.{missing_texts, shown};
-ghost use Rattle.reason_sentences.specs.Sentences.{reason_text, why_text};
-ghost use Rattle.reason_sentences.specs.Ways.{ways_text};
-ghost use Rattle.xvsh_checks.specs.Explain.{written_of};
-ghost use Rattle.xvsh_checks.specs.Lacks.{lack_noted};
+ghost use Rattle.std.specs.Prelude.{◌≡◌, true, false, IfOk};
+ghost use Rattle.check_texts.specs.Explanations.{noted_text, whys_text};
 ghost use Rattle.xvsh_ends.specs.Ends.{IsDue};
 ghost use Rattle.xvsh_ends.specs.Requests.{explain_asked, explain_told_asked, fix_asked, json_asked};
 
 use crate::ending::{Ending, Line, report, report_fault};
-use crate::printing::{code_of, print_as, report_as};
+use crate::printing::{print_as, report_as};
 use crate::values::print_made;
 use check_texts::{text_of_noted, text_of_whys};
 use result_json::{ExplainValues, explain_result};
 use std::alloc::{AllocError, Global};
 use xvsh_checks::{ExplainRequest, Noted, NotedWhys, run_fix, run_note, run_note_whys};
-use xvsh_read::Host;
+use xvsh_read::{Host, Status};
 
 // What is printed of these notes.
-fn notes_made(alloc: Global, is_json: bool, noted: &Noted, code: u8) -> Result<Vec<u8>, AllocError>
-    ensures { is_json ≡ false → IfOk result (λ made. made.items ≡ written_of (written noted.now.notes.items ++ lack_noted noted.now.lack)) }
+fn notes_made(
+    alloc: Global,
+    is_json: bool,
+    noted: &Noted,
+    code: Status,
+) -> Result<Vec<u8>, AllocError>
+    ensures { is_json ≡ false → IfOk result (λ made. made.items ≡ noted_text noted.now) }
 {
     if !is_json {
         return text_of_noted(alloc, noted);
@@ -40,7 +40,7 @@ fn notes_ending<H: Host>(alloc: Global, request: &ExplainRequest<'_>, host: &mut
 {
     match run_note(alloc, request, host) {
         Ok(noted) => {
-            let code = code_of(noted.is_fine);
+            let code = Status::by(noted.is_fine);
             let made = notes_made(alloc, request.is_json, &noted, code);
             print_as(alloc, request.is_json, made, code)
         }
@@ -53,9 +53,9 @@ fn whys_made(
     alloc: Global,
     is_json: bool,
     noted: &NotedWhys,
-    code: u8,
+    code: Status,
 ) -> Result<Vec<u8>, AllocError>
-    ensures { is_json ≡ false → IfOk result (λ made. made.items ≡ written noted.now.notes.items ++ (missing_texts (map shown noted.now.missing.items) ++ (lack_noted noted.now.lack ++ (why_text (map reason_text noted.now.reasons.items) ++ ways_text noted.now.reasons.items)))) }
+    ensures { is_json ≡ false → IfOk result (λ made. made.items ≡ whys_text noted.now) }
 {
     if !is_json {
         return text_of_whys(alloc, noted);
@@ -75,7 +75,7 @@ fn whys_ending<H: Host>(alloc: Global, request: &ExplainRequest<'_>, host: &mut 
 {
     match run_note_whys(alloc, request, host) {
         Ok(noted) => {
-            let code = code_of(noted.is_fine);
+            let code = Status::by(noted.is_fine);
             let made = whys_made(alloc, request.is_json, &noted, code);
             print_as(alloc, request.is_json, made, code)
         }
@@ -88,11 +88,11 @@ fn fix_ending<H: Host>(alloc: Global, request: &ExplainRequest<'_>, host: &mut H
     ensures { IsDue (H.input host.old) (H.file host.old) (fix_asked request.now) result }
 {
     match run_fix(alloc, request, host) {
-        Ok(Some(text)) => print_made(alloc, Ok(text), 0),
+        Ok(Some(text)) => print_made(alloc, Ok(text), Status::Done),
         Ok(None) => report(
             alloc,
             Line::Fixed("xvsh: no mend by rule makes this script settled\n"),
-            1,
+            Status::Failed,
         ),
         Err(fault) => report_fault(alloc, fault),
     }

@@ -10,8 +10,7 @@ use crate::witnesses::{WitnessFault, make_folder, write_file};
 use mem_files::Files;
 use std::alloc::{AllocError, Global};
 use std::str;
-use xvsh_read::Unwritten;
-use xvsh_traces::Traces;
+use xvsh_read::{Traces, Unwritten};
 
 // The path of the file of this name.
 fn path_of(alloc: Global, folder: &str, name: &str) -> Result<String, AllocError>

@@ -2,7 +2,6 @@
 #![tactic(auto)]
 
 mod checks;
-mod diagnosing;
 mod drawing;
 mod ending;
 mod explanations;
@@ -18,7 +17,6 @@ mod process_faults;
 mod processes;
 mod request;
 mod run_objects;
-mod strictly;
 mod tracing;
 mod unpaired;
 mod unread;

@@ -1,4 +1,4 @@
-//! How a run ends whose diagnostics are told with the lines of the script that they come from.
+//! How a run ends whose diagnostics are printed with the lines of the script that they come from.
 ghost use Rattle.std.specs.Prelude.{◌≡◌, ◌++◌, ℕ, List, Option, IfOk, IfSome};
 ghost use Rattle.xvsh_read.specs.Path.{Path};
 ghost use Rattle.xvsh_read.specs.Writing.{out_text};
@@ -60,7 +60,7 @@ fn with_told(ending: Ending, told: Vec<u8>) -> Ending
     }
 }
 
-// Tells with the numbers of lines how a run has ended.
+// Reports with the numbers of lines how a run has ended.
 fn lined_ending(alloc: Global, ending: Ending) -> Ending
     ensures { (input : Option (List ℕ)) (file : Path → Option (List ℕ)) (what : Asked) → IsDue input file what ending → IsDue input file (asks_lined what) result }
 {
@@ -71,7 +71,7 @@ fn lined_ending(alloc: Global, ending: Ending) -> Ending
     }
 }
 
-/// Tells with the numbers of the script's lines how a run has ended, if that is requested.
+/// Reports with the numbers of the script's lines how a run has ended, if that is requested.
 pub(crate) fn lined_if(alloc: Global, ending: Ending, is_lined: bool) -> Ending
     ensures { (input : Option (List ℕ)) (file : Path → Option (List ℕ)) (what : Asked) → IsDue input file what ending → IsDue input file (lined_asked is_lined what) result }
 {

@@ -7,8 +7,7 @@ ghost use Rattle.xvsh_ends.specs.Requests.{traced_asked};
 use crate::ending::{Ending, report_untraced};
 use crate::tracing::beside;
 use std::alloc::Global;
-use xvsh_read::Unwritten;
-use xvsh_traces::Traces;
+use xvsh_read::{Traces, Unwritten};
 
 // Writes a page at this path, if there is one.
 fn write_page<T: Traces>(

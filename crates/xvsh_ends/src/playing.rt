@@ -6,9 +6,9 @@ ghost use Rattle.xvsh_ends.specs.Requests.{played_asked};
 
 use crate::ending::{Ending, report_made};
 use crate::pages::drawn;
+use explore_texts::{PageFault, Played};
 use std::alloc::Global;
-use xvsh_explores::{PageFault, Played};
-use xvsh_traces::Traces;
+use xvsh_read::{Status, Traces};
 
 // Reports that there is no page, and why.
 fn report_unplayed(alloc: Global, fault: PageFault) -> Ending
@@ -17,7 +17,7 @@ fn report_unplayed(alloc: Global, fault: PageFault) -> Ending
     report_made(
         alloc,
         format!(in alloc; "xvsh: no page to play: {fault}\n"),
-        4,
+        Status::NoRoom,
     )
 }
 

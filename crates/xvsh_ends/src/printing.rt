@@ -1,31 +1,23 @@
 //! Prints what was found: as one object of JSON, if one is requested, or as a text.
 ghost use Rattle.std.specs.Prelude.{◌≡◌, [], false, IfOk};
 ghost use Rattle.mem_files.specs.Name.{Bytes};
-ghost use Rattle.xvsh_read.specs.Status.{fault_told, status_of};
-ghost use Rattle.xvsh_ends.specs.Ends.{check_status};
+ghost use Rattle.xvsh_read.specs.Status.{fault_told, status_of, status_code};
 ghost use Rattle.xvsh_ends.specs.Printed.{IsPrinted};
 
 use crate::ending::{Ending, report_fault};
 use crate::values::print_made;
 use result_json::fault_result;
 use std::alloc::{AllocError, Global};
-use xvsh_read::Fault;
-
-/// The status where all is fine, and else.
-pub(crate) fn code_of(is_fine: bool) -> u8
-    ensures { result ≡ check_status is_fine }
-{
-    if is_fine { 0 } else { 3 }
-}
+use xvsh_read::{Fault, Status};
 
 /// Prints what was made of values: an object if one is requested, or a text.
 pub(crate) fn print_as(
     alloc: Global,
     is_json: bool,
     made: Result<Vec<u8>, AllocError>,
-    status: u8,
+    status: Status,
 ) -> Ending
-    ensures { (text : Bytes) → (is_json ≡ false → IfOk made (λ found. found.items ≡ text)) → IsPrinted is_json text [] status result }
+    ensures { (text : Bytes) → (is_json ≡ false → IfOk made (λ found. found.items ≡ text)) → IsPrinted is_json text [] (status_code status) result }
 {
     print_made(alloc, made, status)
 }

@@ -3,6 +3,7 @@ ghost use Rattle.std.specs.Prelude.{◌≡◌, []};
 ghost use Rattle.xvsh_read.specs.Writing.{out_text};
 ghost use Rattle.xvsh_ends.specs.Ends.{IsDue};
 ghost use Rattle.xvsh_ends.specs.Requests.{UnlessPrinted, asked};
+ghost use Rattle.xvsh_read.specs.Status.{status_code};
 
 use crate::checks::check_ending;
 use crate::drawing::draw_ending;
@@ -12,7 +13,7 @@ use crate::explorations::explore_ending;
 use crate::filing::filed;
 use crate::lining::lined_if;
 use crate::plain::plain_ending;
-use crate::run_objects::{replay_told, run_told};
+use crate::processes::{replay_ending, run_ending};
 use crate::tracing::{scheduled, traced};
 use std::alloc::Global;
 use std::sync::Wait;
@@ -22,9 +23,8 @@ use xvsh_checks::{CheckRequest, ExplainRequest};
 use xvsh_draws::DrawRequest;
 use xvsh_explores::{ExploreRequest, Watch};
 use xvsh_plain::PlainRequest;
-use xvsh_read::Host;
+use xvsh_read::{Host, Traces};
 use xvsh_runs::{ReplayRequest, RunRequest};
-use xvsh_traces::Traces;
 
 /// What the program is asked for: one of its commands.
 #[derive(Clone, Copy, Debug)]
@@ -54,18 +54,18 @@ pub fn ending_of<R: Threads + Wait + Clock + Sync, H: Host + Traces + Watch>(
     host: &mut H,
 ) -> Ending
     ensures due { IsDue (H.input host.old) (H.file host.old) (asked request.now) result }
-    ensures nothing { UnlessPrinted (asked request.now) result.status (out_text result.output ≡ []) }
+    ensures nothing { UnlessPrinted (asked request.now) (status_code result.status) (out_text result.output ≡ []) }
 {
     match request {
         Request::Run(run) => {
-            let ending = run_told(rt, alloc, run, host);
+            let ending = run_ending(rt, alloc, run, host);
             let ending = lined_if(alloc, ending, run.is_lined);
             let ending = filed(alloc, ending, run.files_to, host);
             let ending = scheduled(alloc, ending, run.schedule_to, host);
             traced(alloc, ending, run.trace, host)
         }
         Request::Replay(replay) => {
-            let ending = replay_told(alloc, replay, host);
+            let ending = replay_ending(alloc, replay, host);
             let ending = lined_if(alloc, ending, replay.is_lined);
             let ending = filed(alloc, ending, replay.files_to, host);
             traced(alloc, ending, replay.trace, host)

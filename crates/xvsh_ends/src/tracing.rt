@@ -9,8 +9,8 @@ use crate::ending::{Ending, no_output, report_no_memory, report_untraced};
 use crate::witnesses::write_file;
 use schedule_lines::schedule_text;
 use std::alloc::Global;
-use xvsh_read::{Output, STDIN, Unwritten};
-use xvsh_traces::{TraceFault, Traces, trace_run};
+use xvsh_read::{Output, STDIN, Traces, Unwritten};
+use xvsh_traces::{TraceFault, trace_run};
 
 /// What is printed beside a trace, or a page, at this path: where that is standard output, the diagnostics alone.
 pub(crate) fn beside(alloc: Global, ending: Ending, path: &str) -> Ending
@@ -53,14 +53,11 @@ fn write_recorded<T: Traces>(
     traces: &mut T,
 ) -> Result<(), TraceFault> {
     match &ending.recording {
-        Some(made) => trace_run(
-            alloc,
-            traces,
-            path,
-            &made.start,
-            made.schedule.as_slice(),
-            made.harts,
-        ),
+        Some(made) => {
+            traces.begin_trace(path)?;
+            let schedule = made.schedule.as_slice();
+            trace_run(alloc, traces, &made.start, schedule, made.harts)
+        }
         None => Ok(()),
     }
 }

@@ -1,21 +1,23 @@
-//! How an exploration ends of which nothing is told.
+//! How an exploration ends of which nothing is shown.
 ghost use Rattle.std.specs.Prelude.{ℕ, List, Option};
 ghost use Rattle.xvsh_read.specs.Path.{Path};
 ghost use Rattle.xvsh_explores.specs.Explores.{IsExploringFault};
 ghost use Rattle.xvsh_ends.specs.Ends.{Asked, IsDue, IsPairStatus, asks_paired};
 ghost use Rattle.xvsh_ends.specs.Requests.{explore_plainly_asked};
+ghost use Rattle.xvsh_read.specs.Status.{status_code};
 
 use crate::ending::{Ending, report_fault, report_made};
 use result_json::{FaultPlace, FaultValues, fault_result, told_fault_result};
 use std::alloc::{AllocError, Global};
 use xvsh_explores::{ExploreRequest, ExploringFault};
+use xvsh_read::Status;
 
 // The number and the name of the fault that an outcome isn't there.
 const NO_OUTCOME: (u64, &str) = (16, "NoOutcome");
 
 // Reports a word that names no two outcomes, or one that isn't there.
-fn report_unpaired(alloc: Global, fault: ExploringFault<'_>, status: u8) -> Ending
-    ensures { (input : Option (List ℕ)) (file : Path → Option (List ℕ)) (what : Asked) (word : Path) → IsPairStatus status → IsDue input file (asks_paired what word) result }
+fn report_unpaired(alloc: Global, fault: ExploringFault<'_>, status: Status) -> Ending
+    ensures { (input : Option (List ℕ)) (file : Path → Option (List ℕ)) (what : Asked) (word : Path) → IsPairStatus (status_code status) → IsDue input file (asks_paired what word) result }
 {
     report_made(alloc, format!(in alloc; "xvsh: {fault}\n"), status)
 }
@@ -30,8 +32,8 @@ pub(crate) fn report_exploring(
 {
     match fault {
         ExploringFault::Common(common) => report_fault(alloc, common),
-        ExploringFault::NoPair(_) => report_unpaired(alloc, fault, 2),
-        ExploringFault::NoOutcome(_, _) => report_unpaired(alloc, fault, 1),
+        ExploringFault::NoPair(_) => report_unpaired(alloc, fault, Status::Misused),
+        ExploringFault::NoOutcome(_, _) => report_unpaired(alloc, fault, Status::Failed),
     }
 }
 
@@ -51,5 +53,5 @@ pub(crate) fn exploring_fault_result(
         text: text.as_bytes(),
         place: FaultPlace::NOWHERE,
     };
-    told_fault_result(alloc, "explore", &values, 1)
+    told_fault_result(alloc, "explore", &values, Status::Failed)
 }

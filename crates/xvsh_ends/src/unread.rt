@@ -5,6 +5,7 @@ ghost use Rattle.xvsh_read.specs.Reading.{IsReadFault, max_input, told_at};
 ghost use Rattle.xvsh_read.specs.Writing.{out_text};
 ghost use Rattle.xvsh_ends.specs.Ends.{IsDue};
 ghost use Rattle.xvsh_ends.specs.Requests.{UnlessPrinted, unread_asked, wants_json};
+ghost use Rattle.xvsh_read.specs.Status.{status_code};
 
 use crate::ending::{Ending, report_fault};
 use crate::request::Request;
@@ -33,7 +34,7 @@ fn json_name(request: &Request<'_>) -> Option<&'static str>
 /// object of JSON, where the request asks for one.
 pub fn unread_ending(alloc: Global, request: &Request<'_>, fault: Fault<'_>) -> Ending
     ensures due { (input : Option (List ℕ)) (file : Path → Option (List ℕ)) (path : Path) → IsReadFault max_input (told_at input file path) path fault.entry → IsDue input file (unread_asked request.now path) result }
-    ensures nothing { (path : Path) → UnlessPrinted (unread_asked request.now path) result.status (out_text result.output ≡ []) }
+    ensures nothing { (path : Path) → UnlessPrinted (unread_asked request.now path) (status_code result.status) (out_text result.output ≡ []) }
 {
     match json_name(request) {
         Some(name) => {

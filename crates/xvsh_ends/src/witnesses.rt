@@ -5,8 +5,7 @@ ghost use Rattle.xvsh_ends.specs.Witnesses.{IsWitnessFault};
 ghost use Rattle.xvsh_ends.specs.Filing.{IsFilingFault};
 
 use std::alloc::{AllocError, Global};
-use xvsh_read::Unwritten;
-use xvsh_traces::Traces;
+use xvsh_read::{Traces, Unwritten};
 
 // Why there is no folder of schedules.
 #[derive(Drop)]

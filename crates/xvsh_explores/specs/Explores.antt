@@ -1,12 +1,14 @@
 -- What `explore` finds of a script.
-use Rattle.std.specs.Prelude.{◌≡◌, ℕ, Bool, false, List, Option, Some}
+use Rattle.std.specs.Prelude.{◌≡◌, ℕ, Bool, false, List, [], Option, Some}
 use Rattle.std.specs.Borrow.{Bor}
 use Rattle.mem_files.specs.Name.{Name, Bytes}
 use Rattle.script_load.specs.declared.profile.Profile.{Profile}
 use Rattle.script_load.specs.Line.{ScriptLine}
 use Rattle.script_outcomes.specs.Named.{IsNamed}
 use Rattle.script_outcomes.specs.declared.pair.Pair.{Pair}
+use Rattle.order_search.specs.declared.outcomes.Outcome.{Outcome}
 use Rattle.script_outcomes.specs.declared.finding.Found.{Found}
+use Rattle.script_outcomes.specs.declared.finding.Found.TheVariants.{Settled, Tried}
 use Rattle.script_outcomes.specs.Found.{IsFound}
 use Rattle.xvsh_read.specs.declared.fault.Fault.{Fault}
 use Rattle.xvsh_read.specs.declared.fault.Fault.TheVariants.{TooLarge, Memory}
@@ -14,6 +16,11 @@ use Rattle.xvsh_read.specs.Path.{Path}
 use Rattle.xvsh_read.specs.Starting.{Starts, IsStartFault}
 use Rattle.xvsh_explores.specs.declared.fault.ExploringFault.{ExploringFault}
 use Rattle.xvsh_explores.specs.declared.fault.ExploringFault.TheVariants.{Common, NoPair, NoOutcome}
+
+-- the outcomes that were found by trying orders
+abbrev pub tried_outcomes : Found → List Outcome
+tried_outcomes (Settled value) = []
+tried_outcomes (Tried tried) = tried.found.outcomes.items
 
 -- where there is the word of a pair, these are the two outcomes that it names
 abbrev pub IsPairOf : Option (Bor Path) → Option Pair → Type 0

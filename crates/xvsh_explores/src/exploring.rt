@@ -1,136 +1,36 @@
-//! What `explore` does: it reads a script, its files and its input, finds what the script can leave, and returns what is shown of it.
-ghost use Rattle.std.specs.Prelude.{◌≡◌, ◌⊎◌, IfOk, IfErr, false};
+//! What `explore` does: it reads a script, its files and its input, and finds what the script can leave.
+ghost use Rattle.std.specs.Prelude.{◌≡◌, ◌⊎◌, IfOk, IfErr, IfSome, None, false};
 ghost use Rattle.script_load.specs.Line.{lines_of};
-ghost use Rattle.dead_lines.specs.Dead.{bad_lines};
 ghost use Rattle.script_outcomes.specs.Found.{IsFound};
-ghost use Rattle.xvsh_plain.specs.Dead.{AreBadAt};
-ghost use Rattle.xvsh_explores.specs.Explores.{IsExploringFault, IsPairFault, IsPairOf, RanExplore};
+ghost use Rattle.script_outcomes.specs.Pairs.{IsClearest};
+ghost use Rattle.script_outcomes.specs.declared.pair.Pair.{Pair};
+ghost use Rattle.xvsh_plain.specs.Dead.{AreBadAt, AreDeadAt};
+ghost use Rattle.xvsh_explores.specs.Explores.{IsExploringFault, IsPairFault, IsPairOf, RanExplore, tried_outcomes};
 ghost use Rattle.xvsh_read.specs.declared.fault.Fault.TheVariants.{Memory, TooLarge};
 
-use crate::drawing::page_of;
 use crate::fault::ExploringFault;
-use crate::findings::{Findings, findings_of, schedules_of};
-use crate::objects::{object_of, object_of_settled};
-use crate::playing::{Played, page_to_play};
 use crate::request::ExploreRequest;
-use crate::telling::{told, told_settled};
 use dead_lines::{bad_lines, dead_lines};
-use order_partings::Scene;
-use plain_run::Plain;
 use script_outcomes::{
-    ExploreFault, Found, Limits, Pair, Setting, Tried, Watch, concluded, named_pair, outcomes_of,
+    ExploreFault, Found, Limits, Outcome, Pair, Setting, Watch, named_pair, outcomes_of, shown_pair,
 };
-use std::alloc::{AllocError, Global};
+use std::alloc::Global;
 use xvsh_read::{Fault, Host, Start, prepare};
 
-/// What was found of a script, and what is shown of it.
+/// What was found of a script.
 #[derive(Drop)]
 pub struct Explored {
+    /// What its runs begin with.
+    pub start: Start,
     /// What was found.
     pub found: Found,
-    /// The text, or the object.
-    pub text: Vec<u8>,
-    /// Where a folder for schedules was given, one of each outcome, as text, in the order of their numbers; else none.
-    pub schedules: Vec<Vec<u8>>,
-    /// The places of the two outcomes that are told apart and drawn, if any are.
+    /// The places of the two outcomes that are compared and drawn, if any are: those that are asked for, or else those whose difference is
+    /// easiest to see.
     pub pair: Option<Pair>,
-    /// Where a page is asked for and an outcome was found, the page of these two, or of the only outcome.
-    pub page: Option<Vec<u8>>,
-    /// What became of the page to play.
-    pub played: Played,
     /// The numbers, from 1, of the script's lines that are no command.
     pub bad: Vec<usize>,
-}
-
-// What is shown of what was found.
-#[derive(Drop)]
-struct Shown {
-    text: Vec<u8>,
-    schedules: Vec<Vec<u8>>,
-    pair: Option<Pair>,
-    page: Option<Vec<u8>>,
-}
-
-// The text or the object of a settled script.
-fn text_of_settled(
-    alloc: Global,
-    start: &Start,
-    request: &ExploreRequest<'_>,
-    value: &Plain<Global>,
-) -> Result<Vec<u8>, AllocError> {
-    if request.is_json {
-        let dead = dead_lines(alloc, start.script.lines.as_slice())?;
-        object_of_settled(alloc, value, dead.as_slice())
-    } else {
-        told_settled(alloc, value.out.as_slice())
-    }
-}
-
-// What trying orders found: the whole, its outcomes, and how they are reached.
-#[derive(Clone, Copy)]
-struct Finds<'f> {
-    found: &'f Found,
-    tried: &'f Tried,
-    findings: &'f Findings,
-}
-
-// The text or the object of what trying orders found.
-fn text_of(
-    alloc: Global,
-    start: &Start,
-    request: &ExploreRequest<'_>,
-    finds: Finds<'_>,
-) -> Result<Vec<u8>, AllocError> {
-    let Finds {
-        found,
-        tried,
-        findings,
-    } = finds;
-    if request.is_json {
-        let dead = dead_lines(alloc, start.script.lines.as_slice())?;
-        object_of(alloc, tried, findings, concluded(found), dead.as_slice())
-    } else {
-        told(alloc, request, tried, findings)
-    }
-}
-
-// What is shown of what was found, but for the page to play.
-fn show(
-    alloc: Global,
-    start: &Start,
-    request: &ExploreRequest<'_>,
-    asked: Option<Pair>,
-    found: &Found,
-) -> Result<Shown, AllocError> {
-    let tried = match found {
-        Found::Settled(value) => {
-            return Ok(Shown {
-                text: text_of_settled(alloc, start, request, value)?,
-                schedules: Vec::new(alloc),
-                pair: None,
-                page: None,
-            });
-        }
-        Found::Tried(tried) => tried,
-    };
-    let scene = Scene {
-        script: &start.script,
-        stdin: start.stdin.as_slice(),
-        files: &start.files,
-    };
-    let outcomes = tried.found.outcomes.as_slice();
-    let findings = findings_of(alloc, &scene, outcomes, asked)?;
-    let finds = Finds {
-        found,
-        tried,
-        findings: &findings,
-    };
-    Ok(Shown {
-        text: text_of(alloc, start, request, finds)?,
-        schedules: schedules_of(alloc, request, &findings)?,
-        pair: findings.pair,
-        page: page_of(alloc, start, request, outcomes, &findings)?,
-    })
+    /// Those of the lines that are no command or name no program.
+    pub dead: Vec<usize>,
 }
 
 // Whether something is asked for that only trying orders shows: every turn, a schedule of each outcome, a page, or a pair.
@@ -153,11 +53,12 @@ fn limits_of(request: &ExploreRequest<'_>) -> Limits
     }
 }
 
-// What was found of a script from what its runs begin with.
-fn find<'a, W: Watch>(
+/// What is found of a script from what its runs begin with: as `run_explore`, of a request whose source was read. `watch` is shown how many
+/// states were found.
+pub fn explore_start<'a, W: Watch>(
     alloc: Global,
     start: &Start,
-    request: &ExploreRequest<'a>,
+    request: &ExploreRequest<'_>,
     watch: &mut W,
 ) -> Result<Found, Fault<'a>>
     ensures found { IfOk result (IsFound start.now.script.profile (lines_of start.now.script.lines) start.now.stdin.items start.now.files request.now.states request.now.is_thorough) }
@@ -176,42 +77,10 @@ fn find<'a, W: Watch>(
     }
 }
 
-/// What is found and shown of a script from what its runs begin with: as `run_explore`, of a request whose source was read and whose pair
-/// is the one that is asked for. `watch` is told how many states were found.
-pub fn explore_start<'a, W: Watch>(
-    alloc: Global,
-    start: &Start,
-    request: &ExploreRequest<'a>,
-    asked: Option<Pair>,
-    watch: &mut W,
-) -> Result<Explored, Fault<'a>>
-    ensures found { IfOk result (λ explored. IsFound start.now.script.profile (lines_of start.now.script.lines) start.now.stdin.items start.now.files request.now.states request.now.is_thorough explored.found) }
-    ensures bad { IfOk result (λ explored. explored.bad.items ≡ bad_lines (lines_of start.now.script.lines)) }
-    ensures fault { IfErr result (λ fault. (fault ≡ Memory) ⊎ (fault ≡ TooLarge)) }
-{
-    let found = find(alloc, start, request, watch)?;
-    let Shown {
-        text,
-        schedules,
-        pair,
-        page,
-    } = show(alloc, start, request, asked, &found)?;
-    let played = page_to_play(alloc, start, request, watch)?;
-    let bad = bad_lines(alloc, start.script.lines.as_slice())?;
-    Ok(Explored {
-        found,
-        text,
-        schedules,
-        pair,
-        page,
-        played,
-        bad,
-    })
-}
-
 // The pair that the request asks for, if it asks for one.
 fn asked_pair<'a>(request: &ExploreRequest<'a>) -> Result<Option<Pair>, ExploringFault<'a>>
     ensures pair { IfOk result (IsPairOf request.now.pair) }
+    ensures none { IfOk result (λ pair. request.now.pair ≡ None → pair ≡ None) }
     ensures fault { IfErr result (IsPairFault request.now.pair) }
 {
     let Some(word) = request.pair else {
@@ -223,6 +92,16 @@ fn asked_pair<'a>(request: &ExploreRequest<'a>) -> Result<Option<Pair>, Explorin
     }
 }
 
+// The outcomes that were found by trying orders.
+fn tried(found: &Found) -> &[Outcome]
+    ensures { result.now ≡ tried_outcomes found.now }
+{
+    match found {
+        Found::Settled(_) => &[],
+        Found::Tried(tried) => tried.found.outcomes.as_slice(),
+    }
+}
+
 // How many outcomes were found.
 fn count_of(found: &Found) -> usize {
     match found {
@@ -231,32 +110,32 @@ fn count_of(found: &Found) -> usize {
     }
 }
 
-// What was shown, if it is of the pair that the request asks for.
-fn with_pair<'a>(
+// The two outcomes that are compared, or that those which the request asks for aren't there.
+fn pair_of<'a>(
     request: &ExploreRequest<'a>,
     asked: Option<Pair>,
-    explored: Explored,
-) -> Result<Explored, ExploringFault<'a>>
-    ensures same { IfOk result (λ shown. shown ≡ explored) }
-    ensures pair { IfOk result (λ shown. IsPairOf request.now.pair asked → IsPairOf request.now.pair shown.pair) }
+    found: &Found,
+) -> Result<Option<Pair>, ExploringFault<'a>>
+    ensures pair { IfOk result (λ pair. IsPairOf request.now.pair asked → IsPairOf request.now.pair pair) }
+    ensures clearest { IfOk result (λ pair. asked ≡ None → IfSome pair (IsClearest (tried_outcomes found.now))) }
     ensures fault { IfErr result (IsPairFault request.now.pair) }
 {
+    let shown = shown_pair(tried(found), asked);
     match request.pair {
         Some(word) => {
-            if explored.pair == asked {
-                Ok(explored)
+            if shown == asked {
+                Ok(shown)
             } else {
-                let count = count_of(&explored.found);
-                Err(ExploringFault::NoOutcome(word, count))
+                Err(ExploringFault::NoOutcome(word, count_of(found)))
             }
         }
-        None => Ok(explored),
+        None => Ok(shown),
     }
 }
 
-/// `explore`: reads the script, the files in order, and standard input unless that is the script, finds what the script can leave,
-/// and returns what is shown of it (own). A settled script that has room leaves what it means, and no order of it is tried,
-/// unless the request is thorough or asks for schedules, a page or a pair, or some file is soft. The host is told how many states were found.
+/// `explore`: reads the script, the files in order, and standard input unless that is the script, and finds what the script can leave
+/// (own). A settled script that has room leaves what it means, and no order of it is tried,
+/// unless the request is thorough or asks for schedules, a page or a pair, or some file is soft. The host is shown how many states were found.
 /// Nothing is written.
 ///
 /// A run with more turns than can be counted is the fault `TooLarge`. `NoPair` of a word that names no two outcomes, and `NoOutcome` of
@@ -268,11 +147,22 @@ pub fn run_explore<'a, H: Host + Watch>(
 ) -> Result<Explored, ExploringFault<'a>>
     ensures ran { IfOk result (λ explored. RanExplore (H.input host.old) (H.file host.old) request.now.source.profile request.now.source.script.now request.now.source.files.now request.now.states request.now.is_thorough explored.found) }
     ensures bad { IfOk result (λ explored. AreBadAt (H.input host.old) (H.file host.old) request.now.source.script.now explored.bad.items) }
+    ensures dead { IfOk result (λ explored. AreDeadAt (H.input host.old) (H.file host.old) request.now.source.script.now explored.dead.items) }
     ensures pair { IfOk result (λ explored. IsPairOf request.now.pair explored.pair) }
+    ensures clearest { IfOk result (λ explored. request.now.pair ≡ None → IfSome explored.pair (IsClearest (tried_outcomes explored.found))) }
     ensures fault { IfErr result (IsExploringFault (H.input host.old) (H.file host.old) request.now.source.script.now request.now.source.files.now request.now.pair) }
 {
     let asked = asked_pair(request)?;
     let start = prepare(alloc, host, &request.source, false)?;
-    let explored = explore_start(alloc, &start, request, asked, host)?;
-    with_pair(request, asked, explored)
+    let found = explore_start(alloc, &start, request, host)?;
+    let pair = pair_of(request, asked, &found)?;
+    let bad = bad_lines(alloc, start.script.lines.as_slice())?;
+    let dead = dead_lines(alloc, start.script.lines.as_slice())?;
+    Ok(Explored {
+        start,
+        found,
+        pair,
+        bad,
+        dead,
+    })
 }

@@ -1,5 +1,6 @@
-//! Why nothing is told.
+//! Why nothing is found.
 
+use std::alloc::AllocError;
 use std::fmt;
 use xvsh_read::Fault;
 
@@ -37,5 +38,17 @@ impl<'a> From<Fault<'a>> for ExploringFault<'a> {
 
     fn from(fault: Fault<'a>) -> ExploringFault<'a> {
         ExploringFault::Common(fault)
+    }
+}
+
+impl<'a> From<AllocError> for ExploringFault<'a> {
+    ghost use Rattle.std.specs.Prelude.{◌≡◌};
+    ghost use Rattle.xvsh_read.specs.declared.fault.Fault.TheVariants.{Memory};
+    ghost use Rattle.xvsh_explores.specs.declared.fault.ExploringFault.TheVariants.{Common};
+
+    ghost from_gives = { λ _ given. given ≡ Common Memory };
+
+    fn from(_error: AllocError) -> ExploringFault<'a> {
+        ExploringFault::Common(Fault::Memory)
     }
 }

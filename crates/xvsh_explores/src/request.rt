@@ -21,7 +21,7 @@ pub struct ExploreRequest<'a> {
     pub draw: Option<&'a str>,
     /// The path of the page to play, if there is to be one. For it a settled script is explored too.
     pub play: Option<&'a str>,
-    /// The word of the two outcomes that are told apart and drawn, as `1,2`; without it those whose difference is easiest to see are.
+    /// The word of the two outcomes that are compared and drawn, as `1,2`; without it those whose difference is easiest to see are.
     /// For it a settled script is explored too.
     pub pair: Option<&'a str>,
     /// Print an object of JSON.

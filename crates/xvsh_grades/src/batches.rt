@@ -129,7 +129,7 @@ fn add_too_large<'t, 'a>(
     Ok(())
 }
 
-// Tells the host how far it is, where a script was judged.
+// Shows the host how far it is, where a script was judged.
 fn tell<H: Grading>(host: &mut H, scripts: usize, done: usize, of: usize)
     ensures { H.file host.new ≡ H.file host.old }
 {
@@ -157,7 +157,7 @@ impl<'t, 'a> Book<'t, 'a> {
         self.room == 0 || self.waiting.len().saturating_mul(plan.tests.len()) >= BATCH
     }
 
-    // Judges the scripts that wait, and tells the host how far it is.
+    // Judges the scripts that wait, and shows the host how far it is.
     fn judge_waiting<R: Threads + Wait + Clock + Sync, H: Grading>(
         &mut self,
         rt: &R,

@@ -20,7 +20,7 @@ fn write_report<W: Write>(out: &mut W, report: &Report) -> u8
     ensures { (marks : List Mark) → IsReportOf marks report.now → Reports (W.contents out.old) (W.contents out.new) marks report.now result }
 {
     match write(out, report.text.as_slice()) {
-        Ok(()) => status_of(report),
+        Ok(()) => status_of(report).code(),
         Err(_) => 1,
     }
 }
@@ -42,7 +42,7 @@ pub fn run_grade<R: Threads + Wait + Clock + Sync, H: Grading, W: Write, E: Writ
         Ok(report) => write_report(&mut console.out, &report),
         Err(fault) => {
             let _ = writeln!(console.err, "xvsh: {fault}");
-            fault.status()
+            fault.status().code()
         }
     }
 }

@@ -6,12 +6,14 @@ ghost use Rattle.grade_report.specs.Sums.{IsSumOf};
 ghost use Rattle.grade_report.specs.declared.rows.Row.{Row};
 ghost use Rattle.xvsh_grades.specs.Passed.{AreAllPassed, HasVerdict, IsPassed, IsReportOf, IsRowOf, IsStatusOf};
 ghost use Rattle.xvsh_grades.specs.declared.marks.Mark.{Mark};
+ghost use Rattle.xvsh_read.specs.Status.{status_code};
 
 use crate::marks::Mark;
 use crate::request::{Form, Report};
 use grade_report::{Row, gradescope_text, object_text, sum_of, table_text, tap_text};
 use grade_verdicts::passes;
 use std::alloc::{AllocError, Global};
+use xvsh_read::Status;
 
 // The row of a mark.
 fn row_of<'r>(mark: &'r Mark<'_, '_>) -> Row<'r>
@@ -105,14 +107,14 @@ pub fn report_of(
 }
 
 /// The status of a report: 4 where a test wasn't judged, else 0 where every test was passed, else 3.
-pub(crate) fn status_of(report: &Report) -> u8
-    ensures { (marks : List Mark) → IsReportOf marks report.now → IsStatusOf marks result }
+pub(crate) fn status_of(report: &Report) -> Status
+    ensures { (marks : List Mark) → IsReportOf marks report.now → IsStatusOf marks (status_code result) }
 {
     if !report.is_judged {
-        4
+        Status::NoRoom
     } else if report.has_passed {
-        0
+        Status::Done
     } else {
-        3
+        Status::Amiss
     }
 }

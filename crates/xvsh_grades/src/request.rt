@@ -1,4 +1,4 @@
-//! What `grade` is asked for, what it answers, and who is told how far it is.
+//! What `grade` is asked for, what it answers, and who is shown how far it is.
 
 ghost use Rattle.std.specs.Prelude.{◌≡◌};
 
@@ -44,7 +44,7 @@ pub struct Report {
     pub is_judged: bool,
 }
 
-/// Who is told how far the grading is.
+/// Who is shown how far the grading is.
 pub trait Grading: Host {
     /// So many verdicts of so many are there.
     fn graded(&mut self, done: usize, of: usize)

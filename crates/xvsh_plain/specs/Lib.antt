@@ -1,4 +1,3 @@
 pub mod Running
 pub mod Dead
 pub mod Reasoned
-pub mod Strict

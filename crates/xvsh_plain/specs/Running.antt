@@ -57,10 +57,6 @@ module _ (input : Option Bytes) (file : Path → Option Bytes) where
     no_start : {fault : Fault} → IsStartFault input file false script paths fault → IsPlainFault profile script paths fault
     no_run : {fault : Fault} (lines : List ScriptLine) (given : List (Name × Bytes)) (stdin : Bytes) → Starts input file false script paths lines given stdin → IsMeaningFault profile lines stdin (files given) fault → IsPlainFault profile script paths fault
 
-  -- a request was carried out, whose script is settled or not, and gave this text
-  abbrev pub DidPlain : PlainRequest → Bool → Bytes → Type 0
-  DidPlain request is_settled text = RanPlain request.source.profile request.source.script.now request.source.files.now request.lists_files is_settled text
-
   -- why it wasn't
   abbrev pub IsPlainRefusal : PlainRequest → Fault → Type 0
   IsPlainRefusal request = IsPlainFault request.source.profile request.source.script.now request.source.files.now

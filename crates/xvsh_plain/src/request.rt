@@ -14,6 +14,6 @@ pub struct PlainRequest<'a> {
     pub is_strict: bool,
     /// Print one object of JSON in place of the text.
     pub is_json: bool,
-    /// Tell the diagnostics that every order of the script's processes writes.
-    pub tells_diagnostics: bool,
+    /// Find the diagnostics that every order of the script's processes writes.
+    pub finds_diagnostics: bool,
 }

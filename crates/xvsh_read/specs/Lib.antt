@@ -1,4 +1,5 @@
 pub mod Console
+pub mod Given
 pub mod Listing
 pub mod Path
 pub mod Reading

@@ -1,5 +1,5 @@
 -- Faults, their messages, and the statuses with which the program ends.
-use Rattle.std.specs.Prelude.{ℕ, List, [], ◌∷◌, ◌++◌, codes}
+use Rattle.std.specs.Prelude.{ℕ, Bool, true, false, List, [], ◌∷◌, ◌++◌, codes}
 use Rattle.std.specs.Borrow.{Bor}
 use Rattle.std.specs.Fmt.{decimal}
 use Rattle.mem_files.specs.Name.{Bytes}
@@ -9,8 +9,23 @@ use Rattle.script_load.specs.declared.fault.LoadFault.{LoadFault}
 use Rattle.script_load.specs.declared.fault.LoadFault.TheVariants.{LineTooLong as load_long, ByteZero as load_zero, Memory as load_memory}
 use Rattle.xvsh_read.specs.declared.host.HostFault.{HostFault}
 use Rattle.xvsh_read.specs.declared.host.HostFault.TheVariants.{Unreadable as host_unreadable, TooLong as host_long, Memory as host_memory}
+use Rattle.xvsh_read.specs.declared.status.Status.{Status}
+use Rattle.xvsh_read.specs.declared.status.Status.TheVariants.{Done, Failed, Misused, Amiss, NoRoom}
 use Rattle.xvsh_read.specs.declared.fault.Fault.{Fault}
 use Rattle.xvsh_read.specs.declared.fault.Fault.TheVariants.{Unreadable, TooLong, LineTooLong, ByteZero, BadName, TakenName, TooManyFiles, TooLarge, Memory}
+
+-- its number
+abbrev pub status_code : Status → ℕ
+status_code Done = 0
+status_code Failed = 1
+status_code Misused = 2
+status_code Amiss = 3
+status_code NoRoom = 4
+
+-- of what was found, by whether it is fine
+abbrev pub check_status : Bool → ℕ
+check_status true = 0
+check_status false = 3
 
 -- 1: an input that can't be read or is refused; 4: no room
 abbrev pub status_of : Fault → ℕ

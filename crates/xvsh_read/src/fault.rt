@@ -1,9 +1,10 @@
 //! Why the program fails.
 
 ghost use Rattle.std.specs.Prelude.{◌≡◌};
-ghost use Rattle.xvsh_read.specs.Status.{status_of, of_host, of_files};
+ghost use Rattle.xvsh_read.specs.Status.{status_code, status_of, of_host, of_files};
 
 use crate::host::HostFault;
+use crate::status::Status;
 use mem_files::FilesFault;
 use script_load::LoadFault;
 use std::alloc::AllocError;
@@ -31,18 +32,18 @@ pub enum Fault<'a> {
 
 impl<'a> Fault<'a> {
     /// The status with which the program ends.
-    pub fn status(self) -> u8
-        ensures { result ≡ status_of self.entry }
+    pub fn status(self) -> Status
+        ensures { status_code result ≡ status_of self.entry }
     {
         match self {
-            Fault::TooLarge | Fault::Memory => 4,
+            Fault::TooLarge | Fault::Memory => Status::NoRoom,
             Fault::Unreadable(_)
             | Fault::TooLong(_)
             | Fault::LineTooLong(_)
             | Fault::ByteZero(_)
             | Fault::BadName(_)
             | Fault::TakenName(_)
-            | Fault::TooManyFiles => 1,
+            | Fault::TooManyFiles => Status::Failed,
         }
     }
 

@@ -46,6 +46,6 @@ pub trait Host {
 
 /// Whoever sits at a terminal, if somebody does.
 pub trait Hints {
-    /// Is told what helps once the program wrote how it ends: a sentence, or nothing.
+    /// Is shown what helps once the program wrote how it ends: a sentence, or nothing.
     fn hint(&mut self, sentence: &str);
 }

@@ -1,15 +1,14 @@
 -- The values of a run by processes: what a result says.
-use Rattle.std.specs.Prelude.{◌≡◌, ◌↔◌, Bool, true, List, [], All, Contains, Option, Some}
+use Rattle.std.specs.Prelude.{◌≡◌, ◌↔◌, Bool, true, List, Contains, Option, Some}
 use Rattle.std.specs.Borrow.{Bor}
 use Rattle.mem_files.specs.Name.{Name, Bytes}
 use Rattle.mem_files.specs.Files.{files}
 use Rattle.script_load.specs.declared.profile.Profile.{Profile}
 use Rattle.script_load.specs.Line.{ScriptLine}
 use Rattle.meaning_model.specs.Meaning.{script_meaning}
-use Rattle.meaning_model.specs.Settled.{IsSettledScript}
 use Rattle.dead_lines.specs.Dead.{bad_lines}
 use Rattle.plain_run.specs.declared.reason.Reason.{Reason}
-use Rattle.plain_run.specs.Reasons.{IsReason}
+use Rattle.plain_run.specs.Reasons.{AreReasons}
 use Rattle.sh_machine.specs.State.{User}
 use Rattle.sh_machine.specs.Turn.{call_of, next_of}
 use Rattle.kernel_model.specs.KernelState.{KernelState}
@@ -47,5 +46,4 @@ module _ (input : Option Bytes) (file : Path → Option Bytes) (is_taken : Bool)
   pub record RanJudged {A : _} (ran : Run) (soft : List Name) (reasons : List (Reason A)) : Type 0 where
     pub values : RanValues ran
     pub each : (name : Name) → Contains soft name ↔ ((script_meaning profile values.lines values.stdin (files values.given)).soft name ≡ true)
-    pub none : (reasons ≡ []) ↔ IsSettledScript profile values.lines values.stdin (files values.given)
-    pub whys : All (IsReason profile values.lines values.stdin (files values.given)) reasons
+    pub why : AreReasons profile values.lines values.stdin (files values.given) reasons

@@ -1,11 +1,12 @@
 //! Why there is no run by processes.
 ghost use Rattle.std.specs.Prelude.{◌≡◌};
+ghost use Rattle.xvsh_read.specs.Status.{status_code};
 ghost use Rattle.xvsh_runs.specs.Status.{run_status};
 
 use hart_run::{RunFault as HartsFault, RunOneFault};
 use std::alloc::AllocError;
 use std::fmt;
-use xvsh_read::Fault;
+use xvsh_read::{Fault, Status};
 
 /// Why `run` or `replay` fails. Each is reported as one line on standard error after `xvsh: `. Events, and a schedule's lines,
 /// are counted from 1.
@@ -46,20 +47,20 @@ impl ProcessFault<'_> {
     }
 
     /// The status with which the program ends.
-    pub fn status(self) -> u8
-        ensures { result ≡ run_status self.entry }
+    pub fn status(self) -> Status
+        ensures { status_code result ≡ run_status self.entry }
     {
         match self {
             ProcessFault::Common(fault) => fault.status(),
-            ProcessFault::Spent => 4,
+            ProcessFault::Spent => Status::NoRoom,
             ProcessFault::BadHarts
             | ProcessFault::BadTurns
             | ProcessFault::BadOrder(_)
-            | ProcessFault::SharedInput => 2,
+            | ProcessFault::SharedInput => Status::Misused,
             ProcessFault::NoEvent(_, _)
             | ProcessFault::NotRunnable(_, _)
             | ProcessFault::NotRunning(_, _, _)
-            | ProcessFault::Unfinished(_) => 1,
+            | ProcessFault::Unfinished(_) => Status::Failed,
         }
     }
 }

@@ -26,7 +26,7 @@ pub struct RunRequest<'a> {
     pub files_to: Option<&'a str>,
     /// Where the run's trace is written; `-` is standard output, and then nothing else is.
     pub trace: Option<&'a str>,
-    /// Tell before each line of the diagnostics which line of the script wrote it.
+    /// Print before each line of the diagnostics which line of the script wrote it.
     pub is_lined: bool,
     /// Print one object of JSON in place of the text.
     pub is_json: bool,
@@ -43,7 +43,7 @@ pub struct ReplayRequest<'a> {
     pub files_to: Option<&'a str>,
     /// Where the run's trace is written; `-` is standard output, and then nothing else is.
     pub trace: Option<&'a str>,
-    /// Tell before each line of the diagnostics which line of the script wrote it.
+    /// Print before each line of the diagnostics which line of the script wrote it.
     pub is_lined: bool,
     /// Print one object of JSON in place of the text.
     pub is_json: bool,

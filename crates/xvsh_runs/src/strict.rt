@@ -27,9 +27,7 @@ pub struct StrictRun {
     pub is_settled: bool,
     /// The names of the files that are soft by the script's meaning.
     pub soft: Words<Global>,
-    /// The sentence of the first reason why it isn't, with its LF; nothing where it is.
-    pub why: Vec<u8>,
-    /// All reasons; none where it is settled.
+    /// Why it isn't settled; nothing where it is.
     pub reasons: Vec<Reason<Global>>,
 }
 
@@ -42,7 +40,7 @@ pub fn run_strict<'a, R: Threads + Wait + Clock + Sync, H: Host>(
     request: &RunRequest<'a>,
     host: &mut H,
 ) -> Result<StrictRun, ProcessFault<'a>>
-    ensures ran { IfOk result (λ strict. DidStrict (H.input host.old) (H.file host.old) request.now strict.run.full strict.is_settled strict.why.items (out_text strict.run.output) strict.run.output.err.items) }
+    ensures ran { IfOk result (λ strict. DidStrict (H.input host.old) (H.file host.old) request.now strict.run.full strict.is_settled strict.reasons.items (out_text strict.run.output) strict.run.output.err.items) }
     ensures values { IfOk result (λ strict. RanJudged (H.input host.old) (H.file host.old) false request.now.source.profile request.now.source.script.now request.now.source.files.now strict.run strict.soft strict.reasons.items) }
     ensures fault { IfErr result (IsStrictRefusal (H.input host.old) (H.file host.old) request.now) }
 {
@@ -54,7 +52,6 @@ pub fn run_strict<'a, R: Threads + Wait + Clock + Sync, H: Host>(
         run,
         is_settled: verdict.is_settled,
         soft: verdict.soft,
-        why: verdict.why,
         reasons: verdict.reasons,
     })
 }

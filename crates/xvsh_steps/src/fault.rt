@@ -3,7 +3,7 @@
 use std::alloc::AllocError;
 use step_answers::PlayFault;
 use thiserror::Error;
-use xvsh_read::{Fault, Unwritten};
+use xvsh_read::{Fault, Status, Unwritten};
 
 /// Why a session doesn't begin, or ends before its input does.
 #[derive(Clone, Copy, Debug, Error)]
@@ -30,14 +30,14 @@ pub enum StepFault<'a> {
 
 impl StepFault<'_> {
     /// The status with which the program ends.
-    pub fn status(self) -> u8 {
+    pub fn status(self) -> Status {
         match self {
             StepFault::Common(fault) => fault.status(),
-            StepFault::OwnScript => 2,
+            StepFault::OwnScript => Status::Misused,
             StepFault::NoEvent(_, _)
             | StepFault::Stopped(_, _)
             | StepFault::Unreadable
-            | StepFault::Unwritten => 1,
+            | StepFault::Unwritten => Status::Failed,
         }
     }
 }

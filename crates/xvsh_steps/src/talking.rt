@@ -43,7 +43,7 @@ fn say<W: Write>(out: &mut W, text: &[u8]) -> Result<(), Unwritten> {
     }
 }
 
-// Keeps the schedule in the file at the path, and tells that it is there, or that it isn't.
+// Keeps the schedule in the file at the path, and reports that it is there, or that it isn't.
 fn save<'a, M: Machine, K: Keep>(
     alloc: Global,
     play: &mut Play<'_, M>,

@@ -123,7 +123,7 @@ where
 }
 
 /// Runs the program on the words, the input and the files of the system, with this as its standard error, and gives the status
-/// with which it ends. `terminal` is told what the program waits for, and how far it is, where there is one. Before a command `--color WHEN`
+/// with which it ends. `terminal` is shown what the program waits for, and how far it is, where there is one. Before a command `--color WHEN`
 /// may stand, which says when there are colours; a WHEN that is none is a misuse.
 pub fn run<R, E, T>(rt: &R, err: &mut E, terminal: Terminal<T>) -> io::Result<ExitCode>
 where

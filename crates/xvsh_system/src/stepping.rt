@@ -11,9 +11,11 @@ use std::rt::Files;
 use std::sync::Wait;
 use std::time::Clock;
 use xvsh::parsed_words;
-use xvsh_read::{Hints, Host, HostFault, STDIN, Source, Unwritten, profile_of, write};
+use xvsh_read::{
+    Given, Hints, Host, HostFault, NOTHING, STDIN, Source, TEXT_PATH, Unwritten, profile_of,
+    read_given, write,
+};
 use xvsh_steps::{Keep, StepFault, StepRequest, step};
-use xvsh_traces::{Given, NOTHING, TEXT_PATH, read_given};
 
 // The system, with the standard input and the script that the words give; a schedule is kept in a file of it.
 #[derive(Drop)]
@@ -141,7 +143,7 @@ where
         Err(fault) => {
             let _ = writeln!(err, "xvsh: {fault}");
             host.hint("");
-            fault.status()
+            fault.status().code()
         }
     }
 }

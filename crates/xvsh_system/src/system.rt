@@ -13,8 +13,7 @@ use std::time::Clock;
 use xvsh::OWN_INPUT;
 use xvsh_explores::Watch;
 use xvsh_grades::Grading;
-use xvsh_read::{Hints, Host, HostFault, STDIN, Unwritten, read_all, write};
-use xvsh_traces::Traces;
+use xvsh_read::{Hints, Host, HostFault, STDIN, Traces, Unwritten, read_all, write};
 
 // Where the trace goes that was begun last.
 #[derive(Drop)]
@@ -39,7 +38,7 @@ pub struct System<'t, R: Files, E> {
     unread: &'static str,
 }
 
-// What a terminal is told before standard input is read from it.
+// What a terminal is shown before standard input is read from it.
 const READING: &str =
     "xvsh: reads standard input from this terminal, until Ctrl-D on a line of its own\n";
 

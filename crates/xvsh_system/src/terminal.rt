@@ -1,4 +1,4 @@
-//! What whoever sits at a terminal is told while the program works.
+//! What whoever sits at a terminal is shown while the program works.
 
 use crate::colours::When;
 use std::io::{self, Write};

@@ -20,7 +20,7 @@ struct Work {
     is_over: bool,
 }
 
-/// Shows on standard error, once a second, for how long the work goes on. Whoever works tells it when it reads or writes, so that
+/// Shows on standard error, once a second, for how long the work goes on. Whoever works calls it when it reads or writes, so that
 /// nothing is shown then.
 #[derive(Drop)]
 pub struct Ticker {

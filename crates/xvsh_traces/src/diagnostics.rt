@@ -3,7 +3,7 @@ ghost use Rattle.std.specs.Prelude.{◌≡◌, ◌++◌, ◌∷◌, ℕ, List, [
 ghost use Rattle.script_load.specs.Line.{lines_of};
 ghost use Rattle.xvsh_traces.specs.Lined.{IsLined, line_mark};
 
-use crate::traces::TraceFault;
+use crate::fault::TraceFault;
 use command_text::{Doing, Followed};
 use kernel_events::Kernel;
 use kernel_model::Event;
@@ -200,7 +200,7 @@ fn with_marks(alloc: Global, told: &[u8], marks: &[Mark]) -> Result<Vec<u8>, All
     Ok(lined)
 }
 
-/// What a run of what was read told on standard error, with `line N: ` before each line of its diagnostics: the line of the script
+/// What a run of what was read printed on standard error, with `line N: ` before each line of its diagnostics: the line of the script
 /// whose command wrote it. The run is made once more by its schedule.
 ///
 /// `Memory` where memory is refused, also where an event can't take place: in the run memory was refused then, and now it is not.

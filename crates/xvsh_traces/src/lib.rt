@@ -1,14 +1,12 @@
-//! What `run --trace` writes, and a host that gives what was read before.
+//! What `run --trace` writes, and the lines of the script that diagnostics come from.
 #![tactic(auto)]
 
 mod diagnostics;
-mod given;
+mod fault;
 mod memory;
-mod traces;
 mod writing;
 
 pub use diagnostics::lined;
-pub use given::{Given, Inputs, NOTHING, TEXT_PATH, read_given};
+pub use fault::TraceFault;
 pub use memory::trace_text;
-pub use traces::{TraceFault, Traces, trace_run};
-pub use writing::script_text;
+pub use writing::{script_text, trace_run};

@@ -1,9 +1,10 @@
 //! Traces that are written into memory.
 
-use crate::traces::{TraceFault, Traces, trace_run};
+use crate::fault::TraceFault;
+use crate::writing::trace_run;
 use kernel_model::Event;
 use std::alloc::Global;
-use xvsh_read::{Start, Unwritten};
+use xvsh_read::{Start, Traces, Unwritten};
 
 // A trace in memory, which takes no folder.
 #[derive(Drop)]
@@ -46,6 +47,6 @@ pub fn trace_text(alloc: Global, start: &Start, schedule: &[Event]) -> Result<Ve
     let mut written = Written {
         text: Vec::new(alloc),
     };
-    trace_run(alloc, &mut written, "", start, schedule, harts_of(schedule))?;
+    trace_run(alloc, &mut written, start, schedule, harts_of(schedule))?;
     Ok(written.text)
 }

@@ -3,7 +3,7 @@
 ghost use Rattle.std.specs.Prelude.{◌≡◌};
 ghost use Rattle.script_load.specs.Line.{lines_of};
 
-use crate::traces::{TraceFault, Traces};
+use crate::fault::TraceFault;
 use command_text::append_command;
 use kernel_events::Kernel;
 use kernel_model::Event;
@@ -14,23 +14,24 @@ use std::alloc::{AllocError, Global};
 use std::marker::Brand;
 use trace_lines::{End, Head, TraceLines, end_line, head_line};
 use user_calls::Machine;
-use xvsh_read::Start;
+use xvsh_read::{Start, Traces};
 
 // After how many bytes of lines these are written.
 const CHUNK_SIZE: usize = 65_536;
 
-// Writes the trace of the run of what was read by this schedule on so many harts, which is made again for it, event by event.
-//
-// `Unwritten` where the writer takes no more. `Memory` where memory is refused, also where an event can't take place: in the
-// run memory was refused then, and now it is not.
-pub(crate) fn write_run<T: Traces>(
+/// Writes the trace of the run of what was read by this schedule on so many harts, behind what is there. The run is made once more for it,
+/// event by event.
+///
+/// `Unwritten` where the writer takes no more. `Memory` where memory is refused, also where an event can't take place: in the
+/// run memory was refused then, and now it is not.
+pub fn trace_run<T: Traces>(
     alloc: Global,
+    traces: &mut T,
     start: &Start,
     schedule: &[Event],
     harts: u8,
-    to: &mut T,
 ) -> Result<(), TraceFault> {
-    write_named::<Brand, T>(alloc, start, schedule, harts, to)
+    write_named::<Brand, T>(alloc, start, schedule, harts, traces)
 }
 
 // The first line of a trace.

@@ -21,7 +21,10 @@ pub returns-in-Err-start_of-clause-fault : goal.returns-in-Err-start_of-clause-f
 returns-in-Err-start_of-clause-fault c =
     subst (IsExploreRefusal c.args.task.now c.args.states) (sym c.in-Err-start_of.ensures.fault) no_memory
 
-pub returns-clause-fault : goal.returns-clause-fault
-returns-clause-fault c =
+pub returns-in-Err-explore_start-clause-fault : goal.returns-in-Err-explore_start-clause-fault
+returns-in-Err-explore_start-clause-fault c =
     let task = c.args.task.now in
     subst (IsExploreRefusal task c.args.states) (sym c.of_explored.ensures) (refused task c.args.states c.in-Err-explore_start.fault c.in-Err-explore_start.ensures.fault)
+
+pub returns-clause-fault : goal.returns-clause-fault
+returns-clause-fault c = no_memory

@@ -1,6 +1,7 @@
 use Rattle.std.proofs.Common.{◌⊎◌, inl, inr, subst}
 use Rattle.script_load.specs.Line.{lines_of}
-use Rattle.embed.specs.Tells.{AreWhysOf, IsReasonsFault, IsWhysFault, no_start, no_memory, not_told, no_reasons}
+use Rattle.xvsh_checks.specs.Whys.{AreWhysOf}
+use Rattle.embed.specs.Tells.{IsReasonsFault, IsWhysFault, no_start, no_memory, not_told, no_reasons}
 use Rattle.embed.proofs.Refusals.{refused}
 use Rattle.embed.proofs.whys.whys_of.Goals as goal
 
@@ -22,7 +23,7 @@ returns-in-Ok-object_of-clause-told c =
       lines = lines;
       given = begun.files;
       starts = starts;
-      whys = subst (λ profile. AreWhysOf task profile lines begun.files noted) c.in-Ok.ensures.profile c.in-Ok-noted_of.ensures.told;
+      whys = subst (λ profile. AreWhysOf task.script.now profile lines task.stdin.now begun.files noted) c.in-Ok.ensures.profile c.in-Ok-noted_of.ensures.told;
     }
 
 pub returns-clause-fault : goal.returns-clause-fault

@@ -1,9 +1,10 @@
 use Rattle.std.proofs.Common.{◌≡◌, [], refl}
 use Rattle.std.specs.Prelude.{option_map}
+use Rattle.xvsh_read.specs.Status.{status_code}
 use Rattle.xvsh_read.specs.Writing.{out_text}
 use Rattle.xvsh_ends.specs.Requests.{asked, unread_asked}
 use Rattle.xvsh_ends.proofs.Dues.{unless_any}
-use Rattle.xvsh_traces.specs.Given.{file_by, input_by}
+use Rattle.xvsh_read.specs.Given.{file_by, input_by}
 use Rattle.xvsh.specs.Drive.{due, ungiven}
 use Rattle.xvsh.proofs.Sights.{sees}
 use Rattle.xvsh.proofs.driver.given_ending.Goals as goal
@@ -20,7 +21,7 @@ returns-in-Ok-clause-due g c =
 pub returns-in-Ok-clause-nothing : goal.returns-in-Ok-clause-nothing
 returns-in-Ok-clause-nothing g c some one three four =
     let ending = c.ending_of.result in
-    unless_any (asked c.args.request.now) ending.status (out_text ending.output ≡ []) c.ending_of.ensures.nothing some one three four
+    unless_any (asked c.args.request.now) (status_code ending.status) (out_text ending.output ≡ []) c.ending_of.ensures.nothing some one three four
 
 pub returns-in-Err-clause-due : goal.returns-in-Err-clause-due
 returns-in-Err-clause-due g c =
@@ -31,4 +32,4 @@ pub returns-in-Err-clause-nothing : goal.returns-in-Err-clause-nothing
 returns-in-Err-clause-nothing g c some one three four =
     let ending = c.unread_ending.result in
     let path = c.in-Err.ensures.fault.0.now in
-    unless_any (unread_asked c.args.request.now path) ending.status (out_text ending.output ≡ []) (c.unread_ending.ensures.nothing path) some one three four
+    unless_any (unread_asked c.args.request.now path) (status_code ending.status) (out_text ending.output ≡ []) (c.unread_ending.ensures.nothing path) some one three four

@@ -1,22 +1,19 @@
-use Rattle.std.proofs.Common.{◌≡◌, ◌↔◌, ◌++◌, ◌∙◌, [], None, IsTrue, refl, subst, sym}
-use Rattle.std.specs.Prelude.{map}
+use Rattle.std.proofs.Common.{◌≡◌, ◌↔◌, ◌∙◌, [], None, IsTrue, subst, sym}
+use Rattle.std.specs.Prelude.{All}
 use Rattle.mem_files.specs.Files.{files}
 use Rattle.script_load.specs.Line.{lines_of}
 use Rattle.script_load.specs.Script.{HasLoadFault}
-use Rattle.script_notes.specs.Explained.{IsExplained}
-use Rattle.script_notes.specs.Written.{written}
-use Rattle.missing_names.specs.Texts.{missing_texts, shown}
-use Rattle.reason_sentences.specs.Sentences.{reason_text, why_text}
-use Rattle.reason_sentences.specs.Ways.{ways_text}
-use Rattle.reason_sentences.specs.Whys.{AreReasonTexts}
+use Rattle.script_notes.specs.Noted.{IsNoted}
+use Rattle.script_notes.specs.Values.{values_of}
+use Rattle.meaning_model.specs.Settled.{IsSettledScript}
+use Rattle.plain_run.specs.Reasons.{IsReason}
 use Rattle.xvsh_plain.specs.Running.{IsMeaningFault}
 use Rattle.xvsh_read.specs.Reading.{Agree, told_at}
 use Rattle.xvsh_read.specs.Starting.{unread_script, bad_script}
 use Rattle.xvsh_read.proofs.Faults.{at_fault}
 use Rattle.xvsh_read.proofs.Begins.{load_fault}
-use Rattle.xvsh_checks.specs.Lacks.{lack_noted}
-use Rattle.xvsh_checks.specs.Whys.{no_notes, no_whys_start, no_whys}
-use Rattle.xvsh_checks.proofs.Reasoned.{ran_whys}
+use Rattle.xvsh_checks.specs.Whys.{AreWhysOf, no_notes, no_whys_start, no_whys}
+use Rattle.xvsh_checks.proofs.Reasoned.{are_whys}
 use Rattle.xvsh_checks.proofs.whys.run_note_whys.Goals as goal
 
 pub returns-in_err-bytes-clause-fault : goal.returns-in_err-bytes-clause-fault
@@ -56,17 +53,23 @@ returns-clause-ran g c =
     let bytes = c.in_ok-bytes.bytes.items in
     let noted = c.in_ok-noted.noted in
     let found = c.in_ok-noted.ensures in
-    let notes = written noted.notes.items in
+    let notes = c.in_ok-notes.notes.items in
     let missing = noted.missing.items in
     let reasons = noted.reasons.items in
-    let lack = noted.lack in
     let starts = c.in_ok-start.ensures.prepared input file c.read.ensures.files_stay c.read.ensures.input_stays (subst (Agree (told_at input file source.script.now)) (sym c.as_slice-2.ensures.value) c.in_ok-bytes.ensures.bytes) in
-    ran_whys input file source.profile source.script.now source.files.now lines start.files start.stdin.items bytes notes (notes ++ (missing_texts (map shown missing) ++ (lack_noted lack ++ (why_text (map reason_text reasons) ++ ways_text reasons)))) missing lack reasons noted.is_fine
-    (starts.0, starts.1 ∙ c.as_slice-2.ensures.value)
-    (subst (λ ns. IsExplained bytes (written ns)) (sym found.notes) (subst (λ b. IsExplained b (written c.in_ok-notes.notes.items)) c.as_slice.ensures.value c.in_ok-notes.ensures.told))
-    found.lack
-    (subst (λ profile. AreReasonTexts profile lines start.stdin.items (files start.files) (map reason_text reasons)) c.in_ok-start.ensures.profile
-    (subst (λ s. AreReasonTexts start.script.profile lines s (files start.files) (map reason_text reasons)) c.as_slice-stdin.ensures.value found.reasons))
-    found.missing
-    refl
-    (subst (λ ns. IsTrue noted.is_fine ↔ ((written ns ≡ []) × (missing ≡ []) × (lack ≡ None) × (reasons ≡ []))) (sym found.notes) found.fine)
+    let whys =
+    are_whys bytes source.profile lines start.stdin.items start.files noted
+    (subst (λ ns. IsNoted bytes (values_of ns)) (sym found.notes) (subst (λ b. IsNoted b (values_of notes)) c.as_slice.ensures.value c.in_ok-notes.ensures.notes))
+    found.missing found.lack
+    (subst (λ profile. All (IsReason profile lines start.stdin.items (files start.files)) reasons) c.in_ok-start.ensures.profile
+    (subst (λ s. All (IsReason start.script.profile lines s (files start.files)) reasons) c.as_slice-stdin.ensures.value found.each))
+    (subst (λ profile. (reasons ≡ []) ↔ IsSettledScript profile lines start.stdin.items (files start.files)) c.in_ok-start.ensures.profile
+    (subst (λ s. (reasons ≡ []) ↔ IsSettledScript start.script.profile lines s (files start.files)) c.as_slice-stdin.ensures.value found.none))
+    (subst (λ ns. IsTrue noted.is_fine ↔ ((ns ≡ []) × (missing ≡ []) × (noted.lack ≡ None) × (reasons ≡ []))) (sym found.notes) found.fine) in
+    record {
+      lines = lines;
+      given = start.files;
+      stdin = start.stdin.items;
+      starts = starts.0;
+      whys = subst (λ b. AreWhysOf b source.profile lines start.stdin.items start.files noted) (sym (starts.1 ∙ c.as_slice-2.ensures.value)) whys;
+    }

@@ -1,7 +1,7 @@
-use Rattle.std.proofs.Common.{[], true, false, subst}
+use Rattle.std.proofs.Common.{[], false, subst}
 use Rattle.xvsh_checks.specs.Values.{findings_text}
-use Rattle.xvsh_read.specs.Status.{fault_told, status_of}
-use Rattle.xvsh_ends.specs.Ends.{check_status, checked, no_check}
+use Rattle.xvsh_read.specs.Status.{check_status, fault_told, status_of}
+use Rattle.xvsh_ends.specs.Ends.{checked, no_check}
 use Rattle.xvsh_ends.specs.Printed.{IsPrinted}
 use Rattle.xvsh_ends.specs.Requests.{check_asked}
 use Rattle.xvsh_ends.proofs.Dues.{fault_is_printed, check_is_printed}
@@ -14,7 +14,7 @@ returns-in-Ok g c =
     let is_fine = c.in-Ok.found.is_harmless in
     let text = findings_text c.in-Ok.found.list.items in
     due_printed (g.H.Host.input c.args.host.now) (g.H.Host.file c.args.host.now) (check_asked false false request) request.is_json text [] (check_status is_fine) c.print_as.result
-    (subst (λ n. IsPrinted request.is_json text [] n c.print_as.result) c.code_of-code.ensures (c.print_as.ensures text c.lines_made-made.ensures))
+    (subst (λ n. IsPrinted request.is_json text [] n c.print_as.result) c.by-code.ensures (c.print_as.ensures text c.lines_made-made.ensures))
     (check_is_printed is_fine) (checked is_fine c.in-Ok.ensures.ran)
 
 pub returns-in-Err : goal.returns-in-Err

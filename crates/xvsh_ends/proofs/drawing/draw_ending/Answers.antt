@@ -1,4 +1,5 @@
 use Rattle.std.proofs.Common.{[], refl}
+use Rattle.xvsh_read.specs.Status.{status_code}
 use Rattle.xvsh_ends.specs.Ends.{asks_draw, drawn, told_text, undrawn}
 use Rattle.xvsh_ends.proofs.Dues.{due_by}
 use Rattle.xvsh_ends.proofs.drawing.draw_ending.Goals as goal
@@ -10,4 +11,4 @@ returns-in-Ok g c =
 pub returns-in-Err : goal.returns-in-Err
 returns-in-Err g c =
     let ending = c.report_undrawn.result in
-    due_by (g.H.Host.input c.args.host.now) (g.H.Host.file c.args.host.now) asks_draw [] (told_text ending) ending.status ending c.report_undrawn.ensures.nothing refl refl (undrawn (told_text ending) ending.status)
+    due_by (g.H.Host.input c.args.host.now) (g.H.Host.file c.args.host.now) asks_draw [] (told_text ending) (status_code ending.status) ending c.report_undrawn.ensures.nothing refl refl (undrawn (told_text ending) (status_code ending.status))

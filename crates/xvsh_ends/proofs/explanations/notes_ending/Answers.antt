@@ -1,9 +1,7 @@
-use Rattle.std.proofs.Common.{[], ◌++◌, true, false, subst}
-use Rattle.script_notes.specs.Written.{written}
-use Rattle.xvsh_checks.specs.Explain.{written_of}
-use Rattle.xvsh_checks.specs.Lacks.{lack_noted}
-use Rattle.xvsh_read.specs.Status.{fault_told, status_of}
-use Rattle.xvsh_ends.specs.Ends.{check_status, explained, not_explained}
+use Rattle.std.proofs.Common.{[], false, subst}
+use Rattle.xvsh_read.specs.Status.{check_status, fault_told, status_of}
+use Rattle.check_texts.specs.Explanations.{noted_text}
+use Rattle.xvsh_ends.specs.Ends.{explained, not_explained}
 use Rattle.xvsh_ends.specs.Printed.{IsPrinted}
 use Rattle.xvsh_ends.specs.Requests.{explain_asked}
 use Rattle.xvsh_ends.proofs.Dues.{fault_is_printed, check_is_printed}
@@ -13,11 +11,12 @@ use Rattle.xvsh_ends.proofs.explanations.notes_ending.Goals as goal
 pub returns-in-Ok : goal.returns-in-Ok
 returns-in-Ok g c =
     let request = c.args.request.now in
-    let is_fine = c.in-Ok.noted.is_fine in
-    let text = written_of (written c.in-Ok.noted.notes.items ++ lack_noted c.in-Ok.noted.lack) in
+    let noted = c.in-Ok.noted in
+    let is_fine = noted.is_fine in
+    let text = noted_text noted in
     due_printed (g.H.Host.input c.args.host.now) (g.H.Host.file c.args.host.now) (explain_asked false request) request.is_json text [] (check_status is_fine) c.print_as.result
-    (subst (λ n. IsPrinted request.is_json text [] n c.print_as.result) c.code_of-code.ensures (c.print_as.ensures text c.notes_made-made.ensures))
-    (check_is_printed is_fine) (explained is_fine c.in-Ok.ensures.ran)
+    (subst (λ n. IsPrinted request.is_json text [] n c.print_as.result) c.by-code.ensures (c.print_as.ensures text c.notes_made-made.ensures))
+    (check_is_printed is_fine) (explained noted c.in-Ok.ensures.ran)
 
 pub returns-in-Err : goal.returns-in-Err
 returns-in-Err g c =

@@ -1,12 +1,7 @@
-use Rattle.std.proofs.Common.{[], ◌++◌, true, false, subst}
-use Rattle.std.specs.Prelude.{map}
-use Rattle.script_notes.specs.Written.{written}
-use Rattle.missing_names.specs.Texts.{missing_texts, shown}
-use Rattle.reason_sentences.specs.Sentences.{reason_text, why_text}
-use Rattle.reason_sentences.specs.Ways.{ways_text}
-use Rattle.xvsh_checks.specs.Lacks.{lack_noted}
-use Rattle.xvsh_read.specs.Status.{fault_told, status_of}
-use Rattle.xvsh_ends.specs.Ends.{check_status, whys_told, no_whys_told}
+use Rattle.std.proofs.Common.{[], true, subst}
+use Rattle.xvsh_read.specs.Status.{check_status, fault_told, status_of}
+use Rattle.check_texts.specs.Explanations.{whys_text}
+use Rattle.xvsh_ends.specs.Ends.{whys_told, no_whys_told}
 use Rattle.xvsh_ends.specs.Printed.{IsPrinted}
 use Rattle.xvsh_ends.specs.Requests.{explain_asked}
 use Rattle.xvsh_ends.proofs.Dues.{fault_is_printed, check_is_printed}
@@ -16,11 +11,12 @@ use Rattle.xvsh_ends.proofs.explanations.whys_ending.Goals as goal
 pub returns-in-Ok : goal.returns-in-Ok
 returns-in-Ok g c =
     let request = c.args.request.now in
-    let is_fine = c.in-Ok.noted.is_fine in
-    let text = written c.in-Ok.noted.notes.items ++ (missing_texts (map shown c.in-Ok.noted.missing.items) ++ (lack_noted c.in-Ok.noted.lack ++ (why_text (map reason_text c.in-Ok.noted.reasons.items) ++ ways_text c.in-Ok.noted.reasons.items))) in
+    let noted = c.in-Ok.noted in
+    let is_fine = noted.is_fine in
+    let text = whys_text noted in
     due_printed (g.H.Host.input c.args.host.now) (g.H.Host.file c.args.host.now) (explain_asked true request) request.is_json text [] (check_status is_fine) c.print_as.result
-    (subst (λ n. IsPrinted request.is_json text [] n c.print_as.result) c.code_of-code.ensures (c.print_as.ensures text c.whys_made-made.ensures))
-    (check_is_printed is_fine) (whys_told is_fine c.in-Ok.ensures.ran)
+    (subst (λ n. IsPrinted request.is_json text [] n c.print_as.result) c.by-code.ensures (c.print_as.ensures text c.whys_made-made.ensures))
+    (check_is_printed is_fine) (whys_told noted c.in-Ok.ensures.ran)
 
 pub returns-in-Err : goal.returns-in-Err
 returns-in-Err g c =

@@ -7,4 +7,4 @@ returns g c =
     let input = g.H.Host.input c.args.host.now in
     let file = g.H.Host.file c.args.host.now in
     c.play.ensures input file (traced_asked request.draw (json_asked request.is_json (explore_told_asked request)))
-    (c.drawn-drawn.ensures input file (json_asked request.is_json (explore_told_asked request)) c.told_or_json-ending.ensures)
+    (c.drawn-drawn.ensures input file (json_asked request.is_json (explore_told_asked request)) c.shown-ending.ensures)

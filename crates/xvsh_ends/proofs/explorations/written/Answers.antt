@@ -11,4 +11,4 @@ returns-in-Some g c input file what due =
 pub returns-in-None : goal.returns-in-None
 returns-in-None g c input file what due =
     subst (λ w. IsDue input file (witnessed_asked w what) c.prints.result) (sym c.in-None.is)
-    (due_by input file what _ _ _ c.prints.result c.prints.ensures.out c.prints.ensures.told c.prints.ensures.status (due c.args.explored.text.items c.concluded-conclusion.result c.concluded-conclusion.ensures))
+    (due_by input file what _ _ _ c.prints.result c.prints.ensures.out c.prints.ensures.told c.prints.ensures.status (due c.args.printed.text.items c.concluded-conclusion.result c.concluded-conclusion.ensures))

@@ -8,7 +8,7 @@ use Rattle.xvsh_ends.proofs.explorations.written_at.Goals as goal
 
 pub returns-in-Ok : goal.returns-in-Ok
 returns-in-Ok g c input file what due =
-    due_by input file (asks_witnessed what c.args.folder.now) _ _ _ c.prints.result c.prints.ensures.out c.prints.ensures.told c.prints.ensures.status (witnessed (due c.args.explored.text.items c.concluded-conclusion.result c.concluded-conclusion.ensures))
+    due_by input file (asks_witnessed what c.args.folder.now) _ _ _ c.prints.result c.prints.ensures.out c.prints.ensures.told c.prints.ensures.status (witnessed (due c.args.printed.text.items c.concluded-conclusion.result c.concluded-conclusion.ensures))
 
 pub returns-in-Err-Unwritten : goal.returns-in-Err-Unwritten
 returns-in-Err-Unwritten g c input file what due =

@@ -1,4 +1,5 @@
-use Rattle.std.proofs.Common.{◌∙◌}
+use Rattle.std.proofs.Common.{◌∙◌, ap}
+use Rattle.xvsh_read.specs.Status.{status_code}
 use Rattle.xvsh_ends.specs.Ends.{asks_json, valued}
 use Rattle.xvsh_ends.proofs.Dues.{due_by, due_memory}
 use Rattle.xvsh_ends.proofs.objects.made_objected.Goals as goal
@@ -7,7 +8,7 @@ pub returns-in-Ok : goal.returns-in-Ok
 returns-in-Ok c input file what is due =
     let same = c.recorded.ensures in
     let printed = c.prints-printed.ensures in
-    due_by input file (asks_json what) _ _ _ c.recorded.result (same.out ∙ printed.out) (same.told ∙ printed.told) (same.status ∙ printed.status) (valued _ is due)
+    due_by input file (asks_json what) _ _ _ c.recorded.result (same.out ∙ printed.out) (same.told ∙ printed.told) (ap status_code same.status ∙ ap status_code printed.status) (valued _ is due)
 
 pub returns-in-Err : goal.returns-in-Err
 returns-in-Err c input file what is due =

@@ -1,3 +1,5 @@
+use Rattle.std.proofs.Common.{ap}
+use Rattle.xvsh_read.specs.Status.{status_code}
 use Rattle.xvsh_read.specs.Writing.{out_text}
 use Rattle.xvsh_ends.specs.Ends.{asks_traced, traced, untraced, beside_trace, told_text, untraced_told}
 use Rattle.xvsh_ends.proofs.Dues.{due_by, due_told, due_memory}
@@ -5,7 +7,7 @@ use Rattle.xvsh_ends.proofs.tracing.scheduled_at.Goals as goal
 
 pub returns-in-Ok : goal.returns-in-Ok
 returns-in-Ok g c input file what due =
-    due_by input file (asks_traced what c.args.path.now) (beside_trace c.args.path.now (out_text c.args.ending.output)) (told_text c.args.ending) c.args.ending.status c.beside.result c.beside.ensures.out c.beside.ensures.told c.beside.ensures.status (traced due)
+    due_by input file (asks_traced what c.args.path.now) (beside_trace c.args.path.now (out_text c.args.ending.output)) (told_text c.args.ending) (status_code c.args.ending.status) c.beside.result c.beside.ensures.out c.beside.ensures.told (ap status_code c.beside.ensures.status) (traced due)
 
 pub returns-in-Err-Unwritten : goal.returns-in-Err-Unwritten
 returns-in-Err-Unwritten g c input file what due =

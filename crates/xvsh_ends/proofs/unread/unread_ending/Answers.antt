@@ -1,7 +1,7 @@
 use Rattle.std.proofs.Common.{◌≡◌, [], true, false, sym, subst}
 use Rattle.std.specs.Prelude.{MatchResult}
 use Rattle.xvsh_read.specs.declared.fault.Fault.TheVariants.{Memory}
-use Rattle.xvsh_read.specs.Status.{fault_told, status_of}
+use Rattle.xvsh_read.specs.Status.{fault_told, status_code, status_of}
 use Rattle.xvsh_read.specs.Writing.{out_text}
 use Rattle.xvsh_ends.specs.Ends.{IsDue, PrintsAlone, Tells, asks_input, unread}
 use Rattle.xvsh_ends.specs.Requests.{UnlessPrinted, json_asked, wants_json}
@@ -23,7 +23,7 @@ returns-in-Some-clause-nothing c path =
     let fault = c.args.fault in
     let ending = c.print_made.result in
     let want : wants_json c.args.request.now ≡ true = sym c.in-Some.ensures in
-    subst (λ is. UnlessPrinted (json_asked is (asks_input path)) ending.status (out_text ending.output ≡ [])) (sym want)
+    subst (λ is. UnlessPrinted (json_asked is (asks_input path)) (status_code ending.status) (out_text ending.output ≡ [])) (sym want)
     (object_or_nothing c.fault_result-made.result (λ text. text.items) (status_of fault) ending (asks_input path)
     (subst (λ n. MatchResult c.fault_result-made.result (λ text. PrintsAlone text.items n ending) (λ _. Tells (fault_told Memory) 4 ending)) c.status.ensures c.print_made.ensures)
     (fault_is_printed fault))
@@ -41,4 +41,4 @@ returns-in-None-clause-nothing c path =
     let fault = c.args.fault in
     let ending = c.report_fault.result in
     let want : wants_json c.args.request.now ≡ false = sym c.in-None.ensures in
-    subst (λ is. UnlessPrinted (json_asked is (asks_input path)) ending.status (out_text ending.output ≡ [])) (sym want) (reports_nothing (fault_told fault) (status_of fault) ending c.report_fault.ensures)
+    subst (λ is. UnlessPrinted (json_asked is (asks_input path)) (status_code ending.status) (out_text ending.output ≡ [])) (sym want) (reports_nothing (fault_told fault) (status_of fault) ending c.report_fault.ensures)

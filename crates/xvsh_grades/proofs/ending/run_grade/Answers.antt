@@ -1,4 +1,4 @@
-use Rattle.std.proofs.Common.{refl, subst, sym}
+use Rattle.std.proofs.Common.{◌∙◌, refl, subst, sym}
 use Rattle.xvsh_grades.specs.Endings.{EndsGrading, fault, graded}
 use Rattle.xvsh_grades.proofs.ending.run_grade.Goals as goal
 
@@ -10,4 +10,4 @@ returns-in-Ok g c =
 pub returns-in-Err : goal.returns-in-Err
 returns-in-Err g c =
     subst (EndsGrading (g.H.Host.input c.args.console.now.host) (g.H.Host.file c.args.console.now.host) c.args.request.now (g.W.Write.contents c.args.console.now.out) (g.W.Write.contents c.args.console.now.out))
-    (sym c.status.ensures) (fault c.in-Err.fault refl)
+    (sym (c.code.ensures ∙ c.status.ensures)) (fault c.in-Err.fault refl)

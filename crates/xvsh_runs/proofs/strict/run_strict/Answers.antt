@@ -1,12 +1,11 @@
 use Rattle.std.proofs.Common.{◌≡◌, true, IsTrue, subst}
-use Rattle.std.specs.Prelude.{◌↔◌, [], All, Contains}
+use Rattle.std.specs.Prelude.{◌↔◌, Contains}
 use Rattle.mem_files.specs.Name.{Name}
 use Rattle.mem_files.specs.Files.{files}
 use Rattle.script_load.specs.Line.{lines_of}
 use Rattle.meaning_model.specs.Meaning.{script_meaning}
 use Rattle.meaning_model.specs.Settled.{IsSettledScript}
-use Rattle.plain_run.specs.Reasons.{IsReason}
-use Rattle.reason_sentences.specs.Whys.{IsWhy}
+use Rattle.plain_run.specs.Reasons.{AreReasons}
 use Rattle.run_model.specs.ScriptRun.{script_kernel}
 use Rattle.xvsh_read.proofs.Faults.{at_fault}
 use Rattle.xvsh_runs.specs.Why.{bad_order, no_start}
@@ -46,7 +45,7 @@ returns-clause-ran g c =
     record {
       ran = prepared_one (g.H.Host.input c.args.host.now) (g.H.Host.file c.args.host.now) c.args.request.now.source.profile c.args.request.now.source.script.now c.args.request.now.source.files.now start c.in_ok-start.ensures.prepared same c.args.request.now c.in_ok-run.run' c.in_ok-run.ensures.ran;
       settled = subst (λ profile. IsTrue c.in_ok-verdict.verdict.is_settled ↔ IsSettledScript profile lines stdin (files given)) same c.in_ok-verdict.ensures.settled;
-      told = subst (λ profile. IsWhy profile lines stdin (files given) true c.in_ok-verdict.verdict.is_settled c.in_ok-verdict.verdict.why.items) same c.in_ok-verdict.ensures.why;
+      why = subst (λ profile. AreReasons profile lines stdin (files given) c.in_ok-verdict.verdict.reasons.items) same c.in_ok-verdict.ensures.why;
     }
 
 pub returns-clause-values : goal.returns-clause-values
@@ -66,6 +65,5 @@ returns-clause-values g c =
         bad = c.in_ok-run.ensures.bad;
       };
       each = subst (λ profile. (name : Name) → Contains c.in_ok-verdict.verdict.soft name ↔ ((script_meaning profile lines stdin (files given)).soft name ≡ true)) same c.in_ok-verdict.ensures.soft;
-      none = subst (λ profile. (c.in_ok-verdict.verdict.reasons.items ≡ []) ↔ IsSettledScript profile lines stdin (files given)) same c.in_ok-verdict.ensures.none;
-      whys = subst (λ profile. All (IsReason profile lines stdin (files given)) c.in_ok-verdict.verdict.reasons.items) same c.in_ok-verdict.ensures.each;
+      why = subst (λ profile. AreReasons profile lines stdin (files given) c.in_ok-verdict.verdict.reasons.items) same c.in_ok-verdict.ensures.why;
     }

@@ -1,5 +1,5 @@
-use Rattle.std.proofs.Common.{◌≡◌, ◌∙◌, sym, ap, subst}
-use Rattle.script_notes.specs.Habits.{after_word, said_of}
+use Rattle.std.proofs.Common.{◌∙◌, sym, ap}
+use Rattle.script_notes.specs.Habits.{after_word}
 use Rattle.script_notes.specs.Letters.{text_of}
 use Rattle.script_notes.proofs.Saying.{word_said}
 use Rattle.script_notes.proofs.habits.Said.after.Goals as goal

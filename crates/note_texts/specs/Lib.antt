@@ -1,0 +1,4 @@
+pub mod Sentences
+pub mod Marks
+pub mod Texts
+pub mod Explained
