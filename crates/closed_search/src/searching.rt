@@ -15,6 +15,8 @@ pub struct Found<T: Node> {
     pub nodes: Vec<T>,
     /// Whether the search went to its end, so that nothing else is reached.
     pub whole: bool,
+    /// Whether the watch ended it.
+    pub stopped: bool,
 }
 
 /// How far a search may go.
@@ -164,6 +166,19 @@ fn expand<T: Node>(
     Ok(())
 }
 
+// What was found where the search didn't go to its end, and whether the watch ended it.
+fn part_of<T: Node>(nodes: Vec<T>, stopped: bool) -> Found<T>
+    ensures nodes { result.nodes ≡ nodes }
+    ensures part { result.whole ≡ false }
+    ensures stopped { result.stopped ≡ stopped }
+{
+    Found {
+        nodes,
+        whole: false,
+        stopped,
+    }
+}
+
 // What `search` finds.
 fn search_from<T: Node, W: Watch>(
     alloc: Global,
@@ -174,7 +189,7 @@ fn search_from<T: Node, W: Watch>(
 ) -> Result<Found<T>, T::Fault>
     ensures reached { IfOk result (λ found. All (IsReached T.step (T.state start)) (map T.state found.nodes.items)) }
     ensures whole { IfOk result (λ found. found.whole ≡ true → IsReducedUnder T.step T.stands T.private bounds.moves (T.state start) (map T.state found.nodes.items)) }
-    ensures part { IfOk result (λ found. found.whole ≡ false → bounds.limit < length found.nodes.items) }
+    ensures part { IfOk result (λ found. found.whole ≡ false → found.stopped ≡ false → bounds.limit < length found.nodes.items) }
 {
     let mut nodes = Vec::new(alloc);
     let mut index = Index::new(alloc);
@@ -184,24 +199,27 @@ fn search_from<T: Node, W: Watch>(
     let mut place = 0;
     while place < nodes.len() {
         if bounds.limit < nodes.len() {
-            return Ok(Found {
-                nodes,
-                whole: false,
-            });
+            return Ok(part_of(nodes, false));
         }
-        watch.found(nodes.len());
+        if !watch.found(nodes.len()) {
+            return Ok(part_of(nodes, true));
+        }
         expand(&mut nodes, &mut index, tools, place, bounds)?;
         place += 1;
     }
-    Ok(Found { nodes, whole: true })
+    Ok(Found {
+        nodes,
+        whole: true,
+        stopped: false,
+    })
 }
 
 /// Searches the states that the first `bounds.moves` moves lead to from the start, breadth first. It stops, with a part, once
-/// it found more than `bounds.limit` nodes. `watch` is told how many it found, and when it ends.
+/// it found more than `bounds.limit` nodes, or `watch` ends it. `watch` sees how many it found, and when it ends.
 ///
 /// Each state that it found is one that moves lead to (`reached`). Where it went to its end, the states are closed under
-/// moves but for states that others stand for (`whole`); where it didn't, it found more nodes than that (`part`). The fault is one
-/// of the nodes', or that of refused memory.
+/// moves but for states that others stand for (`whole`); where it didn't, and the watch didn't end it, it found more nodes than that
+/// (`part`). The fault is one of the nodes', or that of refused memory.
 pub fn search<T: Node, W: Watch>(
     alloc: Global,
     tools: &mut T::Tools,
@@ -211,7 +229,7 @@ pub fn search<T: Node, W: Watch>(
 ) -> Result<Found<T>, T::Fault>
     ensures reached { IfOk result (λ found. All (IsReached T.step (T.state start)) (map T.state found.nodes.items)) }
     ensures whole { IfOk result (λ found. found.whole ≡ true → IsReducedUnder T.step T.stands T.private bounds.moves (T.state start) (map T.state found.nodes.items)) }
-    ensures part { IfOk result (λ found. found.whole ≡ false → bounds.limit < length found.nodes.items) }
+    ensures part { IfOk result (λ found. found.whole ≡ false → found.stopped ≡ false → bounds.limit < length found.nodes.items) }
 {
     let found = search_from(alloc, tools, start, bounds, watch);
     watch.ended();

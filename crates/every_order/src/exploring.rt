@@ -58,7 +58,7 @@ pub fn explore<B: Allocator, C: Allocator>(
     ensures complete { IfOk result (λ found. found.whole ≡ true → AreAllOutcomes call_of next_of (script_kernel script.now.profile (lines_of script.now.lines) stdin.now files.now) (map outcome_by found.outcomes.items)) }
     ensures awake { IfOk result (λ found. found.whole ≡ true → found.stuck ≡ None → IsNeverStuck call_of next_of (script_kernel script.now.profile (lines_of script.now.lines) stdin.now files.now)) }
     ensures asleep { IfOk result (λ found. IfSome found.stuck (λ pids. LeadsToSleep call_of next_of (script_kernel script.now.profile (lines_of script.now.lines) stdin.now files.now) pids.items)) }
-    ensures part { IfOk result (λ found. found.whole ≡ false → states < found.states) }
+    ensures part { IfOk result (λ found. found.whole ≡ false → found.stopped ≡ false → states < found.states) }
 {
     let setting = Setting {
         script,
@@ -81,7 +81,7 @@ pub fn explore_watched<B: Allocator, C: Allocator, W: Watch>(
     ensures complete { IfOk result (λ found. found.whole ≡ true → AreAllOutcomes call_of next_of (script_kernel setting.now.script.now.profile (lines_of setting.now.script.now.lines) setting.now.stdin.now setting.now.files.now) (map outcome_by found.outcomes.items)) }
     ensures awake { IfOk result (λ found. found.whole ≡ true → found.stuck ≡ None → IsNeverStuck call_of next_of (script_kernel setting.now.script.now.profile (lines_of setting.now.script.now.lines) setting.now.stdin.now setting.now.files.now)) }
     ensures asleep { IfOk result (λ found. IfSome found.stuck (λ pids. LeadsToSleep call_of next_of (script_kernel setting.now.script.now.profile (lines_of setting.now.script.now.lines) setting.now.stdin.now setting.now.files.now) pids.items)) }
-    ensures part { IfOk result (λ found. found.whole ≡ false → states < found.states) }
+    ensures part { IfOk result (λ found. found.whole ≡ false → found.stopped ≡ false → states < found.states) }
 {
     explore_named::<Brand, B, C, W>(alloc, setting, states, watch)
 }
@@ -124,7 +124,7 @@ fn explore_named<N: Naming, B: Allocator, C: Allocator, W: Watch>(
     ensures complete { IfOk result (λ found. found.whole ≡ true → AreAllOutcomes call_of next_of (script_kernel setting.now.script.now.profile (lines_of setting.now.script.now.lines) setting.now.stdin.now setting.now.files.now) (map outcome_by found.outcomes.items)) }
     ensures awake { IfOk result (λ found. found.whole ≡ true → found.stuck ≡ None → IsNeverStuck call_of next_of (script_kernel setting.now.script.now.profile (lines_of setting.now.script.now.lines) setting.now.stdin.now setting.now.files.now)) }
     ensures asleep { IfOk result (λ found. IfSome found.stuck (λ pids. LeadsToSleep call_of next_of (script_kernel setting.now.script.now.profile (lines_of setting.now.script.now.lines) setting.now.stdin.now setting.now.files.now) pids.items)) }
-    ensures part { IfOk result (λ found. found.whole ≡ false → states < found.states) }
+    ensures part { IfOk result (λ found. found.whole ≡ false → found.stopped ≡ false → states < found.states) }
 {
     are_files(setting.files);
     a_script_begins_at_a_boot();

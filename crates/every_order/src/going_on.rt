@@ -29,7 +29,7 @@ pub fn explore_after<M: Machine, C: Allocator, W: Watch>(
 ) -> Result<Exploration, ExploreFault>
     requires { HasAhead M.call_of M.next_of origin.now.ahead (boot_kernel (M.view origin.now.init) (M.view origin.now.shell) origin.now.stdin.now origin.now.files.now) }
     ensures told { IfOk result (TellsAfter M.call_of M.next_of (boot_kernel (M.view origin.now.init) (M.view origin.now.shell) origin.now.stdin.now origin.now.files.now) pids.now) }
-    ensures part { IfOk result (λ found. found.whole ≡ false → states < found.states) }
+    ensures part { IfOk result (λ found. found.whole ≡ false → found.stopped ≡ false → states < found.states) }
 {
     are_files(origin.files);
     what_a_search_found_is_explored::<M>();

@@ -3,7 +3,7 @@
 use crate::findings::{Findings, Told};
 use plain_run::Plain;
 use result_json::{begin_result, full_word, write_dead, write_files};
-use script_outcomes::{Conclusion, Outcome, Tried};
+use script_outcomes::{Conclusion, Exploration, Outcome, Tried};
 use std::alloc::{AllocError, Global};
 use trace_lines::Line;
 use xvsh_read::Status;
@@ -16,6 +16,15 @@ fn status_of(conclusion: Conclusion) -> (&'static str, Status) {
         Conclusion::Stuck => ("some order never ends", Status::Amiss),
         Conclusion::Full => ("something was full", Status::NoRoom),
         Conclusion::Part => ("not every order tried", Status::NoRoom),
+    }
+}
+
+// What ended the search before every order was tried: as many states, or as much memory, as it may take.
+fn write_limit(line: &mut Line, found: &Exploration) -> Result<(), AllocError> {
+    match (found.whole, found.stopped) {
+        (true, _) => line.nothing("limit"),
+        (false, true) => line.word("limit", "memory"),
+        (false, false) => line.word("limit", "states"),
     }
 }
 
@@ -95,6 +104,7 @@ pub fn object_of(
     line.count("states", found.states as u64)?;
     line.count("runs", tried.runs as u64)?;
     line.truth("every_order_tried", found.whole)?;
+    write_limit(&mut line, found)?;
     match &found.stuck {
         Some(pids) => write_pids(&mut line, "stuck", pids.as_slice())?,
         None => line.nothing("stuck")?,
@@ -115,6 +125,7 @@ pub fn object_of_settled(
     line.count("states", 0)?;
     line.count("runs", 0)?;
     line.truth("every_order_tried", false)?;
+    line.nothing("limit")?;
     line.nothing("stuck")?;
     line.begin_list("outcomes")?;
     line.begin_raw_object()?;

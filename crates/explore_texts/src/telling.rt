@@ -45,7 +45,12 @@ fn add_tried(alloc: Global, text: &mut Vec<u8>, tried: &Tried) -> Result<(), All
     add_count(alloc, text, tried.runs, "run")?;
     text.extend_from_slice(b" and ".as_slice())?;
     add_count(alloc, text, tried.found.states, "state")?;
-    text.extend_from_slice(b"), not every order was tried\n".as_slice())
+    text.extend_from_slice(b"), not every order was tried".as_slice())?;
+    if tried.found.stopped {
+        text.extend_from_slice(b": the search took all the memory that it may".as_slice())?;
+    }
+    text.push(b'\n')?;
+    Ok(())
 }
 
 // The first line: how many outputs and outcomes there are, and whether every order was tried.

@@ -22,6 +22,7 @@ fn nothing_found(alloc: Global) -> Exploration
 {
     Exploration {
         whole: false,
+        stopped: false,
         states: 0,
         outcomes: Vec::new(alloc),
         stuck: None,

@@ -25,6 +25,8 @@ const MAX_CHAIN: usize = 64;
 pub struct Exploration {
     /// Whether every order was tried.
     pub whole: bool,
+    /// Whether the watch ended the search.
+    pub stopped: bool,
     /// How many states were kept: kernels that differ in more than who runs, who sleeps, the numbers of open-file entries, how many
     /// events there were, and what pipes are called. Where a turn gives way to nobody's the state after it stands for the one before it, which is not kept.
     pub states: usize,
@@ -35,7 +37,8 @@ pub struct Exploration {
 }
 
 /// Tries the orders in which the processes of a kernel can take their turns: all orders, unless they lead to more than
-/// `states` states (`part`: where not every order was tried, more were found). `watch` is told how many were found.
+/// `states` states, or `watch`, which sees how many were found, ends the search. Where not every order was tried and the watch didn't end
+/// it, more states were found (`part`).
 pub fn explore_from<M: Machine, C: Allocator, W: Watch>(
     alloc: Global,
     origin: &Origin<'_, M, C>,
@@ -44,7 +47,7 @@ pub fn explore_from<M: Machine, C: Allocator, W: Watch>(
 ) -> Result<Exploration, ExploreFault>
     requires { HasAhead M.call_of M.next_of origin.now.ahead (start_kernel (M.view origin.now.init) (M.view origin.now.shell) origin.now.stdin.now origin.now.files.now) }
     ensures explores { IfOk result (Explores M.call_of M.next_of (start_kernel (M.view origin.now.init) (M.view origin.now.shell) origin.now.stdin.now origin.now.files.now) (start_kernel (M.view origin.now.init) (M.view origin.now.shell) origin.now.stdin.now origin.now.files.now)) }
-    ensures part { IfOk result (λ e. e.whole ≡ false → states < e.states) }
+    ensures part { IfOk result (λ e. e.whole ≡ false → e.stopped ≡ false → states < e.states) }
 {
     explore_after(alloc, origin, &[], states, watch)
 }
@@ -62,7 +65,7 @@ pub fn explore_after<M: Machine, C: Allocator, W: Watch>(
 ) -> Result<Exploration, ExploreFault>
     requires { HasAhead M.call_of M.next_of origin.now.ahead (start_kernel (M.view origin.now.init) (M.view origin.now.shell) origin.now.stdin.now origin.now.files.now) }
     ensures explores { IfOk result (ExploresAfter M.call_of M.next_of (start_kernel (M.view origin.now.init) (M.view origin.now.shell) origin.now.stdin.now origin.now.files.now) pids.now) }
-    ensures part { IfOk result (λ e. e.whole ≡ false → states < e.states) }
+    ensures part { IfOk result (λ e. e.whole ≡ false → e.stopped ≡ false → states < e.states) }
 {
     let mut tools = Tools::new(alloc)?;
     let start = Standing::begin(&mut tools, origin, pids)?;
@@ -84,6 +87,7 @@ fn tell<'t, M: Machine, C: Allocator>(
     found: &Found<Standing<'t, M, C>>,
 ) -> Result<Exploration, ExploreFault>
     ensures whole { IfOk result (λ e. e.whole ≡ found.now.whole) }
+    ensures stopped { IfOk result (λ e. e.stopped ≡ found.now.stopped) }
     ensures tells { IfOk result (λ e. Tells M.call_of M.next_of (start_kernel (M.view origin.now.init) (M.view origin.now.shell) origin.now.stdin.now origin.now.files.now) (map kernel_of found.now.nodes.items) e.outcomes.items) }
     ensures busy { IfOk result (λ e. e.stuck ≡ None → All (IsFinishedOrBusy M.call_of M.next_of) (map kernel_of found.now.nodes.items)) }
     ensures asleep { IfOk result (λ e. IfSome e.stuck (λ pids. LeadsToSleep M.call_of M.next_of (start_kernel (M.view origin.now.init) (M.view origin.now.shell) origin.now.stdin.now origin.now.files.now) pids.items)) }
@@ -93,6 +97,7 @@ fn tell<'t, M: Machine, C: Allocator>(
     let stuck = stuck_of(alloc, origin, tools, &found.nodes)?;
     Ok(Exploration {
         whole: found.whole,
+        stopped: found.stopped,
         states: found.nodes.len(),
         outcomes,
         stuck,

@@ -103,6 +103,7 @@ fn page_by<'b, M: Machine, C: Allocator, W: Watch>(
 ) -> Result<Vec<u8>, PageFault> {
     let Exploration {
         whole,
+        stopped: _,
         states,
         outcomes,
         stuck,

@@ -424,7 +424,9 @@ impl<'w, 't, M: Machine, C: Allocator> Walk<'w, 't, M, C> {
             if self.is_cut && self.reach.is_full {
                 break;
             }
-            watch.found(self.nodes.len());
+            if !watch.found(self.nodes.len()) {
+                return Err(PageFault::Many(self.nodes.len()));
+            }
             self.follow_from(place, &mut ahead)?;
             at = at.saturating_add(1);
         }

@@ -13,7 +13,7 @@ pub enum PlayFault {
     /// A run has more turns than can be counted.
     #[error("a run is too long")]
     TooLong,
-    /// More states can follow than may be kept: so many were found.
+    /// More states can follow than may be kept, or whoever watches ended it: so many were found.
     #[error("there are {0} states or more")]
     Many(usize),
     /// What was to be shown isn't so: a turn leads elsewhere, an outcome isn't listed, or a turn that isn't offered adds one.

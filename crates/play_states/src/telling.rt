@@ -201,7 +201,9 @@ impl<'t, M: Machine, C: Allocator> Ground<'t, M, C> {
     {
         let mut shown = Vec::new(budget.alloc);
         for spot in spots {
-            watch.found(shown.len());
+            if !watch.found(shown.len()) {
+                return Err(PlayFault::Many(shown.len()));
+            }
             let it = self.show(budget, outcomes, spot)?;
             push_shown(&mut shown, it)?;
         }
@@ -258,13 +260,13 @@ impl<'t, M: Machine, C: Allocator> Ground<'t, M, C> {
     }
 
     /// Tells of each of these states which of the outcomes can still come of it, and whether all processes can come to sleep, through at
-    /// most as many states after each as the budget has. `watch` is told of how many states it was told, each time before it is told of one more.
+    /// most as many states after each as the budget has. `watch` sees of how many states it was told, each time before it is told of one more.
     ///
     /// The outcomes that are told of a state are those of all finished runs that go on after its turns, in any order and on any harts, at
     /// which memory is never refused or nothing is full; and so they are after each turn that is offered there (`IsPlay`). Each
     /// outcome of a state that isn't cut can come after one of the turns that are offered there, so that no other one can add any.
     ///
-    /// The fault is `Many` where a state leads to more states; `Astray` where one can come to an outcome that isn't listed, where a turn
+    /// The fault is `Many` where a state leads to more states, or `watch` ends it; `Astray` where one can come to an outcome that isn't listed, where a turn
     /// leads elsewhere than is said, or where a turn that isn't offered could add an outcome.
     pub fn tell<W: Watch>(
         &self,

@@ -30,5 +30,5 @@ reordered start states found sorted t r =
       complete = λ is. all_in_order start (map outcome_by found.outcomes.items) (map outcome_by sorted.outcomes.items) (IsPermutation-map outcome_by found.outcomes.items sorted.outcomes.items r.outcomes) (t.complete (sym r.whole ∙ is));
       awake = λ is none. t.awake (sym r.whole ∙ is) (sym r.stuck ∙ none);
       asleep = subst (λ stuck. IfSome stuck (λ pids. LeadsToSleep call_of next_of start pids.items)) (sym r.stuck) t.asleep;
-      part = λ is. subst (λ n. states < n) (sym r.states) (t.part (sym r.whole ∙ is));
+      part = λ is on. subst (λ n. states < n) (sym r.states) (t.part (sym r.whole ∙ is) (sym r.stopped ∙ on));
     }

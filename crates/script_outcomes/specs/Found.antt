@@ -40,20 +40,22 @@ AreRoomy outcomes = All (λ outcome. outcome.full ≡ None) outcomes
 -- the same but for the order of the outcomes
 pub record IsReordered (found sorted : Exploration) : Type 0 where
   pub whole : sorted.whole ≡ found.whole
+  pub stopped : sorted.stopped ≡ found.stopped
   pub states : sorted.states ≡ found.states
   pub stuck : sorted.stuck ≡ found.stuck
   pub outcomes : IsPermutation found.outcomes.items sorted.outcomes.items
 
 -- what trying orders from a start shows, where at most so many states were to be kept: each outcome is that of a finished run by its
 -- own schedule, and no two are equal. Where every order was tried they are those of all runs, and where none was found stuck none
--- is. Where one was, its turns lead to where all processes sleep. Where not every order was tried, more states were found
+-- is. Where one was, its turns lead to where all processes sleep. Where not every order was tried and
+-- the watch didn't end the search, more states were found
 pub record AreTried (start : KernelState User) (states : ℕ) (found : Exploration) : Type 0 where
   pub sound : All (IsReplayed call_of next_of start) found.outcomes.items
   pub apart : AreApart found.outcomes.items
   pub complete : found.whole ≡ true → AreAllOutcomes call_of next_of start (map outcome_by found.outcomes.items)
   pub awake : found.whole ≡ true → found.stuck ≡ None → IsNeverStuck call_of next_of start
   pub asleep : IfSome found.stuck (λ pids. LeadsToSleep call_of next_of start pids.items)
-  pub part : found.whole ≡ false → states < found.states
+  pub part : found.whole ≡ false → found.stopped ≡ false → states < found.states
 
 -- the script is settled, no file of it is soft, and a run of it ended in which nothing was full; and this is its meaning
 pub record IsKnown {A : _} (profile : Profile) (lines : List ScriptLine) (stdin : Bytes) (given : List (Name × Bytes)) (value : Plain A) : Type 0 where

@@ -62,6 +62,7 @@ fn in_order(alloc: Global, found: Exploration) -> Result<Exploration, AllocError
 {
     let Exploration {
         whole,
+        stopped,
         states,
         outcomes,
         stuck,
@@ -69,6 +70,7 @@ fn in_order(alloc: Global, found: Exploration) -> Result<Exploration, AllocError
     let outcomes = sorted(alloc, outcomes)?;
     Ok(Exploration {
         whole,
+        stopped,
         states,
         outcomes,
         stuck,

@@ -75,7 +75,7 @@ pub fn outcomes_from<M: Machine, C: Allocator, W: Watch>(
 ) -> Result<Exploration, RestFault>
     ensures told { IfOk result (TellsRest M.call_of M.next_of session.now) }
     ensures goes_on { IfOk result (λ found. GoOn (callers session.now.schedule) found.outcomes.items) }
-    ensures part { IfOk result (λ found. found.whole ≡ false → states < found.states) }
+    ensures part { IfOk result (λ found. found.whole ≡ false → found.stopped ≡ false → states < found.states) }
     ensures full { (result ≡ Err RestFault.Full) ↔ (session.now.now.full ≢ None) }
 {
     session.replays();

@@ -5,7 +5,8 @@ ghost use Rattle.script_outcomes.specs.Found.{IsFound};
 ghost use Rattle.script_outcomes.specs.Pairs.{IsClearest};
 ghost use Rattle.script_outcomes.specs.declared.pair.Pair.{Pair};
 ghost use Rattle.xvsh_plain.specs.Dead.{AreBadAt, AreDeadAt};
-ghost use Rattle.xvsh_explores.specs.Explores.{IsExploringFault, IsPairFault, IsPairOf, RanExplore, tried_outcomes};
+ghost use Rattle.xvsh_explores.specs.Explores.{IsExploringFault, IsPairFault, IsPairOf, tried_outcomes};
+ghost use Rattle.xvsh_read.specs.Starting.{Starts};
 ghost use Rattle.xvsh_read.specs.declared.fault.Fault.TheVariants.{Memory, TooLarge};
 
 use crate::fault::ExploringFault;
@@ -145,7 +146,10 @@ pub fn run_explore<'a, H: Host + Watch>(
     request: &ExploreRequest<'a>,
     host: &mut H,
 ) -> Result<Explored, ExploringFault<'a>>
-    ensures ran { IfOk result (λ explored. RanExplore (H.input host.old) (H.file host.old) request.now.source.profile request.now.source.script.now request.now.source.files.now request.now.states request.now.is_thorough explored.found) }
+    ensures starts { IfOk result (λ explored. Starts (H.input host.old) (H.file host.old) false request.now.source.script.now request.now.source.files.now
+        (lines_of explored.start.script.lines) explored.start.files explored.start.stdin.items) }
+    ensures profile { IfOk result (λ explored. explored.start.script.profile ≡ request.now.source.profile) }
+    ensures found { IfOk result (λ explored. IsFound request.now.source.profile (lines_of explored.start.script.lines) explored.start.stdin.items explored.start.files request.now.states request.now.is_thorough explored.found) }
     ensures bad { IfOk result (λ explored. AreBadAt (H.input host.old) (H.file host.old) request.now.source.script.now explored.bad.items) }
     ensures dead { IfOk result (λ explored. AreDeadAt (H.input host.old) (H.file host.old) request.now.source.script.now explored.dead.items) }
     ensures pair { IfOk result (λ explored. IsPairOf request.now.pair explored.pair) }

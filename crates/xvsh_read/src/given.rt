@@ -87,8 +87,8 @@ impl<H: Traces> Traces for Given<'_, H> {
 }
 
 impl<H: Watch> Watch for Given<'_, H> {
-    fn found(&mut self, count: usize) {
-        self.host.found(count);
+    fn found(&mut self, count: usize) -> bool {
+        self.host.found(count)
     }
 
     fn ended(&mut self) {

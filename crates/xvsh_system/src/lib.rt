@@ -3,6 +3,7 @@
 
 mod colours;
 mod grading;
+mod memory;
 mod program;
 mod stepping;
 mod system;

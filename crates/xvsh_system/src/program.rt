@@ -4,6 +4,7 @@ ghost use Rattle.std.specs.Thread.{IsSync};
 
 use crate::colours::{Coloured, colours_of, lines_beside, lines_of_output};
 use crate::grading::grades;
+use crate::memory::Budget;
 use crate::stepping::steps;
 use crate::system::System;
 use crate::terminal::Terminal;
@@ -25,15 +26,47 @@ fn words_of(rt: &(impl Env + AllocGlobal)) -> io::Result<Vec<String>> {
     Ok(env::args(rt)?.skip(1).collect(rt.alloc())?)
 }
 
-// How many states the search keeps at most that these words ask for, if they do.
-fn most_states(alloc: Global, words: &[String]) -> Option<usize> {
+// How far a search goes.
+#[derive(Clone, Copy)]
+struct Reach {
+    // How many states it keeps at most, if it is known.
+    states: Option<usize>,
+    // How many mebibytes the program may take, if the words say it.
+    mebibytes: Option<u64>,
+}
+
+// How far the search goes that these words ask for, if they do.
+fn reach_of(alloc: Global, words: &[String]) -> Option<Reach> {
     match words.first() {
         Some(name) if name.as_str() == "explore" => {}
         _ => return None,
     }
     let matches = parsed_words(alloc, words).ok()?;
     let words = matches.subcommand_matches("explore")?;
-    usize::try_from(words.get_one::<u64>("states").unwrap_or(STATES)).ok()
+    Some(Reach {
+        states: usize::try_from(words.get_one::<u64>("states").unwrap_or(STATES)).ok(),
+        mebibytes: words.get_one::<u64>("memory"),
+    })
+}
+
+// The system, whose searches go so far, if these words ask for one.
+fn system_of<'t, R, T>(
+    rt: &'t R,
+    words: &[String],
+    terminal: Terminal<T>,
+    ticker: Option<&'t Ticker>,
+) -> System<'t, &'t R, T>
+where
+    R: AllocGlobal + Files,
+    T: Write + Drop,
+{
+    let system = System::new(rt, terminal, ticker);
+    match reach_of(rt.alloc(), words) {
+        Some(reach) => system
+            .with_most(reach.states)
+            .with_budget(Budget::new(rt, reach.mebibytes)),
+        None => system,
+    }
 }
 
 // Runs a command whose output is written once it is done.
@@ -49,11 +82,10 @@ where
     E: Write,
     T: Write + Drop,
 {
-    let most = most_states(rt.alloc(), words.as_slice());
     let beside = lines_beside(rt, &terminal);
     let lines = lines_of_output(rt, &terminal, words.as_slice());
     let mut console = Console {
-        host: System::new(rt, terminal, ticker).with_most(most),
+        host: system_of(rt, words.as_slice(), terminal, ticker),
         out: Coloured {
             lines,
             writer: Quieting {

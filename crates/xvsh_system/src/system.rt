@@ -2,6 +2,7 @@
 
 ghost use Rattle.std.specs.Prelude.{None};
 
+use crate::memory::Budget;
 use crate::terminal::{Progress, Step, Terminal};
 use crate::ticking::Ticker;
 use std::alloc::Global;
@@ -32,6 +33,8 @@ pub struct System<'t, R: Files, E> {
     progress: Progress,
     // How many states a search keeps at most, if it is known.
     most: Option<usize>,
+    // How much memory a search may take.
+    budget: Budget,
     // What shows that a run goes on, if anything does.
     ticker: Option<&'t Ticker>,
     // Why the path that was read last can't be read, in a sentence; empty where that isn't known.
@@ -69,6 +72,7 @@ impl<'t, R: Files, E: Write> System<'t, R, E> {
             terminal,
             progress: Progress::new(),
             most: None,
+            budget: Budget::unbounded(),
             ticker,
             unread: "",
         }
@@ -77,6 +81,12 @@ impl<'t, R: Files, E: Write> System<'t, R, E> {
     /// The same, whose searches keep so many states at most, if that is known.
     pub fn with_most(mut self, most: Option<usize>) -> Self {
         self.most = most;
+        self
+    }
+
+    /// The same, whose searches end where the program takes more memory than this.
+    pub fn with_budget(mut self, budget: Budget) -> Self {
+        self.budget = budget;
         self
     }
 
@@ -172,13 +182,14 @@ impl<R: Files + Print, E> Traces for System<'_, R, E> {
 }
 
 impl<R: Files + Clock, E: Write> Watch for System<'_, R, E> {
-    fn found(&mut self, count: usize) {
+    fn found(&mut self, count: usize) -> bool {
         self.show_progress(Step {
             count,
             of: self.most,
             what: "states",
             has_pace: true,
         });
+        self.budget.allows(&self.rt, count)
     }
 
     fn ended(&mut self) {

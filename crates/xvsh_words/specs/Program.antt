@@ -41,6 +41,10 @@ other_rule name = record (new_rule name) { value_names = 1; range = Some (record
 abbrev pub most_seed : ℕ
 most_seed = 18446744073709551615
 
+-- the most mebibytes of a search
+abbrev pub most_mebibytes : ℕ
+most_mebibytes = 1048576
+
 -- the commands; `run` by the most harts and the most turns that it may have
 abbrev pub run_shape : ℕ → ℕ → Shape
 run_shape harts turns = record (new_shape (codes "run")) {
@@ -65,7 +69,7 @@ check_shape = record (new_shape (codes "check")) {
 -- `explore` by the most states that it may keep
 abbrev pub explore_shape : ℕ → Shape
 explore_shape states = record (new_shape (codes "explore")) {
-  rules = number_rule (codes "states") states ∷ flag_rule (codes "all") ∷ flag_rule (codes "full") ∷ path_rule (codes "witness") ∷ path_rule (codes "draw") ∷ path_rule (codes "play") ∷ path_rule (codes "pair") ∷ flag_rule (codes "json") ∷ flag_rule (codes "append") ∷ input_rule ∷ text_rule ∷ word_rule (codes "script") ∷ files_rule ∷ [];
+  rules = number_rule (codes "states") states ∷ number_rule (codes "memory") most_mebibytes ∷ flag_rule (codes "all") ∷ flag_rule (codes "full") ∷ path_rule (codes "witness") ∷ path_rule (codes "draw") ∷ path_rule (codes "play") ∷ path_rule (codes "pair") ∷ flag_rule (codes "json") ∷ flag_rule (codes "append") ∷ input_rule ∷ text_rule ∷ word_rule (codes "script") ∷ files_rule ∷ [];
 }
 
 abbrev pub explain_shape : Shape

@@ -458,11 +458,18 @@ const PAIR_HELP: &str =
 
 const EXPLORED_JSON_HELP: &str = "Write one object of JSON";
 
+const MEMORY_HELP: &str =
+    "End the search where the program takes more than N MiB of memory, 1 to 1048576; half of what is free without it";
+
+// The most mebibytes of a search.
+const MOST_MEBIBYTES: u64 = 1_048_576;
+
 fn explore_command<'a>(alloc: Global, most_states: u64) -> Result<Command<'a>, AllocError>
     ensures { IfOk result (IsCommand (explore_shape most_states)) }
 {
     let args = vec![in alloc;
         number_option(alloc, "states", STATES_HELP, most_states),
+        number_option(alloc, "memory", MEMORY_HELP, MOST_MEBIBYTES),
         flag(alloc, "all", ALL_HELP),
         flag(alloc, "full", FULL_HELP),
         path_option(alloc, "witness", "DIR", WITNESS_HELP),
