@@ -5,7 +5,7 @@ ghost use Rattle.script_outcomes.specs.Found.{IsFound};
 ghost use Rattle.script_outcomes.specs.Pairs.{IsClearest};
 ghost use Rattle.script_outcomes.specs.declared.pair.Pair.{Pair};
 ghost use Rattle.xvsh_plain.specs.Dead.{AreBadAt, AreDeadAt};
-ghost use Rattle.xvsh_explores.specs.Explores.{IsExploringFault, IsPairFault, IsPairOf, tried_outcomes};
+ghost use Rattle.xvsh_explores.specs.Explores.{IsBeforeSearch, IsExploringFault, IsMissing, IsMissingFrom, IsPairFault, IsPairOf, outcome_count, tried_outcomes};
 ghost use Rattle.xvsh_read.specs.Starting.{Starts};
 ghost use Rattle.xvsh_read.specs.declared.fault.Fault.TheVariants.{Memory, TooLarge};
 
@@ -83,6 +83,7 @@ fn asked_pair<'a>(request: &ExploreRequest<'a>) -> Result<Option<Pair>, Explorin
     ensures pair { IfOk result (IsPairOf request.now.pair) }
     ensures none { IfOk result (λ pair. request.now.pair ≡ None → pair ≡ None) }
     ensures fault { IfErr result (IsPairFault request.now.pair) }
+    ensures early { IfErr result IsBeforeSearch }
 {
     let Some(word) = request.pair else {
         return Ok(None);
@@ -104,7 +105,9 @@ fn tried(found: &Found) -> &[Outcome]
 }
 
 // How many outcomes were found.
-fn count_of(found: &Found) -> usize {
+fn count_of(found: &Found) -> usize
+    ensures { result ≡ outcome_count found.now }
+{
     match found {
         Found::Settled(_) => 1,
         Found::Tried(tried) => tried.found.outcomes.len(),
@@ -120,6 +123,7 @@ fn pair_of<'a>(
     ensures pair { IfOk result (λ pair. IsPairOf request.now.pair asked → IsPairOf request.now.pair pair) }
     ensures clearest { IfOk result (λ pair. asked ≡ None → IfSome pair (IsClearest (tried_outcomes found.now))) }
     ensures fault { IfErr result (IsPairFault request.now.pair) }
+    ensures missing { IfErr result (λ fault. IsPairOf request.now.pair asked → IsMissingFrom found.now fault) }
 {
     let shown = shown_pair(tried(found), asked);
     match request.pair {
@@ -155,6 +159,7 @@ pub fn run_explore<'a, H: Host + Watch>(
     ensures pair { IfOk result (λ explored. IsPairOf request.now.pair explored.pair) }
     ensures clearest { IfOk result (λ explored. request.now.pair ≡ None → IfSome explored.pair (IsClearest (tried_outcomes explored.found))) }
     ensures fault { IfErr result (IsExploringFault (H.input host.old) (H.file host.old) request.now.source.script.now request.now.source.files.now request.now.pair) }
+    ensures missing { IfErr result (IsMissing (H.input host.old) (H.file host.old) request.now.source.profile request.now.source.script.now request.now.source.files.now request.now.states request.now.is_thorough) }
 {
     let asked = asked_pair(request)?;
     let start = prepare(alloc, host, &request.source, false)?;
