@@ -4,7 +4,7 @@ use Rattle.std.specs.Prelude.{Result}
 use Rattle.std.proofs.lemmas.Result.{IfOk-weaker, IfErr-weaker}
 use Rattle.sh_tree.specs.Tree.{Tree, pipe}
 use Rattle.mem_files.specs.Name.{Name, Bytes}
-use Rattle.mem_files.specs.Files.{FileMap}
+use Rattle.mem_files.specs.Files.{FileMap, files}
 use Rattle.prog_parts.specs.NameSets.{no_names, among, both}
 use Rattle.conflict_check.specs.Names.{names}
 use Rattle.script_load.specs.declared.profile.Profile.{Profile}
@@ -19,6 +19,7 @@ use Rattle.prog_parts.specs.Program.{is_empty}
 use Rattle.plain_run.specs.Means.{Means}
 use Rattle.plain_run.specs.Tells.{Tells}
 use Rattle.plain_run.specs.declared.run.Ran.{Ran}
+use Rattle.plain_run.specs.declared.run.Runner.{Runner}
 use Rattle.plain_run.proofs.Steps.{due_more}
 
 -- it writes all of its input, leaves nothing unread, and names no file
@@ -60,10 +61,13 @@ after_cat_tells profile R input unread F loose cut all soft soft' left told c l 
     }
 
 -- what the left side does is all that the pipe does
-pub into_cat : {A : _} (profile : Profile) (L : Tree) (input : Bytes) (F : FileMap) (old new : Bytes) (G : FileMap) (result : Result (Ran A) PlainFault) → Means profile L input F old new G result → Means profile (pipe L cat_alone) input F old new G result
-into_cat profile L input F old new G result left =
+pub into_cat : {A : _} (old new : Runner A) (L : Tree) (input : Bytes) (result : Result (Ran A) PlainFault) → Means old new L input result → Means old new (pipe L cat_alone) input result
+into_cat old new L input result left =
+    let profile = old.profile in
+    let F = files old.store in
     let value = meaning profile L input F in
     record {
+      profile = left.profile;
       gives = IfOk-weaker result _ _ (λ ran given. record { out = given.out; rest = given.rest; files = given.files }) left.gives;
       tells = IfOk-weaker result _ _ (λ ran told. record { loose = told.loose ∙ or_none value.loose; soft = λ name. told.soft name ∙ or_none (value.soft name) ∙ or_none (value.soft name || false) }) left.tells;
       again = IfOk-weaker result _ _ (λ ran told. record {

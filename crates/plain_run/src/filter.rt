@@ -29,6 +29,14 @@ pub trait Filter {
         ensures kept { Extends out.old.items out.new.items };
 }
 
+// What a program reads: the files of these names, or standard input where there are none.
+#[derive(Drop)]
+pub struct Inputs<'f, 'i, A: Allocator, B: Allocator> {
+    pub names: &'f [Bytes<B>],
+    pub input: &'i [u8],
+    pub store: &'f Files<A>,
+}
+
 // Works on the files in order, up to and without the first that is not found.
 fn run_on_files<P: Filter, A: Allocator + Copy, B: Allocator>(
     alloc: A,
@@ -54,19 +62,17 @@ fn run_on_files<P: Filter, A: Allocator + Copy, B: Allocator>(
 pub fn run_filter<'i, P: Filter, A: Allocator + Copy, B: Allocator>(
     alloc: A,
     program: &P,
-    names: &[Bytes<B>],
-    input: &'i [u8],
-    store: &Files<A>,
+    inputs: &Inputs<'_, 'i, A, B>,
     out: &mut Vec<u8, A>,
 ) -> Result<&'i [u8], AllocError>
-    ensures gives { IfOk result (λ rest. Gives (filter_value (P.written program.now) (P.left program.now) names.now input.now (files store.now)) out.old.items out.new.items rest.now (files store.now)) }
+    ensures gives { IfOk result (λ rest. Gives (filter_value (P.written program.now) (P.left program.now) inputs.now.names.now inputs.now.input.now (files inputs.now.store.now)) out.old.items out.new.items rest.now (files inputs.now.store.now)) }
     ensures kept { Extends out.old.items out.new.items }
 {
-    if names.is_empty() {
-        return program.work(alloc, &[], input, out);
+    if inputs.names.is_empty() {
+        return program.work(alloc, &[], inputs.input, out);
     }
-    run_on_files(alloc, program, names, store, out)?;
-    Ok(input)
+    run_on_files(alloc, program, inputs.names, inputs.store, out)?;
+    Ok(inputs.input)
 }
 
 // All of its input (`user/cat.c`).

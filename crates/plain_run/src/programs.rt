@@ -7,7 +7,7 @@ ghost use Rattle.meaning_model.specs.Programs.{echo_out, grep_value, head_value,
 ghost use Rattle.plain_run.specs.Gives.{Gives, IsDue, Extends, SameBeside};
 
 use crate::fault::PlainFault;
-use crate::filter::{Cat, run_filter};
+use crate::filter::{Cat, Inputs, run_filter};
 use crate::grep::Grep;
 use crate::head::Head;
 use crate::tee::tee;
@@ -49,7 +49,12 @@ fn grep<'i, A: Allocator + Copy, B: Allocator>(
     let program = Grep {
         pattern: pattern.as_slice(),
     };
-    run_filter(alloc, &program, names, input, store, out)
+    let inputs = Inputs {
+        names,
+        input,
+        store,
+    };
+    run_filter(alloc, &program, &inputs, out)
 }
 
 // With a wrong count it does nothing.
@@ -64,7 +69,14 @@ fn head<'i, A: Allocator + Copy, B: Allocator>(
     ensures kept { Extends out.old.items out.new.items }
 {
     match head_request(arguments) {
-        Some((count, names)) => run_filter(alloc, &Head { count }, names, input, store, out),
+        Some((count, names)) => {
+            let inputs = Inputs {
+                names,
+                input,
+                store,
+            };
+            run_filter(alloc, &Head { count }, &inputs, out)
+        }
         None => Ok(input),
     }
 }
@@ -93,7 +105,14 @@ pub fn run_program<'i, A: Allocator + Copy, B: Allocator>(
         return Ok(input);
     };
     match Program::named(name.as_slice()) {
-        Some(Program::Cat) => Ok(run_filter(alloc, &Cat, arguments, input, store, out)?),
+        Some(Program::Cat) => {
+            let inputs = Inputs {
+                names: arguments,
+                input,
+                store,
+            };
+            Ok(run_filter(alloc, &Cat, &inputs, out)?)
+        }
         Some(Program::Echo) => {
             echo(arguments, out)?;
             Ok(input)
@@ -101,7 +120,14 @@ pub fn run_program<'i, A: Allocator + Copy, B: Allocator>(
         Some(Program::Grep) => Ok(grep(alloc, arguments, input, store, out)?),
         Some(Program::Head) => Ok(head(alloc, arguments, input, store, out)?),
         Some(Program::Tee) => tee(arguments, input, store, out),
-        Some(Program::Wc) => Ok(run_filter(alloc, &Wc, arguments, input, store, out)?),
+        Some(Program::Wc) => {
+            let inputs = Inputs {
+                names: arguments,
+                input,
+                store,
+            };
+            Ok(run_filter(alloc, &Wc, &inputs, out)?)
+        }
         None => Ok(input),
     }
 }

@@ -27,12 +27,13 @@ use crate::programs::run_program;
 use crate::reason::Reason;
 use crate::store::find;
 use crate::told::Told;
-use crate::verdict::Verdict;
+use crate::verdict::{Side, Verdict};
 use mem_files::Files;
 use script_load::{Line, Profile, Script};
 use sh_lexer::Bytes;
 use sh_tree::{Cmd, Mode, Words};
 use std::alloc::Allocator;
+use std::mem;
 
 // What a run leaves of its input, and what of it may depend on the order in which processes run.
 #[derive(Drop)]
@@ -84,195 +85,6 @@ fn is_bare_cat<B: Allocator>(tree: &Cmd<B>) -> bool
     }
 }
 
-// Adds a command's output, changes the files as it does, and returns what it leaves of the input, and
-// what of this may depend on the order in which processes run.
-#[cycle(tree)]
-fn run_tree<'i, A: Allocator + Copy, B: Allocator>(
-    alloc: A,
-    profile: Profile,
-    tree: &Cmd<B>,
-    input: &'i [u8],
-    store: &mut Files<A>,
-    out: &mut Vec<u8, A>,
-) -> Result<Ran<'i, A>, PlainFault>
-    ensures { Means profile (tree_of tree.now) input.now (files store.old) out.old.items out.new.items (files store.new) result }
-{
-    match tree {
-        Cmd::Exec(words) => Ok(Ran {
-            rest: run_program(alloc, words.as_slice(), input, store, out)?,
-            verdict: Verdict::firm(alloc),
-        }),
-        Cmd::Redir {
-            mode: Mode::Input,
-            name,
-            body,
-        } => run_from_file(alloc, profile, name.as_slice(), body, input, store, out),
-        Cmd::Redir { mode, name, body } => {
-            run_into_file(alloc, profile, *mode, name.as_slice(), body, input, store)
-        }
-        Cmd::Pipe(left, right) => run_pipe(alloc, profile, left, right, input, store, out),
-        Cmd::List(left, right) => run_list(alloc, profile, left, right, input, store, out),
-        Cmd::Back(body) => run_tree(alloc, profile, body, input, store, out),
-    }
-}
-
-// A command under `<`: on the bytes of the file; without a file nothing is done.
-#[cycle(tree)]
-fn run_from_file<'i, A: Allocator + Copy, B: Allocator>(
-    alloc: A,
-    profile: Profile,
-    name: &[u8],
-    body: &Cmd<B>,
-    input: &'i [u8],
-    store: &mut Files<A>,
-    out: &mut Vec<u8, A>,
-) -> Result<Ran<'i, A>, PlainFault>
-    ensures { Means profile (redir Input name.now (tree_of body.now)) input.now (files store.old) out.old.items out.new.items (files store.new) result }
-{
-    let Some(bytes) = find(store, name) else {
-        return Ok(Ran::nothing(alloc, input));
-    };
-    let bytes = Bytes::copy_of(alloc, bytes)?;
-    let ran = run_tree(alloc, profile, body, bytes.as_slice(), store, out)?;
-    Ok(Ran {
-        rest: input,
-        verdict: ran.verdict.into_file(alloc, name)?.with_looseness(false),
-    })
-}
-
-// A command under `>` or `>>`: its output goes to the file; where that can't be opened nothing is done.
-#[cycle(tree)]
-fn run_into_file<'i, A: Allocator + Copy, B: Allocator>(
-    alloc: A,
-    profile: Profile,
-    mode: Mode,
-    name: &[u8],
-    body: &Cmd<B>,
-    input: &'i [u8],
-    store: &mut Files<A>,
-) -> Result<Ran<'i, A>, PlainFault>
-    requires { mode ≢ Input }
-    ensures { (old : List ℕ) → Means profile (redir mode name.now (tree_of body.now)) input.now (files store.old) old old (files store.new) result }
-{
-    let held = held_bytes(alloc, mode, store, name)?;
-    if !open_output(mode, store, name)? {
-        return Ok(Ran::nothing(alloc, input));
-    }
-    let mut written = Vec::new(alloc);
-    let ran = run_tree(alloc, profile, body, input, store, &mut written)?;
-    close_output(profile, store, name, held, written)?;
-    Ok(Ran {
-        rest: ran.rest,
-        verdict: ran.verdict.into_file(alloc, name)?,
-    })
-}
-
-// A pipe. A side that is `cat` alone passes all on: then the other side does all that the pipe does, and no byte is copied
-// in between.
-#[cycle(tree)]
-fn run_pipe<'i, A: Allocator + Copy, B: Allocator>(
-    alloc: A,
-    profile: Profile,
-    left: &Cmd<B>,
-    right: &Cmd<B>,
-    input: &'i [u8],
-    store: &mut Files<A>,
-    out: &mut Vec<u8, A>,
-) -> Result<Ran<'i, A>, PlainFault>
-    ensures { Means profile (pipe (tree_of left.now) (tree_of right.now)) input.now (files store.old) out.old.items out.new.items (files store.new) result }
-{
-    if is_bare_cat(right) {
-        return run_tree(alloc, profile, left, input, store, out);
-    }
-    if is_bare_cat(left) {
-        return run_after_cat(alloc, profile, right, input, store, out);
-    }
-    run_sides(alloc, profile, left, right, input, store, out)
-}
-
-// The right side of a pipe whose left side is `cat` alone, on the pipe's own input, of which nothing is left.
-#[cycle(tree)]
-fn run_after_cat<'i, A: Allocator + Copy, B: Allocator>(
-    alloc: A,
-    profile: Profile,
-    right: &Cmd<B>,
-    input: &'i [u8],
-    store: &mut Files<A>,
-    out: &mut Vec<u8, A>,
-) -> Result<Ran<'i, A>, PlainFault>
-    ensures { Means profile (pipe cat_alone (tree_of right.now)) input.now (files store.old) out.old.items out.new.items (files store.new) result }
-{
-    let ran = run_tree(alloc, profile, right, input, store, out)?;
-    let is_cut = ran.is_cut();
-    Ok(Ran {
-        rest: &[],
-        verdict: ran.verdict.with_looseness(is_cut),
-    })
-}
-
-// The left side to its end, and then the right side on its output.
-#[cycle(tree)]
-fn run_sides<'i, A: Allocator + Copy, B: Allocator>(
-    alloc: A,
-    profile: Profile,
-    left: &Cmd<B>,
-    right: &Cmd<B>,
-    input: &'i [u8],
-    store: &mut Files<A>,
-    out: &mut Vec<u8, A>,
-) -> Result<Ran<'i, A>, PlainFault>
-    ensures { Means profile (pipe (tree_of left.now) (tree_of right.now)) input.now (files store.old) out.old.items out.new.items (files store.new) result }
-{
-    let mut middle = Vec::new(alloc);
-    let first = run_tree(alloc, profile, left, input, store, &mut middle)?;
-    let second = run_tree(alloc, profile, right, middle.as_slice(), store, out)?;
-    let is_cut = second.is_cut();
-    let verdict = Verdict::of_pipe(alloc, is_cut, left, first.verdict, right, second.verdict)?;
-    Ok(Ran {
-        rest: first.rest,
-        verdict,
-    })
-}
-
-// A list: the left side, and then the right side on what it left of the input.
-#[cycle(tree)]
-fn run_list<'i, A: Allocator + Copy, B: Allocator>(
-    alloc: A,
-    profile: Profile,
-    left: &Cmd<B>,
-    right: &Cmd<B>,
-    input: &'i [u8],
-    store: &mut Files<A>,
-    out: &mut Vec<u8, A>,
-) -> Result<Ran<'i, A>, PlainFault>
-    ensures { Means profile (list (tree_of left.now) (tree_of right.now)) input.now (files store.old) out.old.items out.new.items (files store.new) result }
-{
-    let first = run_tree(alloc, profile, left, input, store, out)?;
-    let second = run_tree(alloc, profile, right, first.rest, store, out)?;
-    let verdict = Verdict::of_list(alloc, left, first.verdict, right, second.verdict)?;
-    Ok(Ran {
-        rest: second.rest,
-        verdict,
-    })
-}
-
-// The same of a line.
-fn run_line<'i, A: Allocator + Copy, B: Allocator>(
-    alloc: A,
-    profile: Profile,
-    line: &Line<B>,
-    input: &'i [u8],
-    store: &mut Files<A>,
-    out: &mut Vec<u8, A>,
-) -> Result<Ran<'i, A>, PlainFault>
-    ensures { Means profile (line_tree (line_of line.now)) input.now (files store.old) out.old.items out.new.items (files store.new) result }
-{
-    match line {
-        Line::Tree(tree) => run_tree(alloc, profile, tree, input, store, out),
-        Line::Bad(..) | Line::Cd(_) => Ok(Ran::nothing(alloc, input)),
-    }
-}
-
 // What the lines so far leave of the input, and why they aren't settled.
 #[derive(Drop)]
 struct RanLines<'i, A: Allocator> {
@@ -280,27 +92,240 @@ struct RanLines<'i, A: Allocator> {
     told: Told<A>,
 }
 
-// The same of lines that follow each other, and why they aren't settled.
-fn run_lines<'i, A: Allocator + Copy, B: Allocator>(
+// Runs commands by this profile: it changes the files as they do, and adds what they write to the output.
+// After a fault it is of no more use.
+#[derive(Drop)]
+struct Runner<A: Allocator + Copy> {
     alloc: A,
     profile: Profile,
-    lines: &[Line<B>],
-    input: &'i [u8],
-    store: &mut Files<A>,
-    out: &mut Vec<u8, A>,
-) -> Result<RanLines<'i, A>, PlainFault>
-    ensures { MeanLines profile (map line_of lines.now) input.now (files store.old) out.old.items out.new.items (files store.new) result }
-{
-    let mut rest = input;
-    let mut told = Told::nothing(alloc);
-    let mut spans = None;
-    for (i, line) in lines.iter().enumerate() {
-        let ran = run_line(alloc, profile, line, rest, store, out)?;
-        rest = ran.rest;
-        let beside = beside_line(alloc, &mut spans, lines, i, ran.verdict.soft.as_slice())?;
-        told = told.with_line(alloc, line, i + 1, ran.verdict, beside)?;
+    store: Files<A>,
+    out: Vec<u8, A>,
+}
+
+impl<A: Allocator + Copy> Runner<A> {
+    // Adds a command's output, changes the files as it does, and returns what it leaves of the input, and
+    // what of this may depend on the order in which processes run.
+    #[cycle(tree)]
+    fn run_tree<'i, B: Allocator>(
+        &mut self,
+        tree: &Cmd<B>,
+        input: &'i [u8],
+    ) -> Result<Ran<'i, A>, PlainFault>
+        ensures { Means self.old self.new (tree_of tree.now) input.now result }
+    {
+        match tree {
+            Cmd::Exec(words) => Ok(Ran {
+                rest: run_program(
+                    self.alloc,
+                    words.as_slice(),
+                    input,
+                    &mut self.store,
+                    &mut self.out,
+                )?,
+                verdict: Verdict::firm(self.alloc),
+            }),
+            Cmd::Redir {
+                mode: Mode::Input,
+                name,
+                body,
+            } => self.run_from_file(name.as_slice(), body, input),
+            Cmd::Redir { mode, name, body } => {
+                self.run_into_file(*mode, name.as_slice(), body, input)
+            }
+            Cmd::Pipe(left, right) => self.run_pipe(left, right, input),
+            Cmd::List(left, right) => self.run_list(left, right, input),
+            Cmd::Back(body) => self.run_tree(body, input),
+        }
     }
-    Ok(RanLines { rest, told })
+
+    // A command under `<`: on the bytes of the file; without a file nothing is done.
+    #[cycle(tree)]
+    fn run_from_file<'i, B: Allocator>(
+        &mut self,
+        name: &[u8],
+        body: &Cmd<B>,
+        input: &'i [u8],
+    ) -> Result<Ran<'i, A>, PlainFault>
+        ensures { Means self.old self.new (redir Input name.now (tree_of body.now)) input.now result }
+    {
+        let Some(bytes) = find(&self.store, name) else {
+            return Ok(Ran::nothing(self.alloc, input));
+        };
+        let bytes = Bytes::copy_of(self.alloc, bytes)?;
+        let ran = self.run_tree(body, bytes.as_slice())?;
+        Ok(Ran {
+            rest: input,
+            verdict: ran
+                .verdict
+                .into_file(self.alloc, name)?
+                .with_looseness(false),
+        })
+    }
+
+    // A command under `>` or `>>`: its output goes to the file; where that can't be opened nothing is done.
+    #[cycle(tree)]
+    fn run_into_file<'i, B: Allocator>(
+        &mut self,
+        mode: Mode,
+        name: &[u8],
+        body: &Cmd<B>,
+        input: &'i [u8],
+    ) -> Result<Ran<'i, A>, PlainFault>
+        requires { mode ≢ Input }
+        ensures { Means self.old self.new (redir mode name.now (tree_of body.now)) input.now result }
+    {
+        let held = held_bytes(self.alloc, mode, &self.store, name)?;
+        if !open_output(mode, &mut self.store, name)? {
+            return Ok(Ran::nothing(self.alloc, input));
+        }
+        let out = mem::replace(&mut self.out, Vec::new(self.alloc));
+        let ran = self.run_tree(body, input)?;
+        let written = mem::replace(&mut self.out, out);
+        close_output(self.profile, &mut self.store, name, held, written)?;
+        Ok(Ran {
+            rest: ran.rest,
+            verdict: ran.verdict.into_file(self.alloc, name)?,
+        })
+    }
+
+    // A pipe. A side that is `cat` alone passes all on: then the other side does all that the pipe does, and no byte is copied
+    // in between.
+    #[cycle(tree)]
+    fn run_pipe<'i, B: Allocator>(
+        &mut self,
+        left: &Cmd<B>,
+        right: &Cmd<B>,
+        input: &'i [u8],
+    ) -> Result<Ran<'i, A>, PlainFault>
+        ensures { Means self.old self.new (pipe (tree_of left.now) (tree_of right.now)) input.now result }
+    {
+        if is_bare_cat(right) {
+            return self.run_tree(left, input);
+        }
+        if is_bare_cat(left) {
+            return self.run_after_cat(right, input);
+        }
+        self.run_sides(left, right, input)
+    }
+
+    // The right side of a pipe whose left side is `cat` alone, on the pipe's own input, of which nothing is left.
+    #[cycle(tree)]
+    fn run_after_cat<'i, B: Allocator>(
+        &mut self,
+        right: &Cmd<B>,
+        input: &'i [u8],
+    ) -> Result<Ran<'i, A>, PlainFault>
+        ensures { Means self.old self.new (pipe cat_alone (tree_of right.now)) input.now result }
+    {
+        let ran = self.run_tree(right, input)?;
+        let is_cut = ran.is_cut();
+        Ok(Ran {
+            rest: &[],
+            verdict: ran.verdict.with_looseness(is_cut),
+        })
+    }
+
+    // The left side to its end, and then the right side on its output.
+    #[cycle(tree)]
+    fn run_sides<'i, B: Allocator>(
+        &mut self,
+        left: &Cmd<B>,
+        right: &Cmd<B>,
+        input: &'i [u8],
+    ) -> Result<Ran<'i, A>, PlainFault>
+        ensures { Means self.old self.new (pipe (tree_of left.now) (tree_of right.now)) input.now result }
+    {
+        let out = mem::replace(&mut self.out, Vec::new(self.alloc));
+        let first = self.run_tree(left, input)?;
+        let middle = mem::replace(&mut self.out, out);
+        let second = self.run_tree(right, middle.as_slice())?;
+        let is_cut = second.is_cut();
+        let verdict = Verdict::of_pipe(
+            self.alloc,
+            is_cut,
+            Side {
+                tree: left,
+                verdict: first.verdict,
+            },
+            Side {
+                tree: right,
+                verdict: second.verdict,
+            },
+        )?;
+        Ok(Ran {
+            rest: first.rest,
+            verdict,
+        })
+    }
+
+    // A list: the left side, and then the right side on what it left of the input.
+    #[cycle(tree)]
+    fn run_list<'i, B: Allocator>(
+        &mut self,
+        left: &Cmd<B>,
+        right: &Cmd<B>,
+        input: &'i [u8],
+    ) -> Result<Ran<'i, A>, PlainFault>
+        ensures { Means self.old self.new (list (tree_of left.now) (tree_of right.now)) input.now result }
+    {
+        let first = self.run_tree(left, input)?;
+        let second = self.run_tree(right, first.rest)?;
+        let verdict = Verdict::of_list(
+            self.alloc,
+            Side {
+                tree: left,
+                verdict: first.verdict,
+            },
+            Side {
+                tree: right,
+                verdict: second.verdict,
+            },
+        )?;
+        Ok(Ran {
+            rest: second.rest,
+            verdict,
+        })
+    }
+
+    // The same of a line.
+    fn run_line<'i, B: Allocator>(
+        &mut self,
+        line: &Line<B>,
+        input: &'i [u8],
+    ) -> Result<Ran<'i, A>, PlainFault>
+        ensures { Means self.old self.new (line_tree (line_of line.now)) input.now result }
+    {
+        match line {
+            Line::Tree(tree) => self.run_tree(tree, input),
+            Line::Bad(..) | Line::Cd(_) => Ok(Ran::nothing(self.alloc, input)),
+        }
+    }
+
+    // The same of lines that follow each other, and why they aren't settled.
+    fn run_lines<'i, B: Allocator>(
+        &mut self,
+        lines: &[Line<B>],
+        input: &'i [u8],
+    ) -> Result<RanLines<'i, A>, PlainFault>
+        ensures { MeanLines self.old self.new (map line_of lines.now) input.now result }
+    {
+        let mut rest = input;
+        let mut told = Told::nothing(self.alloc);
+        let mut spans = None;
+        for (i, line) in lines.iter().enumerate() {
+            let ran = self.run_line(line, rest)?;
+            rest = ran.rest;
+            let beside = beside_line(
+                self.alloc,
+                &mut spans,
+                lines,
+                i,
+                ran.verdict.soft.as_slice(),
+            )?;
+            told = told.with_line(line, i + 1, ran.verdict, beside)?;
+        }
+        Ok(RanLines { rest, told })
+    }
 }
 
 // The outcome of a script, and why it isn't settled, but for `&` and clashes.
@@ -336,22 +361,20 @@ fn run_script<A: Allocator + Copy, B: Allocator, C: Allocator>(
     ensures soft_order { IfOk result (λ p. IsStrictlySortedBy name_cmp p.soft) }
     ensures large { IfErr result (IsDue (Outgrows script.now.profile (script_tree (lines_of script.now.lines)) stdin.now (files given.now))) }
 {
-    let mut store = match given.copy(alloc) {
+    let store = match given.copy(alloc) {
         Ok(store) => store,
         Err(_) => return Err(PlainFault::Memory),
     };
-    let mut out = Vec::new(alloc);
-    let ran = run_lines(
+    let mut runner = Runner {
         alloc,
-        script.profile,
-        script.lines.as_slice(),
-        stdin,
-        &mut store,
-        &mut out,
-    )?;
+        profile: script.profile,
+        store,
+        out: Vec::new(alloc),
+    };
+    let ran = runner.run_lines(script.lines.as_slice(), stdin)?;
     Ok(Outcome {
-        out: Bytes::from_vec(out),
-        files: store,
+        out: Bytes::from_vec(runner.out),
+        files: runner.store,
         rest: Bytes::copy_of(alloc, ran.rest)?,
         soft: Words::from_vec(in_order(alloc, ran.told.soft.as_slice())?),
         reasons: ran.told.reasons,

@@ -101,7 +101,6 @@ impl<A: Allocator + Copy> Told<A> {
     // One more line, with its number, its own verdict, and the reasons of its soft names that other lines name.
     pub fn with_line<B: Allocator>(
         self,
-        alloc: A,
         line: &Line<B>,
         number: usize,
         own: Verdict<A>,
@@ -112,7 +111,7 @@ impl<A: Allocator + Copy> Told<A> {
         ensures soft { IfOk result (λ all. all.soft.items ≡ self.soft.items ++ own.soft.items) }
     {
         let mut beside = beside;
-        let mut of_line = within(alloc, number, own.again)?;
+        let mut of_line = within(*self.reasons.allocator(), number, own.again)?;
         of_line.append(&mut beside)?;
         let uses = line_uses_input(line);
         let mut of_line = add_inputs(of_line, number, own.reuses, self.loose, uses)?;

@@ -25,6 +25,13 @@ pub struct Verdict<A: Allocator> {
     pub soft: Vec<Bytes<A>, A>,
 }
 
+// A side of a pipe or a list, with the verdict of its run.
+#[derive(Drop)]
+pub struct Side<'t, A: Allocator, B: Allocator> {
+    pub tree: &'t Cmd<B>,
+    pub verdict: Verdict<A>,
+}
+
 // Adds words to a list.
 fn add_words<A: Allocator + Copy, B: Allocator>(
     alloc: A,
@@ -194,22 +201,22 @@ impl<A: Allocator + Copy> Verdict<A> {
     // Of one command and then another.
     pub fn of_list<B: Allocator>(
         alloc: A,
-        left: &Cmd<B>,
-        first: Self,
-        right: &Cmd<B>,
-        second: Self,
+        left: Side<'_, A, B>,
+        right: Side<'_, A, B>,
     ) -> Result<Self, AllocError>
-        ensures again { IfOk result (λ both. both.again.items ≡ all_again (tree_of left.now) first.again.items first.soft.items (tree_of right.now) second.again.items second.soft.items) }
-        ensures reuses { IfOk result (λ both. both.reuses ≡ ((first.reuses || second.reuses) || (first.is_loose && uses_input (tree_of right.now)))) }
-        ensures loose { IfOk result (λ both. both.is_loose ≡ (first.is_loose || second.is_loose)) }
-        ensures soft { IfOk result (λ both. both.soft.items ≡ first.soft.items ++ second.soft.items) }
+        ensures again { IfOk result (λ both. both.again.items ≡ all_again (tree_of left.entry.tree.now) left.entry.verdict.again.items left.entry.verdict.soft.items (tree_of right.entry.tree.now) right.entry.verdict.again.items right.entry.verdict.soft.items) }
+        ensures reuses { IfOk result (λ both. both.reuses ≡ ((left.entry.verdict.reuses || right.entry.verdict.reuses) || (left.entry.verdict.is_loose && uses_input (tree_of right.entry.tree.now)))) }
+        ensures loose { IfOk result (λ both. both.is_loose ≡ (left.entry.verdict.is_loose || right.entry.verdict.is_loose)) }
+        ensures soft { IfOk result (λ both. both.soft.items ≡ left.entry.verdict.soft.items ++ right.entry.verdict.soft.items) }
     {
+        let first = left.verdict;
+        let second = right.verdict;
         let mut again = joined(first.again, second.again)?;
-        add_named(alloc, first.soft.as_slice(), right, &mut again)?;
-        add_named(alloc, second.soft.as_slice(), left, &mut again)?;
+        add_named(alloc, first.soft.as_slice(), right.tree, &mut again)?;
+        add_named(alloc, second.soft.as_slice(), left.tree, &mut again)?;
         Ok(Verdict {
             again,
-            reuses: first.reuses || second.reuses || first.is_loose && uses_input(right),
+            reuses: first.reuses || second.reuses || first.is_loose && uses_input(right.tree),
             is_loose: first.is_loose || second.is_loose,
             soft: joined(first.soft, second.soft)?,
         })
@@ -219,24 +226,24 @@ impl<A: Allocator + Copy> Verdict<A> {
     pub fn of_pipe<B: Allocator>(
         alloc: A,
         is_cut: bool,
-        left: &Cmd<B>,
-        mut first: Self,
-        right: &Cmd<B>,
-        second: Self,
+        left: Side<'_, A, B>,
+        right: Side<'_, A, B>,
     ) -> Result<Self, AllocError>
-        ensures again { IfOk result (λ both. both.again.items ≡ all_again (tree_of left.now) first.again.items (with_lost is_cut first.soft.items (tree_of left.now)) (tree_of right.now) second.again.items second.soft.items) }
-        ensures reuses { IfOk result (λ both. both.reuses ≡ (first.reuses || second.reuses)) }
-        ensures loose { IfOk result (λ both. both.is_loose ≡ (first.is_loose || (is_cut && uses_input (tree_of left.now)))) }
-        ensures soft { IfOk result (λ both. both.soft.items ≡ with_lost is_cut first.soft.items (tree_of left.now) ++ second.soft.items) }
+        ensures again { IfOk result (λ both. both.again.items ≡ all_again (tree_of left.entry.tree.now) left.entry.verdict.again.items (with_lost is_cut left.entry.verdict.soft.items (tree_of left.entry.tree.now)) (tree_of right.entry.tree.now) right.entry.verdict.again.items right.entry.verdict.soft.items) }
+        ensures reuses { IfOk result (λ both. both.reuses ≡ (left.entry.verdict.reuses || right.entry.verdict.reuses)) }
+        ensures loose { IfOk result (λ both. both.is_loose ≡ (left.entry.verdict.is_loose || (is_cut && uses_input (tree_of left.entry.tree.now)))) }
+        ensures soft { IfOk result (λ both. both.soft.items ≡ with_lost is_cut left.entry.verdict.soft.items (tree_of left.entry.tree.now) ++ right.entry.verdict.soft.items) }
     {
-        add_lost(alloc, is_cut, left, &mut first.soft)?;
+        let mut first = left.verdict;
+        let second = right.verdict;
+        add_lost(alloc, is_cut, left.tree, &mut first.soft)?;
         let mut again = joined(first.again, second.again)?;
-        add_named(alloc, first.soft.as_slice(), right, &mut again)?;
-        add_named(alloc, second.soft.as_slice(), left, &mut again)?;
+        add_named(alloc, first.soft.as_slice(), right.tree, &mut again)?;
+        add_named(alloc, second.soft.as_slice(), left.tree, &mut again)?;
         Ok(Verdict {
             again,
             reuses: first.reuses || second.reuses,
-            is_loose: first.is_loose || is_cut && uses_input(left),
+            is_loose: first.is_loose || is_cut && uses_input(left.tree),
             soft: joined(first.soft, second.soft)?,
         })
     }

@@ -21,12 +21,12 @@ returns-clause-out g c =
     let stdin = c.args.stdin.now in
     let F = files c.args.given.now in
     let same : files c.in-Ok.store ≡ F = search rules in
-    let old = c.new-out.result.items in
-    let new = c.run_lines.new.out.items in
+    let old = c.new.result.items in
+    let new = c.run_lines.new.self.out.items in
     let rest = c.in_ok-ran.ran.rest.now in
-    let H = files c.run_lines.new.store in
+    let H = files c.run_lines.new.self.store in
     let gives = subst (λ G. Gives (script_meaning P lines stdin G) old new rest H) same (subst (λ ls. Gives (script_meaning P ls stdin (files c.in-Ok.store)) old new rest H) c.as_slice.ensures c.in_ok-ran.ensures.gives) in
-    c.from_vec.ensures ∙ gives.out ∙ ap (λ before. before ++ (script_meaning P lines stdin F).out) c.new-out.ensures.items
+    c.from_vec.ensures ∙ gives.out ∙ ap (λ before. before ++ (script_meaning P lines stdin F).out) c.new.ensures.items
 
 pub returns-clause-rest : goal.returns-clause-rest
 returns-clause-rest g c =
@@ -35,10 +35,10 @@ returns-clause-rest g c =
     let stdin = c.args.stdin.now in
     let F = files c.args.given.now in
     let same : files c.in-Ok.store ≡ F = search rules in
-    let old = c.new-out.result.items in
-    let new = c.run_lines.new.out.items in
+    let old = c.new.result.items in
+    let new = c.run_lines.new.self.out.items in
     let rest = c.in_ok-ran.ran.rest.now in
-    let H = files c.run_lines.new.store in
+    let H = files c.run_lines.new.self.store in
     let gives = subst (λ G. Gives (script_meaning P lines stdin G) old new rest H) same (subst (λ ls. Gives (script_meaning P ls stdin (files c.in-Ok.store)) old new rest H) c.as_slice.ensures c.in_ok-ran.ensures.gives) in
     c.in_ok-copy_of.ensures ∙ gives.rest
 
@@ -49,12 +49,12 @@ returns-clause-files g c =
     let stdin = c.args.stdin.now in
     let F = files c.args.given.now in
     let same : files c.in-Ok.store ≡ F = search rules in
-    let old = c.new-out.result.items in
-    let new = c.run_lines.new.out.items in
+    let old = c.new.result.items in
+    let new = c.run_lines.new.self.out.items in
     let rest = c.in_ok-ran.ran.rest.now in
-    let H = files c.run_lines.new.store in
+    let H = files c.run_lines.new.self.store in
     let gives = subst (λ G. Gives (script_meaning P lines stdin G) old new rest H) same (subst (λ ls. Gives (script_meaning P ls stdin (files c.in-Ok.store)) old new rest H) c.as_slice.ensures c.in_ok-ran.ensures.gives) in
-    λ name. ap (λ store. files store name) c.store.view_is ∙ ap (λ (G : FileMap). G name) gives.files
+    λ name. ap (λ (G : FileMap). G name) gives.files
 
 pub returns-clause-soft : goal.returns-clause-soft
 returns-clause-soft g c =

@@ -1,7 +1,7 @@
 use Rattle.std.proofs.Common.{◌+◌, ◌*◌}
 use Rattle.sh_tree.specs.Tree.{tree_of}
 use Rattle.plain_run.proofs.TreeSize.{nodes}
-use Rattle.plain_run.proofs.run.+tree.Given as goal
+use Rattle.plain_run.proofs.run.Runner.+tree.Given as goal
 
 abbrev pub decreases-run_tree : goal.decreases-run_tree
 decreases-run_tree g l = 3 * nodes (tree_of l.tree.now)
