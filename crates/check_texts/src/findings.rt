@@ -1,30 +1,11 @@
 //! The report of what was found in a script's lines.
 ghost use Rattle.std.specs.Prelude.{◌≡◌, ◌++◌, ℕ, OnOk, IfOk};
-ghost use Rattle.xvsh_checks.specs.Check.{fault_line, fault_text, kind_name, clash_text};
-ghost use Rattle.xvsh_checks.specs.Values.{finding_text, findings_text};
+ghost use Rattle.check_texts.specs.Findings.{clash_text, fault_line, fault_text, finding_text, findings_text, kind_name};
 
 use conflict_check::ClashKind;
 use sh_tree::ParseFault;
 use std::alloc::{AllocError, Global};
 use xvsh_checks::Finding;
-
-// Adds `N fault K NAME at P` and LF.
-fn add_fault_line(
-    alloc: Global,
-    number: usize,
-    kind: usize,
-    name: &[u8],
-    at: usize,
-    text: &mut Vec<u8>,
-) -> Result<(), AllocError>
-    ensures { OnOk result (text.new.items ≡ text.old.items ++ fault_line number kind name.now at) }
-{
-    let begin = format!(in alloc; "{number} fault {kind} ")?;
-    let end = format!(in alloc; " at {at}\n")?;
-    text.extend_from_slice(begin.as_bytes())?;
-    text.extend_from_slice(name)?;
-    text.extend_from_slice(end.as_bytes())
-}
 
 // The number, the name and the place of a fault.
 fn parts_of(fault: ParseFault) -> (usize, &'static [u8], usize)
@@ -40,6 +21,7 @@ fn parts_of(fault: ParseFault) -> (usize, &'static [u8], usize)
     }
 }
 
+// Adds `N fault K NAME at P` and LF.
 fn add_fault(
     alloc: Global,
     number: usize,
@@ -49,7 +31,11 @@ fn add_fault(
     ensures { OnOk result (text.new.items ≡ text.old.items ++ fault_text number fault) }
 {
     let (kind, name, at) = parts_of(fault);
-    add_fault_line(alloc, number, kind, name, at, text)
+    let begin = format!(in alloc; "{number} fault {kind} ")?;
+    let end = format!(in alloc; " at {at}\n")?;
+    text.extend_from_slice(begin.as_bytes())?;
+    text.extend_from_slice(name)?;
+    text.extend_from_slice(end.as_bytes())
 }
 
 fn name_of_kind(kind: ClashKind) -> &'static [u8]
