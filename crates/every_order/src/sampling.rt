@@ -1,15 +1,16 @@
 //! What a script leaves in some orders of its processes, found by running it: for scripts of which not every order can be tried.
 
-ghost use Rattle.std.specs.Prelude.{◌≡◌, ◌≢◌, ◌↔◌, ◌⊎◌, ◌∷◌, ◌++◌, ◌<◌, ℕ, [], false, All, IfOk, IfSome, IsTrue, OnOk, length, slice_index_or};
+ghost use Rattle.std.specs.Prelude.{◌≡◌, ◌≢◌, ◌↔◌, ◌⊎◌, ◌∷◌, ◌++◌, ◌<◌, ℕ, [], false, All, IfErr, IfOk, IfSome, IsTrue, OnOk, length, slice_index_or};
 ghost use Rattle.std.specs.Option.{option_to_list};
 ghost use Rattle.script_load.specs.Line.{lines_of};
 ghost use Rattle.sh_machine.specs.Turn.{call_of, next_of};
 ghost use Rattle.run_model.specs.ScriptRun.{script_kernel};
 ghost use Rattle.order_search.specs.Told.{AreApart, IsReplayed, outcome_by};
+ghost use Rattle.order_search.specs.declared.fault.ExploreFault.TheVariants.{Memory};
 
 use crate::exploring::Setting;
 use crate::going_on::explore_after;
-use kernel_model::Event;
+use kernel_model::{Event, Full};
 use kernel_runs::{Order, RunOneFault, run_in_order};
 use order_search::{Ahead, ExploreFault, Origin, Outcome, Unwatched};
 use sh_machine::{Naming, User};
@@ -97,7 +98,8 @@ fn sample_of<B: Allocator, C: Allocator>(
     setting: &Setting<'_, B, C>,
     order: Order,
 ) -> Result<Option<Outcome>, ExploreFault>
-    ensures { IfOk result (λ outcome. IfSome outcome (IsReplayed call_of next_of (script_kernel setting.now.script.now.profile (lines_of setting.now.script.now.lines) setting.now.stdin.now setting.now.files.now))) }
+    ensures sound { IfOk result (λ outcome. IfSome outcome (IsReplayed call_of next_of (script_kernel setting.now.script.now.profile (lines_of setting.now.script.now.lines) setting.now.stdin.now setting.now.files.now))) }
+    ensures fault { IfErr result (λ fault. fault ≡ Memory) }
 {
     let (script, stdin, files) = (setting.script, setting.stdin, setting.files);
     let report = match run_in_order(alloc, script, stdin, files, MOST_TURNS, order) {
@@ -105,8 +107,17 @@ fn sample_of<B: Allocator, C: Allocator>(
         Err(RunOneFault::Memory) => return Err(ExploreFault::Memory),
         Err(RunOneFault::BadTurns | RunOneFault::Spent) => return Ok(None),
     };
-    let pids = turns_of(alloc, report.schedule.as_slice())?;
-    left_after(alloc, setting, pids.as_slice())
+    // where a call was refused memory, its process went another way than its turns lead
+    if let Some(Full::Memory) = report.full {
+        return Err(ExploreFault::Memory);
+    }
+    let Ok(pids) = turns_of(alloc, report.schedule.as_slice()) else {
+        return Err(ExploreFault::Memory);
+    };
+    match left_after(alloc, setting, pids.as_slice()) {
+        Ok(left) => Ok(left),
+        Err(_) => Err(ExploreFault::Memory),
+    }
 }
 
 // Whether both leave the same.
@@ -144,22 +155,26 @@ fn add_new(outcomes: &mut Vec<Outcome>, sample: Outcome) -> Result<(), AllocErro
 }
 
 // Adds what a run leaves, if it ended, and returns whether it did, as a number.
-fn add_left(outcomes: &mut Vec<Outcome>, sample: Option<Outcome>) -> Result<usize, AllocError>
+fn add_left(outcomes: &mut Vec<Outcome>, sample: Option<Outcome>) -> Result<usize, ExploreFault>
     ensures added { OnOk result ((outcomes.new.items ≡ outcomes.old.items) ⊎ (outcomes.new.items ≡ outcomes.old.items ++ option_to_list sample)) }
     ensures apart { OnOk result (AreApart outcomes.old.items → AreApart outcomes.new.items) }
+    ensures fault { IfErr result (λ fault. fault ≡ Memory) }
 {
     let Some(sample) = sample else {
         return Ok(0);
     };
-    add_new(outcomes, sample)?;
-    Ok(1)
+    match add_new(outcomes, sample) {
+        Ok(()) => Ok(1),
+        Err(_) => Err(ExploreFault::Memory),
+    }
 }
 
 /// Runs the script in `RUNS` orders, each in at most `MOST_TURNS` turns, adds what they leave to the outcomes, unless it is among
 /// them, and returns how many of the runs ended (own).
 ///
 /// Each outcome that is added is that of a finished run of the script by its own schedule, at which no memory was refused (`sound`),
-/// and where no two outcomes were equal, none are (`apart`). The fault is `Memory` where memory is refused.
+/// and where no two outcomes were equal, none are (`apart`). The fault is `Memory` alone, where memory is refused, to a call of a process
+/// too (`fault`).
 pub fn add_samples<B: Allocator, C: Allocator>(
     alloc: Global,
     setting: &Setting<'_, B, C>,
@@ -167,6 +182,7 @@ pub fn add_samples<B: Allocator, C: Allocator>(
 ) -> Result<usize, ExploreFault>
     ensures sound { OnOk result (All (IsReplayed call_of next_of (script_kernel setting.now.script.now.profile (lines_of setting.now.script.now.lines) setting.now.stdin.now setting.now.files.now)) outcomes.old.items → All (IsReplayed call_of next_of (script_kernel setting.now.script.now.profile (lines_of setting.now.script.now.lines) setting.now.stdin.now setting.now.files.now)) outcomes.new.items) }
     ensures apart { OnOk result (AreApart outcomes.old.items → AreApart outcomes.new.items) }
+    ensures fault { IfErr result (λ fault. fault ≡ Memory) }
 {
     let mut ended: usize = 0;
     for number in 0..RUNS {

@@ -70,12 +70,12 @@ pub enum Lines {
     Outcomes,
 }
 
-// Whether the environment has a value of this name that isn't empty; also where it can't be read.
-fn is_set(rt: &(impl Env + AllocGlobal), name: &str) -> bool {
+// Whether the environment has a value of this name that isn't empty. Where it can't be read, it says `unread`.
+fn is_set(rt: &(impl Env + AllocGlobal), name: &str, unread: bool) -> bool {
     match env::var(rt, name) {
         Ok(value) => !value.is_empty(),
         Err(VarError::NotPresent) => false,
-        Err(_) => true,
+        Err(_) => unread,
     }
 }
 
@@ -98,12 +98,12 @@ pub fn has_colours(rt: &(impl Env + AllocGlobal), when: When, is_terminal: bool)
     }
 }
 
-// The same by the environment alone.
+// The same by the environment alone. What can't be read asks for no colours.
 fn is_coloured(rt: &(impl Env + AllocGlobal), is_terminal: bool) -> bool {
-    if is_set(rt, "NO_COLOR") {
+    if is_set(rt, "NO_COLOR", true) {
         return false;
     }
-    is_set(rt, "CLICOLOR_FORCE") || is_terminal && !is_dumb(rt)
+    is_set(rt, "CLICOLOR_FORCE", false) || is_terminal && !is_dumb(rt)
 }
 
 /// Which lines have a colour of what stands beside an output.

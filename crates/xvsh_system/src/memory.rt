@@ -4,12 +4,10 @@ use std::fs::File;
 use std::io::Read;
 use std::rt::Files;
 
-// Bytes of a mebibyte, of a kibibyte and of a page of memory.
+// Bytes of a mebibyte, and of a kibibyte.
 const MEBIBYTE: u64 = 1 << 20;
 
 const KIBIBYTE: u64 = 1 << 10;
-
-const PAGE: u64 = 1 << 12;
 
 // After so many states more the system is asked how much memory the program takes.
 const STEP: usize = 128;
@@ -22,32 +20,25 @@ pub struct Budget {
     next: usize,
 }
 
-// The first bytes of a file, as a text; empty where it can't be read.
-fn read_start<'b>(rt: &impl Files, path: &str, room: &'b mut [u8; 512]) -> &'b str {
-    let Ok(mut file) = File::open(rt, path) else {
-        return "";
-    };
-    match file.read(&mut room[..]) {
-        Ok(count) => str::from_utf8(room.get(..count).unwrap_or(&[])).unwrap_or(""),
-        Err(_) => "",
-    }
+// How many bytes a file of the system says, in kibibytes, behind this word. The word stands among the first bytes of the file.
+fn bytes_said(rt: &impl Files, path: &str, word: &str) -> Option<u64> {
+    let mut room = [0; 2048];
+    let mut file = File::open(rt, path).ok()?;
+    let count = file.read(&mut room[..]).ok()?;
+    let text = str::from_utf8(room.get(..count)?).ok()?;
+    let mut words = text.split_whitespace();
+    words.find(|it| *it == word)?;
+    words.next()?.parse::<u64>().ok()?.checked_mul(KIBIBYTE)
 }
 
 // How many bytes of memory the program takes, if the system says it.
 fn taken(rt: &impl Files) -> Option<u64> {
-    let mut room = [0; 512];
-    let text = read_start(rt, "/proc/self/statm", &mut room);
-    let pages = text.split_whitespace().nth(1)?;
-    pages.parse::<u64>().ok()?.checked_mul(PAGE)
+    bytes_said(rt, "/proc/self/status", "VmRSS:")
 }
 
 // How many bytes of memory programs can still get, if the system says it.
 fn free(rt: &impl Files) -> Option<u64> {
-    let mut room = [0; 512];
-    let text = read_start(rt, "/proc/meminfo", &mut room);
-    let mut words = text.split_whitespace();
-    words.find(|word| *word == "MemAvailable:")?;
-    words.next()?.parse::<u64>().ok()?.checked_mul(KIBIBYTE)
+    bytes_said(rt, "/proc/meminfo", "MemAvailable:")
 }
 
 impl Budget {

@@ -18,6 +18,6 @@ pub loop-number-preserved : goal.loop-number-preserved
 loop-number-preserved g c =
     let setting = c.args.setting.now in
     let start = script_kernel setting.script.now.profile (lines_of setting.script.now.lines) setting.stdin.now setting.files.now in (
-      (λ first. added (IsReplayed call_of next_of start) c.loop-number.outcomes.items c.add_left.new.outcomes.items c.in_ok-sample.sample c.in_ok-add_left.ensures.added (c.loop-number.invariant.0 first) c.in_ok-sample.ensures),
+      (λ first. added (IsReplayed call_of next_of start) c.loop-number.outcomes.items c.add_left.new.outcomes.items c.in_ok-sample.sample c.in_ok-add_left.ensures.added (c.loop-number.invariant.0 first) c.in_ok-sample.ensures.sound),
       (λ apart. c.in_ok-add_left.ensures.apart (c.loop-number.invariant.1 apart)),
     )
