@@ -2,7 +2,7 @@
 use Rattle.std.proofs.Common.{◌≡◌, codes, ap, ◌∙◌}
 use Rattle.mem_files.specs.Name.{Bytes}
 use Rattle.room_bounds.specs.declared.room.Room.{Room}
-use Rattle.xvsh_checks.specs.Room.{room_text, with_need}
+use Rattle.check_texts.specs.Rooms.{room_text, with_need}
 
 pub made : (room : Room) (first one two three four five : Bytes) → first ≡ codes "room: " → one ≡ with_need first room.processes (codes " of 64 processes, ") → two ≡ with_need one room.entries (codes " of 100 open files, ")
     → three ≡ with_need two room.descriptors (codes " of 16 descriptors, ") → four ≡ with_need three room.files (codes " of 199 files, ") → five ≡ with_need four room.size (codes " of 274432 bytes a file\n") → five ≡ room_text room

@@ -9,7 +9,7 @@ use Rattle.reason_sentences.specs.Sentences.{reason_text, why_text}
 use Rattle.reason_sentences.specs.Ways.{ways_text}
 use Rattle.xvsh_checks.specs.declared.noting.Noted.{Noted}
 use Rattle.xvsh_checks.specs.declared.whys.NotedWhys.{NotedWhys}
-use Rattle.xvsh_checks.specs.Room.{with_need, table_text}
+use Rattle.check_texts.specs.Rooms.{with_need, table_text}
 
 -- which line it is
 abbrev pub noted_place : ℕ → Bytes

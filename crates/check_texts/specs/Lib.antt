@@ -1,1 +1,4 @@
 pub mod Explanations
+pub mod Findings
+pub mod Rooms
+pub mod Turns

@@ -1,43 +1,72 @@
 //! The report of what was found in a script's lines.
 ghost use Rattle.std.specs.Prelude.{◌≡◌, ◌++◌, ℕ, OnOk, IfOk};
-ghost use Rattle.xvsh_checks.specs.Check.{fault_line, fault_text, kind_name, clash_text};
-ghost use Rattle.xvsh_checks.specs.Values.{finding_text, findings_text};
+ghost use Rattle.check_texts.specs.Findings.{clash_text, fault_line, fault_text, finding_text, findings_text, kind_name};
 
 use conflict_check::ClashKind;
 use sh_tree::ParseFault;
 use std::alloc::{AllocError, Global};
 use xvsh_checks::Finding;
 
+// What is printed of a fault: its number, its name and its place.
+#[derive(Clone, Copy)]
+struct FaultParts {
+    kind: usize,
+    name: &'static [u8],
+    at: usize,
+}
+
+fn parts_of(fault: ParseFault) -> FaultParts
+    ensures { (number : ℕ) → fault_text number fault ≡ fault_line number result.kind result.name.now result.at }
+{
+    match fault {
+        ParseFault::MissingFile(at) => FaultParts {
+            kind: 1,
+            name: b"MissingFile".as_slice(),
+            at,
+        },
+        ParseFault::MissingParen(at) => FaultParts {
+            kind: 2,
+            name: b"MissingParen".as_slice(),
+            at,
+        },
+        ParseFault::TooManyWords(at) => FaultParts {
+            kind: 3,
+            name: b"TooManyWords".as_slice(),
+            at,
+        },
+        ParseFault::Unexpected(at) => FaultParts {
+            kind: 4,
+            name: b"Unexpected".as_slice(),
+            at,
+        },
+        ParseFault::Leftover(at) => FaultParts {
+            kind: 5,
+            name: b"Leftover".as_slice(),
+            at,
+        },
+        ParseFault::Memory => FaultParts {
+            kind: 6,
+            name: b"Memory".as_slice(),
+            at: 0,
+        },
+    }
+}
+
 // Adds `N fault K NAME at P` and LF.
 fn add_fault_line(
     alloc: Global,
     number: usize,
-    kind: usize,
-    name: &[u8],
-    at: usize,
+    fault: FaultParts,
     text: &mut Vec<u8>,
 ) -> Result<(), AllocError>
-    ensures { OnOk result (text.new.items ≡ text.old.items ++ fault_line number kind name.now at) }
+    ensures { OnOk result (text.new.items ≡ text.old.items ++ fault_line number fault.kind fault.name.now fault.at) }
 {
+    let FaultParts { kind, name, at } = fault;
     let begin = format!(in alloc; "{number} fault {kind} ")?;
     let end = format!(in alloc; " at {at}\n")?;
     text.extend_from_slice(begin.as_bytes())?;
     text.extend_from_slice(name)?;
     text.extend_from_slice(end.as_bytes())
-}
-
-// The number, the name and the place of a fault.
-fn parts_of(fault: ParseFault) -> (usize, &'static [u8], usize)
-    ensures { (number : ℕ) → fault_text number fault ≡ fault_line number result.0 result.1.now result.2 }
-{
-    match fault {
-        ParseFault::MissingFile(at) => (1, b"MissingFile".as_slice(), at),
-        ParseFault::MissingParen(at) => (2, b"MissingParen".as_slice(), at),
-        ParseFault::TooManyWords(at) => (3, b"TooManyWords".as_slice(), at),
-        ParseFault::Unexpected(at) => (4, b"Unexpected".as_slice(), at),
-        ParseFault::Leftover(at) => (5, b"Leftover".as_slice(), at),
-        ParseFault::Memory => (6, b"Memory".as_slice(), 0),
-    }
 }
 
 fn add_fault(
@@ -48,8 +77,7 @@ fn add_fault(
 ) -> Result<(), AllocError>
     ensures { OnOk result (text.new.items ≡ text.old.items ++ fault_text number fault) }
 {
-    let (kind, name, at) = parts_of(fault);
-    add_fault_line(alloc, number, kind, name, at, text)
+    add_fault_line(alloc, number, parts_of(fault), text)
 }
 
 fn name_of_kind(kind: ClashKind) -> &'static [u8]

@@ -1,7 +1,7 @@
 //! The report of the room that a script needs.
 ghost use Rattle.std.specs.Prelude.{◌≡◌, ◌++◌, IfOk, OnOk, string_bytes};
-ghost use Rattle.xvsh_checks.specs.Room.{lack_text, part_needs, part_text, place_text, rest_text, room_text, room_told, table_text, with_need};
-ghost use Rattle.xvsh_checks.specs.Values.{findings_text};
+ghost use Rattle.check_texts.specs.Findings.{findings_text};
+ghost use Rattle.check_texts.specs.Rooms.{lack_text, part_needs, part_text, place_text, rest_text, room_report, room_text, table_text, with_need};
 
 use crate::findings::text_of_findings;
 use room_bounds::{Behind, Lack, Room, Table};
@@ -164,7 +164,7 @@ fn add_lack(alloc: Global, lack: &Option<Lack>, text: &mut Vec<u8>) -> Result<()
 
 // What is known of a script's room.
 fn room_report(alloc: Global, found: &RoomFound) -> Result<Vec<u8>, AllocError>
-    ensures { IfOk result (λ text. text.items ≡ room_told found.now) }
+    ensures { IfOk result (λ text. text.items ≡ room_report found.now) }
 {
     match found {
         RoomFound::Known { room, lack } => {
@@ -189,7 +189,7 @@ fn room_report(alloc: Global, found: &RoomFound) -> Result<Vec<u8>, AllocError>
 ///
 /// `AllocError` where memory is refused.
 pub fn text_of_room(alloc: Global, room: &RoomFindings) -> Result<Vec<u8>, AllocError>
-    ensures { IfOk result (λ text. text.items ≡ findings_text room.now.findings.list.items ++ room_told room.now.found) }
+    ensures { IfOk result (λ text. text.items ≡ findings_text room.now.findings.list.items ++ room_report room.now.found) }
 {
     let mut text = text_of_findings(alloc, room.findings.list.as_slice())?;
     let report = room_report(alloc, &room.found)?;

@@ -5,8 +5,8 @@ use Rattle.script_load.specs.Line.{ScriptLine}
 use Rattle.script_load.specs.Script.{IsScript}
 use Rattle.script_load.proofs.OneScript.{one_script}
 use Rattle.xvsh_checks.specs.declared.finding.Findings.{Findings}
-use Rattle.xvsh_checks.specs.Check.{AreTold, AreHarmless}
-use Rattle.xvsh_checks.specs.Values.{findings_text}
+use Rattle.xvsh_checks.specs.Check.{AreHarmless}
+use Rattle.xvsh_checks.specs.Findings.{AreFindings}
 use Rattle.embed.specs.declared.task.Task.{Task}
 use Rattle.embed.specs.Asks.{AreFound}
 
@@ -14,8 +14,8 @@ module _ (task : Task) (strict : Bool) (found : Findings) (lines : List ScriptLi
   same : are.lines ≡ lines
   same = one_script task.script.now are.lines lines are.cut cut
 
-  pub told_of : AreTold 1 lines (findings_text found.list.items)
-  told_of = subst (λ (ls : List ScriptLine). AreTold 1 ls (findings_text found.list.items)) same are.told
+  pub findings_of : AreFindings 1 lines found.list.items
+  findings_of = subst (λ (ls : List ScriptLine). AreFindings 1 ls found.list.items) same are.of_lines
 
   pub harmless_of : IsTrue found.is_harmless ↔ AreHarmless strict lines
   harmless_of = subst (λ (ls : List ScriptLine). IsTrue found.is_harmless ↔ AreHarmless strict ls) same are.harmless

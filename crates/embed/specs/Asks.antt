@@ -9,8 +9,8 @@ use Rattle.xvsh_read.specs.declared.fault.Fault.{Fault}
 use Rattle.xvsh_read.specs.declared.fault.Fault.TheVariants.{Unreadable as unreadable, TooLong as too_long, LineTooLong as line_too_long, ByteZero as byte_zero, BadName as bad_name, TakenName as taken_name, TooManyFiles as too_many_files, TooLarge as too_large, Memory as refused}
 use Rattle.room_bounds.specs.declared.lack.Lack.{Lack}
 use Rattle.xvsh_checks.specs.declared.finding.Findings.{Findings}
-use Rattle.xvsh_checks.specs.Check.{AreTold, AreHarmless}
-use Rattle.xvsh_checks.specs.Values.{findings_text}
+use Rattle.xvsh_checks.specs.Check.{AreHarmless}
+use Rattle.xvsh_checks.specs.Findings.{AreFindings}
 use Rattle.xvsh_checks.specs.Lacks.{IsLackOfText}
 use Rattle.embed.specs.declared.task.Task.{Task}
 use Rattle.embed.specs.declared.fault.StartFault.{StartFault}
@@ -58,12 +58,12 @@ IsAskFault script Unfinished = ⊥
 IsAskFault script BadOrder = ⊥
 IsAskFault script BadStates = ⊥
 
--- this is what is told of the lines of the task's script, and whether they are harmless, strictly or not
+-- these are found in the lines of the task's script, and whether the lines are harmless, strictly or not
 pub record AreFound (task : Task) (strict : Bool) (found : Findings) : Type 0 where
   pub lines : List ScriptLine
   pub cut : IsScript task.script.now lines
   pub short : length task.script.now ≤ max_input
-  pub told : AreTold 1 lines (findings_text found.list.items)
+  pub of_lines : AreFindings 1 lines found.list.items
   pub harmless : IsTrue found.is_harmless ↔ AreHarmless strict lines
 
 -- the answer is fine exactly where no line of the task's script holds a `&` or a clash, and strictly each is a command

@@ -9,9 +9,9 @@ use Rattle.script_load.specs.Script.{HasLoadFault}
 use Rattle.meaning_model.specs.Limits.{Outgrows}
 use Rattle.meaning_model.specs.Meaning.{script_tree}
 use Rattle.room_model.specs.Roomy.{IsRoomyScript}
-use Rattle.xvsh_checks.specs.Check.{AreTold, AreHarmless}
-use Rattle.xvsh_checks.specs.Values.{findings_text, turns_told}
-use Rattle.xvsh_checks.specs.Turns.{AreTurnsTold}
+use Rattle.xvsh_checks.specs.Check.{AreHarmless}
+use Rattle.xvsh_checks.specs.Findings.{AreFindings}
+use Rattle.xvsh_checks.specs.Turns.{AreTurnsFound}
 use Rattle.xvsh_checks.specs.Room.{IsRoomFound}
 use Rattle.xvsh_checks.specs.Whys.{AreWhysOf}
 use Rattle.embed.specs.declared.task.Task.{Task}
@@ -31,8 +31,8 @@ pub record IsTurnsAnswer (task : Task) (strict : Bool) (answer : TurnsAnswer) : 
   pub lines : List ScriptLine
   pub given : List (Name × Bytes)
   pub starts : Starts task lines given
-  pub told : AreTold 1 lines (findings_text answer.findings.list.items)
-  pub turns : AreTurnsTold lines task.stdin.now (files given) (turns_told answer.turns)
+  pub of_lines : AreFindings 1 lines answer.findings.list.items
+  pub of_turns : AreTurnsFound lines task.stdin.now (files given) answer.turns
   pub harmless : IsTrue answer.findings.is_harmless ↔ AreHarmless strict lines
 
 -- the answer tells the same of the lines, and what is known of the room that the script needs on the task's input and files; and it is
@@ -41,7 +41,7 @@ pub record IsRoomAnswer (task : Task) (strict : Bool) (answer : RoomAnswer) : Ty
   pub lines : List ScriptLine
   pub given : List (Name × Bytes)
   pub starts : Starts task lines given
-  pub told : AreTold 1 lines (findings_text answer.findings.list.items)
+  pub of_lines : AreFindings 1 lines answer.findings.list.items
   pub room : IsRoomFound lines task.stdin.now given answer.found
   pub fine : IsTrue answer.findings.is_harmless ↔ (AreHarmless strict lines × IsRoomyScript lines task.stdin.now given)
 

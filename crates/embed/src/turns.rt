@@ -2,8 +2,7 @@
 ghost use Rattle.std.specs.Prelude.{◌≡◌, IfErr, IfOk};
 ghost use Rattle.mem_files.specs.Files.{files};
 ghost use Rattle.script_load.specs.Line.{lines_of};
-ghost use Rattle.xvsh_checks.specs.Turns.{AreTurnsTold};
-ghost use Rattle.xvsh_checks.specs.Values.{turns_told};
+ghost use Rattle.xvsh_checks.specs.Turns.{AreTurnsFound};
 ghost use Rattle.embed.specs.Tells.{IsTellFault, IsTurnsAnswer};
 
 use crate::beginning::{Begun, begin};
@@ -29,7 +28,7 @@ pub struct TurnsAnswer {
 
 // In how many turns the script runs to its end, if these are not too many.
 fn turns_of(begun: &Begun, stdin: &[u8]) -> Option<u64>
-    ensures { AreTurnsTold (lines_of begun.now.script.lines) stdin.now (files begun.now.files) (turns_told result) }
+    ensures { AreTurnsFound (lines_of begun.now.script.lines) stdin.now (files begun.now.files) result }
 {
     turns_enough(&begun.script, stdin, &begun.files)
 }

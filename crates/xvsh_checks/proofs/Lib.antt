@@ -1,6 +1,5 @@
-pub mod Counted
+pub mod Adding
+mod Harmless
 pub mod Nothing
-pub mod Telling
 pub mod Reasoned
-mod RoomTold
 pub mod Fixed

@@ -1,9 +1,8 @@
 //! What `check --turns` finds: in the lines of a script, and the turns that are enough for it.
-ghost use Rattle.std.specs.Prelude.{◌++◌, IfOk, IfErr};
+ghost use Rattle.std.specs.Prelude.{IfOk, IfErr};
 ghost use Rattle.mem_files.specs.Files.{files};
 ghost use Rattle.script_load.specs.Line.{lines_of};
-ghost use Rattle.xvsh_checks.specs.Values.{findings_text, turns_told};
-ghost use Rattle.xvsh_checks.specs.Turns.{AreTurnsTold, IsTurnsFault, RanTurns};
+ghost use Rattle.xvsh_checks.specs.Turns.{AreTurnsFound, IsTurnsFault, RanTurns};
 
 use crate::finding::{Findings, find};
 use crate::request::CheckRequest;
@@ -24,7 +23,7 @@ pub struct CountedFindings {
 
 // In how many turns a script runs to its end, if these are not too many.
 fn turns_of(script: &Script<Global>, stdin: &[u8], given: &Files<Global>) -> Option<u64>
-    ensures { AreTurnsTold (lines_of script.now.lines) stdin.now (files given.now) (turns_told result) }
+    ensures { AreTurnsFound (lines_of script.now.lines) stdin.now (files given.now) result }
 {
     turns_enough(script, stdin, given)
 }
@@ -36,7 +35,7 @@ pub fn run_count<'a, H: Host>(
     request: &CheckRequest<'a>,
     host: &mut H,
 ) -> Result<CountedFindings, Fault<'a>>
-    ensures ran { IfOk result (λ counted. RanTurns (H.input host.old) (H.file host.old) request.now.script.now request.now.files.now request.now.is_strict counted.findings.is_harmless (findings_text counted.findings.list.items ++ turns_told counted.turns)) }
+    ensures ran { IfOk result (λ counted. RanTurns (H.input host.old) (H.file host.old) request.now.script.now request.now.files.now request.now.is_strict counted.findings.is_harmless counted.findings.list.items counted.turns) }
     ensures fault { IfErr result (IsTurnsFault (H.input host.old) (H.file host.old) request.now.script.now request.now.files.now) }
 {
     let source = Source {

@@ -1,10 +1,10 @@
 //! What `check` finds in a script before any run.
-ghost use Rattle.std.specs.Prelude.{◌≡◌, ◌++◌, ◌↔◌, ℕ, List, OnOk, IfOk, IfErr, IsTrue, false};
+ghost use Rattle.std.specs.Prelude.{◌≡◌, ◌++◌, ◌↔◌, List, OnOk, IfOk, IfErr, IsTrue, false};
 ghost use Rattle.sh_tree.specs.Tree.{tree_of};
 ghost use Rattle.conflict_check.specs.Clear.{IsClear, has_back as back};
 ghost use Rattle.script_load.specs.Line.{line_of, lines_of};
-ghost use Rattle.xvsh_checks.specs.Check.{back_text, IsClashTold, IsTold, AreTold, IsHarmless, AreHarmless, RanCheck, IsCheckFault};
-ghost use Rattle.xvsh_checks.specs.Values.{finding_text, findings_text};
+ghost use Rattle.xvsh_checks.specs.Check.{IsHarmless, AreHarmless, RanCheck, IsCheckFault};
+ghost use Rattle.xvsh_checks.specs.Findings.{AreFindings, AreOfLine, IsClashFound, back_found};
 
 use crate::found::Finding;
 use crate::request::CheckRequest;
@@ -15,20 +15,12 @@ use sh_tree::Cmd;
 use std::alloc::{AllocError, Global};
 use xvsh_read::{Fault, Host, read_script};
 
-// Adds a finding.
-fn add(finding: Finding, found: &mut Vec<Finding>) -> Result<(), AllocError>
-    ensures { OnOk result (findings_text found.new.items ≡ findings_text found.old.items ++ finding_text finding) }
-{
-    found.push(finding)?;
-    Ok(())
-}
-
 // Adds that the line holds a `&`, where it is so.
 fn add_back(line: usize, is_back: bool, found: &mut Vec<Finding>) -> Result<(), AllocError>
-    ensures { OnOk result (findings_text found.new.items ≡ findings_text found.old.items ++ back_text line is_back) }
+    ensures { OnOk result (found.new.items ≡ found.old.items ++ back_found line is_back) }
 {
     if is_back {
-        return add(Finding::Background { line }, found);
+        found.push(Finding::Background { line })?;
     }
     Ok(())
 }
@@ -40,8 +32,8 @@ fn find_in_tree(
     tree: &Cmd<Global>,
     found: &mut Vec<Finding>,
 ) -> Result<bool, AllocError>
-    ensures told { OnOk result ((clash : List ℕ) × IsClashTold line (tree_of tree.now) clash
-        × (findings_text found.new.items ≡ (findings_text found.old.items ++ back_text line (back (tree_of tree.now))) ++ clash)) }
+    ensures added { OnOk result ((clash : List Finding) × IsClashFound line (tree_of tree.now) clash
+        × (found.new.items ≡ (found.old.items ++ back_found line (back (tree_of tree.now))) ++ clash)) }
     ensures harmless { IfOk result (λ is. IsTrue is ↔ ((back (tree_of tree.now) ≡ false) × IsClear (tree_of tree.now))) }
 {
     let is_back = has_back(tree);
@@ -50,7 +42,7 @@ fn find_in_tree(
         Some(first) => {
             let name = Bytes::copy_of(alloc, first.name)?;
             let kind = first.kind;
-            add(Finding::Clash { line, kind, name }, found)?;
+            found.push(Finding::Clash { line, kind, name })?;
             Ok(false)
         }
         None => Ok(!is_back),
@@ -65,7 +57,7 @@ fn find_in_line(
     is_strict: bool,
     found: &mut Vec<Finding>,
 ) -> Result<bool, AllocError>
-    ensures told { OnOk result ((first : List ℕ) × IsTold number (line_of line.now) first × (findings_text found.new.items ≡ findings_text found.old.items ++ first)) }
+    ensures added { OnOk result ((first : List Finding) × AreOfLine number (line_of line.now) first × (found.new.items ≡ found.old.items ++ first)) }
     ensures harmless { IfOk result (λ is. IsTrue is ↔ IsHarmless is_strict (line_of line.now)) }
 {
     match line {
@@ -75,7 +67,7 @@ fn find_in_line(
                 line: number,
                 fault: *fault,
             };
-            add(finding, found)?;
+            found.push(finding)?;
             Ok(!is_strict)
         }
         Line::Cd(_) => Ok(true),
@@ -94,7 +86,7 @@ pub struct Findings {
 /// What `check` finds in each line of a script, in order: the fault of a line that is no command; that it holds a `&`; and its
 /// first clash (own). Lines are counted from 1. Nothing is run. `AllocError` where memory is refused.
 pub fn find(alloc: Global, script: &Script<Global>, is_strict: bool) -> Result<Findings, AllocError>
-    ensures told { IfOk result (λ found. AreTold 1 (lines_of script.now.lines) (findings_text found.list.items)) }
+    ensures found { IfOk result (λ found. AreFindings 1 (lines_of script.now.lines) found.list.items) }
     ensures harmless { IfOk result (λ found. IsTrue found.is_harmless ↔ AreHarmless is_strict (lines_of script.now.lines)) }
 {
     let mut list = Vec::new(alloc);
@@ -112,7 +104,7 @@ pub fn run_find<'a, H: Host>(
     request: &CheckRequest<'a>,
     host: &mut H,
 ) -> Result<Findings, Fault<'a>>
-    ensures ran { IfOk result (λ found. RanCheck (H.input host.old) (H.file host.old) request.now.script.now request.now.is_strict found.is_harmless (findings_text found.list.items)) }
+    ensures ran { IfOk result (λ found. RanCheck (H.input host.old) (H.file host.old) request.now.script.now request.now.is_strict found.is_harmless found.list.items) }
     ensures fault { IfErr result (IsCheckFault (H.input host.old) (H.file host.old) request.now.script.now) }
 {
     let loaded = read_script(alloc, host, Profile::Xv6, request.script)?;

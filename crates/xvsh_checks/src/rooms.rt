@@ -1,12 +1,11 @@
 //! What `check --room` finds: in the lines of a script, and the room that it needs.
-ghost use Rattle.std.specs.Prelude.{◌++◌, ◌↔◌, Bool, List, false, IfOk, IfErr, IsTrue, map};
+ghost use Rattle.std.specs.Prelude.{◌↔◌, Bool, List, false, IfOk, IfErr, IsTrue, map};
 ghost use Rattle.mem_files.specs.Name.{Name, Bytes};
 ghost use Rattle.script_load.specs.Line.{ScriptLine, line_of, lines_of};
 ghost use Rattle.room_model.specs.Roomy.{IsRoomyScript};
 ghost use Rattle.xvsh_read.specs.Starting.{Starts, IsStartFault};
 ghost use Rattle.xvsh_checks.specs.Check.{AreHarmless, IsHarmless};
-ghost use Rattle.xvsh_checks.specs.Room.{IsGrowthFound, IsRoomFault, IsRoomFound, RanRoom, room_told};
-ghost use Rattle.xvsh_checks.specs.Values.{findings_text};
+ghost use Rattle.xvsh_checks.specs.Room.{IsGrowthFound, IsRoomFault, IsRoomFound, RanRoom};
 
 use crate::finding::{Findings, find};
 use crate::request::CheckRequest;
@@ -125,7 +124,7 @@ pub fn run_find_room<'a, H: Host>(
     request: &CheckRequest<'a>,
     host: &mut H,
 ) -> Result<RoomFindings, Fault<'a>>
-    ensures ran { IfOk result (λ room. RanRoom (H.input host.old) (H.file host.old) request.now.script.now request.now.files.now request.now.is_strict room.findings.is_harmless (findings_text room.findings.list.items ++ room_told room.found)) }
+    ensures ran { IfOk result (λ room. RanRoom (H.input host.old) (H.file host.old) request.now.script.now request.now.files.now request.now.is_strict room.findings.is_harmless room.findings.list.items room.found) }
     ensures fault { IfErr result (IsRoomFault (H.input host.old) (H.file host.old) request.now.script.now request.now.files.now) }
 {
     let start = start_of(alloc, request, host)?;

@@ -24,13 +24,18 @@ use Rattle.xvsh_plain.specs.Running.{RanPlain, IsPlainFault}
 use Rattle.every_order.specs.Known.{IsKnown}
 use Rattle.every_order.specs.declared.known.Diagnostics.{Diagnostics}
 use Rattle.xvsh_checks.specs.Check.{RanCheck, IsCheckFault}
+use Rattle.xvsh_checks.specs.declared.found.Finding.{Finding}
 use Rattle.xvsh_checks.specs.declared.noting.Noted.{Noted}
+use Rattle.xvsh_checks.specs.declared.room_found.RoomFound.{RoomFound}
 use Rattle.xvsh_checks.specs.declared.whys.NotedWhys.{NotedWhys}
 use Rattle.xvsh_checks.specs.Explain.{RanExplain}
 use Rattle.xvsh_checks.specs.Turns.{RanTurns, IsTurnsFault}
 use Rattle.xvsh_checks.specs.Room.{RanRoom, IsRoomFault}
 use Rattle.xvsh_checks.specs.Whys.{RanWhys, IsWhysFault}
 use Rattle.check_texts.specs.Explanations.{noted_text, whys_text}
+use Rattle.check_texts.specs.Findings.{findings_text}
+use Rattle.check_texts.specs.Rooms.{room_report}
+use Rattle.check_texts.specs.Turns.{turns_text}
 use Rattle.xvsh_checks.specs.Fixes.{RanFix, RanNoFix}
 use Rattle.script_outcomes.specs.declared.concluding.Conclusion.{Conclusion}
 use Rattle.script_outcomes.specs.declared.concluding.Conclusion.TheVariants.{OneOutput, SeveralOutputs, Stuck, Full as Filled, Part}
@@ -177,13 +182,13 @@ module _ (input : Option Bytes) (file : Path → Option Bytes) where
     ran_strict : {profile : Profile} {script : Path} {paths : List (Bor Path)} {harts : ℕ} {turns : Option ℕ} {lists : Lists} {text : Bytes} (diag why : Bytes) (is_settled : Bool) (full : Option Full) → RanStrictly input file profile script paths harts turns lists full is_settled why text diag → Due (asks_strict profile script paths harts turns lists) text ((diag ++ why) ++ full_text full) (full_status full (verdict_status true is_settled))
     no_strict : {profile : Profile} {script : Path} {paths : List (Bor Path)} {harts : ℕ} {turns : Option ℕ} {lists : Lists} (fault : ProcessFault) → IsStrictFault input file profile script paths harts turns fault → Due (asks_strict profile script paths harts turns lists) [] (run_fault_told fault) (run_status fault)
     -- the report of a check, by whether the script holds no `&` and no clash, and strictly no line that is no command; or why there is none
-    checked : {script : Path} {strict : Bool} {text : Bytes} (is_harmless : Bool) → RanCheck input file script strict is_harmless text → Due (asks_check script strict) text [] (check_status is_harmless)
+    checked : {script : Path} {strict : Bool} {findings : List Finding} (is_harmless : Bool) → RanCheck input file script strict is_harmless findings → Due (asks_check script strict) (findings_text findings) [] (check_status is_harmless)
     no_check : {script : Path} {strict : Bool} (fault : Fault) → IsCheckFault input file script fault → Due (asks_check script strict) [] (fault_told fault) (status_of fault)
     -- the same with its turns after its lines
-    counted : {script : Path} {paths : List (Bor Path)} {strict : Bool} {text : Bytes} (is_harmless : Bool) → RanTurns input file script paths strict is_harmless text → Due (asks_turns script paths strict) text [] (check_status is_harmless)
+    counted : {script : Path} {paths : List (Bor Path)} {strict : Bool} {findings : List Finding} {turns : Option ℕ} (is_harmless : Bool) → RanTurns input file script paths strict is_harmless findings turns → Due (asks_turns script paths strict) (findings_text findings ++ turns_text turns) [] (check_status is_harmless)
     not_counted : {script : Path} {paths : List (Bor Path)} {strict : Bool} (fault : Fault) → IsTurnsFault input file script paths fault → Due (asks_turns script paths strict) [] (fault_told fault) (status_of fault)
     -- the same with its room after its lines, by whether it has room, too
-    room_told : {script : Path} {paths : List (Bor Path)} {strict : Bool} {text : Bytes} (is_fine : Bool) → RanRoom input file script paths strict is_fine text → Due (asks_room script paths strict) text [] (check_status is_fine)
+    room_told : {script : Path} {paths : List (Bor Path)} {strict : Bool} {findings : List Finding} {found : RoomFound} (is_fine : Bool) → RanRoom input file script paths strict is_fine findings found → Due (asks_room script paths strict) (findings_text findings ++ room_report found) [] (check_status is_fine)
     no_room_told : {script : Path} {paths : List (Bor Path)} {strict : Bool} (fault : Fault) → IsRoomFault input file script paths fault → Due (asks_room script paths strict) [] (fault_told fault) (status_of fault)
     -- the notes on a script in sentences; or why there are none
     explained : {script : Path} (noted : Noted) → RanExplain input file script noted → Due (asks_explain script) (noted_text noted) [] (check_status noted.is_fine)

@@ -1,7 +1,8 @@
 //! How checks end: with a text, or with one object of JSON, of the same values.
 ghost use Rattle.std.specs.Prelude.{◌≡◌, ◌++◌, Bool, true, false, IfOk};
-ghost use Rattle.xvsh_checks.specs.Room.{room_told};
-ghost use Rattle.xvsh_checks.specs.Values.{findings_text, turns_told};
+ghost use Rattle.check_texts.specs.Findings.{findings_text};
+ghost use Rattle.check_texts.specs.Rooms.{room_report};
+ghost use Rattle.check_texts.specs.Turns.{turns_text};
 ghost use Rattle.xvsh_ends.specs.Ends.{IsDue};
 ghost use Rattle.xvsh_ends.specs.Requests.{check_asked, json_asked};
 
@@ -52,7 +53,7 @@ fn turns_made(
     counted: &CountedFindings,
     code: Status,
 ) -> Result<Vec<u8>, AllocError>
-    ensures { is_json ≡ false → IfOk result (λ made. made.items ≡ findings_text counted.now.findings.list.items ++ turns_told counted.now.turns) }
+    ensures { is_json ≡ false → IfOk result (λ made. made.items ≡ findings_text counted.now.findings.list.items ++ turns_text counted.now.turns) }
 {
     if is_json {
         counted_result(alloc, &counted.findings, counted.turns, code)
@@ -82,7 +83,7 @@ fn room_made(
     room: &RoomFindings,
     code: Status,
 ) -> Result<Vec<u8>, AllocError>
-    ensures { is_json ≡ false → IfOk result (λ made. made.items ≡ findings_text room.now.findings.list.items ++ room_told room.now.found) }
+    ensures { is_json ≡ false → IfOk result (λ made. made.items ≡ findings_text room.now.findings.list.items ++ room_report room.now.found) }
 {
     if is_json {
         room_result(alloc, &room.findings, &room.found, code)

@@ -1,5 +1,5 @@
 use Rattle.std.proofs.Common.{◌≡◌, ◌++◌, length}
-use Rattle.xvsh_checks.specs.Values.{findings_text}
+use Rattle.check_texts.specs.Findings.{findings_text}
 use Rattle.check_texts.proofs.findings.text_of_findings.Given as goal
 
 -- the report of the findings that are left completes that of all

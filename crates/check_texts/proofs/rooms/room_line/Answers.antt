@@ -1,5 +1,5 @@
 use Rattle.std.proofs.Common.{◌++◌, ap, ap₂, ◌∙◌}
-use Rattle.xvsh_checks.specs.Room.{with_need}
+use Rattle.check_texts.specs.Rooms.{with_need}
 use Rattle.check_texts.proofs.Needs.{made}
 use Rattle.check_texts.proofs.rooms.room_line.Goals as goal
 

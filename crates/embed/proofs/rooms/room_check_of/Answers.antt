@@ -1,6 +1,6 @@
 use Rattle.script_load.specs.Line.{lines_of}
 use Rattle.embed.specs.Tells.{no_start, not_found, no_memory}
-use Rattle.embed.proofs.Lines.{told_of, harmless_of}
+use Rattle.embed.proofs.Lines.{findings_of, harmless_of}
 use Rattle.embed.proofs.rooms.room_check_of.Goals as goal
 
 pub returns-in-Err-clause-fault : goal.returns-in-Err-clause-fault
@@ -20,7 +20,7 @@ returns-in-Ok-room_result-clause-told c =
       lines = lines;
       given = begun.files;
       starts = starts;
-      told = told_of task c.args.is_strict found lines c.in-Ok-find_of.ensures.found starts.cut;
+      of_lines = findings_of task c.args.is_strict found lines c.in-Ok-find_of.ensures.found starts.cut;
       room = c.find_room-found.ensures;
       fine = c.is_fine.ensures c.args.is_strict lines task.stdin.now begun.files (harmless_of task c.args.is_strict found lines c.in-Ok-find_of.ensures.found starts.cut) c.find_room-found.ensures;
     }

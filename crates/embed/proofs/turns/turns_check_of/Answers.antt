@@ -1,6 +1,6 @@
 use Rattle.script_load.specs.Line.{lines_of}
 use Rattle.embed.specs.Tells.{no_start, not_found, no_memory}
-use Rattle.embed.proofs.Lines.{told_of, harmless_of}
+use Rattle.embed.proofs.Lines.{findings_of, harmless_of}
 use Rattle.embed.proofs.turns.turns_check_of.Goals as goal
 
 pub returns-in-Err-clause-fault : goal.returns-in-Err-clause-fault
@@ -20,8 +20,8 @@ returns-in-Ok-counted_result-clause-told c =
       lines = lines;
       given = begun.files;
       starts = starts;
-      told = told_of task c.args.is_strict found lines c.in-Ok-find_of.ensures.found starts.cut;
-      turns = c.turns_of-turns.ensures;
+      of_lines = findings_of task c.args.is_strict found lines c.in-Ok-find_of.ensures.found starts.cut;
+      of_turns = c.turns_of-turns.ensures;
       harmless = harmless_of task c.args.is_strict found lines c.in-Ok-find_of.ensures.found starts.cut;
     }
 

@@ -1,10 +1,8 @@
-use Rattle.std.proofs.Common.{refl, subst}
+use Rattle.std.proofs.Common.{subst}
 use Rattle.mem_files.specs.Files.{files}
 use Rattle.script_load.specs.Line.{lines_of}
 use Rattle.xvsh_read.proofs.Faults.{at_fault}
-use Rattle.xvsh_checks.specs.Values.{findings_text, turns_told}
-use Rattle.xvsh_checks.specs.Turns.{AreTurnsTold, no_start, turns_not_told}
-use Rattle.xvsh_checks.proofs.Counted.{ran_turns}
+use Rattle.xvsh_checks.specs.Turns.{AreTurnsFound, no_start, turns_not_told}
 use Rattle.xvsh_checks.proofs.counting.run_count.Goals as goal
 
 pub returns-in_err-start-clause-fault : goal.returns-in_err-start-clause-fault
@@ -19,7 +17,12 @@ pub returns-clause-ran : goal.returns-clause-ran
 returns-clause-ran g c =
     let start = c.in_ok-start.start in
     let lines = lines_of start.script.lines in
-    let found = c.in_ok-findings.findings in
-    ran_turns (g.H.Host.input c.args.host.now) (g.H.Host.file c.args.host.now) c.args.request.now.script.now c.args.request.now.files.now lines start.files start.stdin.items _ c.args.request.now.is_strict found.is_harmless c.in_ok-start.ensures.prepared
-    (findings_text found.list.items, turns_told c.turns_of-turns.result, c.in_ok-findings.ensures.told, subst (λ s. AreTurnsTold lines s (files start.files) (turns_told c.turns_of-turns.result)) c.as_slice.ensures.value c.turns_of-turns.ensures, refl)
-    c.in_ok-findings.ensures.harmless
+    record {
+      lines = lines;
+      given = start.files;
+      stdin = start.stdin.items;
+      starts = c.in_ok-start.ensures.prepared;
+      of_lines = c.in_ok-findings.ensures.found;
+      of_turns = subst (λ s. AreTurnsFound lines s (files start.files) c.turns_of-turns.result) c.as_slice.ensures.value c.turns_of-turns.ensures;
+      harmless = c.in_ok-findings.ensures.harmless;
+    }

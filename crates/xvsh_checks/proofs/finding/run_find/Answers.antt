@@ -14,6 +14,6 @@ pub returns-clause-ran : goal.returns-clause-ran
 returns-clause-ran g c = record {
   lines = _;
   loaded = c.in_ok-loaded.ensures.lines;
-  told = c.in_ok-found.ensures.told;
+  of_lines = c.in_ok-found.ensures.found;
   harmless = c.in_ok-found.ensures.harmless;
 }

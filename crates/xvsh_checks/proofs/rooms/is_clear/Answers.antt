@@ -3,7 +3,7 @@ use Rattle.std.specs.Prelude.{map, ◌↔◌, IsTrue}
 use Rattle.script_load.specs.Line.{line_of}
 use Rattle.script_notes.proofs.Reading.{line_left, none_left}
 use Rattle.xvsh_checks.specs.Check.{IsHarmless}
-use Rattle.xvsh_checks.proofs.Telling.{Decides, harmless_one, harmless_all}
+use Rattle.xvsh_checks.proofs.Adding.{Decides, harmless_one, harmless_all}
 use Rattle.xvsh_checks.proofs.rooms.is_clear.Goals as goal
 
 pub loop-line-init : goal.loop-line-init

@@ -1,7 +1,7 @@
 use Rattle.std.proofs.Common.{◌≡◌, ◌∙◌, true, false, sym, subst}
 use Rattle.std.specs.Prelude.{◌↔◌, IsTrue}
 use Rattle.xvsh_checks.specs.Check.{AreHarmless}
-use Rattle.xvsh_checks.proofs.RoomTold.{fine}
+use Rattle.xvsh_checks.proofs.Harmless.{fine}
 use Rattle.xvsh_checks.proofs.rooms.is_fine.Goals as goal
 
 pub returns-then-is_harmless : goal.returns-then-is_harmless

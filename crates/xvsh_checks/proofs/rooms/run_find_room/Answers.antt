@@ -1,9 +1,7 @@
-use Rattle.std.proofs.Common.{refl, subst}
+use Rattle.std.proofs.Common.{subst}
 use Rattle.script_load.specs.Line.{lines_of}
 use Rattle.xvsh_read.proofs.Faults.{at_fault}
-use Rattle.xvsh_checks.specs.Values.{findings_text}
 use Rattle.xvsh_checks.specs.Room.{IsRoomFound, no_room_start, room_not_told}
-use Rattle.xvsh_checks.proofs.RoomTold.{ran_room}
 use Rattle.xvsh_checks.proofs.rooms.run_find_room.Goals as goal
 
 pub returns-in_err-start-clause-fault : goal.returns-in_err-start-clause-fault
@@ -19,7 +17,13 @@ returns-clause-ran g c =
     let request = c.args.request.now in
     let start = c.in_ok-start.start in
     let lines = lines_of start.script.lines in
-    let found = c.in_ok-findings.findings in
     let room = subst (λ s. IsRoomFound lines s start.files c.find_room-found.result) c.as_slice.ensures.value c.find_room-found.ensures in
-    ran_room (g.H.Host.input c.args.host.now) (g.H.Host.file c.args.host.now) request.script.now request.files.now lines start.files start.stdin.items (findings_text found.list.items) _ request.is_strict c.is_fine.result c.find_room-found.result
-    c.in_ok-start.ensures.start c.in_ok-findings.ensures.told room refl (c.is_fine.ensures request.is_strict lines start.stdin.items start.files c.in_ok-findings.ensures.harmless room)
+    record {
+      lines = lines;
+      given = start.files;
+      stdin = start.stdin.items;
+      starts = c.in_ok-start.ensures.start;
+      of_lines = c.in_ok-findings.ensures.found;
+      room = room;
+      fine = c.is_fine.ensures request.is_strict lines start.stdin.items start.files c.in_ok-findings.ensures.harmless room;
+    }

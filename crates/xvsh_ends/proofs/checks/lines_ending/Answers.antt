@@ -1,5 +1,5 @@
 use Rattle.std.proofs.Common.{[], false, subst}
-use Rattle.xvsh_checks.specs.Values.{findings_text}
+use Rattle.check_texts.specs.Findings.{findings_text}
 use Rattle.xvsh_read.specs.Status.{check_status, fault_told, status_of}
 use Rattle.xvsh_ends.specs.Ends.{checked, no_check}
 use Rattle.xvsh_ends.specs.Printed.{IsPrinted}

@@ -1,5 +1,6 @@
 use Rattle.std.proofs.Common.{[], ◌++◌, true, subst}
-use Rattle.xvsh_checks.specs.Values.{findings_text, turns_told}
+use Rattle.check_texts.specs.Findings.{findings_text}
+use Rattle.check_texts.specs.Turns.{turns_text}
 use Rattle.xvsh_read.specs.Status.{check_status, fault_told, status_of}
 use Rattle.xvsh_ends.specs.Ends.{counted, not_counted}
 use Rattle.xvsh_ends.specs.Printed.{IsPrinted}
@@ -12,7 +13,7 @@ pub returns-in-Ok : goal.returns-in-Ok
 returns-in-Ok g c room =
     let request = c.args.request.now in
     let is_fine = c.in-Ok.counted.findings.is_harmless in
-    let text = findings_text c.in-Ok.counted.findings.list.items ++ turns_told c.in-Ok.counted.turns in
+    let text = findings_text c.in-Ok.counted.findings.list.items ++ turns_text c.in-Ok.counted.turns in
     due_printed (g.H.Host.input c.args.host.now) (g.H.Host.file c.args.host.now) (check_asked true room request) request.is_json text [] (check_status is_fine) c.print_as.result
     (subst (λ n. IsPrinted request.is_json text [] n c.print_as.result) c.by-code.ensures (c.print_as.ensures text c.turns_made-made.ensures))
     (check_is_printed is_fine) (counted is_fine c.in-Ok.ensures.ran)
