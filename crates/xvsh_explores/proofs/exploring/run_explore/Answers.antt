@@ -39,4 +39,4 @@ returns-in_err-pair-clause-missing g c =
       starts = c.in_ok-start.ensures.prepared;
       is = subst (λ profile. IsFound profile (lines_of start.script.lines) start.stdin.items start.files request.states request.is_thorough c.in_ok-found.found) c.in_ok-start.ensures.profile c.in_ok-found.ensures.found;
     } in
-    at_fault c.from_residual.result _ _ c.from_residual.ensures.1 (missing_found input file request.source.profile request.source.script.now request.source.files.now request.states request.is_thorough c.in_ok-found.found _ ran (c.in_err-pair.ensures.missing c.in_ok-asked.ensures.pair))
+    at_fault c.from_residual-in_err-pair.result _ _ c.from_residual-in_err-pair.ensures.1 (missing_found input file request.source.profile request.source.script.now request.source.files.now request.states request.is_thorough c.in_ok-found.found _ ran (c.in_err-pair.ensures.missing c.in_ok-asked.ensures.pair))
