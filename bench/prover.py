@@ -8,17 +8,25 @@ import shutil
 import sys
 import tempfile
 
+ROOT = os.path.dirname(os.path.dirname(os.path.abspath(__file__)))
+
 # What comes of an edit that the prover tried.
 CAME = ("refused", "form", "limit", "survived")
 
 
-def toolchain():
-    """Returns the toolchain's own command as a module, so that an edit is judged as the gate judges it."""
-    path = os.path.realpath(shutil.which("rt") or sys.exit(f"{os.path.basename(sys.argv[0])}: there is no command rt"))
-    loader = importlib.machinery.SourceFileLoader("rt", path)
-    made = importlib.util.module_from_spec(importlib.util.spec_from_loader("rt", loader))
+def load(name, path):
+    """Returns the program at this path as a module."""
+    loader = importlib.machinery.SourceFileLoader(name, path)
+    made = importlib.util.module_from_spec(importlib.util.spec_from_loader(name, loader))
     loader.exec_module(made)
     return made
+
+
+def toolchain():
+    """Returns the toolchain's own command as a module, so that an edit is judged as the gate judges it; sums of sources are made once."""
+    rt = load("rt", os.path.realpath(shutil.which("rt") or sys.exit(f"{os.path.basename(sys.argv[0])}: there is no command rt")))
+    load("by_rt", os.path.join(ROOT, "dist", "rt")).make_once(rt.rtlib.Crate)
+    return rt
 
 
 def came_of(answer, told):
