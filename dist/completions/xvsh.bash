@@ -12,7 +12,7 @@ _xvsh() {
         plain) flags='--files-to --diagnostics --strict --append --files --json --input -c -h --help' ;;
         check) flags='--turns --room --strict --json --input -c -h --help' ;;
         explain) flags='--why --fix --append --json --input -c -h --help' ;;
-        explore) flags='--states --all --full --witness --draw --play --pair --json --append --input -c -h --help' ;;
+        explore) flags='--states --memory --all --full --witness --draw --play --pair --json --append --input -c -h --help' ;;
         draw) flags='--from --to --svg -h --help' ;;
         step) flags='--schedule --append --json --input -c -h --help' ;;
         grade) flags='--json --tap --gradescope --jobs --states -h --help' ;;
@@ -20,7 +20,7 @@ _xvsh() {
     case $command:$prev in
         run:--order) mapfile -t COMPREPLY < <(compgen -W 'low high eager starve:' -- "$cur"); return ;;
         run:--files-to | replay:--files-to | plain:--files-to | explore:--witness) mapfile -t COMPREPLY < <(compgen -d -- "$cur"); compopt -o filenames; return ;;
-        run:--harts | run:--turns | run:--seed | explore:--states | draw:--from | draw:--to | grade:--jobs | grade:--states) compopt +o default; return ;;
+        run:--harts | run:--turns | run:--seed | explore:--states | explore:--memory | draw:--from | draw:--to | grade:--jobs | grade:--states) compopt +o default; return ;;
         explore:--pair) compopt +o default; return ;;
         run:--schedule-to | run:--trace | replay:--trace | explore:--draw | explore:--play | step:--schedule) return ;;
         *:--input) mapfile -t COMPREPLY < <(compgen -W none -- "$cur"; compgen -f -- "$cur"); compopt -o filenames; return ;;

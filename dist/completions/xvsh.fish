@@ -62,6 +62,7 @@ complete -c xvsh -n '__fish_seen_subcommand_from explain' -l input -x -a '(__fis
 complete -c xvsh -n '__fish_seen_subcommand_from explain' -s c -d 'SCRIPT is the script itself, and no path'
 complete -c xvsh -n '__fish_seen_subcommand_from explain' -s h -l help -d 'Print help'
 complete -c xvsh -n '__fish_seen_subcommand_from explore' -l states -x -d 'Keep at most so many states, 1 to 10000000; 200000 without it'
+complete -c xvsh -n '__fish_seen_subcommand_from explore' -l memory -x -d 'End the search where the program takes more than N MiB of memory, 1 to 1048576; half of what is free without it'
 complete -c xvsh -n '__fish_seen_subcommand_from explore' -l all -d 'Try every order of a settled script too'
 complete -c xvsh -n '__fish_seen_subcommand_from explore' -l full -d 'Try every turn in every state, where one would do: the same outcomes of more states, to compare'
 complete -c xvsh -n '__fish_seen_subcommand_from explore' -l witness -x -a '(__fish_complete_directories)' -d 'Write a schedule for each outcome to DIR/1.schedule and so on, for `xvsh replay`'
