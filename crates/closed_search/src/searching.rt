@@ -15,7 +15,7 @@ pub struct Found<T: Node> {
     pub nodes: Vec<T>,
     /// Whether the search went to its end, so that nothing else is reached.
     pub whole: bool,
-    /// Whether the watch ended it.
+    /// Whether the watch stopped it.
     pub stopped: bool,
 }
 
@@ -166,7 +166,7 @@ fn expand<T: Node>(
     Ok(())
 }
 
-// What was found where the search didn't go to its end, and whether the watch ended it.
+// What was found where the search didn't go to its end, and whether the watch stopped it.
 fn part_of<T: Node>(nodes: Vec<T>, stopped: bool) -> Found<T>
     ensures nodes { result.nodes ≡ nodes }
     ensures part { result.whole ≡ false }
@@ -190,6 +190,7 @@ fn search_from<T: Node, W: Watch>(
     ensures reached { IfOk result (λ found. All (IsReached T.step (T.state start)) (map T.state found.nodes.items)) }
     ensures whole { IfOk result (λ found. found.whole ≡ true → IsReducedUnder T.step T.stands T.private bounds.moves (T.state start) (map T.state found.nodes.items)) }
     ensures part { IfOk result (λ found. found.whole ≡ false → found.stopped ≡ false → bounds.limit < length found.nodes.items) }
+    ensures stopped { IfOk result (λ found. found.stopped ≡ true → W.stopped watch.new) }
 {
     let mut nodes = Vec::new(alloc);
     let mut index = Index::new(alloc);
@@ -215,11 +216,11 @@ fn search_from<T: Node, W: Watch>(
 }
 
 /// Searches the states that the first `bounds.moves` moves lead to from the start, breadth first. It stops, with a part, once
-/// it found more than `bounds.limit` nodes, or `watch` ends it. `watch` sees how many it found, and when it ends.
+/// it found more than `bounds.limit` nodes, or `watch` stops it. `watch` sees how many it found, and when it ends.
 ///
 /// Each state that it found is one that moves lead to (`reached`). Where it went to its end, the states are closed under
-/// moves but for states that others stand for (`whole`); where it didn't, and the watch didn't end it, it found more nodes than that
-/// (`part`). The fault is one of the nodes', or that of refused memory.
+/// moves but for states that others stand for (`whole`); where it didn't, and isn't said to be stopped, it found more nodes than that
+/// (`part`); and it is said to be stopped only where the watch stopped it (`stopped`). The fault is one of the nodes', or that of refused memory.
 pub fn search<T: Node, W: Watch>(
     alloc: Global,
     tools: &mut T::Tools,
@@ -230,6 +231,7 @@ pub fn search<T: Node, W: Watch>(
     ensures reached { IfOk result (λ found. All (IsReached T.step (T.state start)) (map T.state found.nodes.items)) }
     ensures whole { IfOk result (λ found. found.whole ≡ true → IsReducedUnder T.step T.stands T.private bounds.moves (T.state start) (map T.state found.nodes.items)) }
     ensures part { IfOk result (λ found. found.whole ≡ false → found.stopped ≡ false → bounds.limit < length found.nodes.items) }
+    ensures stopped { IfOk result (λ found. found.stopped ≡ true → W.stopped watch.new) }
 {
     let found = search_from(alloc, tools, start, bounds, watch);
     watch.ended();

@@ -58,7 +58,7 @@ pub fn explore<B: Allocator, C: Allocator>(
     ensures complete { IfOk result (λ found. found.whole ≡ true → AreAllOutcomes call_of next_of (script_kernel script.now.profile (lines_of script.now.lines) stdin.now files.now) (map outcome_by found.outcomes.items)) }
     ensures awake { IfOk result (λ found. found.whole ≡ true → found.stuck ≡ None → IsNeverStuck call_of next_of (script_kernel script.now.profile (lines_of script.now.lines) stdin.now files.now)) }
     ensures asleep { IfOk result (λ found. IfSome found.stuck (λ pids. LeadsToSleep call_of next_of (script_kernel script.now.profile (lines_of script.now.lines) stdin.now files.now) pids.items)) }
-    ensures part { IfOk result (λ found. found.whole ≡ false → found.stopped ≡ false → states < found.states) }
+    ensures part { IfOk result (λ found. found.whole ≡ false → states < found.states) }
 {
     let setting = Setting {
         script,
@@ -69,7 +69,8 @@ pub fn explore<B: Allocator, C: Allocator>(
     explore_watched(alloc, &setting, states, &mut Unwatched)
 }
 
-/// `explore`, which tells `watch` how many states it found, each time before it tries the turns of one more.
+/// `explore`, which tells `watch` how many states it found, each time before it tries the turns of one more, and stops where the watch
+/// says so (`stopped`).
 pub fn explore_watched<B: Allocator, C: Allocator, W: Watch>(
     alloc: Global,
     setting: &Setting<'_, B, C>,
@@ -82,6 +83,7 @@ pub fn explore_watched<B: Allocator, C: Allocator, W: Watch>(
     ensures awake { IfOk result (λ found. found.whole ≡ true → found.stuck ≡ None → IsNeverStuck call_of next_of (script_kernel setting.now.script.now.profile (lines_of setting.now.script.now.lines) setting.now.stdin.now setting.now.files.now)) }
     ensures asleep { IfOk result (λ found. IfSome found.stuck (λ pids. LeadsToSleep call_of next_of (script_kernel setting.now.script.now.profile (lines_of setting.now.script.now.lines) setting.now.stdin.now setting.now.files.now) pids.items)) }
     ensures part { IfOk result (λ found. found.whole ≡ false → found.stopped ≡ false → states < found.states) }
+    ensures stopped { IfOk result (λ found. found.stopped ≡ true → W.stopped watch.new) }
 {
     explore_named::<Brand, B, C, W>(alloc, setting, states, watch)
 }
@@ -125,6 +127,7 @@ fn explore_named<N: Naming, B: Allocator, C: Allocator, W: Watch>(
     ensures awake { IfOk result (λ found. found.whole ≡ true → found.stuck ≡ None → IsNeverStuck call_of next_of (script_kernel setting.now.script.now.profile (lines_of setting.now.script.now.lines) setting.now.stdin.now setting.now.files.now)) }
     ensures asleep { IfOk result (λ found. IfSome found.stuck (λ pids. LeadsToSleep call_of next_of (script_kernel setting.now.script.now.profile (lines_of setting.now.script.now.lines) setting.now.stdin.now setting.now.files.now) pids.items)) }
     ensures part { IfOk result (λ found. found.whole ≡ false → found.stopped ≡ false → states < found.states) }
+    ensures stopped { IfOk result (λ found. found.stopped ≡ true → W.stopped watch.new) }
 {
     are_files(setting.files);
     a_script_begins_at_a_boot();

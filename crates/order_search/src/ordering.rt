@@ -25,7 +25,7 @@ const MAX_CHAIN: usize = 64;
 pub struct Exploration {
     /// Whether every order was tried.
     pub whole: bool,
-    /// Whether the watch ended the search.
+    /// Whether the watch stopped the search.
     pub stopped: bool,
     /// How many states were kept: kernels that differ in more than who runs, who sleeps, the numbers of open-file entries, how many
     /// events there were, and what pipes are called. Where a turn gives way to nobody's the state after it stands for the one before it, which is not kept.
@@ -37,8 +37,8 @@ pub struct Exploration {
 }
 
 /// Tries the orders in which the processes of a kernel can take their turns: all orders, unless they lead to more than
-/// `states` states, or `watch`, which sees how many were found, ends the search. Where not every order was tried and the watch didn't end
-/// it, more states were found (`part`).
+/// `states` states, or `watch`, which sees how many were found, stops the search. Where not every order was tried and the search isn't
+/// said to be stopped, more states were found (`part`); it is said to be stopped only where the watch stopped it (`stopped`).
 pub fn explore_from<M: Machine, C: Allocator, W: Watch>(
     alloc: Global,
     origin: &Origin<'_, M, C>,
@@ -48,6 +48,7 @@ pub fn explore_from<M: Machine, C: Allocator, W: Watch>(
     requires { HasAhead M.call_of M.next_of origin.now.ahead (start_kernel (M.view origin.now.init) (M.view origin.now.shell) origin.now.stdin.now origin.now.files.now) }
     ensures explores { IfOk result (Explores M.call_of M.next_of (start_kernel (M.view origin.now.init) (M.view origin.now.shell) origin.now.stdin.now origin.now.files.now) (start_kernel (M.view origin.now.init) (M.view origin.now.shell) origin.now.stdin.now origin.now.files.now)) }
     ensures part { IfOk result (λ e. e.whole ≡ false → e.stopped ≡ false → states < e.states) }
+    ensures stopped { IfOk result (λ e. e.stopped ≡ true → W.stopped watch.new) }
 {
     explore_after(alloc, origin, &[], states, watch)
 }
@@ -66,6 +67,7 @@ pub fn explore_after<M: Machine, C: Allocator, W: Watch>(
     requires { HasAhead M.call_of M.next_of origin.now.ahead (start_kernel (M.view origin.now.init) (M.view origin.now.shell) origin.now.stdin.now origin.now.files.now) }
     ensures explores { IfOk result (ExploresAfter M.call_of M.next_of (start_kernel (M.view origin.now.init) (M.view origin.now.shell) origin.now.stdin.now origin.now.files.now) pids.now) }
     ensures part { IfOk result (λ e. e.whole ≡ false → e.stopped ≡ false → states < e.states) }
+    ensures stopped { IfOk result (λ e. e.stopped ≡ true → W.stopped watch.new) }
 {
     let mut tools = Tools::new(alloc)?;
     let start = Standing::begin(&mut tools, origin, pids)?;

@@ -48,7 +48,7 @@ pub record IsReordered (found sorted : Exploration) : Type 0 where
 -- what trying orders from a start shows, where at most so many states were to be kept: each outcome is that of a finished run by its
 -- own schedule, and no two are equal. Where every order was tried they are those of all runs, and where none was found stuck none
 -- is. Where one was, its turns lead to where all processes sleep. Where not every order was tried and
--- the watch didn't end the search, more states were found
+-- the search isn't said to be stopped by its watch, more states were found
 pub record AreTried (start : KernelState User) (states : ℕ) (found : Exploration) : Type 0 where
   pub sound : All (IsReplayed call_of next_of start) found.outcomes.items
   pub apart : AreApart found.outcomes.items
@@ -75,6 +75,11 @@ IsFound profile lines stdin given states thorough (Tried t) = AreTried (script_k
 abbrev pub is_whole : Found → Bool
 is_whole (Settled value) = true
 is_whole (Tried t) = t.found.whole
+
+-- whether the search is said to be stopped by its watch
+abbrev pub is_stopped : Found → Bool
+is_stopped (Settled value) = false
+is_stopped (Tried t) = t.found.stopped
 
 -- something was found, and all that was has one output and one set of files
 abbrev pub IsSingle : Found → Type 0

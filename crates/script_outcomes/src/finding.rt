@@ -4,7 +4,7 @@ ghost use Rattle.script_load.specs.Line.{lines_of};
 ghost use Rattle.sh_machine.specs.Turn.{call_of, next_of};
 ghost use Rattle.run_model.specs.ScriptRun.{script_kernel};
 ghost use Rattle.kernel_runs.specs.Room.{HasRoom};
-ghost use Rattle.script_outcomes.specs.Found.{AreTried, IsFound, IsKnown, IsReordered};
+ghost use Rattle.script_outcomes.specs.Found.{AreTried, IsFound, IsKnown, IsReordered, is_stopped};
 
 use crate::sorting::sorted;
 use every_order::{Exploration, ExploreFault, Setting, Watch, add_samples, explore_watched};
@@ -48,7 +48,8 @@ fn add_sampled<B: Allocator, C: Allocator>(
     found: &mut Exploration,
 ) -> Result<usize, ExploreFault>
     requires { AreTried (script_kernel setting.now.script.now.profile (lines_of setting.now.script.now.lines) setting.now.stdin.now setting.now.files.now) states found.old }
-    ensures { OnOk result (AreTried (script_kernel setting.now.script.now.profile (lines_of setting.now.script.now.lines) setting.now.stdin.now setting.now.files.now) states found.new) }
+    ensures tried { OnOk result (AreTried (script_kernel setting.now.script.now.profile (lines_of setting.now.script.now.lines) setting.now.stdin.now setting.now.files.now) states found.new) }
+    ensures stopped { found.new.stopped ≡ found.old.stopped }
 {
     if found.whole {
         return Ok(0);
@@ -84,7 +85,8 @@ fn search<B: Allocator, C: Allocator, W: Watch>(
     states: usize,
     watch: &mut W,
 ) -> Result<Tried, ExploreFault>
-    ensures { IfOk result (λ t. AreTried (script_kernel setting.now.script.now.profile (lines_of setting.now.script.now.lines) setting.now.stdin.now setting.now.files.now) states t.found) }
+    ensures tried { IfOk result (λ t. AreTried (script_kernel setting.now.script.now.profile (lines_of setting.now.script.now.lines) setting.now.stdin.now setting.now.files.now) states t.found) }
+    ensures stopped { IfOk result (λ t. t.found.stopped ≡ true → W.stopped watch.new) }
 {
     let mut found = explore_watched(alloc, setting, states, watch)?;
     let runs = add_sampled(alloc, setting, states, &mut found)?;
@@ -134,8 +136,9 @@ fn known<B: Allocator, C: Allocator>(
 /// What a script can leave with this standard input and these files, whatever the order of its processes (own).
 ///
 /// Of a settled script no file of which is soft, and of which a run ends in which nothing is full, that is its meaning, unless the
-/// search is to be thorough. Of any other all orders are tried, unless they lead to more states than are to be kept; then the script
-/// is also run in a few orders, and what these leave is added. `watch` is shown how many states were found.
+/// search is to be thorough. Of any other all orders are tried, unless they lead to more states than are to be kept, or `watch`, which is
+/// shown how many states were found, stops the search (`stopped`); then the script is also run in a few orders, and what these leave is
+/// added.
 ///
 /// `Memory` where memory is refused, to a call of a process too; `TooLong` where a run has more turns than can be counted.
 pub fn outcomes_of<B: Allocator, C: Allocator, W: Watch>(
@@ -144,7 +147,8 @@ pub fn outcomes_of<B: Allocator, C: Allocator, W: Watch>(
     limits: Limits,
     watch: &mut W,
 ) -> Result<Found, ExploreFault>
-    ensures { IfOk result (IsFound setting.now.script.now.profile (lines_of setting.now.script.now.lines) setting.now.stdin.now setting.now.files.now limits.states limits.is_thorough) }
+    ensures found { IfOk result (IsFound setting.now.script.now.profile (lines_of setting.now.script.now.lines) setting.now.stdin.now setting.now.files.now limits.states limits.is_thorough) }
+    ensures stopped { IfOk result (λ found. is_stopped found ≡ true → W.stopped watch.new) }
 {
     if !limits.is_thorough {
         if let Some(value) = known(alloc, setting)? {

@@ -61,11 +61,11 @@ fn go_on(outcomes: &[Outcome], turns: &[u8]) -> bool
 }
 
 /// Tries the orders in which a session's run can go on from where it is: all orders, unless they lead to more than `states` states.
-/// `watch` is told how many were found.
+/// `watch` is told how many were found, and may stop the search (`stopped`).
 ///
 /// Each outcome that is told is that of a finished run by its own schedule, which begins at the kernel's boot with the turns of the
 /// session (`goes_on`), and no two are equal. Where every order was tried, they are those of all finished runs that go on from the kernel as it is, on any harts, at which memory is
-/// never refused or nothing is full (`told`); where not every one was, more than `states` states were found (`part`). `Full` exactly
+/// never refused or nothing is full (`told`); where not every one was and the search isn't said to be stopped, more than `states` states were found (`part`). `Full` exactly
 /// where something was full in the session (`full`).
 pub fn outcomes_from<M: Machine, C: Allocator, W: Watch>(
     alloc: Global,
@@ -76,6 +76,7 @@ pub fn outcomes_from<M: Machine, C: Allocator, W: Watch>(
     ensures told { IfOk result (TellsRest M.call_of M.next_of session.now) }
     ensures goes_on { IfOk result (λ found. GoOn (callers session.now.schedule) found.outcomes.items) }
     ensures part { IfOk result (λ found. found.whole ≡ false → found.stopped ≡ false → states < found.states) }
+    ensures stopped { IfOk result (λ found. found.stopped ≡ true → W.stopped watch.new) }
     ensures full { (result ≡ Err RestFault.Full) ↔ (session.now.now.full ≢ None) }
 {
     session.replays();

@@ -1,7 +1,7 @@
 //! What `explore` does: it reads a script, its files and its input, and finds what the script can leave.
-ghost use Rattle.std.specs.Prelude.{◌≡◌, ◌⊎◌, IfOk, IfErr, IfSome, None, false};
+ghost use Rattle.std.specs.Prelude.{◌≡◌, ◌⊎◌, IfOk, IfErr, IfSome, None, false, true};
 ghost use Rattle.script_load.specs.Line.{lines_of};
-ghost use Rattle.script_outcomes.specs.Found.{IsFound};
+ghost use Rattle.script_outcomes.specs.Found.{IsFound, is_stopped};
 ghost use Rattle.script_outcomes.specs.Pairs.{IsClearest};
 ghost use Rattle.script_outcomes.specs.declared.pair.Pair.{Pair};
 ghost use Rattle.xvsh_plain.specs.Dead.{AreBadAt, AreDeadAt};
@@ -55,7 +55,7 @@ fn limits_of(request: &ExploreRequest<'_>) -> Limits
 }
 
 /// What is found of a script from what its runs begin with: as `run_explore`, of a request whose source was read. `watch` is shown how many
-/// states were found.
+/// states were found, and may stop the search (`stopped`).
 pub fn explore_start<'a, W: Watch>(
     alloc: Global,
     start: &Start,
@@ -63,6 +63,7 @@ pub fn explore_start<'a, W: Watch>(
     watch: &mut W,
 ) -> Result<Found, Fault<'a>>
     ensures found { IfOk result (IsFound start.now.script.profile (lines_of start.now.script.lines) start.now.stdin.items start.now.files request.now.states request.now.is_thorough) }
+    ensures stopped { IfOk result (λ found. is_stopped found ≡ true → W.stopped watch.new) }
     ensures fault { IfErr result (λ fault. (fault ≡ Memory) ⊎ (fault ≡ TooLarge)) }
 {
     let setting = Setting {
@@ -140,8 +141,8 @@ fn pair_of<'a>(
 
 /// `explore`: reads the script, the files in order, and standard input unless that is the script, and finds what the script can leave
 /// (own). A settled script that has room leaves what it means, and no order of it is tried,
-/// unless the request is thorough or asks for schedules, a page or a pair, or some file is soft. The host is shown how many states were found.
-/// Nothing is written.
+/// unless the request is thorough or asks for schedules, a page or a pair, or some file is soft. The host is shown how many states were found, and may
+/// stop the search (`stopped`). Nothing is written.
 ///
 /// A run with more turns than can be counted is the fault `TooLarge`. `NoPair` of a word that names no two outcomes, and `NoOutcome` of
 /// one that names an outcome which wasn't found.
@@ -154,6 +155,7 @@ pub fn run_explore<'a, H: Host + Watch>(
         (lines_of explored.start.script.lines) explored.start.files explored.start.stdin.items) }
     ensures profile { IfOk result (λ explored. explored.start.script.profile ≡ request.now.source.profile) }
     ensures found { IfOk result (λ explored. IsFound request.now.source.profile (lines_of explored.start.script.lines) explored.start.stdin.items explored.start.files request.now.states request.now.is_thorough explored.found) }
+    ensures stopped { IfOk result (λ explored. is_stopped explored.found ≡ true → H.stopped host.new) }
     ensures bad { IfOk result (λ explored. AreBadAt (H.input host.old) (H.file host.old) request.now.source.script.now explored.bad.items) }
     ensures dead { IfOk result (λ explored. AreDeadAt (H.input host.old) (H.file host.old) request.now.source.script.now explored.dead.items) }
     ensures pair { IfOk result (λ explored. IsPairOf request.now.pair explored.pair) }

@@ -87,6 +87,8 @@ impl<H: Traces> Traces for Given<'_, H> {
 }
 
 impl<H: Watch> Watch for Given<'_, H> {
+    ghost stopped = { λ given. H.stopped given.host.now };
+
     fn found(&mut self, count: usize) -> bool {
         self.host.found(count)
     }

@@ -182,6 +182,8 @@ impl<R: Files + Print, E> Traces for System<'_, R, E> {
 }
 
 impl<R: Files + Clock, E: Write> Watch for System<'_, R, E> {
+    ghost stopped = { λ _. Unit {0} };
+
     fn found(&mut self, count: usize) -> bool {
         self.show_progress(Step {
             count,
