@@ -30,44 +30,60 @@ pub struct Bounds {
     pub chain: usize,
 }
 
+// The nodes that were found so far, and their places by digest.
+#[derive(Drop)]
+struct Pool<T: Node> {
+    nodes: Vec<T>,
+    index: Index,
+}
+
+impl<T: Node> Pool<T> {
+    ghost use Rattle.std.specs.Prelude.{◌≡◌, []};
+
+    // No nodes.
+    fn new(alloc: Global) -> Pool<T>
+        ensures { result.nodes.items ≡ [] }
+    {
+        Pool {
+            nodes: Vec::new(alloc),
+            index: Index::new(alloc),
+        }
+    }
+}
+
 // Whether the state of one of the nodes, of those with this digest, stands for the node's.
-fn has_like<T: Node>(nodes: &[T], index: &Index, node: &T, digest: u64) -> bool
-    ensures { result ≡ true → HasLike T.stands (map T.state nodes.now) (T.state node.now) }
+fn has_like<T: Node>(pool: &Pool<T>, node: &T, digest: u64) -> bool
+    ensures { result ≡ true → HasLike T.stands (map T.state pool.now.nodes.items) (T.state node.now) }
 {
-    let mut found = index.last(digest);
+    let mut found = pool.index.last(digest);
     while let Some(place) = found {
-        if place < nodes.len() && node.is_like(&nodes[place]) {
+        if place < pool.nodes.len() && node.is_like(&pool.nodes[place]) {
             return true;
         }
-        found = index.older(place);
+        found = pool.index.older(place);
     }
     false
 }
 
 // The node, which has this digest, is added.
-fn keep<T: Node>(
-    nodes: &mut Vec<T>,
-    index: &mut Index,
-    node: T,
-    digest: u64,
-) -> Result<(), AllocError>
-    ensures { OnOk result (nodes.new.items ≡ nodes.old.items ++ node ∷ []) }
+fn keep<T: Node>(pool: &mut Pool<T>, node: T, digest: u64) -> Result<(), AllocError>
+    ensures { OnOk result (pool.new.nodes.items ≡ pool.old.nodes.items ++ node ∷ []) }
 {
-    index.write(digest)?;
-    nodes.push(node)?;
+    pool.index.write(digest)?;
+    pool.nodes.push(node)?;
     Ok(())
 }
 
 // The node is added, unless one stands for it.
-fn add<T: Node>(nodes: &mut Vec<T>, index: &mut Index, node: T) -> Result<(), T::Fault>
-    ensures has { IfOk result (λ _. HasLike T.stands (map T.state nodes.new.items) (T.state node)) }
-    ensures grown { IfOk result (λ _. IsLonger (λ t. t ≡ T.state node) (map T.state nodes.old.items) (map T.state nodes.new.items)) }
+fn add<T: Node>(pool: &mut Pool<T>, node: T) -> Result<(), T::Fault>
+    ensures has { IfOk result (λ _. HasLike T.stands (map T.state pool.new.nodes.items) (T.state node)) }
+    ensures grown { IfOk result (λ _. IsLonger (λ t. t ≡ T.state node) (map T.state pool.old.nodes.items) (map T.state pool.new.nodes.items)) }
 {
     let digest = node.digest();
-    if has_like(nodes.as_slice(), index, &node, digest) {
+    if has_like(pool, &node, digest) {
         return Ok(());
     }
-    keep(nodes, index, node, digest)?;
+    keep(pool, node, digest)?;
     Ok(())
 }
 
@@ -98,84 +114,96 @@ fn settle<T: Node>(first: T, tools: &mut T::Tools, chain: usize) -> Result<T, T:
 
 // The node after private moves of this one is added, unless one stands for it.
 fn add_settled<T: Node>(
-    nodes: &mut Vec<T>,
-    index: &mut Index,
+    pool: &mut Pool<T>,
     tools: &mut T::Tools,
     node: T,
     chain: usize,
 ) -> Result<(), T::Fault>
-    ensures has { IfOk result (λ _. IsLed T.step T.stands T.private (map T.state nodes.new.items) (T.state node)) }
-    ensures grown { IfOk result (λ _. IsLonger (λ t. IsReached T.step (T.state node) t) (map T.state nodes.old.items) (map T.state nodes.new.items)) }
+    ensures has { IfOk result (λ _. IsLed T.step T.stands T.private (map T.state pool.new.nodes.items) (T.state node)) }
+    ensures grown { IfOk result (λ _. IsLonger (λ t. IsReached T.step (T.state node) t) (map T.state pool.old.nodes.items) (map T.state pool.new.nodes.items)) }
 {
     let settled = settle(node, tools, chain)?;
-    add(nodes, index, settled)
+    add(pool, settled)
 }
 
 // The node after a move of the one at the place.
 fn after_at<T: Node>(
-    nodes: &mut Vec<T>,
+    pool: &mut Pool<T>,
     tools: &mut T::Tools,
     place: usize,
     step_number: usize,
 ) -> Result<Option<T>, T::Fault>
-    requires place { place < length nodes.old.items }
-    ensures next { IfOk result (λ found. (d : T.State) → option_map T.state found ≡ T.step (slice_index_or (map T.state nodes.old.items) place d) step_number) }
-    ensures same { map T.state nodes.new.items ≡ map T.state nodes.old.items }
+    requires place { place < length pool.old.nodes.items }
+    ensures next { IfOk result (λ found. (d : T.State) → option_map T.state found ≡ T.step (slice_index_or (map T.state pool.old.nodes.items) place d) step_number) }
+    ensures same { map T.state pool.new.nodes.items ≡ map T.state pool.old.nodes.items }
 {
-    nodes[place].after(tools, step_number)
+    pool.nodes[place].after(tools, step_number)
 }
 
 // What the node after a move of the one at the place leads to is added, unless a node stands for it.
 fn take_move<T: Node>(
-    nodes: &mut Vec<T>,
-    index: &mut Index,
+    pool: &mut Pool<T>,
     tools: &mut T::Tools,
     place: usize,
     step_number: usize,
     chain: usize,
 ) -> Result<(), T::Fault>
-    requires place { place < length nodes.old.items }
-    ensures has { IfOk result (λ _. (d t : T.State) → T.step (slice_index_or (map T.state nodes.old.items) place d) step_number ≡ Some t → IsLed T.step T.stands T.private (map T.state nodes.new.items) t) }
-    ensures grown { IfOk result (λ _. IsLonger (λ t. (d : T.State) → IsReached T.step (slice_index_or (map T.state nodes.old.items) place d) t) (map T.state nodes.old.items) (map T.state nodes.new.items)) }
+    requires place { place < length pool.old.nodes.items }
+    ensures has { IfOk result (λ _. (d t : T.State) → T.step (slice_index_or (map T.state pool.old.nodes.items) place d) step_number ≡ Some t → IsLed T.step T.stands T.private (map T.state pool.new.nodes.items) t) }
+    ensures grown { IfOk result (λ _. IsLonger (λ t. (d : T.State) → IsReached T.step (slice_index_or (map T.state pool.old.nodes.items) place d) t) (map T.state pool.old.nodes.items) (map T.state pool.new.nodes.items)) }
 {
-    if nodes[place].leads_nowhere(step_number) {
+    if pool.nodes[place].leads_nowhere(step_number) {
         return Ok(());
     }
-    let found = after_at(nodes, tools, place, step_number)?;
+    let found = after_at(pool, tools, place, step_number)?;
     match found {
         None => Ok(()),
-        Some(node) => add_settled(nodes, index, tools, node, chain),
+        Some(node) => add_settled(pool, tools, node, chain),
     }
 }
 
 // What all moves of the one at the place lead to is added, each unless a node stands for it.
 fn expand<T: Node>(
-    nodes: &mut Vec<T>,
-    index: &mut Index,
+    pool: &mut Pool<T>,
     tools: &mut T::Tools,
     place: usize,
     bounds: Bounds,
 ) -> Result<(), T::Fault>
-    requires place { place < length nodes.old.items }
-    ensures has { IfOk result (λ _. (d : T.State) → IsExpanded T.step T.stands T.private (map T.state nodes.new.items) (slice_index_or (map T.state nodes.old.items) place d) bounds.moves) }
-    ensures grown { IfOk result (λ _. IsLonger (λ t. (d : T.State) → IsReached T.step (slice_index_or (map T.state nodes.old.items) place d) t) (map T.state nodes.old.items) (map T.state nodes.new.items)) }
+    requires place { place < length pool.old.nodes.items }
+    ensures has { IfOk result (λ _. (d : T.State) → IsExpanded T.step T.stands T.private (map T.state pool.new.nodes.items) (slice_index_or (map T.state pool.old.nodes.items) place d) bounds.moves) }
+    ensures grown { IfOk result (λ _. IsLonger (λ t. (d : T.State) → IsReached T.step (slice_index_or (map T.state pool.old.nodes.items) place d) t) (map T.state pool.old.nodes.items) (map T.state pool.new.nodes.items)) }
 {
     for step_number in 0..bounds.moves {
-        take_move(nodes, index, tools, place, step_number, bounds.chain)?;
+        take_move(pool, tools, place, step_number, bounds.chain)?;
     }
     Ok(())
 }
 
 // What was found where the search didn't go to its end, and whether the watch stopped it.
-fn part_of<T: Node>(nodes: Vec<T>, stopped: bool) -> Found<T>
-    ensures nodes { result.nodes ≡ nodes }
+fn part_of<T: Node>(pool: Pool<T>, stopped: bool) -> Found<T>
+    ensures nodes { result.nodes ≡ pool.nodes }
     ensures part { result.whole ≡ false }
     ensures stopped { result.stopped ≡ stopped }
 {
+    let Pool { nodes, index: _ } = pool;
     Found {
         nodes,
         whole: false,
         stopped,
+    }
+}
+
+// What was found where the search went to its end.
+fn whole_of<T: Node>(pool: Pool<T>) -> Found<T>
+    ensures nodes { result.nodes ≡ pool.nodes }
+    ensures whole { result.whole ≡ true }
+    ensures stopped { result.stopped ≡ false }
+{
+    let Pool { nodes, index: _ } = pool;
+    Found {
+        nodes,
+        whole: true,
+        stopped: false,
     }
 }
 
@@ -192,27 +220,22 @@ fn search_from<T: Node, W: Watch>(
     ensures part { IfOk result (λ found. found.whole ≡ false → found.stopped ≡ false → bounds.limit < length found.nodes.items) }
     ensures stopped { IfOk result (λ found. found.stopped ≡ true → W.stopped watch.new) }
 {
-    let mut nodes = Vec::new(alloc);
-    let mut index = Index::new(alloc);
+    let mut pool = Pool::new(alloc);
     let settled = settle(start, tools, bounds.chain)?;
     let digest = settled.digest();
-    keep(&mut nodes, &mut index, settled, digest)?;
+    keep(&mut pool, settled, digest)?;
     let mut place = 0;
-    while place < nodes.len() {
-        if bounds.limit < nodes.len() {
-            return Ok(part_of(nodes, false));
+    while place < pool.nodes.len() {
+        if bounds.limit < pool.nodes.len() {
+            return Ok(part_of(pool, false));
         }
-        if !watch.found(nodes.len()) {
-            return Ok(part_of(nodes, true));
+        if !watch.found(pool.nodes.len()) {
+            return Ok(part_of(pool, true));
         }
-        expand(&mut nodes, &mut index, tools, place, bounds)?;
+        expand(&mut pool, tools, place, bounds)?;
         place += 1;
     }
-    Ok(Found {
-        nodes,
-        whole: true,
-        stopped: false,
-    })
+    Ok(whole_of(pool))
 }
 
 /// Searches the states that the first `bounds.moves` moves lead to from the start, breadth first. It stops, with a part, once
