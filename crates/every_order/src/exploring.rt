@@ -10,6 +10,7 @@ ghost use Rattle.run_model.specs.ScriptRun.{script_kernel};
 ghost use Rattle.kernel_model.specs.Explored.{AreAllOutcomes, IsNeverStuck};
 ghost use Rattle.order_search.specs.Told.{outcome_by, IsReplayed, AreApart, LeadsToSleep};
 
+use kernel_events::Setting;
 use law_limits::forks::a_script_of_few_forks_has_slots_ahead;
 use law_limits::opens::a_script_of_few_opens_has_room_ahead;
 use law_turns::every_outcome::{
@@ -26,13 +27,11 @@ use sh_machine::{Naming, User};
 use std::alloc::{Allocator, Global};
 use std::marker::Brand;
 
-/// What the runs of a script begin with, and how much of them is tried.
-#[derive(Clone, Copy)]
-pub struct Setting<'a, B: Allocator, C: Allocator> {
-    pub script: &'a Script<B>,
-    /// The standard input.
-    pub stdin: &'a [u8],
-    pub files: &'a Files<C>,
+/// How much of a script's runs is tried.
+#[derive(Clone, Copy, Debug)]
+pub struct Extent {
+    /// The most states to keep.
+    pub states: usize,
     /// Whether every turn is tried in every state. What is found is the same without, of fewer states: there a turn that gives way to
     /// nobody's is taken at once, and no other one is tried (own).
     pub is_full: bool,
@@ -64,9 +63,12 @@ pub fn explore<B: Allocator, C: Allocator>(
         script,
         stdin,
         files,
+    };
+    let extent = Extent {
+        states,
         is_full: false,
     };
-    explore_watched(alloc, &setting, states, &mut Unwatched)
+    explore_watched(alloc, &setting, extent, &mut Unwatched)
 }
 
 /// `explore`, which tells `watch` how many states it found, each time before it tries the turns of one more, and stops where the watch
@@ -74,7 +76,7 @@ pub fn explore<B: Allocator, C: Allocator>(
 pub fn explore_watched<B: Allocator, C: Allocator, W: Watch>(
     alloc: Global,
     setting: &Setting<'_, B, C>,
-    states: usize,
+    extent: Extent,
     watch: &mut W,
 ) -> Result<Exploration, ExploreFault>
     ensures sound { IfOk result (λ found. All (IsReplayed call_of next_of (script_kernel setting.now.script.now.profile (lines_of setting.now.script.now.lines) setting.now.stdin.now setting.now.files.now)) found.outcomes.items) }
@@ -82,16 +84,17 @@ pub fn explore_watched<B: Allocator, C: Allocator, W: Watch>(
     ensures complete { IfOk result (λ found. found.whole ≡ true → AreAllOutcomes call_of next_of (script_kernel setting.now.script.now.profile (lines_of setting.now.script.now.lines) setting.now.stdin.now setting.now.files.now) (map outcome_by found.outcomes.items)) }
     ensures awake { IfOk result (λ found. found.whole ≡ true → found.stuck ≡ None → IsNeverStuck call_of next_of (script_kernel setting.now.script.now.profile (lines_of setting.now.script.now.lines) setting.now.stdin.now setting.now.files.now)) }
     ensures asleep { IfOk result (λ found. IfSome found.stuck (λ pids. LeadsToSleep call_of next_of (script_kernel setting.now.script.now.profile (lines_of setting.now.script.now.lines) setting.now.stdin.now setting.now.files.now) pids.items)) }
-    ensures part { IfOk result (λ found. found.whole ≡ false → found.stopped ≡ false → states < found.states) }
+    ensures part { IfOk result (λ found. found.whole ≡ false → found.stopped ≡ false → extent.states < found.states) }
     ensures stopped { IfOk result (λ found. found.stopped ≡ true → W.stopped watch.new) }
 {
-    explore_named::<Brand, B, C, W>(alloc, setting, states, watch)
+    explore_named::<Brand, B, C, W>(alloc, setting, extent, watch)
 }
 
 /// Where the runs of the script that `N` names begin: its first two machines, and what is known to be free ahead, by bounds of what the
-/// script opens and forks.
+/// script opens and forks. `is_full` is that of an `Extent`.
 pub fn origin_of<'a, N: Naming, B: Allocator, C: Allocator>(
     setting: &Setting<'a, B, C>,
+    is_full: bool,
 ) -> Origin<'a, User<'a, B, N>, C>
     requires { lines_of setting.now.script.now.lines ≡ N.script }
     ensures begins { boot_kernel (user_of result.init) (user_of result.shell) result.stdin.now result.files.now ≡ script_kernel setting.now.script.now.profile (lines_of setting.now.script.now.lines) setting.now.stdin.now setting.now.files.now }
@@ -109,7 +112,7 @@ pub fn origin_of<'a, N: Naming, B: Allocator, C: Allocator>(
             entries: has_few_opens(setting.script),
             slots: has_few_forks(setting.script),
         },
-        is_full: setting.is_full,
+        is_full,
     }
 }
 
@@ -117,7 +120,7 @@ pub fn origin_of<'a, N: Naming, B: Allocator, C: Allocator>(
 fn explore_named<N: Naming, B: Allocator, C: Allocator, W: Watch>(
     alloc: Global,
     setting: &Setting<'_, B, C>,
-    states: usize,
+    extent: Extent,
     watch: &mut W,
 ) -> Result<Exploration, ExploreFault>
     requires { lines_of setting.now.script.now.lines ≡ N.script }
@@ -126,7 +129,7 @@ fn explore_named<N: Naming, B: Allocator, C: Allocator, W: Watch>(
     ensures complete { IfOk result (λ found. found.whole ≡ true → AreAllOutcomes call_of next_of (script_kernel setting.now.script.now.profile (lines_of setting.now.script.now.lines) setting.now.stdin.now setting.now.files.now) (map outcome_by found.outcomes.items)) }
     ensures awake { IfOk result (λ found. found.whole ≡ true → found.stuck ≡ None → IsNeverStuck call_of next_of (script_kernel setting.now.script.now.profile (lines_of setting.now.script.now.lines) setting.now.stdin.now setting.now.files.now)) }
     ensures asleep { IfOk result (λ found. IfSome found.stuck (λ pids. LeadsToSleep call_of next_of (script_kernel setting.now.script.now.profile (lines_of setting.now.script.now.lines) setting.now.stdin.now setting.now.files.now) pids.items)) }
-    ensures part { IfOk result (λ found. found.whole ≡ false → found.stopped ≡ false → states < found.states) }
+    ensures part { IfOk result (λ found. found.whole ≡ false → found.stopped ≡ false → extent.states < found.states) }
     ensures stopped { IfOk result (λ found. found.stopped ≡ true → W.stopped watch.new) }
 {
     are_files(setting.files);
@@ -134,6 +137,6 @@ fn explore_named<N: Naming, B: Allocator, C: Allocator, W: Watch>(
     what_a_search_found_is_explored::<User<B, N>>();
     what_was_explored_is_every_outcome::<User<B, N>>();
     no_run_is_stuck_if_each_kernel_can_do_something::<User<B, N>>();
-    let origin = origin_of::<N, B, C>(setting);
-    explore_from(alloc, &origin, states, watch)
+    let origin = origin_of::<N, B, C>(setting, extent.is_full);
+    explore_from(alloc, &origin, extent.states, watch)
 }

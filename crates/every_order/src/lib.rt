@@ -9,8 +9,9 @@ mod outcomes;
 mod sampling;
 
 pub use diagnosing::{STATES, diagnostics_of};
-pub use exploring::{Setting, explore, explore_watched, origin_of};
+pub use exploring::{Extent, explore, explore_watched, origin_of};
 pub use going_on::explore_after;
+pub use kernel_events::Setting;
 pub use known::Diagnostics;
 pub use order_search::{
     Ahead, Exploration, ExploreFault, Origin, Outcome, Unwatched, Watch, are_alike, only_after,

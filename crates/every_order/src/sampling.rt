@@ -8,8 +8,8 @@ ghost use Rattle.run_model.specs.ScriptRun.{script_kernel};
 ghost use Rattle.order_search.specs.Told.{AreApart, IsReplayed, outcome_by};
 ghost use Rattle.order_search.specs.declared.fault.ExploreFault.TheVariants.{Memory};
 
-use crate::exploring::Setting;
 use crate::going_on::explore_after;
+use kernel_events::Setting;
 use kernel_model::{Event, Full};
 use kernel_runs::{Order, RunOneFault, run_in_order};
 use order_search::{Ahead, ExploreFault, Origin, Outcome, Unwatched};

@@ -1,7 +1,7 @@
 //! The page of two outcomes.
 
 use crate::findings::Findings;
-use order_partings::{Scene, Way, align, events_of};
+use order_partings::{Setting, Way, align, events_of};
 use script_outcomes::{Outcome, Pair};
 use std::alloc::{AllocError, Global};
 use xvsh_draws::draw_runs;
@@ -83,12 +83,12 @@ fn page_of_ways(
         return Ok(None);
     };
     if !are_alike {
-        let scene = Scene {
+        let setting = Setting {
             script: &start.script,
             stdin: start.stdin.as_slice(),
             files: &start.files,
         };
-        align(alloc, &scene, first, &mut others[0..])?;
+        align(alloc, &setting, first, &mut others[0..])?;
     }
     let page = page_of_runs(alloc, start, first, others.first())?;
     Ok(Some(page))

@@ -1,6 +1,6 @@
 //! Schedules that lead to the outcomes, and where these part.
 
-use order_partings::{Parting, Scene, Way, align, events_of, part};
+use order_partings::{Parting, Setting, Way, align, events_of, part};
 use schedule_lines::schedule_text;
 use script_outcomes::{Outcome, Pair};
 use std::alloc::{AllocError, Global};
@@ -52,28 +52,28 @@ fn ways_to<'o>(alloc: Global, outcomes: &'o [Outcome]) -> Result<Vec<Way<'o>>, A
 // Where the ways to two outcomes part, of which the first has this place.
 fn told_of(
     alloc: Global,
-    scene: &Scene<'_>,
+    setting: &Setting<'_, Global, Global>,
     (from, one): (usize, &Way<'_>),
     other: &Way<'_>,
 ) -> Result<Option<Told>, AllocError> {
-    let parting = part(alloc, scene, one.pids.as_slice(), other.pids.as_slice())?;
+    let parting = part(alloc, setting, one.pids.as_slice(), other.pids.as_slice())?;
     Ok(parting.map(|parting| Told { from, parting }))
 }
 
 // Makes all ways alike, and returns where each and the first part.
 fn part_all(
     alloc: Global,
-    scene: &Scene<'_>,
+    setting: &Setting<'_, Global, Global>,
     ways: &mut [Way<'_>],
 ) -> Result<Vec<Option<Told>>, AllocError> {
     let mut partings = Vec::new(alloc);
     let Some((first, others)) = ways.split_first_mut() else {
         return Ok(partings);
     };
-    align(alloc, scene, first, &mut others[0..])?;
+    align(alloc, setting, first, &mut others[0..])?;
     partings.push(None)?;
     for other in others.iter() {
-        partings.push(told_of(alloc, scene, (0, first), other)?)?;
+        partings.push(told_of(alloc, setting, (0, first), other)?)?;
     }
     Ok(partings)
 }
@@ -81,7 +81,7 @@ fn part_all(
 // Makes the ways of a pair alike, and returns where they part, with nothing of the others.
 fn part_pair(
     alloc: Global,
-    scene: &Scene<'_>,
+    setting: &Setting<'_, Global, Global>,
     ways: &mut [Way<'_>],
     pair: Pair,
 ) -> Result<Vec<Option<Told>>, AllocError> {
@@ -93,35 +93,35 @@ fn part_pair(
     let (Some(one), Some(_)) = (before.get_mut(pair.first), from_other.first()) else {
         return Ok(partings);
     };
-    align(alloc, scene, one, &mut from_other[..1])?;
-    partings.push(told_of(alloc, scene, (pair.first, one), &from_other[0])?)?;
+    align(alloc, setting, one, &mut from_other[..1])?;
+    partings.push(told_of(alloc, setting, (pair.first, one), &from_other[0])?)?;
     Ok(partings)
 }
 
 // Makes ways alike, and returns where they part: all and the first, or of many, or where a pair is asked for, those of the pair.
 fn part_some(
     alloc: Global,
-    scene: &Scene<'_>,
+    setting: &Setting<'_, Global, Global>,
     ways: &mut [Way<'_>],
     pair: Option<Pair>,
     is_asked: bool,
 ) -> Result<Vec<Option<Told>>, AllocError> {
     match pair {
-        Some(pair) if is_asked || ways.len() > MOST_PARTED => part_pair(alloc, scene, ways, pair),
-        _ => part_all(alloc, scene, ways),
+        Some(pair) if is_asked || ways.len() > MOST_PARTED => part_pair(alloc, setting, ways, pair),
+        _ => part_all(alloc, setting, ways),
     }
 }
 
 /// A schedule of each outcome, and where these part: all and the first, or of many, or where it is asked for, those of the pair.
 pub fn findings_of(
     alloc: Global,
-    scene: &Scene<'_>,
+    setting: &Setting<'_, Global, Global>,
     outcomes: &[Outcome],
     pair: Option<Pair>,
     is_asked: bool,
 ) -> Result<Findings, AllocError> {
     let mut found = ways_to(alloc, outcomes)?;
-    let partings = part_some(alloc, scene, found.as_mut_slice(), pair, is_asked)?;
+    let partings = part_some(alloc, setting, found.as_mut_slice(), pair, is_asked)?;
     let mut ways = Vec::new(alloc);
     for way in found {
         ways.push(way.pids)?;

@@ -47,7 +47,6 @@ pub fn page_to_play<W: Watch>(
         script: &start.script,
         stdin: start.stdin.as_slice(),
         files: &start.files,
-        is_full: false,
     };
     let limits = Limits {
         states: request.states as usize,

@@ -6,7 +6,7 @@ use crate::objects::{object_of, object_of_settled};
 use crate::playing::{Played, page_to_play};
 use crate::telling::{told, told_settled};
 use dead_lines::dead_lines;
-use order_partings::Scene;
+use order_partings::Setting;
 use script_outcomes::{Found, Pair, Tried, Watch, concluded, shown_pair};
 use std::alloc::{AllocError, Global};
 use xvsh_explores::{ExploreRequest, Explored};
@@ -26,8 +26,8 @@ pub struct Shown {
 }
 
 // What the runs begin with, as the parts where they part see it.
-fn scene_of(start: &Start) -> Scene<'_> {
-    Scene {
+fn setting_of(start: &Start) -> Setting<'_, Global, Global> {
+    Setting {
         script: &start.script,
         stdin: start.stdin.as_slice(),
         files: &start.files,
@@ -57,10 +57,10 @@ fn show_tried(
     explored: &Explored,
     tried: &Tried,
 ) -> Result<Shown, AllocError> {
-    let scene = scene_of(&explored.start);
+    let setting = setting_of(&explored.start);
     let outcomes = tried.found.outcomes.as_slice();
     let is_asked = request.pair.is_some();
-    let findings = findings_of(alloc, &scene, outcomes, explored.pair, is_asked)?;
+    let findings = findings_of(alloc, &setting, outcomes, explored.pair, is_asked)?;
     Ok(Shown {
         text: text_of(alloc, request, explored, tried, &findings)?,
         schedules: schedules_of(alloc, request, &findings)?,
@@ -114,6 +114,6 @@ pub fn object_of_found(alloc: Global, start: &Start, found: &Found) -> Result<Ve
     };
     let outcomes = tried.found.outcomes.as_slice();
     let pair: Option<Pair> = shown_pair(outcomes, None);
-    let findings = findings_of(alloc, &scene_of(start), outcomes, pair, false)?;
+    let findings = findings_of(alloc, &setting_of(start), outcomes, pair, false)?;
     object_of(alloc, tried, &findings, concluded(found), dead.as_slice())
 }

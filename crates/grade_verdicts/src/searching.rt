@@ -49,7 +49,6 @@ fn add_ends(
         script,
         stdin: task.stdin,
         files: task.files,
-        is_full: false,
     };
     let _ended = add_samples(alloc, &setting, &mut found.outcomes)?;
     Ok(())

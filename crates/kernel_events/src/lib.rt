@@ -10,9 +10,11 @@ mod happening;
 mod kernel;
 mod log;
 mod report;
+mod setting;
 mod status;
 
 pub use kernel::{Kernel, Stranger};
 pub use kernel_calls::{PipeStatus, Task};
 pub use kernel_model::{Event, Full};
 pub use report::{Report, Schedule};
+pub use setting::Setting;

@@ -7,7 +7,7 @@ ghost use Rattle.kernel_events.specs.Reports.{IsRunFrom};
 ghost use Rattle.run_model.specs.ScriptRun.{script_kernel};
 ghost use Rattle.kernel_runs.specs.Refused.{IsFaultFrom, IsReplayFault, StopsAt, refused_at};
 
-use kernel_events::{Event, Kernel, Report};
+use kernel_events::{Event, Kernel, Report, Setting};
 use mem_files::Files;
 use script_load::Script;
 use sh_machine::{Naming, User};
@@ -57,24 +57,28 @@ pub fn replay<A: Allocator + Copy, B: Allocator, C: Allocator>(
     ensures schedule { IfOk result (λ report. report.schedule ≡ events.now) }
     ensures fault { IfErr result (IsReplayFault (script_kernel script.now.profile (lines_of script.now.lines) stdin.now files.now) events.now) }
 {
-    replay_named::<Brand, A, B, C>(alloc, script, stdin, files, events)
+    let setting = Setting {
+        script,
+        stdin,
+        files,
+    };
+    replay_named::<Brand, A, B, C>(alloc, &setting, events)
 }
 
 // The replay on the script that `N` names.
 fn replay_named<N: Naming, A: Allocator + Copy, B: Allocator, C: Allocator>(
     alloc: A,
-    script: &Script<B>,
-    stdin: &[u8],
-    files: &Files<C>,
+    setting: &Setting<'_, B, C>,
     events: &[Event],
 ) -> Result<Report<A>, ReplayFault>
-    requires { lines_of script.now.lines ≡ N.script }
-    ensures run { IfOk result (IsRunFrom (script_kernel script.now.profile (lines_of script.now.lines) stdin.now files.now)) }
+    requires { lines_of setting.now.script.now.lines ≡ N.script }
+    ensures run { IfOk result (IsRunFrom (script_kernel setting.now.script.now.profile (lines_of setting.now.script.now.lines) setting.now.stdin.now setting.now.files.now)) }
     ensures schedule { IfOk result (λ report. report.schedule ≡ events.now) }
-    ensures fault { IfErr result (IsReplayFault (script_kernel script.now.profile (lines_of script.now.lines) stdin.now files.now) events.now) }
+    ensures fault { IfErr result (IsReplayFault (script_kernel setting.now.script.now.profile (lines_of setting.now.script.now.lines) setting.now.stdin.now setting.now.files.now) events.now) }
 {
     let init = User::<B, N>::init();
-    let kernel = Kernel::boot(alloc, init, User::shell(script), stdin, files)?;
+    let shell = User::shell(setting.script);
+    let kernel = Kernel::boot(alloc, init, shell, setting.stdin, setting.files)?;
     replay_kernel(kernel, events)
 }
 

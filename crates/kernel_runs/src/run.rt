@@ -13,7 +13,7 @@ ghost use Rattle.run_model.specs.ScriptRun.{IsSpentFrom, script_kernel};
 ghost use Rattle.run_model.specs.Turns.{IsSpent, IsSpentBy};
 
 use crate::ordering::{Chooser, Order};
-use kernel_events::{Kernel, Report};
+use kernel_events::{Kernel, Report, Setting};
 use mem_files::Files;
 use script_load::{MAX_TURNS, Script};
 use sh_machine::{Naming, User};
@@ -85,27 +85,31 @@ pub fn run_in_order<A: Allocator + Copy, B: Allocator, C: Allocator>(
     if turns == 0 || MAX_TURNS < turns {
         return Err(RunOneFault::BadTurns);
     }
-    run_named::<Brand, A, B, C>(alloc, script, stdin, files, turns, order)
+    let setting = Setting {
+        script,
+        stdin,
+        files,
+    };
+    run_named::<Brand, A, B, C>(alloc, &setting, turns, order)
 }
 
 // The run of the script that `N` names.
 fn run_named<N: Naming, A: Allocator + Copy, B: Allocator, C: Allocator>(
     alloc: A,
-    script: &Script<B>,
-    stdin: &[u8],
-    files: &Files<C>,
+    setting: &Setting<'_, B, C>,
     turns: u64,
     order: Order,
 ) -> Result<Report<A>, RunOneFault>
-    requires { lines_of script.now.lines ≡ N.script }
-    ensures run { IfOk result (IsRunFrom (script_kernel script.now.profile (lines_of script.now.lines) stdin.now files.now)) }
+    requires { lines_of setting.now.script.now.lines ≡ N.script }
+    ensures run { IfOk result (IsRunFrom (script_kernel setting.now.script.now.profile (lines_of setting.now.script.now.lines) setting.now.stdin.now setting.now.files.now)) }
     ensures hart { IfOk result (λ report. All (λ event. is_of_hart 0 event ≡ true) report.schedule) }
     ensures turns { IfOk result (λ report. length report.schedule ≤ turns) }
     ensures bad_turns { result ≡ Err RunOneFault.BadTurns → ⊥ }
-    ensures spent { result ≡ Err RunOneFault.Spent → IsSpentFrom (script_kernel script.now.profile (lines_of script.now.lines) stdin.now files.now) turns }
+    ensures spent { result ≡ Err RunOneFault.Spent → IsSpentFrom (script_kernel setting.now.script.now.profile (lines_of setting.now.script.now.lines) setting.now.stdin.now setting.now.files.now) turns }
 {
     let init = User::<B, N>::init();
-    let kernel = Kernel::boot(alloc, init, User::shell(script), stdin, files)?;
+    let shell = User::shell(setting.script);
+    let kernel = Kernel::boot(alloc, init, shell, setting.stdin, setting.files)?;
     run_kernel(kernel, turns, order)
 }
 

@@ -20,7 +20,7 @@ use crate::pace::Pace;
 use crate::patience::Patience;
 use crate::seats::Seat;
 use crate::sharing::{Shared, Turn};
-use kernel_events::{Kernel, Report};
+use kernel_events::{Kernel, Report, Setting};
 use mem_files::Files;
 use script_load::Script;
 use sh_machine::{Naming, User};
@@ -167,6 +167,14 @@ fn run_shared<
     unreachable!()
 }
 
+// How a run goes: on so many harts, in at most so many turns, through this gate.
+#[derive(Drop)]
+struct Way<'g, G> {
+    harts: u8,
+    turns: u64,
+    gate: &'g G,
+}
+
 // The run of a kernel in which nothing has happened, which `N` names.
 fn run_as<
     N: Run + Send + Sync,
@@ -178,25 +186,23 @@ fn run_as<
     alloc: Global,
     blank: Blank,
     kernel: Kernel<M, Global>,
-    harts: u8,
-    turns: u64,
-    gate: &G,
+    way: Way<'_, G>,
 ) -> Result<Report<Global>, RunFault>
     requires name { blank.name ≡ N.name }
-    requires parts { (blank.parts ≡ N.parts) × (N.parts ≡ harts) }
-    requires harts { harts ≡ N.harts }
-    requires turns { turns ≡ N.turns }
+    requires parts { (blank.parts ≡ N.parts) × (N.parts ≡ way.harts) }
+    requires harts { way.harts ≡ N.harts }
+    requires turns { way.turns ≡ N.turns }
     requires boot { number_of M.code kernel.boot ≡ N.boot }
     requires fresh { kernel.schedule ≡ [] }
     ensures run { IfOk result (IsFinishedFrom M.code M.call_of M.next_of N.boot) }
     ensures harts { IfOk result (λ report. AreOfHarts N.harts report.schedule) }
     ensures turns { IfOk result (λ report. length report.schedule ≤ N.turns) }
-    ensures bad_harts { result ≡ Err BadHarts → AreBadHarts harts }
-    ensures bad_turns { result ≡ Err BadTurns → AreBadTurns turns }
+    ensures bad_harts { result ≡ Err BadHarts → AreBadHarts way.harts }
+    ensures bad_turns { result ≡ Err BadTurns → AreBadTurns way.turns }
     ensures spent { result ≡ Err Spent → IsSpentAfter M.code M.call_of M.next_of N.boot N.turns }
 {
-    match Shared::<N, M>::start(alloc, blank, kernel, harts, turns) {
-        Ok((shared, seats)) => run_shared(rt, shared, seats, gate),
+    match Shared::<N, M>::start(alloc, blank, kernel, way.harts, way.turns) {
+        Ok((shared, seats)) => run_shared(rt, shared, seats, way.gate),
         Err(fault) => Err(fault),
     }
 }
@@ -206,53 +212,40 @@ fn run_kernel<M: Machine + Send, R: Threads + Wait + Clock + Sync, G: Gate + Syn
     rt: &R,
     alloc: Global,
     kernel: Kernel<M, Global>,
-    harts: u8,
-    turns: u64,
-    gate: &G,
+    way: Way<'_, G>,
 ) -> Result<Report<Global>, RunFault>
     requires { kernel.schedule ≡ [] }
     ensures run { IfOk result (IsReport M.call_of M.next_of kernel.boot) }
-    ensures harts { IfOk result (λ report. AreOfHarts harts report.schedule) }
-    ensures turns { IfOk result (λ report. length report.schedule ≤ turns) }
-    ensures bad_harts { result ≡ Err BadHarts → AreBadHarts harts }
-    ensures bad_turns { result ≡ Err BadTurns → AreBadTurns turns }
-    ensures spent { result ≡ Err Spent → RunsOutOfTurns M.call_of M.next_of kernel.boot turns }
+    ensures harts { IfOk result (λ report. AreOfHarts way.harts report.schedule) }
+    ensures turns { IfOk result (λ report. length report.schedule ≤ way.turns) }
+    ensures bad_harts { result ≡ Err BadHarts → AreBadHarts way.harts }
+    ensures bad_turns { result ≡ Err BadTurns → AreBadTurns way.turns }
+    ensures spent { result ≡ Err Spent → RunsOutOfTurns M.call_of M.next_of kernel.boot way.turns }
 {
-    run_as::<Brand, M, R, G>(
-        rt,
-        alloc,
-        Blank::new(harts as u64),
-        kernel,
-        harts,
-        turns,
-        gate,
-    )
+    run_as::<Brand, M, R, G>(rt, alloc, Blank::new(way.harts as u64), kernel, way)
 }
 
 // The run of the script that `N` names.
 fn run_named<N: Naming + Send + Sync, R: Threads + Wait + Clock + Sync, G: Gate + Sync>(
     rt: &R,
     alloc: Global,
-    script: &Script<Global>,
-    stdin: &[u8],
-    files: &Files<Global>,
-    harts: u8,
-    turns: u64,
-    gate: &G,
+    setting: &Setting<'_, Global, Global>,
+    way: Way<'_, G>,
 ) -> Result<Report<Global>, RunFault>
-    requires { lines_of script.now.lines ≡ N.script }
-    ensures run { IfOk result (IsRunFrom (script_kernel script.now.profile (lines_of script.now.lines) stdin.now files.now)) }
-    ensures harts { IfOk result (λ report. AreOfHarts harts report.schedule) }
-    ensures turns { IfOk result (λ report. length report.schedule ≤ turns) }
-    ensures bad_harts { result ≡ Err BadHarts → AreBadHarts harts }
-    ensures bad_turns { result ≡ Err BadTurns → AreBadTurns turns }
-    ensures spent { result ≡ Err Spent → IsOutOfTurnsFrom (script_kernel script.now.profile (lines_of script.now.lines) stdin.now files.now) turns }
+    requires { lines_of setting.now.script.now.lines ≡ N.script }
+    ensures run { IfOk result (IsRunFrom (script_kernel setting.now.script.now.profile (lines_of setting.now.script.now.lines) setting.now.stdin.now setting.now.files.now)) }
+    ensures harts { IfOk result (λ report. AreOfHarts way.harts report.schedule) }
+    ensures turns { IfOk result (λ report. length report.schedule ≤ way.turns) }
+    ensures bad_harts { result ≡ Err BadHarts → AreBadHarts way.harts }
+    ensures bad_turns { result ≡ Err BadTurns → AreBadTurns way.turns }
+    ensures spent { result ≡ Err Spent → IsOutOfTurnsFrom (script_kernel setting.now.script.now.profile (lines_of setting.now.script.now.lines) setting.now.stdin.now setting.now.files.now) way.turns }
 {
     let init = User::<Global, N>::init();
-    let Ok(kernel) = Kernel::boot(alloc, init, User::shell(script), stdin, files) else {
+    let shell = User::shell(setting.script);
+    let Ok(kernel) = Kernel::boot(alloc, init, shell, setting.stdin, setting.files) else {
         return Err(RunFault::Memory);
     };
-    run_kernel(rt, alloc, kernel, harts, turns, gate)
+    run_kernel(rt, alloc, kernel, way)
 }
 
 /// Runs a script by its processes on so many harts, with this standard input and these files, in at most `turns` turns. Each
@@ -284,5 +277,11 @@ pub fn run_harts<R: Threads + Wait + Clock + Sync, G: Gate + Sync>(
     if let Some(fault) = range_fault(harts, turns) {
         return Err(fault);
     }
-    run_named::<Brand, R, G>(rt, alloc, script, stdin, files, harts, turns, gate)
+    let setting = Setting {
+        script,
+        stdin,
+        files,
+    };
+    let way = Way { harts, turns, gate };
+    run_named::<Brand, R, G>(rt, alloc, &setting, way)
 }

@@ -1,7 +1,7 @@
 //! Schedules of two outcomes that are made alike.
 
-use crate::scene::{Scene, events_of};
-use kernel_events::Report;
+use crate::turns::events_of;
+use kernel_events::{Report, Setting};
 use kernel_model::Full;
 use kernel_runs::{ReplayFault, replay};
 use mem_files::Files;
@@ -32,16 +32,16 @@ fn is_of(report: &Report<Global>, way: &Way<'_>) -> bool {
 // Whether turns of these processes lead to the outcome of the way.
 fn leads_to(
     alloc: Global,
-    scene: &Scene<'_>,
+    setting: &Setting<'_, Global, Global>,
     pids: &[u8],
     way: &Way<'_>,
 ) -> Result<bool, AllocError> {
     let events = events_of(alloc, pids)?;
     match replay(
         alloc,
-        scene.script,
-        scene.stdin,
-        scene.files,
+        setting.script,
+        setting.stdin,
+        setting.files,
         events.as_slice(),
     ) {
         Ok(report) => Ok(is_of(&report, way)),
@@ -86,7 +86,7 @@ fn brought(
 // outcome.
 fn moved(
     alloc: Global,
-    scene: &Scene<'_>,
+    setting: &Setting<'_, Global, Global>,
     way: &Way<'_>,
     place: usize,
     pid: u8,
@@ -94,7 +94,7 @@ fn moved(
     let Some(made) = brought(alloc, way.pids.as_slice(), place, pid)? else {
         return Ok(None);
     };
-    if leads_to(alloc, scene, made.as_slice(), way)? {
+    if leads_to(alloc, setting, made.as_slice(), way)? {
         Ok(Some(made))
     } else {
         Ok(None)
@@ -109,7 +109,7 @@ fn turn_of(way: &Way<'_>, place: usize) -> Option<u8> {
 // Has the other way take the first one's turn at the place too, if it leads to its outcome then, and returns whether it does.
 fn follow(
     alloc: Global,
-    scene: &Scene<'_>,
+    setting: &Setting<'_, Global, Global>,
     first: &Way<'_>,
     other: &mut Way<'_>,
     place: usize,
@@ -117,7 +117,7 @@ fn follow(
     let Some(pid) = turn_of(first, place) else {
         return Ok(false);
     };
-    match moved(alloc, scene, other, place, pid)? {
+    match moved(alloc, setting, other, place, pid)? {
         Some(pids) => {
             other.pids = pids;
             Ok(true)
@@ -130,7 +130,7 @@ fn follow(
 // that; `None` where they don't lead to its outcome.
 fn moved_with(
     alloc: Global,
-    scene: &Scene<'_>,
+    setting: &Setting<'_, Global, Global>,
     first: &Way<'_>,
     other: &Way<'_>,
     (place, pid): (usize, u8),
@@ -139,20 +139,20 @@ fn moved_with(
     if shared(first.pids.as_slice(), pids) <= place {
         return Ok(Some(Vec::from_slice(alloc, pids)?));
     }
-    moved(alloc, scene, other, place, pid)
+    moved(alloc, setting, other, place, pid)
 }
 
 // The same of each of the other ways.
 fn all_moved(
     alloc: Global,
-    scene: &Scene<'_>,
+    setting: &Setting<'_, Global, Global>,
     first: &Way<'_>,
     others: &[Way<'_>],
     (place, pid): (usize, u8),
 ) -> Result<Option<Vec<Vec<u8>>>, AllocError> {
     let mut made = Vec::new(alloc);
     for other in others {
-        match moved_with(alloc, scene, first, other, (place, pid))? {
+        match moved_with(alloc, setting, first, other, (place, pid))? {
             Some(pids) => made.push(pids)?,
             None => return Ok(None),
         }
@@ -164,15 +164,15 @@ fn all_moved(
 // its outcome then, and returns whether they do.
 fn lead(
     alloc: Global,
-    scene: &Scene<'_>,
+    setting: &Setting<'_, Global, Global>,
     first: &mut Way<'_>,
     others: &mut [Way<'_>],
     (place, pid): (usize, u8),
 ) -> Result<bool, AllocError> {
-    let Some(pids) = moved(alloc, scene, first, place, pid)? else {
+    let Some(pids) = moved(alloc, setting, first, place, pid)? else {
         return Ok(false);
     };
-    let Some(made) = all_moved(alloc, scene, first, others, (place, pid))? else {
+    let Some(made) = all_moved(alloc, setting, first, others, (place, pid))? else {
         return Ok(false);
     };
     first.pids = pids;
@@ -188,11 +188,11 @@ const MOST_TURNS: usize = 400_000;
 const BLOCK_SIZE: usize = 1024;
 
 // How many schedules of so many turns are tried.
-fn tries_of(scene: &Scene<'_>, turns: usize) -> usize {
+fn tries_of(setting: &Setting<'_, Global, Global>, turns: usize) -> usize {
     let mut cost = turns.saturating_add(1);
-    for place in 0..scene.files.count() {
-        let name = scene.files.name_at(place).unwrap_or(&[]);
-        let bytes = scene.files.get(name).unwrap_or(&[]);
+    for place in 0..setting.files.count() {
+        let name = setting.files.name_at(place).unwrap_or(&[]);
+        let bytes = setting.files.get(name).unwrap_or(&[]);
         cost = cost.saturating_add(bytes.len() / BLOCK_SIZE);
     }
     MOST_TURNS.checked_div(cost).unwrap_or(0)
@@ -201,7 +201,7 @@ fn tries_of(scene: &Scene<'_>, turns: usize) -> usize {
 // Has the first way and the other of this number begin with one more turn, if that can be, and returns whether they do.
 fn step(
     alloc: Global,
-    scene: &Scene<'_>,
+    setting: &Setting<'_, Global, Global>,
     first: &mut Way<'_>,
     others: &mut [Way<'_>],
     number: usize,
@@ -210,11 +210,11 @@ fn step(
         return Ok(false);
     };
     let place = shared(first.pids.as_slice(), other.pids.as_slice());
-    if follow(alloc, scene, first, other, place)? {
+    if follow(alloc, setting, first, other, place)? {
         return Ok(true);
     }
     match turn_of(other, place) {
-        Some(pid) => lead(alloc, scene, first, others, (place, pid)),
+        Some(pid) => lead(alloc, setting, first, others, (place, pid)),
         None => Ok(false),
     }
 }
@@ -224,15 +224,15 @@ fn step(
 /// and still lead to their outcomes by the rest of their own, and without change of a third.
 pub fn align(
     alloc: Global,
-    scene: &Scene<'_>,
+    setting: &Setting<'_, Global, Global>,
     first: &mut Way<'_>,
     others: &mut [Way<'_>],
 ) -> Result<(), AllocError> {
-    let mut tries = tries_of(scene, first.pids.len());
+    let mut tries = tries_of(setting, first.pids.len());
     for number in (0..others.len()).rev() {
         for _ in 0..tries {
             tries = tries.saturating_sub(1);
-            if !step(alloc, scene, first, others, number)? {
+            if !step(alloc, setting, first, others, number)? {
                 break;
             }
         }

@@ -9,9 +9,10 @@ mod aligning;
 mod deeds;
 mod names;
 mod parting;
-mod scene;
 mod turner;
+mod turns;
 
 pub use aligning::{Way, align};
+pub use kernel_events::Setting;
 pub use parting::{Parting, part};
-pub use scene::{Scene, events_of};
+pub use turns::events_of;

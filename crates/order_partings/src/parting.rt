@@ -5,9 +5,8 @@ ghost use Rattle.script_load.specs.Line.{lines_of};
 
 use crate::aligning::shared;
 use crate::deeds::deed_of;
-use crate::scene::Scene;
 use crate::turner::Turner;
-use kernel_events::Kernel;
+use kernel_events::{Kernel, Setting};
 use proc_table::Pid;
 use sh_machine::{Naming, User};
 use std::alloc::{AllocError, Global};
@@ -61,53 +60,53 @@ fn told_by<M: Machine>(
 // The same of a kernel that nothing follows yet.
 fn told_of<M: Machine>(
     alloc: Global,
-    scene: &Scene<'_>,
+    setting: &Setting<'_, Global, Global>,
     kernel: Kernel<M, Global>,
     pids: &[u8],
     place: usize,
 ) -> Result<Option<Vec<u8>>, AllocError> {
-    let mut turner = Turner::new(kernel, scene.script);
+    let mut turner = Turner::new(kernel, setting.script);
     told_by(alloc, &mut turner, pids, place)
 }
 
 // The same of a run of the script that `N` names.
 fn told_named<N: Naming>(
     alloc: Global,
-    scene: &Scene<'_>,
+    setting: &Setting<'_, Global, Global>,
     pids: &[u8],
     place: usize,
 ) -> Result<Option<Vec<u8>>, AllocError>
-    requires { lines_of scene.now.script.now.lines ≡ N.script }
+    requires { lines_of setting.now.script.now.lines ≡ N.script }
 {
     let init = User::<Global, N>::init();
-    let shell = User::shell(scene.script);
-    let kernel = Kernel::boot(alloc, init, shell, scene.stdin, scene.files)?;
-    told_of(alloc, scene, kernel, pids, place)
+    let shell = User::shell(setting.script);
+    let kernel = Kernel::boot(alloc, init, shell, setting.stdin, setting.files)?;
+    told_of(alloc, setting, kernel, pids, place)
 }
 
 // What happens at a turn of a schedule.
 fn told(
     alloc: Global,
-    scene: &Scene<'_>,
+    setting: &Setting<'_, Global, Global>,
     pids: &[u8],
     place: usize,
 ) -> Result<Option<Vec<u8>>, AllocError> {
-    told_named::<Brand>(alloc, scene, pids, place)
+    told_named::<Brand>(alloc, setting, pids, place)
 }
 
 /// Where the two schedules part, and what happens then in the one and in the other; `None` where one of them ends there, or can't
 /// be followed.
 pub fn part(
     alloc: Global,
-    scene: &Scene<'_>,
+    setting: &Setting<'_, Global, Global>,
     one: &[u8],
     other: &[u8],
 ) -> Result<Option<Parting>, AllocError> {
     let place = shared(one, other);
     let event = place.saturating_mul(2).saturating_add(1);
     match (
-        told(alloc, scene, one, place)?,
-        told(alloc, scene, other, place)?,
+        told(alloc, setting, one, place)?,
+        told(alloc, setting, other, place)?,
     ) {
         (Some(one), Some(other)) => Ok(Some(Parting { event, one, other })),
         _ => Ok(None),

@@ -6,7 +6,9 @@ ghost use Rattle.script_load.specs.Line.{lines_of};
 use crate::fault::PageFault;
 use crate::page::{Beginning, Words, page_of};
 use crate::walk::{Reach, Walk};
-use play_states::{Budget, Exploration, Ground, Outcome, Play, Setting, Watch, explore_watched};
+use play_states::{
+    Budget, Exploration, Extent, Ground, Outcome, Play, Setting, Watch, explore_watched,
+};
 use script_outcomes::sorted;
 use sh_machine::{Naming, User};
 use std::alloc::{Allocator, Global};
@@ -178,7 +180,11 @@ fn page_named<'b, N: Naming, W: Watch>(
         stdin: setting.stdin,
         files: setting.files,
     };
-    let found = explore_watched(making.alloc, setting, making.limits.states, watch)?;
+    let extent = Extent {
+        states: making.limits.states,
+        is_full: false,
+    };
+    let found = explore_watched(making.alloc, setting, extent, watch)?;
     page_by(&ground, &scene, found, making, watch)
 }
 

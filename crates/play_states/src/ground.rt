@@ -47,6 +47,6 @@ impl<'t, B: Allocator, N: Naming, C: Allocator> Ground<'t, User<'t, B, N>, C> {
         requires { lines_of setting.now.script.now.lines ≡ N.script }
         ensures { result ≡ script_kernel setting.now.script.now.profile (lines_of setting.now.script.now.lines) setting.now.stdin.now setting.now.files.now }
     {
-        Ground::of(origin_of::<N, B, C>(setting))
+        Ground::of(origin_of::<N, B, C>(setting, false))
     }
 }

@@ -10,7 +10,7 @@ mod spots;
 mod telling;
 
 pub use every_order::{
-    Exploration, ExploreFault, Outcome, Setting, Unwatched, Watch, explore_watched,
+    Exploration, ExploreFault, Extent, Outcome, Setting, Unwatched, Watch, explore_watched,
 };
 pub use fault::PlayFault;
 pub use ground::Ground;

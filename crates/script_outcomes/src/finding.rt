@@ -7,7 +7,9 @@ ghost use Rattle.kernel_runs.specs.Room.{HasRoom};
 ghost use Rattle.script_outcomes.specs.Found.{AreTried, IsFound, IsKnown, IsReordered, is_stopped};
 
 use crate::sorting::sorted;
-use every_order::{Exploration, ExploreFault, Setting, Watch, add_samples, explore_watched};
+use every_order::{
+    Exploration, ExploreFault, Extent, Setting, Watch, add_samples, explore_watched,
+};
 use kernel_model::Full;
 use kernel_runs::{RunOneFault, full_in_run};
 use plain_run::{Plain, PlainFault, plain};
@@ -36,6 +38,8 @@ pub enum Found {
 pub struct Limits {
     /// The most states to keep.
     pub states: usize,
+    /// Whether every turn is tried in every state (`Extent`).
+    pub is_full: bool,
     /// Whether to try the orders of a settled script too, whose one answer is known without.
     pub is_thorough: bool,
 }
@@ -82,14 +86,14 @@ fn in_order(alloc: Global, found: Exploration) -> Result<Exploration, AllocError
 fn search<B: Allocator, C: Allocator, W: Watch>(
     alloc: Global,
     setting: &Setting<'_, B, C>,
-    states: usize,
+    extent: Extent,
     watch: &mut W,
 ) -> Result<Tried, ExploreFault>
-    ensures tried { IfOk result (λ t. AreTried (script_kernel setting.now.script.now.profile (lines_of setting.now.script.now.lines) setting.now.stdin.now setting.now.files.now) states t.found) }
+    ensures tried { IfOk result (λ t. AreTried (script_kernel setting.now.script.now.profile (lines_of setting.now.script.now.lines) setting.now.stdin.now setting.now.files.now) extent.states t.found) }
     ensures stopped { IfOk result (λ t. t.found.stopped ≡ true → W.stopped watch.new) }
 {
-    let mut found = explore_watched(alloc, setting, states, watch)?;
-    let runs = add_sampled(alloc, setting, states, &mut found)?;
+    let mut found = explore_watched(alloc, setting, extent, watch)?;
+    let runs = add_sampled(alloc, setting, extent.states, &mut found)?;
     let sorted = in_order(alloc, found)?;
     Ok(Tried {
         found: sorted,
@@ -155,6 +159,10 @@ pub fn outcomes_of<B: Allocator, C: Allocator, W: Watch>(
             return Ok(Found::Settled(value));
         }
     }
-    let tried = search(alloc, setting, limits.states, watch)?;
+    let extent = Extent {
+        states: limits.states,
+        is_full: limits.is_full,
+    };
+    let tried = search(alloc, setting, extent, watch)?;
     Ok(Found::Tried(tried))
 }

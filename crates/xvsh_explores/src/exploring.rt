@@ -50,6 +50,7 @@ fn limits_of(request: &ExploreRequest<'_>) -> Limits
 {
     Limits {
         states: request.states as usize,
+        is_full: request.is_full,
         is_thorough: request.is_thorough || needs_orders(request),
     }
 }
@@ -70,7 +71,6 @@ pub fn explore_start<'a, W: Watch>(
         script: &start.script,
         stdin: start.stdin.as_slice(),
         files: &start.files,
-        is_full: request.is_full,
     };
     match outcomes_of(alloc, &setting, limits_of(request), watch) {
         Ok(found) => Ok(found),

@@ -3,4 +3,4 @@ use Rattle.script_load.specs.Line.{lines_of}
 use Rattle.kernel_runs.proofs.run.run_in_order.Given as goal
 
 abbrev pub ghosts-run_named : goal.ghosts-run_named
-ghosts-run_named g a = record { script = lines_of a.script.now.lines }
+ghosts-run_named g a = record { script = lines_of a.setting.now.script.now.lines }

@@ -6,4 +6,4 @@ abbrev pub ghosts-run_as-N-Ledger : goal.ghosts-run_as-N-Ledger
 ghosts-run_as-N-Ledger g a = record { name = a.blank.name; parts = a.blank.parts }
 
 abbrev pub ghosts-run_as-N-Run : goal.ghosts-run_as-N-Run
-ghosts-run_as-N-Run g a = record { boot = number_of g.M.Machine.code a.kernel.boot; harts = a.harts; turns = a.turns }
+ghosts-run_as-N-Run g a = record { boot = number_of g.M.Machine.code a.kernel.boot; harts = a.way.harts; turns = a.way.turns }

@@ -7,4 +7,4 @@ pub returns-clause-tried : goal.returns-clause-tried
 returns-clause-tried g c =
     let setting = c.args.setting.now in
     let start = script_kernel setting.script.now.profile (lines_of setting.script.now.lines) setting.stdin.now setting.files.now in
-    reordered start c.args.states c.add_sampled.new.found c.in_ok-sorted.sorted c.in_ok-runs.ensures.tried c.in_ok-sorted.ensures
+    reordered start c.args.extent.states c.add_sampled.new.found c.in_ok-sorted.sorted c.in_ok-runs.ensures.tried c.in_ok-sorted.ensures

@@ -1,22 +1,11 @@
-//! What runs begin with, and schedules of turns.
+//! Schedules of turns.
 
 ghost use Rattle.std.specs.Prelude.{◌≡◌, ◌++◌, ◌∷◌, [], IfOk, OnOk};
 ghost use Rattle.kernel_model.specs.declared.events.Event.TheVariants.{Dispatch, Trap};
 ghost use Rattle.kernel_model.specs.Turns.{quiet_turns, turn_events};
 
 use kernel_model::Event;
-use mem_files::Files;
-use script_load::Script;
 use std::alloc::{AllocError, Global};
-
-/// What all runs of a script begin with.
-#[derive(Clone, Copy)]
-pub struct Scene<'a> {
-    pub script: &'a Script<Global>,
-    /// The standard input.
-    pub stdin: &'a [u8],
-    pub files: &'a Files<Global>,
-}
 
 // Adds the two events of a turn.
 fn add_turn(events: &mut Vec<Event>, pid: u8) -> Result<(), AllocError>

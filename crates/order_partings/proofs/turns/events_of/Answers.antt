@@ -3,7 +3,7 @@ use Rattle.std.proofs.lemmas.List.{take_more}
 use Rattle.kernel_model.specs.declared.events.Event.{Event}
 use Rattle.kernel_model.specs.declared.events.Event.TheVariants.{Dispatch, Trap}
 use Rattle.kernel_model.specs.Turns.{quiet_turns, turn_events}
-use Rattle.order_partings.proofs.scene.events_of.Goals as goal
+use Rattle.order_partings.proofs.turns.events_of.Goals as goal
 
 -- one turn more has two events more
 one_more : (pids : List ℕ) (pid : ℕ) → turn_events (quiet_turns (pids ++ pid ∷ [])) ≡ turn_events (quiet_turns pids) ++ Dispatch 0 pid ∷ Trap 0 pid ∷ []

@@ -1,6 +1,6 @@
 use Rattle.std.proofs.Common.{◌≡◌, take}
 use Rattle.kernel_model.specs.Turns.{quiet_turns, turn_events}
-use Rattle.order_partings.proofs.scene.events_of.Given as goal
+use Rattle.order_partings.proofs.turns.events_of.Given as goal
 
 -- the events of the turns so far
 abbrev pub invariant-loop-pid : goal.invariant-loop-pid
