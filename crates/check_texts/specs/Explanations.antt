@@ -20,7 +20,7 @@ abbrev pub lack_noted : Option Lack → Bytes
 lack_noted None = []
 lack_noted (Some lack) = with_need (noted_place lack.line) lack.need (table_text lack.table)
 
--- of nothing, that there is nothing to tell
+-- of nothing, the text `nothing to tell`
 abbrev pub written_of : Bytes → Bytes
 written_of [] = codes "nothing to tell\n"
 written_of (byte ∷ text) = byte ∷ text

@@ -9,7 +9,7 @@ use script_load::{Line, Script};
 use std::alloc::Global;
 use user_calls::CallKind;
 
-/// What each process of a run of a script carries out. It is told each call, and goes by what `user/sh.c` does.
+/// What each process of a run of a script carries out. It is given each call, and goes by what `user/sh.c` does.
 #[derive(Drop)]
 pub struct Followed<'t> {
     lines: &'t [Line<Global>],
@@ -27,7 +27,7 @@ impl<'t> Followed<'t> {
         }
     }
 
-    /// What the process carries out: of its next call, before that is told, and after it the next one's.
+    /// What the process carries out: of its next call, before that is given, and after it the next one's.
     pub fn doing(&self, pid: Pid) -> Doing<'t> {
         doing_at(&self.doing[..], pid)
     }

@@ -25,7 +25,7 @@ is_dead (command tree) = names_no_program tree
 is_dead (bad fault text) = true
 is_dead (cd text) = false
 
--- a number, if it is told
+-- a number, if it is listed
 abbrev pub numbered : ℕ → Bool → List ℕ
 numbered number false = []
 numbered number true = number ∷ []

@@ -1,4 +1,4 @@
--- What is told of lines that are no command (own).
+-- What is reported of lines that are no command (own).
 use Rattle.std.specs.Prelude.{ℕ, ◌==◌, if◌then◌else◌, List, [], ◌∷◌, ◌++◌, codes, drop, length, map, take}
 use Rattle.std.specs.Fmt.{decimal}
 

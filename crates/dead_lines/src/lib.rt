@@ -1,4 +1,4 @@
-//! Lines of a script that do nothing, since they are no command or name no program, and what is told of them.
+//! Lines of a script that do nothing, since they are no command or name no program, and what is reported of them.
 #![tactic(auto)]
 
 mod lines;

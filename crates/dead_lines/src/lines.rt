@@ -46,7 +46,7 @@ fn is_dead<A: Allocator>(line: &Line<A>) -> bool
     }
 }
 
-// Adds the number, if it is told.
+// Adds the number, if it is listed.
 fn add_number(number: usize, is_told: bool, found: &mut Vec<usize>) -> Result<(), AllocError>
     ensures { OnOk result (found.new.items ≡ found.old.items ++ numbered number is_told) }
 {

@@ -1,10 +1,10 @@
-//! What is told of lines that are no command.
+//! What is reported of lines that are no command.
 ghost use Rattle.std.specs.Prelude.{◌≡◌, ◌++◌, IfOk, OnOk, map, string_bytes};
 ghost use Rattle.dead_lines.specs.Hints.{hint_of, hints_of, more_of, more_text};
 
 use std::alloc::{AllocError, Global};
 
-// Of how many lines each is told.
+// How many lines are reported one by one.
 const MOST_TOLD: usize = 10;
 
 // The sentence of a line.
@@ -46,7 +46,7 @@ fn add_hints(alloc: Global, numbers: &[usize], hints: &mut Vec<String>) -> Resul
     Ok(())
 }
 
-/// What is told of lines of these numbers, which are no command (own): a sentence for each, of more than ten the first ten and then how
+/// What is reported of lines of these numbers, which are no command (own): a sentence for each, of more than ten the first ten and then how
 /// many more there are. The error is that memory was refused.
 pub fn hints_of(alloc: Global, numbers: &[usize]) -> Result<Vec<String>, AllocError>
     ensures { IfOk result (λ hints. map string_bytes hints.items ≡ hints_of numbers.now) }

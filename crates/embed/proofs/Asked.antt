@@ -1,4 +1,4 @@
--- What the program tells of a script that is its standard input, as what is told of the task.
+-- What the program reports of a script that is its standard input, as what is reported of the task.
 use Rattle.std.proofs.Common.{◌≤◌, Option, Some, codes, length, subst}
 use Rattle.mem_files.specs.Name.{Bytes}
 use Rattle.xvsh_read.specs.declared.fault.Fault.{Fault}

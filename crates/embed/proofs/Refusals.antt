@@ -1,4 +1,4 @@
--- Why nothing is told of what a run of a task begins with, as of the task.
+-- Why nothing is reported of what a run of a task begins with, as of the task.
 use Rattle.std.proofs.Common.{◌≡◌, List, inl, inr, subst}
 use Rattle.std.specs.Prelude.{◌⊎◌}
 use Rattle.mem_files.specs.Name.{Name, Bytes}

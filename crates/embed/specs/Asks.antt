@@ -1,4 +1,4 @@
--- What is told of a task's script before any run of it, and why nothing is.
+-- What is reported of a task's script before any run of it, and why nothing is.
 use Rattle.std.specs.Prelude.{◌≡◌, ◌↔◌, ◌<◌, ◌≤◌, ℕ, Bool, true, false, IsTrue, List, length, Option, None}
 use Rattle.mem_files.specs.Name.{Bytes}
 use Rattle.script_load.specs.declared.fault.LoadFault.TheVariants.{LineTooLong as load_long, ByteZero as load_zero}
@@ -44,7 +44,7 @@ IsScriptFault script (FileTooLong n) = ⊥
 IsScriptFault script (TooManyFiles n) = ⊥
 IsScriptFault script start_memory = ⊥
 
--- why nothing is told of a script: it is refused, or memory was
+-- why nothing is reported of a script: it is refused, or memory was
 abbrev pub IsAskFault : Bytes → EmbedFault → Type 0
 IsAskFault script (Start fault) = IsScriptFault script fault
 IsAskFault script TooLarge = ⊥

@@ -1,4 +1,4 @@
--- What every order of a task's processes leaves, and why it isn't told.
+-- What every order of a task's processes leaves, and why it isn't reported.
 use Rattle.std.specs.Prelude.{◌≡◌, ◌⊎◌, ◌↔◌, ◌<◌, ℕ, Bool, IsTrue, List}
 use Rattle.mem_files.specs.Name.{Name, Bytes}
 use Rattle.script_load.specs.Line.{ScriptLine}

@@ -59,7 +59,7 @@ pub record IsGradeAnswer (task : Task) (suite : Bytes) (states : ℕ) (alone : B
   pub ways : NeedNoThreads tests
   pub reports : ReportsOn tests alone task.script.now report
 
--- it is told of the suite's text, or memory was refused
+-- it is reported of the suite's text, or memory was refused
 abbrev pub IsToldBelow : GradeRefusal → Type 0
 IsToldBelow SuiteTooLong = ⊥
 IsToldBelow (BadSuite line told) = Unit {0}
@@ -69,7 +69,7 @@ IsToldBelow (TooManyFiles n) = ⊥
 IsToldBelow Memory = Unit {0}
 
 -- why nothing is graded: the suite is too long, there are too many files, this test is the first that is to run in every way, or what is
--- told of the suite's text
+-- reported of the suite's text
 pub data IsGradeRefusal (task : Task) (suite : Bytes) (states : ℕ) : GradeRefusal → Type 0 where
   long_suite : max_input < length suite → IsGradeRefusal task suite states SuiteTooLong
   many_files : max_files < length task.files.now → IsGradeRefusal task suite states (TooManyFiles (max_files + 1))

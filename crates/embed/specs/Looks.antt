@@ -1,4 +1,4 @@
--- How a run of a task stands after the events of a schedule, and why that isn't told.
+-- How a run of a task stands after the events of a schedule, and why that isn't reported.
 use Rattle.std.specs.Prelude.{◌≡◌, ◌≢◌, ◌↔◌, IsTrue, Bool, List, Some}
 use Rattle.mem_files.specs.Name.{Name, Bytes}
 use Rattle.script_load.specs.Line.{ScriptLine}

@@ -22,7 +22,7 @@ use Rattle.embed.specs.declared.running.RunAnswer.{RunAnswer}
 use Rattle.embed.specs.declared.fault.EmbedFault.{EmbedFault}
 use Rattle.embed.specs.declared.fault.EmbedFault.TheVariants.{Start, TooLarge, Memory, BadTurns, Spent, NoEvent, NotRunnable, NotRunning, Unfinished, BadOrder, BadStates}
 
--- the answer tells what the report has
+-- the answer has what the report has
 pub record IsReportTold (report : Report Global) (answer : RunAnswer) : Type 0 where
   pub prints : answer.out.items ≡ report.out.items
   pub tells : answer.diag.items ≡ report.diag.items
@@ -31,7 +31,7 @@ pub record IsReportTold (report : Report Global) (answer : RunAnswer) : Type 0 w
   pub went : answer.schedule.items ≡ schedule_text report.schedule
   pub full : answer.full ≡ report.full
 
--- the answer tells the report of a finished run of the task's script, which is what the script means where it is settled and
+-- the answer has the report of a finished run of the task's script, which is what the script means where it is settled and
 -- nothing was full
 pub record IsRunAnswer (task : Task) (answer : RunAnswer) : Type 0 where
   pub lines : List ScriptLine

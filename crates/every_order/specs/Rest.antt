@@ -1,4 +1,4 @@
--- What is told of all ways in which a run can go on.
+-- What is reported of all ways in which a run can go on.
 use Rattle.std.specs.Prelude.{◌≡◌, ℕ, List, true, Some, None, IfSome, All, map}
 use Rattle.user_calls.specs.declared.calls.Call.{Call}
 use Rattle.user_calls.specs.declared.calls.Reply.{Reply}

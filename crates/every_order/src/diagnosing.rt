@@ -1,4 +1,4 @@
-//! What an exploration of a script tells of its diagnostics.
+//! What an exploration of a script reports of its diagnostics.
 
 ghost use Rattle.std.specs.Prelude.{◌≡◌, ◌≢◌, ◌↔◌, IsTrue, IfOk, All, Contains, None};
 ghost use Rattle.script_load.specs.Line.{lines_of};
@@ -72,7 +72,7 @@ fn known_by(alloc: Global, found: &Exploration) -> Result<Diagnostics, AllocErro
 /// What is known of the diagnostics of a script with this standard input and these files, in whatever order its processes take their
 /// turns and on however many harts: every order is tried, unless they lead to more than `states` states (own).
 ///
-/// `Same` is told only where each finished run in which nothing was full writes these, there is one, and none comes to where all
+/// `Same` is returned only where each finished run in which nothing was full writes these, there is one, and none comes to where all
 /// processes sleep; `Differ` only where two finished runs in which nothing was full write others; `Full` only where in each
 /// finished run something was full, and none comes to where all sleep; `Asleep` only where one does. `AllocError` where memory is refused.
 pub fn diagnostics_of<B: Allocator, C: Allocator>(

@@ -40,7 +40,7 @@ pub struct Extent {
 /// Tries the orders in which the processes of a script can take their turns, with this standard input and these files: all
 /// orders, unless they lead to more than `states` states.
 ///
-/// Each outcome that is told is that of a finished run of the script by its own schedule, at which no memory was refused
+/// Each outcome that is reported is that of a finished run of the script by its own schedule, at which no memory was refused
 /// (`sound`); no two are equal (`apart`). Where every order was tried, the outcomes are those of all finished runs of the
 /// script, in any order and on any harts, at which memory was never refused or nothing was full (`complete`), and where nobody
 /// was stuck no such run comes to where all processes sleep (`awake`); where somebody was, these turns lead there (`asleep`). Where not
@@ -71,7 +71,7 @@ pub fn explore<B: Allocator, C: Allocator>(
     explore_watched(alloc, &setting, extent, &mut Unwatched)
 }
 
-/// `explore`, which tells `watch` how many states it found, each time before it tries the turns of one more, and stops where the watch
+/// `explore`, which reports to `watch` how many states it found, each time before it tries the turns of one more, and stops where the watch
 /// says so (`stopped`).
 pub fn explore_watched<B: Allocator, C: Allocator, W: Watch>(
     alloc: Global,

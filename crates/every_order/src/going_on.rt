@@ -15,7 +15,7 @@ use std::alloc::{Allocator, Global};
 use user_calls::Machine;
 
 /// Tries the orders in which the processes of a kernel, whose programs are any machines, can go on after turns of these processes:
-/// all orders, unless they lead to more than `states` states. Processes are named by their slots. `watch` is told as by
+/// all orders, unless they lead to more than `states` states. Processes are named by their slots. `watch` gets reports as from
 /// `explore_watched`, and may stop the search (`stopped`); where not every order was tried otherwise, more than `states` were found (`part`).
 ///
 /// The schedule of each outcome is one from the kernel's boot. The fault is `TooLong` where one of the turns can't be taken, and

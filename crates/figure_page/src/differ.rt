@@ -174,7 +174,7 @@ fn add_file<A: Allocator>(page: &mut Page<A>, one: &Trace<A>, other: &Trace<A>, 
     page.mark("</tr>\n");
 }
 
-// Whether a file of this name differs, as far as the traces tell.
+// Whether a file of this name differs, as far as the traces show.
 fn is_other_file<A: Allocator>(one: &Trace<A>, other: &Trace<A>, name: &[u8]) -> bool {
     match (file_named(one, name), file_named(other, name)) {
         (Some(mine), Some(theirs)) => {
@@ -243,7 +243,7 @@ fn has_other_file<A: Allocator>(one: &Trace<A>, other: &Trace<A>, owner: &Trace<
         .any(|file| is_other_file(one, other, owner.text(file.name)))
 }
 
-// Whether two runs leave the same, as far as the traces tell.
+// Whether two runs leave the same, as far as the traces show.
 fn are_same<A: Allocator>(one: &Trace<A>, other: &Trace<A>) -> bool {
     one.text(one.end.out) == other.text(other.end.out)
         && one.text(one.end.diag) == other.text(other.end.diag)
@@ -251,7 +251,7 @@ fn are_same<A: Allocator>(one: &Trace<A>, other: &Trace<A>) -> bool {
         && !has_other_file(one, other, other)
 }
 
-/// What two runs leave that differs: their outputs, their messages, and the files, as far as the traces tell, each in a row, but no file
+/// What two runs leave that differs: their outputs, their messages, and the files, as far as the traces show, each in a row, but no file
 /// more once the page has so many bytes.
 pub(crate) fn add_differences<A: Allocator>(
     page: &mut Page<A>,

@@ -97,7 +97,7 @@ pub(crate) fn add_figure<A: Allocator + Copy>(
 }
 
 /// The page of a run, in HTML: its script, what it printed and left, what happened in sentences, its figure, and a table of its
-/// calls, in which calls that are alike are told together. Of more than `MOST_EVENTS` events the first so many of those in the bounds
+/// calls, in which calls that are alike are shown together. Of more than `MOST_EVENTS` events the first so many of those in the bounds
 /// are drawn, and the page says which are left out; so it does where it would have more than 400,000 bytes, which it never has. Own.
 ///
 /// `AllocError` where memory is refused.

@@ -45,7 +45,7 @@ const DIFFER: usize = 2;
 
 const WHY: usize = 4;
 
-// What a run told as diagnostics, if it told something.
+// What a run printed as diagnostics, if it printed something.
 fn add_messages<A: Allocator + Copy>(page: &mut Page<A>, name: &'static str, trace: &Trace<A>) {
     let told = trace.text(trace.end.diag);
     if told.is_empty() {

@@ -1,4 +1,4 @@
-//! Reads and writes that are told together: those of one process through one descriptor, in a part of a run.
+//! Reads and writes that are shown together: those of one process through one descriptor, in a part of a run.
 
 use Piece::{Count, Mark, Num};
 use figure_strips::Fold;

@@ -6,7 +6,7 @@ use figure_words::{Page, Piece, Run, add_process, add_sentence, events_of};
 use std::alloc::Allocator;
 use trace_read::{Call, Channel, Event, Mode, Reply, State, Trap};
 
-// How many calls are told at most, and how many columns a command takes.
+// How many calls are shown at most, and how many columns a command takes.
 const MOST: usize = 36;
 
 const ROOM: usize = 24;
@@ -72,7 +72,7 @@ fn is_end<A: Allocator>(run: &Run<'_, A>, trap: &Trap) -> bool {
             .any(|state| state.closes_read || state.closes_write)
 }
 
-// Whether a call is told.
+// Whether a call is shown.
 fn is_told<A: Allocator>(run: &Run<'_, A>, event: &Event, trap: &Trap) -> bool {
     let is_notable = trap.is_at_end
         || trap.diag.is_some()
@@ -102,7 +102,7 @@ fn add_item<A: Allocator + Copy>(page: &mut Page<A>, run: &Run<'_, A>, event: &E
 }
 
 /// What happened at these events: the calls that make pipes, run programs, change files, end lines of the output, close ends of
-/// pipes, meet the end of a file, tell diagnostics or find something full, the first sleep of each process on each end of a pipe, and
+/// pipes, meet the end of a file, print diagnostics or find something full, the first sleep of each process on each end of a pipe, and
 /// the first refused call of each process; the first `MOST` of them, and none more once the page has so many bytes.
 pub(crate) fn add_story<A: Allocator + Copy>(
     page: &mut Page<A>,

@@ -150,7 +150,7 @@ impl<A: Allocator + Copy> Drawing<A> {
         Ok(())
     }
 
-    /// The whole picture, with this title of the script, and what is told to who can't see it.
+    /// The whole picture, with this title of the script, and a description for readers who can't see it.
     ///
     /// `AllocError` where memory was refused to a part of it.
     pub(crate) fn end(

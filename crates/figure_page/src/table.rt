@@ -1,4 +1,4 @@
-//! The table of the events. Reads and writes that are like those before them are told together, as phases.
+//! The table of the events. Reads and writes that are like those before them are shown together, as phases.
 
 use crate::phases::add_phase;
 use Piece::{Mark, Num};
@@ -115,7 +115,7 @@ fn end_table<A: Allocator>(page: &mut Page<A>, progress: Progress) {
     }
 }
 
-/// The calls of these events, a row each, but those that are told together; no row more once the page has so many bytes.
+/// The calls of these events, a row each, but those that are shown together; no row more once the page has so many bytes.
 ///
 /// `AllocError` where memory is refused.
 pub(crate) fn add_table<A: Allocator + Copy>(

@@ -8,7 +8,7 @@ use figure_words::{Page, Piece};
 use std::alloc::Allocator;
 use trace_read::{Call, Event, Reply, State};
 
-// How many descriptors are told that a process sets up.
+// How many of the descriptors that a process sets up are shown.
 const MOST_ENDS: usize = 2;
 
 // How far a bar's words are from its left end, and how far apart its lines are.

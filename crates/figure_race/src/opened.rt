@@ -7,7 +7,7 @@ use figure_words::{Page, Piece, add_sentence};
 use std::alloc::Allocator;
 use trace_read::{Event, Trap};
 
-// How many calls are told of each bar.
+// How many calls of each bar are described.
 const MOST: usize = 20;
 
 // The sentence of a call.
@@ -26,7 +26,7 @@ fn add_item<A: Allocator + Copy>(
     page.mark("</li>\n");
 }
 
-// The calls that are folded so; returns how many are told.
+// The calls that are folded so; returns how many are described.
 fn add_items<A: Allocator + Copy>(
     page: &mut Page<A>,
     lane: &Lane<'_, '_, A>,

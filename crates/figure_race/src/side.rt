@@ -16,7 +16,7 @@ const BEFORE: usize = 8;
 const BEHIND: usize = 14;
 
 /// A run of two: what the two processes share, as it has it, these two, and its call that decides, where it has one; and how many bytes
-/// the page has when no call more is told in words.
+/// the page has when no call more is described in words.
 #[derive(Clone, Copy)]
 pub(crate) struct Side<'p, 't, A: Allocator> {
     pub(crate) run: &'p Run<'t, A>,

@@ -51,7 +51,7 @@ fn touches_pipe<A: Allocator>(run: &Run<'_, A>, trap: &Trap, maker: Process) -> 
     moves || closes(run, states, maker)
 }
 
-/// Whether a call writes to the output or tells a message.
+/// Whether a call writes to the output or prints a message.
 pub(crate) fn is_seen(trap: &Trap) -> bool {
     let is_write = matches!(trap.call, Call::Write(_, _));
     is_write && matches!(trap.object, Some(Object::Out | Object::Diag)) || trap.diag.is_some()

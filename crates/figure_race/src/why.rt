@@ -136,7 +136,7 @@ fn add_cause<A: Allocator + Copy>(
 
 /// Where two runs part that begin with so many same events, and why they differ, where the order of two calls of one thing does: who
 /// comes first in each run, in a sentence, a picture of the calls of these two processes on that thing, and a list of them. No call more
-/// is told in words once the page has so many bytes. Own.
+/// is described in words once the page has so many bytes. Own.
 ///
 /// `AllocError` where memory is refused.
 pub fn add_why<'p, 't, A: Allocator + Copy>(

@@ -96,7 +96,7 @@ fn add_cross<A: Allocator>(page: &mut Page<A>, end: &'static str, (left, at): (u
     add_label(page, "small left alert", place, 1, &text);
 }
 
-// What of a pipe is to be told: what is another than before, and all where the strip begins.
+// What of a pipe is to be shown: what is another than before, and all where the strip begins.
 #[derive(Clone, Copy)]
 struct News {
     held: bool,
@@ -104,7 +104,7 @@ struct News {
     readers: bool,
 }
 
-// What of a state is to be told, which is in the strip or before it.
+// What of a state is to be shown, which is in the strip or before it.
 fn news_of(before: Option<PipeState>, state: &PipeState, is_here: bool) -> News {
     match before {
         Some(before) if is_here => News {
@@ -186,7 +186,7 @@ fn add_states<A: Allocator>(
     }
 }
 
-// What is told of a call on a pipe: that it met the end, or was refused.
+// What is shown of a call on a pipe: that it met the end, or was refused.
 fn alert_of(trap: &Trap, pipe: usize) -> Option<&'static str> {
     match (trap.object, trap.state) {
         (Some(Object::PipeRead(name)), _) if name == pipe && trap.is_at_end => Some("EOF"),

@@ -90,7 +90,7 @@ fn closes_end(states: &[PipeState]) -> bool {
     false
 }
 
-// Whether a call is always drawn: it meets the end of a file, tells a diagnostic, closes an end of a pipe, or finds something full; in
+// Whether a call is always drawn: it meets the end of a file, prints a diagnostic, closes an end of a pipe, or finds something full; in
 // a figure also where it ends a line of the output or changes a file.
 fn is_notable<A: Allocator>(run: &Run<'_, A>, folded: Folded, trap: &Trap) -> bool {
     let pipes = run.trace.pipes.as_slice();
@@ -216,7 +216,7 @@ fn folds_by<A: Allocator + Copy>(
 /// Which of the events from a number on, and before another, are folded, in order: twelve or more in a row that are dull. Dull is a
 /// read or a write, with the dispatch before it, of which three of its kind came before: by the same process through the same
 /// descriptor to or from the same pipe, with the same outcome, and waking somebody or nobody; unless it meets the end of a file, ends
-/// a line of the output, changes a file, closes an end of a pipe, is refused room or tells a diagnostic. Own.
+/// a line of the output, changes a file, closes an end of a pipe, is refused room or prints a diagnostic. Own.
 ///
 /// `AllocError` where memory is refused.
 pub fn folds_of<A: Allocator + Copy>(

@@ -37,7 +37,7 @@ pub enum Piece<'a> {
 // How many bytes are shown a column at most: of a letter with many marks, which have no width of their own, not all.
 const COLUMN_BYTES: usize = 16;
 
-/// A page that is being written. That memory was refused to a piece is kept, and told at the end: so no piece needs a look at how the
+/// A page that is being written. That memory was refused to a piece is kept, and reported at the end: so no piece needs a look at how the
 /// one before it went. In a clause it stands for whether memory was refused.
 #[derive(Drop)]
 pub struct Page<A: Allocator> {

@@ -8,7 +8,7 @@ use run_figure::Lane;
 use std::alloc::Allocator;
 use trace_read::{Doing, Event, Node, Process};
 
-// How many pipes are above a process at most whose place in them is told.
+// How many pipes at most are above a process whose place in them is shown.
 const MOST_ABOVE: usize = 64;
 
 /// The lane of a process.

@@ -9,7 +9,7 @@ use trace_read::{Call, Channel, Doing, Event, Full, Mode, Node, Part, Trace, Tra
 // How many columns bytes take in a table at most.
 const TABLE_ROOM: usize = 60;
 
-// How many words of a command are told: all of one that xv6 runs.
+// How many words of a command are shown at most: all of one that xv6 runs.
 const MOST_WORDS: usize = 10;
 
 /// The name of a call.

@@ -16,7 +16,7 @@ pub record Agrees (expected : Expected) (printed : Bytes) (F : FileMap) : Type 0
   pub out : printed ≡ expected.out.items
   pub files : All (HasFile F) expected.files.items
 
--- the same of what an exploration tells, and of what a run comes to
+-- the same of what an exploration reports, and of what a run comes to
 abbrev pub AgreesWith : Expected → Outcome → Type 0
 AgreesWith expected outcome = Agrees expected outcome.out.items (files outcome.files)
 

@@ -34,7 +34,7 @@ impl<B: Allocator> Drop for BudgetHeap<B> {
     }
 }
 
-// Counts a request of so many bytes, and tells whether it goes past what is left; then nothing of it is counted.
+// Counts a request of so many bytes, and returns whether it goes past what is left; then nothing of it is counted.
 fn goes_past(left: &Cell<u64>, size: usize) -> bool {
     let before = left.get();
     let asked = size as u64;

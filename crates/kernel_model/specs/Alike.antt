@@ -1,4 +1,4 @@
--- Two kernels that no outcome tells apart.
+-- Two kernels that no outcome distinguishes.
 use Rattle.std.specs.Prelude.{◌≡◌, ℕ, ◌≤◌, count_by}
 use Rattle.mem_files.specs.Listing.{AreFiles}
 use Rattle.proc_table.specs.Slots.{is_running}

@@ -40,7 +40,7 @@ module _ {S : Type 0} (call : S → Reply → Call) (next : S → Reply → S) w
     pub reached : All (IsReachedFrom call next start) seen
     pub reduced : IsReduced (after_turn call next) (λ s k. SameKeyAnyhow k s) (GivesWay call next) start seen
 
-  -- what an exploration shows: such kernels, where the outcomes of the finished ones are told, each of which turns lead to
+  -- what an exploration shows: such kernels, where the outcomes of the finished ones are reported, each of which turns lead to
   pub record Explored (start : KernelState S) (outcomes : List RunOutcome) : Type 0 where
     pub seen : List (KernelState S)
     pub enough : AreEnough start seen

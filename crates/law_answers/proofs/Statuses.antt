@@ -28,7 +28,7 @@ written_well text told status out out' err err' result (whole printed reported) 
 written_well text told status out out' err err' result (out_stopped part kept) zero = cc
 written_well text told status out out' err err' result (err_stopped printed part) zero = cc
 
--- with status 0 no reason is told
+-- with status 0 no reason is reported
 told_well : (profile : Profile) (lines : List ScriptLine) (stdin : Bytes) (F : FileMap) (strict is_settled : Bool) (why : Bytes) → verdict_status strict is_settled ≡ 0 → IsWhy profile lines stdin F strict is_settled why → verdict_text is_settled ++ why ≡ verdict_text is_settled
 told_well profile lines stdin F false is_settled why zero is = ap (λ w. verdict_text is_settled ++ w) is ∙ append-nil (verdict_text is_settled)
 told_well profile lines stdin F true true why zero is = ap (λ w. verdict_text true ++ w) is ∙ append-nil (verdict_text true)

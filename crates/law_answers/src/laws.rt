@@ -53,7 +53,7 @@ pub fn a_printed_run_of_a_roomy_script_fills_nothing_but_memory()
         → IsSettledScript s.profile r.lines r.stdin (files r.given) → IsRoomyScript r.lines r.stdin r.given → (full ≡ None) ⊎ (full ≡ Some Memory) }
 {}
 
-/// Nor does such a script want for turns: where `run` has as many as are enough for it, the number that `check --turns` tells, or more,
+/// Nor does such a script want for turns: where `run` has as many as are enough for it, the number that `check --turns` prints, or more,
 /// it reports that they are spent only where memory was refused in some run that spends its turns, on however many harts.
 pub fn turns_of_a_roomy_script_are_spent_only_where_memory_is_refused()
     ensures run { (s : Setting) (harts : ℕ) (turns : Option ℕ) → IsRunFault s.input s.file s.profile s.script s.paths harts turns Spent → IsSpentIn s turns }

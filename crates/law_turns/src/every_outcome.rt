@@ -42,14 +42,14 @@ pub fn outcomes_of_reached_kernels_are_those_of_runs<M: Machine>()
         → All (IsOutcomeOfRun M.call_of M.next_of start) outcomes }
 {}
 
-/// Keys tell kernels of runs apart exactly where they differ in more than who sleeps, who runs, and what pipes are called.
+/// Keys distinguish kernels of runs exactly where they differ in more than who sleeps, who runs, and what pipes are called.
 pub fn kernels_that_are_alike_have_the_same_key<M: Machine>()
     ensures { (k l : KernelState M.State) → IsBegun M.call_of M.next_of k → IsBegun M.call_of M.next_of l → AlikeAwake k l → SameKeyAwake k l }
 {}
 
 /// A search of kernels, the moves of which are the turns of all processes, which makes turns that give way to nobody's at once, and in which kernels
 /// with the same key but for who sleeps and for numbers of entries stand for each other: if it went to its end, what it found is enough.
-/// So it was explored if the outcomes of the finished kernels are told and no others.
+/// So it was explored if the outcomes of the finished kernels are reported and no others.
 pub fn what_a_search_found_is_explored<M: Machine>()
     ensures enough { (moves : ℕ) (start : KernelState M.State) (seen : List (KernelState M.State)) → IsBegun M.call_of M.next_of start → PROCS ≤ moves
         → All (IsReached (after_turn M.call_of M.next_of) start) seen → IsReducedUnder (after_turn M.call_of M.next_of) SameKeyAnyhow (GivesWay M.call_of M.next_of) moves start seen

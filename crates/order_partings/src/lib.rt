@@ -1,7 +1,7 @@
-//! Where the shortest runs to two outcomes part, told in words.
+//! Where the shortest runs to two outcomes part, in words.
 //!
 //! Two schedules that lead to two outcomes are made alike for as long as that changes neither outcome (`align`). What their
-//! processes do at the first turn at which they differ then tells what the outcomes depend on (`part`). All is for readers: no
+//! processes do at the first turn at which they differ then shows what the outcomes depend on (`part`). All is for readers: no
 //! law speaks of it, and tests compare it with worked runs.
 #![tactic(auto)]
 

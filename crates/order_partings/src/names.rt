@@ -7,7 +7,7 @@ use run_trace::Kernel;
 use std::alloc::{AllocError, Global};
 use user_calls::Machine;
 
-// How many bytes of a command or of what is written are told.
+// How many bytes of a command or of what is written are shown.
 const SHOWN: usize = 60;
 
 /// Adds the bytes, of more than 60 the first 60 and `..`.

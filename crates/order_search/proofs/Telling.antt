@@ -1,4 +1,4 @@
--- Outcomes are told as kernel after kernel is looked at.
+-- Outcomes are reported as kernel after kernel is looked at.
 use Rattle.std.proofs.Common.{◌≡◌, ◌≢◌, ℕ, zero, suc, ◌<◌, ◌≤◌, List, [], ◌∷◌, ◌++◌, length, get_or, take, inl, inr, refl, sym, ap, subst, ◌∙◌, arith, map}
 use Rattle.std.specs.Prelude.{All, Any, Contains, IfSome, Option, None, Some, slice_index_or}
 use Rattle.std.proofs.lemmas.List.{map-append, length-map}
@@ -89,7 +89,7 @@ module _ {S : Type 0} (call : S → Reply → Call) (next : S → Reply → S) (
     pub tells_next : IsAddedTo call next start k before after → Told (seen ++ k ∷ []) after
     tells_next = more_by
 
--- ---- which are told
+-- ---- which are reported
 
 -- none of the first n outcomes is this one
 abbrev pub IsUntold : List Outcome → RunOutcome → ℕ → Type 0

@@ -13,7 +13,7 @@ use Rattle.order_search.specs.declared.ordering.Exploration.{Exploration}
 use Rattle.order_search.specs.Told.{Tells, LeadsToSleep}
 
 module _ {S : Type 0} (call : S → Reply → Call) (next : S → Reply → S) where
-  -- kernels that turns lead to from the start were seen, and their outcomes are told, each with turns that lead to it from the boot;
+  -- kernels that turns lead to from the start were seen, and their outcomes are reported, each with turns that lead to it from the boot;
   -- where all orders were tried, they have the keys, but for who sleeps and for numbers of entries, of all their turns, or of where
   -- turns that give way to nobody's lead on from there; and where nobody is said to be stuck, each is finished or a turn leads to other slots, and else
   -- these turns lead to where nobody is Runnable

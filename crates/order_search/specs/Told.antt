@@ -1,4 +1,4 @@
--- What is told of an exploration.
+-- What is reported of an exploration.
 use Rattle.std.specs.Prelude.{◌≡◌, ◌≢◌, ◌⊎◌, ℕ, List, [], ◌∷◌, ◌++◌, Some, All, AllPairs, Contains, map}
 use Rattle.user_calls.specs.declared.calls.Call.{Call}
 use Rattle.user_calls.specs.declared.calls.Reply.{Reply}
@@ -8,7 +8,7 @@ use Rattle.kernel_model.specs.Outcome.{RunOutcome}
 use Rattle.kernel_model.specs.Explored.{FinishesWith, AreOutcomesOf, IsFinishedOrReady}
 use Rattle.order_search.specs.declared.outcomes.Outcome.{Outcome}
 
--- what is told, without its schedule
+-- what is reported, without its schedule
 abbrev pub outcome_by : Outcome → RunOutcome
 outcome_by o = record { out = o.out.items; diag = o.diag.items; files = o.files; full = o.full }
 
@@ -41,7 +41,7 @@ module _ {S : Type 0} (call : S → Reply → Call) (next : S → Reply → S) w
   abbrev pub IsAddedTo : KernelState S → KernelState S → List Outcome → List Outcome → Type 0
   IsAddedTo start k before after = (after ≡ before) ⊎ Adds start k before after
 
-  -- what an exploration from the start tells, where it kept these kernels
+  -- what an exploration from the start reports, where it kept these kernels
   pub record Tells (start : KernelState S) (seen : List (KernelState S)) (outcomes : List Outcome) : Type 0 where
     pub of : AreOutcomesOf seen (map outcome_by outcomes)
     pub replayed : All (IsReplayed call next start) outcomes

@@ -1,9 +1,9 @@
-//! Why nothing is told.
+//! Why nothing is reported.
 
 use std::alloc::AllocError;
 use thiserror::Error;
 
-/// Why an exploration tells nothing.
+/// Why an exploration reports nothing.
 #[derive(Clone, Copy, Debug, PartialEq, Eq, Error)]
 pub enum ExploreFault {
     /// Memory was refused.

@@ -54,7 +54,7 @@ pub fn explore_from<M: Machine, C: Allocator, W: Watch>(
 }
 
 /// Tries the orders in which the processes of a kernel can go on after turns of these processes, whose numbers are those of their
-/// slots: `explore_from` there. What is told of an outcome begins with these turns.
+/// slots: `explore_from` there. What is reported of an outcome begins with these turns.
 ///
 /// The fault is `TooLong` where one of the turns can't be taken.
 pub fn explore_after<M: Machine, C: Allocator, W: Watch>(
@@ -81,7 +81,7 @@ pub fn explore_after<M: Machine, C: Allocator, W: Watch>(
     Ok(told)
 }
 
-// What is told of what was found.
+// What is reported of what was found.
 fn tell<'t, M: Machine, C: Allocator>(
     alloc: Global,
     origin: &Origin<'_, M, C>,

@@ -78,7 +78,7 @@ fn is_told<M: Machine>(outcomes: &[Outcome], look: &Look<M>) -> bool
     false
 }
 
-// The outcome of the kernel is told, unless it is or the kernel isn't finished.
+// Reports the outcome of the kernel, unless that is reported already or the kernel isn't finished.
 fn tell_of<M: Machine, C: Allocator>(
     alloc: Global,
     origin: &Origin<'_, M, C>,

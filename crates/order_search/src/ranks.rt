@@ -5,7 +5,7 @@ use crate::kept::Held;
 use std::rc::Rc;
 use user_calls::Machine;
 
-// How many numbers are told apart: those of all entries.
+// How many numbers are distinguished: those of all entries.
 pub const NUMBERS: usize = 100;
 
 // Numbers by their rank, which is the order in which they were noted.

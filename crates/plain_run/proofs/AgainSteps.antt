@@ -1,4 +1,4 @@
--- What is named and used again in a command is what is so in its parts, and what one part tells of the other.
+-- What is named and used again in a command is what is so in its parts, and what one part says of the other.
 use Rattle.std.proofs.Common.{◌≡◌, ◌≢◌, Bool, true, false, ◌||◌, ◌&&◌, not, List, [], ◌∷◌, ◌++◌, cond, Some, Option, ℕ, ◌+◌, ◌<◌, length, take, get_or, append_assoc, refl, sym, ap, ap₂, subst, ◌∙◌}
 use Rattle.std.specs.List.{filter}
 use Rattle.std.specs.Str.{bytes_eq}

@@ -1,4 +1,4 @@
--- A pipe one of whose sides is `cat` alone does and tells what the other side does.
+-- A pipe one of whose sides is `cat` alone does and says what the other side does.
 use Rattle.std.proofs.Common.{◌≡◌, Bool, true, false, ◌||◌, ◌&&◌, not, List, [], refl, ap, ap₂, ◌∙◌, inl}
 use Rattle.std.specs.Prelude.{Result}
 use Rattle.std.proofs.lemmas.Result.{IfOk-weaker, IfErr-weaker}

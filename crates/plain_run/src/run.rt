@@ -423,7 +423,7 @@ pub fn plain<A: Allocator + Copy, B: Allocator, C: Allocator>(
 /// Runs a script as `plain` does, and returns beside its outcome why it isn't settled (own): first, line after line, the
 /// commands behind `&` and the first clash of each line; then, line after line, the names that cut pipes' left sides write and
 /// that are named again, each with one line that names it, and the inputs that are used after a command that is loose. The
-/// first loose line is told for each later line that uses the input. There is no reason where the script is settled.
+/// first loose line is reported for each later line that uses the input. There is no reason where the script is settled.
 ///
 /// The faults are those of `plain`. It takes the time of `plain`, and that of a search of each line for `&` and clashes.
 pub fn plain_with_reasons<A: Allocator + Copy, B: Allocator, C: Allocator>(

@@ -10,7 +10,7 @@ use std::alloc::{AllocError, Global};
 use step_answers::{Plan, Text, add_deed, add_object, add_pipe, plan_of};
 use user_calls::{CallKind, CallSlot, Machine, Mode, ReplyKind};
 
-// How many characters of what is written are told on a box.
+// How many characters of what is written are shown on a box.
 const SHORT: usize = 10;
 
 // What is known of a turn before its call is carried out.

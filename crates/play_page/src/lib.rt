@@ -1,6 +1,6 @@
 //! A page in which the reader takes the scheduler's place: chooses which process goes next, and sees what can still come out.
 //!
-//! The states that it shows are walked over here, and told of by `play_states`, exactly. All else is words: no law speaks of it, and
+//! This crate walks over the states that it shows; `play_states` finds exactly what is shown of them. All else is words: no law speaks of it, and
 //! tests read the page back.
 #![tactic(auto)]
 

@@ -81,7 +81,7 @@ fn walk_over<'w, 't, M: Machine, C: Allocator, W: Watch>(
     )
 }
 
-// What is told of the states of the walk.
+// What is shown of the states of the walk.
 fn play_of<M: Machine, C: Allocator, W: Watch>(
     ground: &Ground<'_, M, C>,
     walk: &Walk<'_, '_, M, C>,
@@ -188,7 +188,7 @@ fn page_named<'b, N: Naming, W: Watch>(
     page_by(&ground, &scene, found, making, watch)
 }
 
-/// The page of a script, in which its reader chooses who goes next. `watch` is told how far it is.
+/// The page of a script, in which its reader chooses who goes next. `watch` sees how far it is.
 ///
 /// `Many` where the script leads to more states than may be kept.
 pub fn play_page<'b, W: Watch>(

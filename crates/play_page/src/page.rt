@@ -12,7 +12,7 @@ use std::alloc::{AllocError, Allocator, Global};
 use step_answers::Text;
 use user_calls::Machine;
 
-/// What a page tells besides the states.
+/// What a page shows besides the states.
 #[derive(Clone, Copy)]
 pub struct Words<'a> {
     /// The program with its version, as `xvsh 1.9.0`.
@@ -383,7 +383,7 @@ fn written<M: Machine, C: Allocator>(
     text.end()
 }
 
-// The page of what was told of the states of this walk.
+// The page of what is shown of the states of this walk.
 pub fn page_of<M: Machine, C: Allocator>(
     walk: &mut Walk<'_, '_, M, C>,
     play: &Play,

@@ -92,7 +92,7 @@ fn alone_in(offered: &[u8]) -> Option<usize> {
     }
 }
 
-// The turns, as they are to be told.
+// The turns, as they are to be shown.
 fn turns_of(alloc: Global, edges: &[Edge]) -> Result<Vec<Turn>, AllocError> {
     let mut turns = Vec::new(alloc);
     for edge in edges {
@@ -104,7 +104,7 @@ fn turns_of(alloc: Global, edges: &[Edge]) -> Result<Vec<Turn>, AllocError> {
     Ok(turns)
 }
 
-// The state, as it is to be told.
+// The state, as it is to be shown.
 fn spot_of(alloc: Global, node: &Node) -> Result<Spot, AllocError> {
     let turns = turns_of(alloc, &node.edges)?;
     let pids = Vec::from_slice(alloc, &node.pids)?;
@@ -434,7 +434,7 @@ impl<'w, 't, M: Machine, C: Allocator> Walk<'w, 't, M, C> {
         Ok(())
     }
 
-    // The states as they are to be told.
+    // The states as they are to be shown.
     pub fn spots(&self) -> Result<Vec<Spot>, AllocError> {
         let mut spots = Vec::new(self.alloc);
         for node in &self.nodes {

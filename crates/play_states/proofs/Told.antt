@@ -1,4 +1,4 @@
--- What is told of kernels, carried from one name of a kernel to another.
+-- What is shown of kernels, carried from one name of a kernel to another.
 use Rattle.std.proofs.Common.{◌≡◌, ℕ, zero, suc, ◌<◌, List, [], ◌∷◌, ◌++◌, length, get_or, Some, None, Result, Ok, Err, refl, sym, ap, subst, ◌∙◌, arith, map}
 use Rattle.std.specs.Prelude.{All, IfSome, IsSome, Option, slice_get, slice_index_or}
 use Rattle.mem_files.specs.Name.{Name, Bytes}
@@ -42,7 +42,7 @@ module _ {S : Type 0} (call : S → Reply → Call) (next : S → Reply → S) w
     begun : (pids : List ℕ) (k : KernelState S) → after_turns call next boot pids ≡ Some k → IsBegun call next k
     begun pids k turns = record { init = init; shell = shell; input = input; files = files; are = are; pids = pids; turns = turns }
 
-    -- what is told of where turns lead is so of where others lead, to a kernel that is alike
+    -- what is shown of where turns lead is so of where others lead, to a kernel that is alike
     along : (pids others : List ℕ) (outcomes : List RunOutcome) (places : List ℕ) → AreAlikeAfter call next boot others pids → ComesTo call next boot others outcomes places → ComesTo call next boot pids outcomes places
     along pids others outcomes places a c =
         let both : ◌≡◌ {A = Option (KernelState S)} (Some c.now) (Some a.first) = sym c.turns ∙ a.turns in

@@ -1,4 +1,4 @@
--- What is told of the states of a play.
+-- What is shown of the states of a play.
 use Rattle.std.specs.Prelude.{◌≡◌, ◌↔◌, ◌≤◌, ◌⊎◌, ℕ, List, [], ◌∷◌, ◌++◌, true, false, Some, IfSome, All, Any, Contains, map, length, take, slice_get}
 use Rattle.user_calls.specs.declared.calls.Call.{Call}
 use Rattle.user_calls.specs.declared.calls.Reply.{Reply}
@@ -45,7 +45,7 @@ abbrev pub IsCovered : List Shown → Shown → Type 0
 IsCovered shown s = (s.spot.is_cut ≡ true) ⊎ (((s.spot.turns.items ≡ []) × (length s.possible.items ≤ 1)) ⊎ All (IsLedTo shown s.spot.turns.items) s.possible.items)
 
 module _ {S : Type 0} (call : S → Reply → Call) (next : S → Reply → S) where
-  -- all that is told of what follows these turns, where every order was tried
+  -- all that is shown of what follows these turns, where every order was tried
   pub record TellsAllAfter (boot : KernelState S) (pids : List ℕ) (found : Exploration) : Type 0 where
     pub whole : found.whole ≡ true
     pub tells : TellsAfter call next boot pids found
@@ -64,7 +64,7 @@ module _ {S : Type 0} (call : S → Reply → Call) (next : S → Reply → S) w
     pub asleep : LeadsToSleep call next boot way
     pub begins : BeginsWith pids way
 
-  -- what is told of a state is so: which outcomes can still come, whether all can come to sleep, and whose turn is enough
+  -- what is shown of a state is so: which outcomes can still come, whether all can come to sleep, and whose turn is enough
   pub record IsShown (boot : KernelState S) (outcomes : List Outcome) (s : Shown) : Type 0 where
     pub comes : ComesTo boot s.spot.pids.items (map outcome_by outcomes) s.possible.items
     pub awake : s.sleeps ≡ false → IsNeverStuck call next comes.now
@@ -77,7 +77,7 @@ module _ {S : Type 0} (call : S → Reply → Call) (next : S → Reply → S) w
     pub there : slice_get shown turn.next ≡ Some to
     pub alike : AreAlikeAfter call next boot to.spot.pids.items (pids ++ turn.pid ∷ [])
 
-  -- the same, and the outcomes of all finished runs that go on after the turn are those that are told of that state
+  -- the same, and the outcomes of all finished runs that go on after the turn are those that are shown of that state
   pub record IsTurnTo (boot : KernelState S) (outcomes : List Outcome) (shown : List Shown) (pids : List ℕ) (turn : Turn) : Type 0 where
     pub to : Shown
     pub there : slice_get shown turn.next ≡ Some to

@@ -1,10 +1,10 @@
-//! Why a play isn't told.
+//! Why a play isn't shown.
 
 use every_order::ExploreFault;
 use std::alloc::{AllocError, AllocFailed};
 use thiserror::Error;
 
-/// Why a play isn't told.
+/// Why a play isn't shown.
 #[derive(Clone, Copy, Debug, PartialEq, Eq, Error)]
 pub enum PlayFault {
     /// Memory was refused.

@@ -1,6 +1,6 @@
 //! What a play shows: states of a script's run, the turns that are offered in each, and which outcomes can still come of it.
 //!
-//! Whoever walks over the states says which there are (`Spot`); what is told of each is found by exploring what can follow it.
+//! Whoever walks over the states says which there are (`Spot`); what is shown of each is found by exploring what can follow it.
 #![tactic(auto)]
 
 mod fault;

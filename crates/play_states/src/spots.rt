@@ -23,7 +23,7 @@ pub struct Spot {
     pub is_cut: bool,
 }
 
-/// A state that is shown, and what is told of it.
+/// A state that is shown, and what is shown of it.
 #[derive(Drop)]
 pub struct Shown {
     pub spot: Spot,
@@ -44,7 +44,7 @@ pub struct Budget {
     pub states: usize,
 }
 
-/// States that are shown, and the outcomes of which is told which can still come.
+/// States that are shown, and the outcomes; each state says which of these can still come.
 #[derive(Drop)]
 pub struct Play {
     pub outcomes: Vec<Outcome>,

@@ -1,4 +1,4 @@
-//! What is told of the states of a play.
+//! What is shown of the states of a play.
 
 ghost use Rattle.std.specs.Prelude.{◌≡◌, ◌++◌, ◌∷◌, [], IfOk, IfSome, IsSome, None, OnOk, Ok, All, Any, Contains, true, false};
 ghost use Rattle.order_search.specs.After.{AreAlikeAfter, GivesWayAfter};
@@ -173,7 +173,7 @@ impl<'t, M: Machine, C: Allocator> Ground<'t, M, C> {
         Ok(found)
     }
 
-    // What is told of a state.
+    // What is shown of a state.
     fn show(&self, budget: Budget, outcomes: &[Outcome], spot: Spot) -> Result<Shown, PlayFault>
         ensures { IfOk result (IsShown M.call_of M.next_of self.now outcomes.now) }
     {
@@ -189,7 +189,7 @@ impl<'t, M: Machine, C: Allocator> Ground<'t, M, C> {
         })
     }
 
-    // What is told of each.
+    // What is shown of each.
     fn show_all<W: Watch>(
         &self,
         budget: Budget,
@@ -259,10 +259,10 @@ impl<'t, M: Machine, C: Allocator> Ground<'t, M, C> {
         Ok(())
     }
 
-    /// Tells of each of these states which of the outcomes can still come of it, and whether all processes can come to sleep, through at
-    /// most as many states after each as the budget has. `watch` sees of how many states it was told, each time before it is told of one more.
+    /// Shows of each of these states which of the outcomes can still come of it, and whether all processes can come to sleep, through at
+    /// most as many states after each as the budget has. `watch` sees how many states were shown so, each time before one more is.
     ///
-    /// The outcomes that are told of a state are those of all finished runs that go on after its turns, in any order and on any harts, at
+    /// The outcomes that are shown of a state are those of all finished runs that go on after its turns, in any order and on any harts, at
     /// which memory is never refused or nothing is full; and so they are after each turn that is offered there (`IsPlay`). Each
     /// outcome of a state that isn't cut can come after one of the turns that are offered there, so that no other one can add any.
     ///

@@ -35,7 +35,7 @@ all_told {A = A} profile lines input F reasons each none = record {
   none = (λ is. none.0 (nothing_left reason_text reasons is), λ settled. none_mapped reason_text reasons (none.1 settled));
 }
 
--- and the first is, where it is to be told
+-- and the first is, where it is to be reported
 pub first_told : (profile : Profile) (lines : List ScriptLine) (input : Bytes) (F : FileMap) (is_settled : Bool) (texts : List Bytes) → IsTrue is_settled ↔ IsSettledScript profile lines input F → AreReasonTexts profile lines input F texts → IsWhy profile lines input F true is_settled (first_text texts)
 first_told profile lines input F true [] settled are = refl
 first_told profile lines input F true (text ∷ texts) settled are =

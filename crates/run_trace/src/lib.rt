@@ -1,6 +1,6 @@
-//! What each event of a run does, told as it happens.
+//! What each event of a run does, reported as it happens.
 //!
-//! A tracer holds a kernel and lets events happen in it. After each it tells the call that was carried out, who was woken,
+//! A tracer holds a kernel and lets events happen in it. After each it reports the call that was carried out, who was woken,
 //! made and gone, what was added to the output and the diagnostics, and what was full for the first time. All else is shown
 //! by the kernel, which it lends.
 #![tactic(auto)]

@@ -42,7 +42,7 @@ pub enum Command<'a> {
     Why(u64),
     /// The outcomes to which the run can still come, tried through so many states, if a number is given.
     Answers(Option<u64>),
-    /// To tell these outcomes after each turn, or no more.
+    /// To print these outcomes after each turn, or no more.
     Watch(bool),
     /// The schedule so far.
     Schedule,

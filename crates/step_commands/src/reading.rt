@@ -82,7 +82,7 @@ fn number_or_none(second: &[u8], third: &[u8]) -> Option<Option<u64>>
     Some(Some(number_alone(second, third)?))
 }
 
-// Whether answers are told after each turn from now on, as one word says.
+// Whether answers are printed after each turn from now on, as one word says.
 fn is_watched(second: &[u8]) -> Option<bool>
     ensures { IfSome result (λ is_on. watch_word is_on ≡ second.now) }
 {

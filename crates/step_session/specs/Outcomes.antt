@@ -1,4 +1,4 @@
--- What is told of what a session can still come to.
+-- What is reported of what a session can still come to.
 use Rattle.std.specs.Prelude.{◌≡◌, ℕ, List, All, length, take}
 use Rattle.user_calls.specs.declared.calls.Call.{Call}
 use Rattle.user_calls.specs.declared.calls.Reply.{Reply}

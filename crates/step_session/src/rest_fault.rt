@@ -1,10 +1,10 @@
-//! Why it isn't told to what a session can still come.
+//! Why it isn't reported what a session can still come to.
 
 use every_order::ExploreFault;
 use std::alloc::AllocError;
 use thiserror::Error;
 
-/// Why it isn't told to what a session can still come.
+/// Why it isn't reported what a session can still come to.
 #[derive(Clone, Copy, Debug, PartialEq, Eq, Error)]
 pub enum RestFault {
     /// Something was full in the session: the same turns may then lead elsewhere.

@@ -15,7 +15,7 @@ pub struct RefusingHeap<B: Allocator> {
 }
 
 impl<B: Allocator> RefusingHeap<B> {
-    /// Refuses no request, until it is told to.
+    /// Refuses no request, until `refuse_after` asks for that.
     pub fn new(inner: B) -> RefusingHeap<B> {
         RefusingHeap {
             inner,
@@ -43,7 +43,7 @@ impl<B: Allocator> Drop for RefusingHeap<B> {
     }
 }
 
-// Counts a request, and tells whether it is the one to be refused.
+// Counts a request, and returns whether it is the one to be refused.
 fn counts(granted: &Cell<u64>) -> bool {
     let before = granted.get();
     if before != NONE {

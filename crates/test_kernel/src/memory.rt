@@ -1,4 +1,4 @@
-//! Runs of a kernel of which one request for memory is refused, each in turn: a boot, a dispatch or a call tells it, and the run goes on to
+//! Runs of a kernel of which one request for memory is refused, each in turn: a boot, a dispatch or a call reports it, and the run goes on to
 //! its end. What a refusal changes, clauses say.
 
 use crate::walker::Walker;
@@ -15,7 +15,7 @@ const MOST: u64 = 100;
 // The shell writes x and 700 times y to its output and x to its diagnostics, and a byte through a pipe.
 const CALLS: &[u8] = b"w1W1w2p.w4r3o.x.";
 
-// What told that a request was refused.
+// What reported that a request was refused.
 #[derive(Clone, Copy, PartialEq, Eq)]
 enum Told {
     Boot,
@@ -68,7 +68,7 @@ fn steps<A: Allocator + Copy>(kernel: &mut Kernel<Walker, A>) -> Result<bool, Fa
     }
 }
 
-// Runs the kernel to its end; what told that a request was refused.
+// Runs the kernel to its end, and returns what reported that a request was refused.
 fn finish<A: Allocator + Copy>(kernel: &mut Kernel<Walker, A>) -> Result<Told, Fail> {
     let mut told = Told::Nothing;
     for _call in 0..MOST {
@@ -83,7 +83,7 @@ fn finish<A: Allocator + Copy>(kernel: &mut Kernel<Walker, A>) -> Result<Told, F
     }
 }
 
-// A run where the request after so many is refused: what tells it. It is told exactly where one is refused.
+// A run where the request after so many is refused: what reports it. It is reported exactly where one is refused.
 fn told_after(alloc: Global, granted: u64) -> Result<Told, Fail> {
     let heap = RefusingHeap::new(alloc);
     heap.refuse_after(granted);
@@ -98,7 +98,7 @@ fn told_after(alloc: Global, granted: u64) -> Result<Told, Fail> {
     }
 }
 
-// How many of these refusals tell so.
+// How many of these refusals are reported so.
 fn count_of(told: &[Told], one: Told) -> usize {
     told.iter().filter(|it| **it == one).count()
 }

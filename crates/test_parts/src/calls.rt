@@ -1,4 +1,4 @@
-//! What programs tell of reads that are refused, as no row shows it: what a script opens to read can be read (`user/cat.c`, `user/wc.c`).
+//! What programs print where a read is refused, as no row shows it: what a script opens to read can be read (`user/cat.c`, `user/wc.c`).
 
 use sh_lexer::Bytes;
 use sh_tree::{Cmd, parse};
@@ -18,7 +18,7 @@ fn reply_of(letter: u8) -> Reply {
     }
 }
 
-// The replies that a command gets, the command, and what it tells then.
+// The replies that a command gets, the command, and what it prints then.
 const TOLD: &str = "sr cat : cat: read error
 sfr cat f : cat: read error
 sbdr cat : cat: read error
@@ -26,7 +26,7 @@ sr wc : wc: read error
 sr head : head: read error
 sr tee : tee: read error";
 
-// Whether the call tells this line.
+// Whether the call prints this line.
 fn is_told(call: &Call, text: &str) -> bool {
     match call {
         Call::Write(2, told) => told.as_slice().strip_suffix(b"\n") == Some(text.as_bytes()),
@@ -34,7 +34,7 @@ fn is_told(call: &Call, text: &str) -> bool {
     }
 }
 
-// Whether the last call of the program of these words, which gets these replies, tells this line.
+// Whether the last call of the program of these words, which gets these replies, prints this line.
 fn tells(words: &[Bytes<Global>], replies: &str, text: &str) -> bool {
     let Some(mut program) = lookup(words) else {
         return false;

@@ -1,4 +1,4 @@
-//! Calls of which one request for memory is refused, each in turn: it is told where one is, and nowhere else, and no memory is kept.
+//! Calls of which one request for memory is refused, each in turn: it is reported where one is, and nowhere else, and no memory is kept.
 
 use kernel_calls::Pipes;
 use linked_list_allocator::LocalHeap;
@@ -105,7 +105,7 @@ fn call_came<A: Allocator + Copy>(memory: A, call: &str) -> Came {
     }
 }
 
-// Whether the call is refused memory, where the request after so many is; nothing where it isn't told so exactly then, or memory is kept.
+// Whether the call is refused memory, where the request after so many is; nothing where it isn't reported so exactly then, or memory is kept.
 fn is_refused_after(alloc: Global, granted: u64, call: &str) -> Result<Option<bool>, AllocError> {
     let room = LocalHeap::new(alloc, ROOM)?;
     let heap = RefusingHeap::new(&room);

@@ -1,4 +1,4 @@
-//! A meaning, a run and a replay of which one request for memory is refused, each in turn: that is told, and no memory is kept. The
+//! A meaning, a run and a replay of which one request for memory is refused, each in turn: that is reported, and no memory is kept. The
 //! lines of the script stand in an arena of the caller.
 
 use crate::given::{TURNS, file_of};
@@ -82,7 +82,7 @@ fn call_came<A: Allocator + Copy, S: Allocator>(
     }
 }
 
-// Whether the call asks for more memory than so often; the request after these is refused, and it is told exactly then.
+// Whether the call asks for more memory than so often; the request after these is refused, and it is reported exactly then.
 fn is_refused<S: Allocator>(
     alloc: Global,
     trial: &Trial<'_, S>,
@@ -112,7 +112,7 @@ fn refusals<S: Allocator>(alloc: Global, trial: &Trial<'_, S>, called: &str) -> 
     Ok(MOST)
 }
 
-// Fails where the script's meaning, its run or its replay makes too few requests, or one that is refused isn't told.
+// Fails where the script's meaning, its run or its replay makes too few requests, or one that is refused isn't reported.
 fn are_refused<S: Allocator>(alloc: Global, script: &Script<S>) -> Result<(), Fail> {
     let files = file_of(alloc, "p", b"p\n")?;
     let report = run_one(alloc, script, b"in", &files, TURNS)?;

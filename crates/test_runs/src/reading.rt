@@ -31,7 +31,7 @@ impl Read for Counting<'_> {
 // How many bytes may be read.
 const LIMIT: usize = 5;
 
-// What is read of so many bytes is told, and the reader is asked once more than that, or than the limit.
+// What is read of so many bytes is reported, and the reader is asked once more than that, or than the limit.
 fn is_read<R: Abort + AllocGlobal>(rt: &R, left: usize, fault: Option<io::ErrorKind>) {
     let mut asked = 0;
     let reader = Counting {

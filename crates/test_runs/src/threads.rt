@@ -102,7 +102,7 @@ fn have_met<R: Abort>(rt: &R, gate: &TwoInside, report: &Report<Global>) {
     assert_eq!(rt; gate.begun.load(Ordering::SeqCst), dispatches);
 }
 
-// How many threads this process has, after what the system tells of it.
+// How many threads this process has, as the system reports it.
 fn threads_here<R: Files + Alloc>(rt: &R) -> io::Result<u64> {
     let text = fs::read_to_string(rt, "/proc/self/status")?;
     for line in text.as_str().lines() {

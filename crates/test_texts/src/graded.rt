@@ -1,4 +1,4 @@
-//! What is graded, and what the host is told.
+//! What is graded, and what is reported to the host.
 
 use crate::host::{LONG, SUITE, Told};
 use std::alloc::{AllocError, Global};

@@ -18,7 +18,7 @@ pub(crate) struct Told<'s> {
     pub(crate) suite: &'s str,
     // The path for which it has no memory.
     pub(crate) refused: &'s str,
-    // How far it was told that the grading is.
+    // The reports of how far the grading is.
     pub(crate) steps: String,
 }
 

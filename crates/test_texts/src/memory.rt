@@ -1,4 +1,4 @@
-//! A page and a picture for which one request for memory is refused, each in turn: that is told, or both are whole without it, and no
+//! A page and a picture for which one request for memory is refused, each in turn: that is reported, or both are whole without it, and no
 //! memory is kept.
 
 use crate::given::{OTHER, TRACE};
@@ -31,7 +31,7 @@ fn is_made<A: Allocator>(made: Result<Vec<u8, A>, AllocError>, wanted: &[u8]) ->
 }
 
 // Whether the page and then the picture are made that are wanted; `None` where others are, or something else than want of memory is
-// told.
+// reported.
 fn is_drawn<A: Allocator + Copy>(memory: A, page: &[u8], picture: &[u8]) -> Option<bool> {
     let trace = match read_trace(memory, TRACE.as_bytes()) {
         Ok(trace) => trace,

@@ -1,4 +1,4 @@
--- Codes for the states of programs, which tell them apart: `ghost coded` and `ghost code` need them.
+-- Codes for the states of programs, which distinguish them: `ghost coded` and `ghost code` need them.
 use Rattle.std.specs.Prelude.{◌≡◌, ◌⊎◌, ℕ, zero, suc, Bool, List, refl}
 use Rattle.std.proofs.Common.{inl, inr}
 use Rattle.std.specs.Coded.{Coded, code_by, coded×, coded⊎, coded_list, coded_bool, coded_ℕ}

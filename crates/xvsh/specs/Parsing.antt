@@ -29,7 +29,7 @@ are_given rows one other = is_given one rows && is_given other rows
 abbrev pub is_alone : List Row → List ℕ → List ℕ → Bool
 is_alone rows one needed = is_given one rows && not (is_given needed rows)
 
--- this is among the words of a check that counts no turns and tells no room
+-- this is among the words of a check that counts no turns and reports no room
 abbrev pub is_without : List Row → List ℕ → Bool
 is_without rows one = is_alone rows one (codes "turns") && not (is_given (codes "room") rows)
 

@@ -141,7 +141,7 @@ pub record IsCheckOf (found : Found) (request : CheckRequest) : Type 0 where
   pub strict : IsFlag found (codes "strict") request.is_strict
   pub json : IsFlag found (codes "json") request.is_json
 
--- it is told why a script is settled where that is requested, or the words give a standard input or files
+-- why a script is settled is reported where that is requested, or the words give a standard input or files
 abbrev pub tells_why : Bool → Option (Bor Path) → List (Bor Path) → Bool
 tells_why is_asked None [] = is_asked
 tells_why is_asked None (path ∷ paths) = true

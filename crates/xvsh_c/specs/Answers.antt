@@ -65,7 +65,7 @@ pub record HasNoBytes (answer : Answer) : Type 0 where
   pub block : answer.block.now ≡ []
   pub sizes : answer.sizes.now ≡ []
 
--- and tells nothing else
+-- and reports nothing else
 pub record IsNothing (answer : Answer) : Type 0 where
   pub bytes : HasNoBytes answer
   pub place : answer.place ≡ 0
@@ -74,7 +74,7 @@ pub record IsNothing (answer : Answer) : Type 0 where
   pub fine : answer.fine ≡ 0
   pub whole : answer.whole ≡ 0
 
--- the answer tells a fault, and has no bytes
+-- the answer reports a fault, and has no bytes
 pub record TellsFault (answer : Answer) (fault : EmbedFault) : Type 0 where
   pub bytes : HasNoBytes answer
   pub status : answer.status ≡ number_of fault

@@ -1,4 +1,4 @@
--- What a call of a check or an explanation leaves: what the library below tells of the task, or a fault that is due.
+-- What a call of a check or an explanation leaves: what the library below reports of the task, or a fault that is due.
 use Rattle.std.specs.Prelude.{◌≡◌, ◌⊎◌, ℕ, Bool, not, ◌==◌}
 use Rattle.embed.specs.declared.task.Task.{Task}
 use Rattle.embed.specs.declared.fault.EmbedFault.{EmbedFault}
@@ -12,7 +12,7 @@ use Rattle.xvsh_c.specs.Answers.{TellsFault}
 abbrev pub is_on : ℕ → Bool
 is_on flag = not (flag == 0)
 
--- the answer tells what is told of a script before any run
+-- the answer has what is reported of a script before any run
 pub record TellsAsked (answer : Answer) (told : AskAnswer) : Type 0 where
   pub status : answer.status ≡ 0
   pub json : answer.json.now ≡ told.json.items

@@ -1,4 +1,4 @@
--- What a call of a drawing leaves: what the library below tells of the task, or a fault that is due.
+-- What a call of a drawing leaves: what the library below reports of the task, or a fault that is due.
 use Rattle.std.specs.Prelude.{◌≡◌, ◌⊎◌, ℕ, None}
 use Rattle.mem_files.specs.Name.{Bytes}
 use Rattle.embed.specs.declared.task.Task.{Task}
@@ -12,7 +12,7 @@ use Rattle.xvsh_c.specs.declared.answer.Answer.{Answer}
 use Rattle.xvsh_c.specs.Answers.{TellsFault}
 use Rattle.xvsh_c.specs.RunCalls.{full_number}
 
--- the answer tells what a run leaves, and what draws it
+-- the answer reports what a run leaves, and what draws it
 pub record TellsDrawn (answer : Answer) (told : DrawAnswer) : Type 0 where
   pub status : answer.status ≡ 0
   pub out : answer.out.now ≡ told.run.out.items
@@ -22,7 +22,7 @@ pub record TellsDrawn (answer : Answer) (told : DrawAnswer) : Type 0 where
   pub block : answer.block.now ≡ told.run.files.block.items
   pub full : answer.full ≡ full_number told.run.full
 
--- a call of `xvsh_draw_call` or `xvsh_draw_svg_call` left this answer: there is no such order, or what its run tells
+-- a call of `xvsh_draw_call` or `xvsh_draw_svg_call` left this answer: there is no such order, or what its run reports
 pub data DrawCall (task : Task) (turns order number : ℕ) (answer : Answer) : Type 0 where
   no_order : order_by order number ≡ None → TellsFault answer BadOrder → DrawCall task turns order number answer
   drawn : (told : DrawAnswer) → IsRunAnswer task told.run → TellsDrawn answer told → DrawCall task turns order number answer

@@ -1,4 +1,4 @@
--- What a call of an exploration leaves: what the library below tells of the task, or a fault that is due.
+-- What a call of an exploration leaves: what the library below reports of the task, or a fault that is due.
 use Rattle.std.specs.Prelude.{◌≡◌, ◌⊎◌, ℕ}
 use Rattle.embed.specs.declared.task.Task.{Task}
 use Rattle.embed.specs.declared.fault.EmbedFault.{EmbedFault}
@@ -9,7 +9,7 @@ use Rattle.xvsh_c.specs.declared.answer.Answer.{Answer}
 use Rattle.xvsh_c.specs.Answers.{TellsFault}
 use Rattle.xvsh_c.specs.AskCalls.{is_on}
 
--- the answer tells what every order of a script leaves
+-- the answer reports what every order of a script leaves
 pub record TellsExplored (answer : Answer) (told : ExploreAnswer) : Type 0 where
   pub status : answer.status ≡ 0
   pub json : answer.json.now ≡ told.json.items

@@ -1,4 +1,4 @@
--- What a call of a grading leaves: what the library below tells of the task and the suite, or why nothing is graded.
+-- What a call of a grading leaves: what the library below reports of the task and the suite, or why nothing is graded.
 use Rattle.std.specs.Prelude.{◌≡◌, ◌⊎◌, ℕ, [], string_bytes}
 use Rattle.mem_files.specs.Name.{Bytes}
 use Rattle.xvsh_grades.specs.declared.request.Report.{Report}
@@ -37,7 +37,7 @@ refusal_words SuiteTooLong = []
 refusal_words UnusedScript = []
 refusal_words (EveryWay n) = []
 
--- the answer tells why nothing is graded, and of a suite what is wrong with it, and has no other bytes
+-- the answer reports why nothing is graded, and of a suite what is wrong with it, and has no other bytes
 pub record TellsRefusal (answer : Answer) (refusal : GradeRefusal) : Type 0 where
   pub status : answer.status ≡ refusal_number refusal
   pub place : answer.place ≡ refusal_place refusal
@@ -48,7 +48,7 @@ pub record TellsRefusal (answer : Answer) (refusal : GradeRefusal) : Type 0 wher
   pub block : answer.block.now ≡ []
   pub sizes : answer.sizes.now ≡ []
 
--- the answer tells a report, and whether every test was passed
+-- the answer has a report, and says whether every test was passed
 pub record TellsGraded (answer : Answer) (report : Report) : Type 0 where
   pub status : answer.status ≡ 0
   pub json : answer.json.now ≡ report.text.items

@@ -1,4 +1,4 @@
--- What a call of a trace or of a look leaves: what the library below tells of the task, or a fault that is due.
+-- What a call of a trace or of a look leaves: what the library below reports of the task, or a fault that is due.
 use Rattle.std.specs.Prelude.{◌≡◌, ◌⊎◌, ℕ, None}
 use Rattle.mem_files.specs.Name.{Bytes}
 use Rattle.embed.specs.declared.task.Task.{Task}
@@ -14,7 +14,7 @@ use Rattle.xvsh_c.specs.declared.answer.Answer.{Answer}
 use Rattle.xvsh_c.specs.Answers.{TellsFault}
 use Rattle.xvsh_c.specs.RunCalls.{full_number}
 
--- the answer tells what a run leaves, and its trace
+-- the answer reports what a run leaves, and its trace
 pub record TellsTrace (answer : Answer) (told : TraceAnswer) : Type 0 where
   pub status : answer.status ≡ 0
   pub out : answer.out.now ≡ told.run.out.items
@@ -24,13 +24,13 @@ pub record TellsTrace (answer : Answer) (told : TraceAnswer) : Type 0 where
   pub block : answer.block.now ≡ told.run.files.block.items
   pub full : answer.full ≡ full_number told.run.full
 
--- a call of `xvsh_trace_call` left this answer: there is no such order, or what its run tells
+-- a call of `xvsh_trace_call` left this answer: there is no such order, or what its run reports
 pub data TraceCall (task : Task) (turns order number : ℕ) (answer : Answer) : Type 0 where
   no_order : order_by order number ≡ None → TellsFault answer BadOrder → TraceCall task turns order number answer
   traced : (told : TraceAnswer) → IsRunAnswer task told.run → TellsTrace answer told → TraceCall task turns order number answer
   failed : (fault : EmbedFault) → IsRunFault task turns fault → TellsFault answer fault → TraceCall task turns order number answer
 
--- the answer tells how a run stands
+-- the answer reports how a run stands
 pub record TellsLook (answer : Answer) (told : LookAnswer) : Type 0 where
   pub status : answer.status ≡ 0
   pub json : answer.json.now ≡ told.json.items

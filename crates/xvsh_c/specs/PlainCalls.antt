@@ -1,4 +1,4 @@
--- What a call of a run by meaning leaves: what the library below tells of the task, or a fault that is due.
+-- What a call of a run by meaning leaves: what the library below reports of the task, or a fault that is due.
 use Rattle.std.specs.Prelude.{◌≡◌, ◌⊎◌}
 use Rattle.embed.specs.declared.task.Task.{Task}
 use Rattle.embed.specs.declared.fault.EmbedFault.{EmbedFault}
@@ -8,7 +8,7 @@ use Rattle.embed.specs.Plain.{IsPlainAnswer, IsPlainFault}
 use Rattle.xvsh_c.specs.declared.answer.Answer.{Answer}
 use Rattle.xvsh_c.specs.Answers.{TellsFault}
 
--- the answer tells what a script gives by its meaning
+-- the answer reports what a script gives by its meaning
 pub record TellsPlain (answer : Answer) (told : PlainAnswer) : Type 0 where
   pub status : answer.status ≡ 0
   pub out : answer.out.now ≡ told.out.items

@@ -1,4 +1,4 @@
--- What a call of a run by processes leaves: what the library below tells of the task, or a fault that is due.
+-- What a call of a run by processes leaves: what the library below reports of the task, or a fault that is due.
 use Rattle.std.specs.Prelude.{◌≡◌, ◌⊎◌, ℕ, Option, None, Some}
 use Rattle.kernel_model.specs.declared.events.Full.{Full}
 use Rattle.kernel_model.specs.declared.events.Full.TheVariants.{Procs, Open, Fds, Files, Size, Memory}
@@ -22,7 +22,7 @@ full_number (Some Files) = 4
 full_number (Some Size) = 5
 full_number (Some Memory) = 6
 
--- the answer tells what a run leaves
+-- the answer reports what a run leaves
 pub record TellsRun (answer : Answer) (told : RunAnswer) : Type 0 where
   pub status : answer.status ≡ 0
   pub out : answer.out.now ≡ told.out.items
@@ -32,7 +32,7 @@ pub record TellsRun (answer : Answer) (told : RunAnswer) : Type 0 where
   pub block : answer.block.now ≡ told.files.block.items
   pub full : answer.full ≡ full_number told.full
 
--- a call of `xvsh_run_call` left this answer: there is no such order, or what its run tells
+-- a call of `xvsh_run_call` left this answer: there is no such order, or what its run reports
 pub data RunCall (task : Task) (turns order number : ℕ) (answer : Answer) : Type 0 where
   no_order : order_by order number ≡ None → TellsFault answer BadOrder → RunCall task turns order number answer
   ran : (told : RunAnswer) → IsRunAnswer task told → TellsRun answer told → RunCall task turns order number answer

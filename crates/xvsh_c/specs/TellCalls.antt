@@ -1,4 +1,4 @@
--- What a call leaves of a check or an explanation on files and input: what the library below tells of the task, or a fault that is due.
+-- What a call leaves of a check or an explanation on files and input: what the library below reports of the task, or a fault that is due.
 use Rattle.std.specs.Prelude.{◌≡◌, ◌⊎◌, ℕ, Bool}
 use Rattle.mem_files.specs.Name.{Bytes}
 use Rattle.embed.specs.declared.task.Task.{Task}
@@ -12,7 +12,7 @@ use Rattle.xvsh_c.specs.declared.answer.Answer.{Answer}
 use Rattle.xvsh_c.specs.Answers.{TellsFault}
 use Rattle.xvsh_c.specs.AskCalls.{is_on}
 
--- the answer has this object, and tells whether all is fine
+-- the answer has this object, and says whether all is fine
 pub record TellsObject (answer : Answer) (object : Bytes) (is_fine : Bool) : Type 0 where
   pub status : answer.status ≡ 0
   pub json : answer.json.now ≡ object

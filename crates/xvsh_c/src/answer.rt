@@ -26,7 +26,7 @@ pub struct Answer {
     pub status: u32,
     /// What was full first, from 1 on, or 0.
     pub full: u32,
-    /// Of a run by meaning 1 where the script is settled, of a check or an explanation where there is nothing to tell, of an
+    /// Of a run by meaning 1 where the script is settled, of a check or an explanation where there is nothing to report, of an
     /// exploration where all outcomes have one output and one set of files, of a look where the run is finished, of a grading where every
     /// test was passed; else 0.
     pub fine: u32,
@@ -35,7 +35,7 @@ pub struct Answer {
 }
 
 impl Answer {
-    /// Makes it tell nothing.
+    /// Makes it report nothing.
     pub fn clear(&mut self)
         ensures { IsNothing self.new }
     {

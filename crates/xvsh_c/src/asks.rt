@@ -14,7 +14,7 @@ pub(crate) fn is_on(flag: u32) -> bool
     flag != 0
 }
 
-// Puts what is told of a script before any run into an answer.
+// Puts what is reported of a script before any run into an answer.
 fn put_asked(told: AskAnswer, answer: &mut Answer)
     ensures { TellsAsked answer.new told }
 {

@@ -16,7 +16,7 @@ fn put_object(json: Vec<u8>, is_fine: bool, answer: &mut Answer)
     answer.json = given_out(json);
 }
 
-/// `xvsh_check_turns_call`: checks a script, strictly unless `strict` is 0, and tells the turns that are enough for it.
+/// `xvsh_check_turns_call`: checks a script, strictly unless `strict` is 0, and reports the turns that are enough for it.
 #[unsafe(no_mangle)]
 pub extern "C" fn xvsh_check_turns_call(
     alloc: Global,
@@ -32,7 +32,7 @@ pub extern "C" fn xvsh_check_turns_call(
     }
 }
 
-/// `xvsh_check_room_call`: checks a script, strictly unless `strict` is 0, and tells the room that it needs.
+/// `xvsh_check_room_call`: checks a script, strictly unless `strict` is 0, and reports the room that it needs.
 #[unsafe(no_mangle)]
 pub extern "C" fn xvsh_check_room_call(
     alloc: Global,

@@ -22,9 +22,9 @@ pub struct CheckRequest<'a> {
 /// Notes on a script in sentences.
 #[derive(Clone, Copy, Debug)]
 pub struct ExplainRequest<'a> {
-    /// The script. What `>>` means, and the files, count where it is told why the script is settled.
+    /// The script. What `>>` means, and the files, count where the notes say why the script is settled.
     pub source: Source<'a>,
-    /// Tell last why the script is settled on its files and its input, or why it isn't.
+    /// Print last why the script is settled on its files and its input, or why it isn't.
     pub tells_why: bool,
     /// Print in place of the notes the script mended by rules, so that it is settled on its files and its input.
     pub fixes: bool,

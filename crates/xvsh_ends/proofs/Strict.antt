@@ -13,7 +13,7 @@ use Rattle.xvsh_runs.specs.declared.report.Lists.{Lists}
 use Rattle.xvsh_runs.specs.Strict.{RanStrict}
 use Rattle.xvsh_ends.specs.Strictly.{RanStrictly}
 
--- the first reason is told
+-- the first reason is reported
 pub strictly : {A : _} (input : Option Bytes) (file : Path → Option Bytes) (profile : Profile) (script : Path) (paths : List (Bor Path)) (harts : ℕ) (turns : Option ℕ) (lists : Lists) (full : Option Full) (is_settled : Bool) (reasons : List (Reason A)) (text diag : Bytes)
     → RanStrict input file profile script paths harts turns lists full is_settled reasons text diag → RanStrictly input file profile script paths harts turns lists full is_settled (first_text (map reason_text reasons)) text diag
 strictly input file profile script paths harts turns lists full is_settled reasons text diag ran = record {

@@ -200,7 +200,7 @@ module _ (input : Option Bytes) (file : Path → Option Bytes) where
     fixed : {profile : Profile} {script : Path} {paths : List (Bor Path)} {text : Bytes} → RanFix input file profile script paths text → Due (asks_fix profile script paths) text [] 0
     unfixed : {profile : Profile} {script : Path} {paths : List (Bor Path)} → RanNoFix input file profile script paths → Due (asks_fix profile script paths) [] unmended_told 1
     no_fix : {profile : Profile} {script : Path} {paths : List (Bor Path)} (fault : Fault) → IsWhysFault input file profile script paths fault → Due (asks_fix profile script paths) [] (fault_told fault) (status_of fault)
-    -- the outcomes in every order; or why none is told
+    -- the outcomes in every order; or why none is reported
     explored : {profile : Profile} {script : Path} {paths : List (Bor Path)} {states : ℕ} {all : Bool} {text : Bytes} (found : Found) (conclusion : Conclusion) → RanExplore input file profile script paths states all found → Concludes found conclusion → Due (asks_explore profile script paths states all) text [] (explore_status conclusion)
     not_explored : {profile : Profile} {script : Path} {paths : List (Bor Path)} {states : ℕ} {all : Bool} (fault : Fault) → IsExploreFault input file script paths fault → Due (asks_explore profile script paths states all) [] (fault_told fault) (status_of fault)
     -- the same of a request with a trace or a page, beside this; or that it can't be written
@@ -218,7 +218,7 @@ module _ (input : Option Bytes) (file : Path → Option Bytes) where
     -- the same of a request with files in a folder, beside these; or that the folder or one of them can't be written
     filed : {what : Asked} {path : Path} {text told : Bytes} {status : ℕ} → Due what text told status → Due (asks_filed what path) text told status
     unfiled : {what : Asked} {path place : Path} → IsInFolder path place → Due (asks_filed what path) [] (untraced_told place) 1
-    -- the same of a request with the numbers of lines, which stand between the bytes of what is told
+    -- the same of a request with the numbers of lines, which stand between the bytes of what is reported
     lined : {what : Asked} {text told marked : Bytes} {status : ℕ} → IsLined told marked → Due what text told status → Due (asks_lined what) text marked status
     -- an object of what is due without it, or that itself where it has another status
     valued : {what : Asked} {text told : Bytes} {status : ℕ} (object : Bytes) → IsObjectStatus status → Due what text told status → Due (asks_json what) object [] status

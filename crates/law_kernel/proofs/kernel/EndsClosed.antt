@@ -28,7 +28,7 @@ pub pipes_agree : (E : Entries) (pipes now : Pipes) → ((i : ℕ) → read_end_
 pipes_agree E pipes now readers writers apart a =
     record { readers = λ id. a.readers id ∙ ap tally (sym (readers id)); writers = λ id. a.writers id ∙ ap tally (sym (writers id)); apart = apart }
 
--- what a test tells of the pipe of each name, once the one named id became `now`
+-- what a test says of the pipe of each name, once the one named id became `now`
 told_now : (told : Option PipeState → Bool) (pipes : Pipes) (id i : ℕ) (p now : PipeState) (v : Bool) → pipe_of pipes id ≡ Some p → told (Some now) ≡ v → (i ≡ id → v ≡ told (pipe_of pipes i)) → (i ≡ id) ⊎ (i ≢ id) → told (pipe_of (with_pipe pipes id now) i) ≡ told (pipe_of pipes i)
 told_now told pipes id i p now v found is same (inl at) = ap (λ (k : ℕ). told (pipe_of (with_pipe pipes id now) k)) at ∙ ap told (found_now pipes id p now found) ∙ is ∙ same at
 told_now told pipes id i p now v found is same (inr ne) = ap told (others_found pipes id i now ne)
@@ -43,7 +43,7 @@ bytes_agree E pipes id p now found reader writer a =
 
 -- ---- an end is closed
 
--- what a test tells of the pipe of each name, once an end of the one named id was closed
+-- what a test says of the pipe of each name, once an end of the one named id was closed
 told_gone : (told : Option PipeState → Bool) (pipes : Pipes) (id i : ℕ) (p now : PipeState) (b : Bool) → AreApart pipes → pipe_of pipes id ≡ Some p → told None ≡ false → (i ≡ id) ⊎ (i ≢ id) → told (pipe_of (if b then with_pipe pipes id now else without_pipe pipes id) i) ≡ (if i == id then (if b then told (Some now) else false) else told (pipe_of pipes i))
 told_gone told pipes id i p now true apart found none (inl at) =
     ap (λ (k : ℕ). told (pipe_of (with_pipe pipes id now) k)) at ∙ ap told (found_now pipes id p now found) ∙ ap (λ (b : Bool). if b then told (Some now) else told (pipe_of pipes i)) (sym (eq-eqb i id at))

@@ -36,7 +36,7 @@ pub data Moves (id event : ℕ) (before now : Option PipeState) (x y : List ℕ)
   comes : (p : PipeState) → before ≡ Some p → y ≡ [] → ((q : PipeState) → now ≡ Some q → q.bytes ≡ p.bytes ++ x) → Moves id event before now x y
   goes : (p : PipeState) (rest : List ℕ) → before ≡ Some p → x ≡ [] → p.bytes ≡ y ++ rest → ((q : PipeState) → now ≡ Some q → q.bytes ≡ rest) → Moves id event before now x y
 
--- ---- what a slot tells
+-- ---- what a slot shows
 
 if_none : (b : Bool) (x : List ℕ) → x ≡ [] → (if b then x else []) ≡ []
 if_none true x none = none

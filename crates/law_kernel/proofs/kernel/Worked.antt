@@ -60,7 +60,7 @@ booted shell child = boot_kernel (record { own = Wait ∷ []; child = [] }) (rec
 abbrev after : KernelState Script → List Event → Option (KernelState Script)
 after k events = run script_call script_next (Some k) events (no_refusals events)
 
--- what is told of a slot, once the run can happen
+-- what is shown of a slot, once the run can happen
 abbrev told : {X : Type 0} → X → (Slot Script → X) → ℕ → Option (KernelState Script) → X
 told none tell pid None = none
 told none tell pid (Some k) = tell (at k.table pid)

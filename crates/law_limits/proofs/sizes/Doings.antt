@@ -84,7 +84,7 @@ IsOld next (file e) = e < next
 -- ---- what a process is at
 
 pub data Doing : Type 0 where
-  -- no process, a zombie, or one that only tells something and exits
+  -- no process, a zombie, or one that only prints a message and exits
   over : Doing
   -- the shell, with this input and this output, and what it is to give up
   in_phase : Phase → Entry → Entry → Entry → Doing

@@ -231,7 +231,7 @@ module _ (profile : Profile) (L : Sizes) (IsNew : Name → Type 0) (V W : View) 
         apart : p ≢ g.child
         apart same = let z : live ev.parent ev.act ev.put ev.fds ≡ free = sym ev.slot ∙ (ap V.slots same ∙ g.was_free) in let w : ⊥ = cc in w
 
-    -- one that only tells something, or exits
+    -- one that only prints a message, or exits
     ending : IsEnding profile ev.act ev.fds → After profile L V W N p over
     ending (inl is) = exited profile L V W N p ev.next over ev.parent (subst (λ act. EffectBy V W p ev.parent ev.put act ev.fds act.call) is ev.effect)
     ending (inr (message, is, two)) =

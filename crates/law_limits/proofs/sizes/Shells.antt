@@ -115,7 +115,7 @@ module _ (profile : Profile) (L : Sizes) (V W : View) (N : ℕ → ℕ) (p : ℕ
         rate = λ g. omega (arith, has_same V W rest.pipes rest.files g, phase_less L V W N N later g to x y fine.old_input fine.old_output known, less g);
       })
 
-  -- it tells something and exits, or exits
+  -- it prints a message and exits, or exits
   pub ends : (doing : Doing) (parent : ℕ) (act : Act) (d : Fds) → Sets V W p (live parent act 0 d) → Rest V W → IsEnding profile act d → After profile L V W N p doing
   ends doing parent act d sets rest ending =
       goes (record {

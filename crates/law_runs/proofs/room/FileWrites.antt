@@ -119,7 +119,7 @@ module _ (profile : Profile) (V : View) (p fd id : ℕ) (bytes : Bytes) (writes 
   not_it : (r parent put : ℕ) (act : Act) (d : Fds) → V.slots r ≡ live parent act put d → IsNoWrite act.call → 1 ≤ same p r → ⊥
   not_it r parent put act d is other some = subst IsNoWrite (at_here r (live parent act put d) is some).0 other
 
-  -- nor one that tells something
+  -- nor one that prints a message
   not_diag : (r parent put : ℕ) (act : Act) (d : Fds) (message : Bytes) → V.slots r ≡ live parent act put d → act.call ≡ Write 2 message → fd_at d 2 ≡ Some diag → 1 ≤ same p r → ⊥
   not_diag r parent put act d message is call two some =
       let w = at_here r (live parent act put d) is some in

@@ -1,4 +1,4 @@
--- A redirection opens its file, or tells that it can't.
+-- A redirection opens its file, or reports that it can't.
 use Rattle.std.proofs.Common.{◌≡◌, ◌≢◌, inr, ℕ, ◌+◌, ◌<◌, ◌≤◌, [], ◌++◌, Option, Some, None, Bool, true, false, length, arith, refl, sym, ap, ◌∙◌, subst}
 use Rattle.std.specs.Prelude.{slice_set, codes}
 use mathlib.Core.Path.{fun_ext}
@@ -54,7 +54,7 @@ module _ (profile : Profile) (V W : View) (a b old : Entry) (parent p : ℕ) (ev
       fresh : (k : ℕ) → k < V.next → k ≢ V.next
       fresh k lt e = absurd (omega (arith, lt, e))
 
-  -- it tells that it can't
+  -- it reports that it can't
   cant : (mode : Mode) (name : Name) (body : Tree) → Answers V W p parent (does profile (opens mode name body)) Refused (has_open (opens mode name body) a b old) → done ≡ (opens_file profile mode name body V.files).next → V.files ≡ (opens_file profile mode name body V.files).files → (fd_at (has_open (opens mode name body) a b old) 2 ≡ Some Rattle.process_model.specs.Seen.diag) → Part profile V a b old parent p (opening p mode name body) → After profile V W p a b old parent (opening p mode name body)
   cant mode name body f left same two g =
       kinds.calm V W profile a b old parent p _ _ (opening p mode name body) (tells p (block (codes "open " ++ (name ++ codes " failed\n")))) g.has f.slots f.rest refl (has_open (opens mode name body) a b old, f.slots.here, two, inr (mode, refl)) (goes (opens_it left same)) (λ q. refl) (λ k. omega arith) refl (omega arith)

@@ -39,7 +39,7 @@ pub own_fds : {S : Type 0} (x : Slot S) → with_fds (fds_of x) x ≡ x
 own_fds None = refl
 own_fds (Some y) = refl
 
--- ---- an exit isn't told whether the process ran
+-- ---- what an exit does doesn't depend on whether the process ran
 
 running_parent : {S : Type 0} (x : Slot S) → parent_of (with_status (Running 0) x) ≡ parent_of x
 running_parent None = refl

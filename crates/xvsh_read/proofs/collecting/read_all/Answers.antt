@@ -1,4 +1,4 @@
--- What a read gives goes from what the reader has left to what was read; a read of nothing tells that all was read.
+-- What a read gives goes from what the reader has left to what was read; a read of nothing shows that all was read.
 use Rattle.std.proofs.Common.{◌≡◌, length, ℕ, List, ◌++◌, arith, take, drop, ap, ◌∙◌, subst, sym}
 use Rattle.std.specs.Bool.{if◌then◌else◌}
 use Rattle.std.proofs.lemmas.List.{take-append-le, length-append}
