@@ -64,9 +64,10 @@ fn go_on(outcomes: &[Outcome], turns: &[u8]) -> bool
 /// `watch` sees how many were found, and may stop the search (`stopped`).
 ///
 /// Each outcome that is reported is that of a finished run by its own schedule, which begins at the kernel's boot with the turns of the
-/// session (`goes_on`), and no two are equal. Where every order was tried, they are those of all finished runs that go on from the kernel as it is, on any harts, at which memory is
-/// never refused or nothing is full (`told`); where not every one was and the search isn't said to be stopped, more than `states` states were found (`part`). `Full` exactly
-/// where something was full in the session (`full`).
+/// session (`goes_on`), and no two are equal. Where every order was tried, they are those of all finished runs that go on from the
+/// kernel as it is, on any harts, at which memory is never refused or nothing is full (`told`); where not every one was and the search
+/// isn't said to be stopped, more than `states` states were found (`part`). `Full` exactly where something was full in the session
+/// (`full`).
 pub fn outcomes_from<M: Machine, C: Allocator, W: Watch>(
     alloc: Global,
     session: &Session<'_, M, C>,
