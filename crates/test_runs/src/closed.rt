@@ -1,6 +1,6 @@
 //! Two seats take the turns of a script's kernel one after the other; what they leave of a settled script is its meaning.
 
-ghost use Rattle.std.specs.Prelude.{◌≡◌, IfOk, IsTrue, [], length};
+ghost use Rattle.std.specs.Prelude.{◌≡◌, IfOk, IsTrue, length};
 ghost use Rattle.script_load.specs.Line.{lines_of};
 ghost use Rattle.sh_machine.specs.Codes.{user_code};
 ghost use Rattle.run_model.specs.ScriptRun.{script_kernel};
@@ -8,8 +8,9 @@ ghost use Rattle.kernel_threads.specs.Boots.{number_of};
 ghost use Rattle.hart_run.specs.Answer.{IsAnswerIfSettled};
 
 use hart_run::{Kernel, OpenGate, Report, Run, RunFault, Seat, Shared, Turn, close};
+use kernel_events::Setting;
 use mem_files::Files;
-use script_load::{Script, load};
+use script_load::load;
 use sh_machine::{Naming, User};
 use std::alloc::{AllocError, Global};
 use std::marker::Brand;
@@ -42,17 +43,16 @@ fn run_by_seats<'t, N: Run, L: Naming, R: Wait>(
     alloc: Global,
     blank: Blank,
     kernel: Kernel<User<'t, Global, L>, Global>,
-    script: &Script<Global>,
-    files: &Files<Global>,
+    setting: &Setting<'_, Global, Global>,
 ) -> Result<Report<Global>, RunFault>
     requires name { blank.name ≡ N.name }
     requires parts { (blank.parts ≡ N.parts) × (N.parts ≡ 2) }
     requires harts { 2 ≡ N.harts }
     requires turns { 1000 ≡ N.turns }
-    requires boot { number_of user_code (script_kernel script.now.profile (lines_of script.now.lines) [] files.now) ≡ N.boot }
-    requires booted { kernel.boot ≡ script_kernel script.now.profile (lines_of script.now.lines) [] files.now }
+    requires boot { number_of user_code (script_kernel setting.now.script.now.profile (lines_of setting.now.script.now.lines) setting.now.stdin.now setting.now.files.now) ≡ N.boot }
+    requires booted { kernel.boot ≡ script_kernel setting.now.script.now.profile (lines_of setting.now.script.now.lines) setting.now.stdin.now setting.now.files.now }
     requires fresh { kernel.schedule ≡ [] }
-    ensures answer { IfOk result (λ report. IsTrue report.finished → IsAnswerIfSettled script.now.profile (lines_of script.now.lines) [] files.now report) }
+    ensures answer { IfOk result (λ report. IsTrue report.finished → IsAnswerIfSettled setting.now.script.now.profile (lines_of setting.now.script.now.lines) setting.now.stdin.now setting.now.files.now report) }
 {
     let (shared, mut seats) = Shared::<N, User<'t, Global, L>>::start(
         alloc, blank, kernel, 2, 1_000,
@@ -60,7 +60,7 @@ fn run_by_seats<'t, N: Run, L: Naming, R: Wait>(
     let Ok(Turn::Finished) = take_turns(rt, &shared, seats.as_mut_slice()) else {
         return Err(RunFault::Memory);
     };
-    Ok(close(shared, seats, script, &[], files))
+    Ok(close(shared, seats, setting.script, setting.stdin, setting.files))
 }
 
 // The same, where the run is named after the kernel.
@@ -68,31 +68,30 @@ fn run_of<'t, L: Naming, R: Wait>(
     rt: &R,
     alloc: Global,
     kernel: Kernel<User<'t, Global, L>, Global>,
-    script: &Script<Global>,
-    files: &Files<Global>,
+    setting: &Setting<'_, Global, Global>,
 ) -> Result<Report<Global>, RunFault>
-    requires booted { kernel.boot ≡ script_kernel script.now.profile (lines_of script.now.lines) [] files.now }
+    requires booted { kernel.boot ≡ script_kernel setting.now.script.now.profile (lines_of setting.now.script.now.lines) setting.now.stdin.now setting.now.files.now }
     requires fresh { kernel.schedule ≡ [] }
-    ensures answer { IfOk result (λ report. IsTrue report.finished → IsAnswerIfSettled script.now.profile (lines_of script.now.lines) [] files.now report) }
+    ensures answer { IfOk result (λ report. IsTrue report.finished → IsAnswerIfSettled setting.now.script.now.profile (lines_of setting.now.script.now.lines) setting.now.stdin.now setting.now.files.now report) }
 {
-    run_by_seats::<Brand, L, R>(rt, alloc, Blank::new(2), kernel, script, files)
+    run_by_seats::<Brand, L, R>(rt, alloc, Blank::new(2), kernel, setting)
 }
 
 // The same of the script that `L` names.
 fn run_named<L: Naming, R: Wait>(
     rt: &R,
     alloc: Global,
-    script: &Script<Global>,
-    files: &Files<Global>,
+    setting: &Setting<'_, Global, Global>,
 ) -> Result<Report<Global>, RunFault>
-    requires { lines_of script.now.lines ≡ L.script }
-    ensures answer { IfOk result (λ report. IsTrue report.finished → IsAnswerIfSettled script.now.profile (lines_of script.now.lines) [] files.now report) }
+    requires { lines_of setting.now.script.now.lines ≡ L.script }
+    ensures answer { IfOk result (λ report. IsTrue report.finished → IsAnswerIfSettled setting.now.script.now.profile (lines_of setting.now.script.now.lines) setting.now.stdin.now setting.now.files.now report) }
 {
     let init = User::<Global, L>::init();
-    let Ok(kernel) = Kernel::boot(alloc, init, User::shell(script), &[], files) else {
+    let shell = User::shell(setting.script);
+    let Ok(kernel) = Kernel::boot(alloc, init, shell, setting.stdin, setting.files) else {
         return Err(RunFault::Memory);
     };
-    run_of(rt, alloc, kernel, script, files)
+    run_of(rt, alloc, kernel, setting)
 }
 
 // The report is finished, and this was written.
@@ -107,7 +106,12 @@ fn seats_leave_the_meaning(rt: HostRuntime) -> Result<(), Fail> {
     let alloc = rt.alloc();
     let script = load(alloc, b"echo hello | cat > f; wc f".as_slice())?;
     let files = Files::new(alloc);
-    let report = run_named::<Brand, HostRuntime>(&rt, alloc, &script, &files)?;
+    let setting = Setting {
+        script: &script,
+        stdin: &[],
+        files: &files,
+    };
+    let report = run_named::<Brand, HostRuntime>(&rt, alloc, &setting)?;
     gave(&rt, &report, b"1 1 6 f\n");
     Ok(())
 }
