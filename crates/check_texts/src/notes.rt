@@ -83,8 +83,8 @@ fn lack_and_why(
 {
     let mut text = Vec::new(alloc);
     add_lack_note(alloc, lack, &mut text)?;
-    let told = why(alloc, reasons)?;
-    text.extend_from_slice(told.as_slice())?;
+    let whys = why(alloc, reasons)?;
+    text.extend_from_slice(whys.as_slice())?;
     let mends = ways(alloc, reasons)?;
     text.extend_from_slice(mends.as_slice())?;
     Ok(text)
@@ -100,8 +100,8 @@ fn names_and_why(
     ensures { IfOk result (λ text. text.items ≡ missing_texts (map shown missing.now) ++ (lack_noted lack.now ++ (why_text (map reason_text reasons.now) ++ ways_text reasons.now))) }
 {
     let mut text = text_of_missing(alloc, missing)?;
-    let told = lack_and_why(alloc, lack, reasons)?;
-    text.extend_from_slice(told.as_slice())?;
+    let more = lack_and_why(alloc, lack, reasons)?;
+    text.extend_from_slice(more.as_slice())?;
     Ok(text)
 }
 

@@ -47,10 +47,10 @@ fn is_dead<A: Allocator>(line: &Line<A>) -> bool
 }
 
 // Adds the number, if it is listed.
-fn add_number(number: usize, is_told: bool, found: &mut Vec<usize>) -> Result<(), AllocError>
-    ensures { OnOk result (found.new.items ≡ found.old.items ++ numbered number is_told) }
+fn add_number(number: usize, is_listed: bool, found: &mut Vec<usize>) -> Result<(), AllocError>
+    ensures { OnOk result (found.new.items ≡ found.old.items ++ numbered number is_listed) }
 {
-    if is_told {
+    if is_listed {
         found.push(number)?;
     }
     Ok(())

@@ -8,9 +8,9 @@ ghost use Rattle.embed.specs.Looks.{IsLookAnswer, IsLookRefusal, LedTo};
 
 use crate::beginning::{Begun, begin};
 use crate::fault::EmbedFault;
+use crate::look_objects::look_object;
 use crate::replays::{of_replay, schedule_of};
 use crate::task::Task;
-use crate::telling::told;
 use kernel_events::Event;
 use kernel_runs::{ReplayFault, replay};
 use std::alloc::Global;
@@ -65,7 +65,7 @@ pub fn look_of(alloc: Global, task: &Task<'_>, schedule: &[u8]) -> Result<LookAn
         Ok(is_finished) => is_finished,
         Err(fault) => return Err(of_replay(fault)),
     };
-    match told(alloc, &begun, task.stdin, events.as_slice()) {
+    match look_object(alloc, &begun, task.stdin, events.as_slice()) {
         Ok(json) => Ok(LookAnswer { json, is_finished }),
         Err(_) => Err(EmbedFault::Memory),
     }

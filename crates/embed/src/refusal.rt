@@ -25,7 +25,7 @@ pub(crate) fn of_fault(fault: GradeFault<'_>) -> GradeRefusal
     ensures { IsToldBelow result }
 {
     match fault {
-        GradeFault::Suite(_, line, told) => GradeRefusal::BadSuite(line, told),
+        GradeFault::Suite(_, line, sentence) => GradeRefusal::BadSuite(line, sentence),
         GradeFault::Unused(_) => GradeRefusal::UnusedScript,
         GradeFault::Twice(_) | GradeFault::Common(_) => GradeRefusal::Memory,
     }

@@ -5,7 +5,7 @@ ghost use Rattle.embed.specs.Runs.{of_replay, IsLineFault, IsReplayAnswer, IsRep
 
 use crate::beginning::begin;
 use crate::fault::EmbedFault;
-use crate::running::{RunAnswer, told_of};
+use crate::running::{RunAnswer, answer_of};
 use crate::task::Task;
 use hart_run::Event;
 use hart_run::laws::a_settled_script_has_one_answer;
@@ -66,7 +66,7 @@ pub fn replay_of(alloc: Global, task: &Task<'_>, schedule: &[u8]) -> Result<RunA
         Err(fault) => return Err(of_replay(fault)),
     };
     a_settled_script_has_one_answer(&begun.script, &report);
-    match told_of(alloc, report) {
+    match answer_of(alloc, report) {
         Ok(answer) => Ok(answer),
         Err(_) => Err(EmbedFault::Memory),
     }

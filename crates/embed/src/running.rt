@@ -27,7 +27,7 @@ pub struct RunAnswer {
 }
 
 /// What is reported of a run.
-pub(crate) fn told_of(alloc: Global, report: Report<Global>) -> Result<RunAnswer, AllocError>
+pub(crate) fn answer_of(alloc: Global, report: Report<Global>) -> Result<RunAnswer, AllocError>
     ensures { IfOk result (IsReportTold report) }
 {
     let none: &[Bytes<Global>] = &[];
@@ -66,7 +66,7 @@ pub fn run_of(
         Err(RunOneFault::Spent) => return Err(EmbedFault::Spent),
         Err(RunOneFault::Memory) => return Err(EmbedFault::Memory),
     };
-    match told_of(alloc, report) {
+    match answer_of(alloc, report) {
         Ok(answer) => Ok(answer),
         Err(_) => Err(EmbedFault::Memory),
     }

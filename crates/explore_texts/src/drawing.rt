@@ -52,7 +52,7 @@ fn two_ways<'o>(
 // Whether it was found where the ways of a pair part; then they were made alike.
 fn is_parted(findings: &Findings, pair: Pair) -> bool {
     match findings.partings.as_slice().get(pair.other) {
-        Some(Some(told)) => told.from == pair.first,
+        Some(Some(parted)) => parted.from == pair.first,
         _ => false,
     }
 }

@@ -8,7 +8,7 @@ use xvsh_explores::ExploreRequest;
 
 /// Where the schedules of two outcomes part.
 #[derive(Drop)]
-pub struct Told {
+pub struct Parted {
     /// The place of the first of the two.
     pub from: usize,
     pub parting: Parting,
@@ -20,7 +20,7 @@ pub struct Findings {
     /// A schedule of each: the processes in the order of their turns.
     pub ways: Vec<Vec<u8>>,
     /// Where the schedule of each and that of one before it part, where that is shown.
-    pub partings: Vec<Option<Told>>,
+    pub partings: Vec<Option<Parted>>,
     /// The two that are asked for, or those whose difference is easiest to see, if there are two.
     pub pair: Option<Pair>,
 }
@@ -50,14 +50,14 @@ fn ways_to<'o>(alloc: Global, outcomes: &'o [Outcome]) -> Result<Vec<Way<'o>>, A
 }
 
 // Where the ways to two outcomes part, of which the first has this place.
-fn told_of(
+fn part_two(
     alloc: Global,
     setting: &Setting<'_, Global, Global>,
     (from, one): (usize, &Way<'_>),
     other: &Way<'_>,
-) -> Result<Option<Told>, AllocError> {
+) -> Result<Option<Parted>, AllocError> {
     let parting = part(alloc, setting, one.pids.as_slice(), other.pids.as_slice())?;
-    Ok(parting.map(|parting| Told { from, parting }))
+    Ok(parting.map(|parting| Parted { from, parting }))
 }
 
 // Makes all ways alike, and returns where each and the first part.
@@ -65,7 +65,7 @@ fn part_all(
     alloc: Global,
     setting: &Setting<'_, Global, Global>,
     ways: &mut [Way<'_>],
-) -> Result<Vec<Option<Told>>, AllocError> {
+) -> Result<Vec<Option<Parted>>, AllocError> {
     let mut partings = Vec::new(alloc);
     let Some((first, others)) = ways.split_first_mut() else {
         return Ok(partings);
@@ -73,7 +73,7 @@ fn part_all(
     align(alloc, setting, first, &mut others[0..])?;
     partings.push(None)?;
     for other in others.iter() {
-        partings.push(told_of(alloc, setting, (0, first), other)?)?;
+        partings.push(part_two(alloc, setting, (0, first), other)?)?;
     }
     Ok(partings)
 }
@@ -84,7 +84,7 @@ fn part_pair(
     setting: &Setting<'_, Global, Global>,
     ways: &mut [Way<'_>],
     pair: Pair,
-) -> Result<Vec<Option<Told>>, AllocError> {
+) -> Result<Vec<Option<Parted>>, AllocError> {
     let mut partings = Vec::new(alloc);
     for _way in 0..ways.len().min(pair.other) {
         partings.push(None)?;
@@ -94,7 +94,7 @@ fn part_pair(
         return Ok(partings);
     };
     align(alloc, setting, one, &mut from_other[..1])?;
-    partings.push(told_of(alloc, setting, (pair.first, one), &from_other[0])?)?;
+    partings.push(part_two(alloc, setting, (pair.first, one), &from_other[0])?)?;
     Ok(partings)
 }
 
@@ -105,7 +105,7 @@ fn part_some(
     ways: &mut [Way<'_>],
     pair: Option<Pair>,
     is_asked: bool,
-) -> Result<Vec<Option<Told>>, AllocError> {
+) -> Result<Vec<Option<Parted>>, AllocError> {
     match pair {
         Some(pair) if is_asked || ways.len() > MOST_PARTED => part_pair(alloc, setting, ways, pair),
         _ => part_all(alloc, setting, ways),

@@ -8,7 +8,7 @@ mod objects;
 mod playing;
 mod replays;
 mod showing;
-mod telling;
+mod texts;
 
 pub use play_page::PageFault;
 pub use playing::Played;

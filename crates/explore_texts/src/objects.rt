@@ -1,6 +1,6 @@
 //! What was found as one object of JSON.
 
-use crate::findings::{Findings, Told};
+use crate::findings::{Findings, Parted};
 use plain_run::Plain;
 use result_json::{begin_result, full_word, write_dead, write_files};
 use script_outcomes::{Conclusion, Exploration, Outcome, Tried};
@@ -37,10 +37,10 @@ fn write_pids(line: &mut Line, key: &str, pids: &[u8]) -> Result<(), AllocError>
 }
 
 // Where the schedule of an outcome before this one and its own part.
-fn write_parting(line: &mut Line, told: &Told) -> Result<(), AllocError> {
-    let parting = &told.parting;
+fn write_parting(line: &mut Line, parted: &Parted) -> Result<(), AllocError> {
+    let parting = &parted.parting;
     line.begin_object("parting")?;
-    line.count("from", (told.from as u64).saturating_add(1))?;
+    line.count("from", (parted.from as u64).saturating_add(1))?;
     line.count("event", parting.event as u64)?;
     line.bytes("there", parting.one.as_slice())?;
     line.bytes("here", parting.other.as_slice())?;
@@ -52,7 +52,7 @@ fn write_outcome(
     number: usize,
     outcome: &Outcome,
     pids: &[u8],
-    told: Option<&Told>,
+    parted: Option<&Parted>,
 ) -> Result<(), AllocError> {
     line.begin_raw_object()?;
     line.count("number", number as u64)?;
@@ -64,8 +64,8 @@ fn write_outcome(
     }
     line.count("events", (pids.len() as u64).saturating_mul(2))?;
     write_pids(line, "schedule", pids)?;
-    if let Some(told) = told {
-        write_parting(line, told)?;
+    if let Some(parted) = parted {
+        write_parting(line, parted)?;
     }
     line.end_object()
 }
@@ -81,11 +81,11 @@ fn write_outcomes(
             Some(pids) => pids.as_slice(),
             None => &[],
         };
-        let told = match findings.partings.as_slice().get(i) {
-            Some(Some(told)) => Some(told),
+        let parted = match findings.partings.as_slice().get(i) {
+            Some(Some(parted)) => Some(parted),
             _ => None,
         };
-        write_outcome(line, i.saturating_add(1), outcome, pids, told)?;
+        write_outcome(line, i.saturating_add(1), outcome, pids, parted)?;
     }
     line.end_list()
 }

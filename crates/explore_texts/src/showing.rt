@@ -4,7 +4,7 @@ use crate::drawing::page_of;
 use crate::findings::{Findings, findings_of, schedules_of};
 use crate::objects::{object_of, object_of_settled};
 use crate::playing::{Played, page_to_play};
-use crate::telling::{told, told_settled};
+use crate::texts::{text_of_settled, text_of_tried};
 use dead_lines::dead_lines;
 use order_partings::Setting;
 use script_outcomes::{Found, Pair, Tried, Watch, concluded, shown_pair};
@@ -46,7 +46,7 @@ fn text_of(
         let conclusion = concluded(&explored.found);
         object_of(alloc, tried, findings, conclusion, explored.dead.as_slice())
     } else {
-        told(alloc, request, tried, findings)
+        text_of_tried(alloc, request, tried, findings)
     }
 }
 
@@ -82,7 +82,7 @@ fn show_found(
     let text = if request.is_json {
         object_of_settled(alloc, value, explored.dead.as_slice())?
     } else {
-        told_settled(alloc, value.out.as_slice())?
+        text_of_settled(alloc, value.out.as_slice())?
     };
     Ok(Shown {
         text,

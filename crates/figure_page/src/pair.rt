@@ -47,11 +47,11 @@ const WHY: usize = 4;
 
 // What a run printed as diagnostics, if it printed something.
 fn add_messages<A: Allocator + Copy>(page: &mut Page<A>, name: &'static str, trace: &Trace<A>) {
-    let told = trace.text(trace.end.diag);
-    if told.is_empty() {
+    let diagnostics = trace.text(trace.end.diag);
+    if diagnostics.is_empty() {
         return;
     }
-    add_printed(page, name, told);
+    add_printed(page, name, diagnostics);
 }
 
 // What both runs printed and left.

@@ -73,7 +73,7 @@ fn is_end<A: Allocator>(run: &Run<'_, A>, trap: &Trap) -> bool {
 }
 
 // Whether a call is shown.
-fn is_told<A: Allocator>(run: &Run<'_, A>, event: &Event, trap: &Trap) -> bool {
+fn is_shown<A: Allocator>(run: &Run<'_, A>, event: &Event, trap: &Trap) -> bool {
     let is_notable = trap.is_at_end
         || trap.diag.is_some()
         || trap.full.is_some()
@@ -111,15 +111,15 @@ pub(crate) fn add_story<A: Allocator + Copy>(
     most: usize,
 ) {
     page.mark("<ol class=\"story\">\n");
-    let mut told: usize = 0;
+    let mut shown: usize = 0;
     let mut left: usize = 0;
     for event in events_of(run.trace, span.first, span.past) {
         let Some(trap) = &event.trap else {
             continue;
         };
-        if is_told(run, event, trap) {
-            if told < MOST && page.size() < most {
-                told = told.saturating_add(1);
+        if is_shown(run, event, trap) {
+            if shown < MOST && page.size() < most {
+                shown = shown.saturating_add(1);
                 add_item(page, run, event, trap);
             } else {
                 left = left.saturating_add(1);

@@ -60,7 +60,11 @@ fn add_drawn<A: Allocator>(page: &mut Page<A>, span: Span, events: usize) {
 }
 
 /// What a picture says to who can't see it: how large a run is, how it ended, and what it printed.
-pub(crate) fn add_told<A: Allocator>(page: &mut Page<A>, name: &'static str, run: &Run<'_, A>) {
+pub(crate) fn add_description<A: Allocator>(
+    page: &mut Page<A>,
+    name: &'static str,
+    run: &Run<'_, A>,
+) {
     page.mark(name);
     add_size(page, run);
     add_end(page, run.trace);
@@ -158,7 +162,7 @@ impl<A: Allocator + Copy> Drawing<A> {
         alloc: A,
         title: &'static str,
         script: &[u8],
-        told: Page<A>,
+        description: Page<A>,
     ) -> Result<Vec<u8, A>, AllocError> {
         let Drawing { body, top } = self;
         let (wide, high) = (NAMES + TIME + 2 * MARGIN, top.saturating_add(2 * MARGIN));
@@ -172,7 +176,7 @@ impl<A: Allocator + Copy> Drawing<A> {
             Mark("</title>\n<desc>"),
         ]);
         page.mark("Each process has a lane; events go from left to right.\n");
-        page.append(told);
+        page.append(description);
         page.mark("</desc>\n");
         add_style(&mut page);
         page.add(&[Mark("<defs>\n"), Mark(PATTERNS), Mark("</defs>\n")]);

@@ -1,6 +1,6 @@
 //! The picture of two runs of one script.
 
-use crate::svg_drawing::{Drawing, add_told};
+use crate::svg_drawing::{Drawing, add_description};
 use Piece::{Mark, Num};
 use figure_strips::{Bounds, Span};
 use figure_words::{Page, Piece, Run};
@@ -53,9 +53,9 @@ pub fn pair_svg<A: Allocator + Copy>(
 ) -> Result<Vec<u8, A>, AllocError> {
     let mut first = Run::new(alloc, one)?;
     let mut second = Run::new(alloc, other)?;
-    let mut told = Page::new(alloc);
-    add_told(&mut told, "Run 1: ", &first);
-    add_told(&mut told, "Run 2: ", &second);
+    let mut description = Page::new(alloc);
+    add_description(&mut description, "Run 1: ", &first);
+    add_description(&mut description, "Run 2: ", &second);
     let span = bounds.span(one.events.len());
     let second_span = bounds.span(other.events.len());
     let script = one.text(one.head.script);
@@ -68,7 +68,7 @@ pub fn pair_svg<A: Allocator + Copy>(
     add_beginning(alloc, &mut drawing, &mut first, count, span.before(parting))?;
     if count == one.events.len() && count == other.events.len() {
         drawing.line("fact", &[Mark("The events of both are the same.")]);
-        return drawing.end(alloc, "Two runs of a script", script, told);
+        return drawing.end(alloc, "Two runs of a script", script, description);
     }
     drawing.parting(count);
     add_rest(alloc, &mut drawing, &mut first, "Run 1", span.from(parting))?;
@@ -79,5 +79,5 @@ pub fn pair_svg<A: Allocator + Copy>(
         "Run 2",
         second_span.from(parting),
     )?;
-    drawing.end(alloc, "Two runs of a script", script, told)
+    drawing.end(alloc, "Two runs of a script", script, description)
 }

@@ -1,6 +1,6 @@
 //! The picture of one run.
 
-use crate::svg_drawing::{Drawing, add_told};
+use crate::svg_drawing::{Drawing, add_description};
 use figure_strips::Bounds;
 use figure_words::{Page, Run};
 use std::alloc::{AllocError, Allocator};
@@ -18,12 +18,12 @@ pub fn run_svg<A: Allocator + Copy>(
 ) -> Result<Vec<u8, A>, AllocError> {
     let mut run = Run::new(alloc, trace)?;
     let mut drawing = Drawing::new(alloc);
-    let mut told = Page::new(alloc);
+    let mut description = Page::new(alloc);
     let script = trace.text(trace.head.script);
     let span = bounds.span(trace.events.len());
-    add_told(&mut told, "", &run);
+    add_description(&mut description, "", &run);
     drawing.script(script);
     drawing.facts("", &run, span);
     drawing.strips(alloc, &mut run, span)?;
-    drawing.end(alloc, "A run of a script", script, told)
+    drawing.end(alloc, "A run of a script", script, description)
 }

@@ -40,13 +40,13 @@ fn sets_up<A: Allocator>(lane: &Lane<'_, '_, A>) -> bool {
 // Which descriptors the calls before set up: of each which one becomes which.
 fn add_ends<A: Allocator>(page: &mut Page<A>, lane: &Lane<'_, '_, A>) {
     let first = lane.first_shown();
-    let mut told: usize = 0;
+    let mut shown: usize = 0;
     for event in lane.events() {
         if let Some((fd, new)) = doubled(event) {
-            if told < MOST_ENDS && lane.is_folded(event, first, Folded::Early) {
-                page.mark(if told > 0 { ", " } else { "" });
+            if shown < MOST_ENDS && lane.is_folded(event, first, Folded::Early) {
+                page.mark(if shown > 0 { ", " } else { "" });
                 page.add(&[Num(fd), Mark(" to "), Num(new)]);
-                told = told.saturating_add(1);
+                shown = shown.saturating_add(1);
             }
         }
     }

@@ -33,17 +33,17 @@ fn add_items<A: Allocator + Copy>(
     folded: Folded,
 ) -> usize {
     let first = lane.first_shown();
-    let mut told: usize = 0;
+    let mut shown: usize = 0;
     for event in lane.events() {
         if let Some(trap) = &event.trap {
-            let has_room = told < MOST && page.size() < lane.side.most;
+            let has_room = shown < MOST && page.size() < lane.side.most;
             if has_room && lane.is_folded(event, first, folded) {
-                told = told.saturating_add(1);
+                shown = shown.saturating_add(1);
                 add_item(page, lane, event, trap);
             }
         }
     }
-    told
+    shown
 }
 
 // The list of so many calls, below some words.
@@ -60,9 +60,9 @@ fn add_list<A: Allocator + Copy>(
         Folded::Early => "<p class=\"note\">Before the calls in the picture:</p>\n<ol>\n",
         Folded::Late => "<p class=\"note\">Between these calls, and behind them:</p>\n<ol>\n",
     });
-    let told = add_items(page, lane, folded);
+    let shown = add_items(page, lane, folded);
     page.mark("</ol>\n");
-    let more = count.saturating_sub(told);
+    let more = count.saturating_sub(shown);
     if more > 0 {
         page.add(&[
             Mark("<p class=\"note\">and "),

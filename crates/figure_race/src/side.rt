@@ -143,19 +143,19 @@ fn add_items<A: Allocator + Copy>(
 ) -> usize {
     let later = side.later();
     let mut seen: usize = 0;
-    let mut told: usize = 0;
+    let mut shown: usize = 0;
     page.mark("<ol>\n");
     for event in side.events(span) {
         if side.is_meant(event) {
-            if seen >= from && told < most && page.size() < side.most {
-                told = told.saturating_add(1);
+            if seen >= from && shown < most && page.size() < side.most {
+                shown = shown.saturating_add(1);
                 add_item(page, side, event, event.number == later);
             }
             seen = seen.saturating_add(1);
         }
     }
     page.mark("</ol>\n");
-    told
+    shown
 }
 
 // Says how many calls are left out.
@@ -177,8 +177,8 @@ pub(crate) fn add_before<A: Allocator + Copy>(page: &mut Page<A>, side: &Side<'_
     let from = count.saturating_sub(BEFORE);
     page.mark("<div class=\"before\">\n");
     add_more(page, from, " calls on it before these");
-    let told = add_items(page, side, before, (from, BEFORE));
-    let more = count.saturating_sub(from).saturating_sub(told);
+    let shown = add_items(page, side, before, (from, BEFORE));
+    let more = count.saturating_sub(from).saturating_sub(shown);
     add_more(page, more, " calls more before the next");
     page.mark("</div>\n");
 }
@@ -207,8 +207,8 @@ pub(crate) fn add_behind<A: Allocator + Copy>(page: &mut Page<A>, side: &Side<'_
     let (_before, behind) = side.parts();
     let count = side.count(behind);
     page.mark("<div class=\"behind\">\n");
-    let told = add_items(page, side, behind, (0, BEHIND));
-    let more = count.saturating_sub(told);
+    let shown = add_items(page, side, behind, (0, BEHIND));
+    let more = count.saturating_sub(shown);
     add_more(page, more, " more such calls, in the table below");
     page.mark("</div>\n");
 }

@@ -105,12 +105,12 @@ pub fn add_node<A: Allocator>(page: &mut Page<A>, doing: &Doing) {
 // The words of a command, with commas between.
 fn add_words<A: Allocator>(page: &mut Page<A>, trace: &Trace<A>, words: &[Part]) {
     let mut comma = "";
-    let told = words.get(..MOST_WORDS).unwrap_or(words);
-    for word in told {
+    let shown = words.get(..MOST_WORDS).unwrap_or(words);
+    for word in shown {
         page.fill("%“%”", &[Mark(comma), Short(trace.text(*word), TABLE_ROOM)]);
         comma = ", ";
     }
-    if told.len() < words.len() {
+    if shown.len() < words.len() {
         page.mark(", …");
     }
 }

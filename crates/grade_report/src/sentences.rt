@@ -83,8 +83,8 @@ fn add_race(alloc: Global, text: &mut Vec<u8>, race: &Race) -> Result<(), AllocE
 fn add_refusal(alloc: Global, text: &mut Vec<u8>, refusal: &Refusal) -> Result<(), AllocError> {
     match refusal {
         Refusal::Script(fault) => {
-            let told = format!(in alloc; "{fault}")?;
-            add(text, told.as_str())
+            let words = format!(in alloc; "{fault}")?;
+            add(text, words.as_str())
         }
         Refusal::Line(line, kind) => {
             let begin = format!(in alloc; "line {line}: ")?;
@@ -100,10 +100,10 @@ fn add_unsure(alloc: Global, text: &mut Vec<u8>, found: usize) -> Result<(), All
         return add(text, UNFINISHED);
     }
     let ends = if found == 1 { "end" } else { "ends" };
-    let told = format!(in alloc;
+    let words = format!(in alloc;
         "right in each order of its processes that was tried to its end ({found} different {ends}), but not every order was tried"
     )?;
-    add(text, told.as_str())
+    add(text, words.as_str())
 }
 
 // Adds what was full.
@@ -159,17 +159,17 @@ fn brief_of(kind: NoteKind) -> &'static str {
 pub fn sentence_beside(
     alloc: Global,
     verdict: Option<&Verdict>,
-    told: &mut Vec<NoteKind>,
+    printed: &mut Vec<NoteKind>,
 ) -> Result<Vec<u8>, AllocError> {
     let Some(Verdict::Refused(Refusal::Line(line, kind))) = verdict else {
         return sentence_of(alloc, verdict);
     };
-    if told.contains(kind) {
+    if printed.contains(kind) {
         let brief = brief_of(*kind);
         let text = format!(in alloc; "line {line}: {brief}, as above")?;
         return Ok(text.into_bytes());
     }
-    told.push(*kind)?;
+    printed.push(*kind)?;
     sentence_of(alloc, verdict)
 }
 

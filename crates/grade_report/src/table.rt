@@ -41,7 +41,7 @@ fn add_row(
     text: &mut Vec<u8>,
     row: &Row<'_>,
     is_coloured: bool,
-    told: &mut Vec<NoteKind>,
+    printed: &mut Vec<NoteKind>,
 ) -> Result<(), AllocError> {
     add(text, "  ")?;
     add_word(text, row, is_coloured)?;
@@ -53,7 +53,7 @@ fn add_row(
     add(text, "  ")?;
     add_name(text, row.test)?;
     add(text, "\n")?;
-    let sentence = sentence_beside(alloc, row.verdict, told)?;
+    let sentence = sentence_beside(alloc, row.verdict, printed)?;
     if !sentence.is_empty() {
         add(text, "      ")?;
         text.extend_from_slice(sentence.as_slice())?;
@@ -81,7 +81,7 @@ fn add_script(
     text: &mut Vec<u8>,
     rows: &[Row<'_>],
     is_coloured: bool,
-    told: &mut Vec<NoteKind>,
+    printed: &mut Vec<NoteKind>,
 ) -> Result<(), AllocError> {
     match rows.first() {
         Some(
@@ -95,7 +95,7 @@ fn add_script(
     add(text, ": ")?;
     add_sum(alloc, text, sum_of(rows))?;
     for row in rows {
-        add_row(alloc, text, row, is_coloured, told)?;
+        add_row(alloc, text, row, is_coloured, printed)?;
     }
     Ok(())
 }
@@ -110,7 +110,7 @@ pub fn table_text(
     is_coloured: bool,
 ) -> Result<Vec<u8>, AllocError> {
     let mut text = Vec::new(alloc);
-    let mut told = Vec::new(alloc);
+    let mut printed = Vec::new(alloc);
     let mut from = 0;
     for _ in 0..rows.len() {
         if from >= rows.len() {
@@ -118,7 +118,7 @@ pub fn table_text(
         }
         let end = script_end(rows, from);
         let own = rows.get(from..end).unwrap_or(&[]);
-        add_script(alloc, &mut text, own, is_coloured, &mut told)?;
+        add_script(alloc, &mut text, own, is_coloured, &mut printed)?;
         from = end;
     }
     let scripts = scripts_of(rows);

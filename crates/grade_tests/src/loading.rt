@@ -21,9 +21,9 @@ fn shown(name: &[u8]) -> &str {
 }
 
 // Why a file of a test can't be one of a script.
-fn file_fault<'a>(spot: &Spot<'a, '_>, table: &str, name: &str, told: &str) -> GradeFault<'a> {
-    match format!(in spot.alloc; "`{name}` {told}") {
-        Ok(told) => spot.fault(table, name, told),
+fn file_fault<'a>(spot: &Spot<'a, '_>, table: &str, name: &str, what: &str) -> GradeFault<'a> {
+    match format!(in spot.alloc; "`{name}` {what}") {
+        Ok(sentence) => spot.fault(table, name, sentence),
         Err(_) => GradeFault::Common(Fault::Memory),
     }
 }

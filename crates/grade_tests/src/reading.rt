@@ -29,7 +29,7 @@ fn suite_of<'a>(alloc: Global, path: &'a str, text: &[u8]) -> Result<Suite, Grad
 {
     match read_suite(alloc, text) {
         Ok(suite) => Ok(suite),
-        Err(SuiteFault::At { line, told }) => Err(GradeFault::Suite(path, line, told)),
+        Err(SuiteFault::At { line, sentence }) => Err(GradeFault::Suite(path, line, sentence)),
         Err(SuiteFault::Memory) => Err(GradeFault::Common(Fault::Memory)),
     }
 }

@@ -78,19 +78,19 @@ pub(crate) struct Spot<'a, 's> {
 
 impl<'a> Spot<'a, '_> {
     /// What is wrong at the key of a table.
-    pub(crate) fn fault(&self, table: &str, key: &str, told: String) -> GradeFault<'a> {
+    pub(crate) fn fault(&self, table: &str, key: &str, sentence: String) -> GradeFault<'a> {
         let key = Key {
             test: self.test,
             table,
             key,
         };
-        GradeFault::Suite(self.suite, line_of(self.text, &key), told)
+        GradeFault::Suite(self.suite, line_of(self.text, &key), sentence)
     }
 
     // There are too many bytes.
     fn too_long(&self, place: &Place<'_>, key: &str, what: &str) -> GradeFault<'a> {
         match format!(in self.alloc; "{what} has more than {} bytes", place.limit) {
-            Ok(told) => self.fault(place.table, key, told),
+            Ok(sentence) => self.fault(place.table, key, sentence),
             Err(_) => GradeFault::Common(Fault::Memory),
         }
     }
@@ -98,7 +98,7 @@ impl<'a> Spot<'a, '_> {
     // The file can't be read.
     fn unreadable(&self, place: &Place<'_>, path: &str) -> GradeFault<'a> {
         match format!(in self.alloc; "cannot read {path}") {
-            Ok(told) => self.fault(place.table, place.file_key, told),
+            Ok(sentence) => self.fault(place.table, place.file_key, sentence),
             Err(_) => GradeFault::Common(Fault::Memory),
         }
     }

@@ -149,8 +149,8 @@ fn add_wait<M: Machine>(
     match turner.gone() {
         Some(gone) => {
             let index = gone.index();
-            let told = format!(in alloc; "learns that process {index} has exited")?;
-            text.extend_from_slice(told.as_bytes())
+            let learned = format!(in alloc; "learns that process {index} has exited")?;
+            text.extend_from_slice(learned.as_bytes())
         }
         None => text.extend_from_slice(b"has no child to wait for".as_slice()),
     }

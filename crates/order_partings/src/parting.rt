@@ -42,7 +42,7 @@ fn lead<M: Machine>(turner: &mut Turner<'_, M>, pids: &[u8]) -> Result<bool, All
 }
 
 // What happens at a turn of a schedule, of a kernel at its start.
-fn told_by<M: Machine>(
+fn deed_by<M: Machine>(
     alloc: Global,
     turner: &mut Turner<'_, M>,
     pids: &[u8],
@@ -58,7 +58,7 @@ fn told_by<M: Machine>(
 }
 
 // The same of a kernel that nothing follows yet.
-fn told_of<M: Machine>(
+fn deed_from<M: Machine>(
     alloc: Global,
     setting: &Setting<'_, Global, Global>,
     kernel: Kernel<M, Global>,
@@ -66,11 +66,11 @@ fn told_of<M: Machine>(
     place: usize,
 ) -> Result<Option<Vec<u8>>, AllocError> {
     let mut turner = Turner::new(kernel, setting.script);
-    told_by(alloc, &mut turner, pids, place)
+    deed_by(alloc, &mut turner, pids, place)
 }
 
 // The same of a run of the script that `N` names.
-fn told_named<N: Naming>(
+fn deed_named<N: Naming>(
     alloc: Global,
     setting: &Setting<'_, Global, Global>,
     pids: &[u8],
@@ -81,17 +81,17 @@ fn told_named<N: Naming>(
     let init = User::<Global, N>::init();
     let shell = User::shell(setting.script);
     let kernel = Kernel::boot(alloc, init, shell, setting.stdin, setting.files)?;
-    told_of(alloc, setting, kernel, pids, place)
+    deed_from(alloc, setting, kernel, pids, place)
 }
 
 // What happens at a turn of a schedule.
-fn told(
+fn deed_at(
     alloc: Global,
     setting: &Setting<'_, Global, Global>,
     pids: &[u8],
     place: usize,
 ) -> Result<Option<Vec<u8>>, AllocError> {
-    told_named::<Brand>(alloc, setting, pids, place)
+    deed_named::<Brand>(alloc, setting, pids, place)
 }
 
 /// Where the two schedules part, and what happens then in the one and in the other; `None` where one of them ends there, or can't
@@ -105,8 +105,8 @@ pub fn part(
     let place = shared(one, other);
     let event = place.saturating_mul(2).saturating_add(1);
     match (
-        told(alloc, setting, one, place)?,
-        told(alloc, setting, other, place)?,
+        deed_at(alloc, setting, one, place)?,
+        deed_at(alloc, setting, other, place)?,
     ) {
         (Some(one), Some(other)) => Ok(Some(Parting { event, one, other })),
         _ => Ok(None),

@@ -89,9 +89,9 @@ fn add_letters<M: Machine>(text: &mut Text, follow: &Follow<'_, M>, object: &Obj
         Object::Input => text.add("input"),
         Object::Out => text.add("output"),
         Object::Diag => text.add("diag"),
-        Object::File(_, _) => add_object(text, &follow.teller, object),
+        Object::File(_, _) => add_object(text, &follow.narrator, object),
         Object::PipeRead(name) | Object::PipeWrite(name) => {
-            add_pipe(text, &follow.teller, *name);
+            add_pipe(text, &follow.narrator, *name);
         }
     }
 }
@@ -112,7 +112,7 @@ fn open_of<M: Machine>(
 
 // The name of the program that the process runs by its next call.
 fn add_program<M: Machine>(text: &mut Text, follow: &Follow<'_, M>, pid: Pid) {
-    if let Some(words) = follow.teller.doing(pid).words() {
+    if let Some(words) = follow.narrator.doing(pid).words() {
         if let Some(name) = words.as_slice().first() {
             text.shown(name.as_slice());
         }
@@ -196,7 +196,7 @@ fn known_before<M: Machine>(
     let open = open_of(book.alloc, follow)?;
     let call = follow.call_of(pid);
     let short = short_before(book.alloc, follow, pid, &call)?;
-    let plan = plan_of(book.alloc, &follow.teller, pid)?;
+    let plan = plan_of(book.alloc, &follow.narrator, pid)?;
     let object = object_of(follow, pid, call.kind());
     let pipe = pipe_in(object);
     Ok(Before {
@@ -237,7 +237,7 @@ fn add_other(text: &mut Text, word: &str, none: &str, other: Option<Pid>) {
 fn is_refused<M: Machine>(follow: &Follow<'_, M>, pid: Pid, call: CallKind) -> bool {
     match call {
         CallKind::Exit | CallKind::Wait => false,
-        CallKind::Fork => follow.teller.child().is_none(),
+        CallKind::Fork => follow.narrator.child().is_none(),
         _ => match follow.kernel().reply(pid) {
             Some(reply) => matches!(reply.kind(), ReplyKind::Refused),
             None => false,
@@ -248,8 +248,8 @@ fn is_refused<M: Machine>(follow: &Follow<'_, M>, pid: Pid, call: CallKind) -> b
 // What is known of a call only when it is carried out, behind what was known before.
 fn add_answer<M: Machine>(text: &mut Text, follow: &Follow<'_, M>, pid: Pid, call: CallKind) {
     match call {
-        CallKind::Fork => add_other(text, "new ", "", follow.teller.child()),
-        CallKind::Wait => add_other(text, "takes ", "no child", follow.teller.gone()),
+        CallKind::Fork => add_other(text, "new ", "", follow.narrator.child()),
+        CallKind::Wait => add_other(text, "takes ", "no child", follow.narrator.gone()),
         CallKind::Read(_, _) => add_read(text, follow, pid),
         _ => {}
     }
@@ -281,7 +281,7 @@ fn short_of<M: Machine>(
     pid: Pid,
     before: &Before,
 ) -> usize {
-    if follow.teller.is_asleep(pid) {
+    if follow.narrator.is_asleep(pid) {
         book.word("sleeps")
     } else if is_refused(follow, pid, before.call.kind()) {
         book.word("refused")
@@ -364,13 +364,13 @@ fn ends_of<M: Machine>(follow: &Follow<'_, M>, pid: Pid, before: &Before) -> usi
         return 2;
     }
     let held = held_of(follow, before.pipe);
-    usize::from(follow.teller.is_asleep(pid) && held == before.held)
+    usize::from(follow.narrator.is_asleep(pid) && held == before.held)
 }
 
 // What the turn did, in words.
 fn words_of<M: Machine>(book: &mut Book, follow: &Follow<'_, M>, pid: Pid, plan: &Plan) -> usize {
     let mut words = Text::new(book.alloc);
-    add_deed(&mut words, &follow.teller, pid, plan);
+    add_deed(&mut words, &follow.narrator, pid, plan);
     book.text(words)
 }
 
@@ -385,7 +385,7 @@ fn row_of<M: Machine>(book: &mut Book, follow: &Follow<'_, M>, pid: Pid, before:
     add_item(&mut row, short);
     add_item(&mut row, words);
     add_item(&mut row, ends_of(follow, pid, before));
-    add_optional(&mut row, index_of(follow.teller.child()));
+    add_optional(&mut row, index_of(follow.narrator.child()));
     add_touched(&mut row, book, follow, pid, before);
     add_closed(&mut row, book, follow, before);
     row.add("]");

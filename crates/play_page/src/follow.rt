@@ -5,7 +5,7 @@ use fd_table::Object;
 use kernel_events::Kernel;
 use proc_table::{PROCS, Pid, State};
 use std::alloc::{AllocError, Global};
-use step_answers::{Scene, Teller};
+use step_answers::{Narrator, Scene};
 use user_calls::{CallKind, CallSlot, Machine};
 
 // How many bytes a pipe holds at most.
@@ -22,7 +22,7 @@ pub struct Held {
 #[derive(Drop)]
 pub struct Follow<'t, M: Machine> {
     alloc: Global,
-    pub teller: Teller<'t, M>,
+    pub narrator: Narrator<'t, M>,
     // The pipes that were made, in order.
     pub pipes: Vec<Held>,
     // Of each process, how many bytes of its write were put so far, where it sleeps in the middle of it.
@@ -58,22 +58,22 @@ impl<'t, M: Machine> Follow<'t, M> {
     // At the start.
     pub fn start(alloc: Global, scene: &Scene<'t, M>) -> Result<Self, AllocError> {
         let put = none_put(alloc)?;
-        let teller = Teller::new(alloc, scene)?;
+        let narrator = Narrator::new(alloc, scene)?;
         Ok(Follow {
             alloc,
-            teller,
+            narrator,
             pipes: Vec::new(alloc),
             put,
         })
     }
 
     pub fn kernel(&self) -> &Kernel<M, Global> {
-        self.teller.kernel()
+        self.narrator.kernel()
     }
 
     // The process is given to hart 0.
     pub fn dispatch(&mut self, pid: Pid) -> Result<(), PageFault> {
-        match self.teller.dispatch(pid, Vec::new(self.alloc))? {
+        match self.narrator.dispatch(pid, Vec::new(self.alloc))? {
             Some(_) => Ok(()),
             None => Err(PageFault::Memory),
         }
@@ -104,7 +104,7 @@ impl<'t, M: Machine> Follow<'t, M> {
     }
 
     fn make_call(&mut self, pid: Pid) -> Result<(), PageFault> {
-        match self.teller.trap(pid, Vec::new(self.alloc))? {
+        match self.narrator.trap(pid, Vec::new(self.alloc))? {
             Some(_) => Ok(()),
             None => Err(PageFault::Memory),
         }
@@ -145,7 +145,7 @@ impl<'t, M: Machine> Follow<'t, M> {
     }
 
     fn note_made(&mut self, pid: Pid) -> Result<(), AllocError> {
-        if self.teller.is_done(pid) {
+        if self.narrator.is_done(pid) {
             let name = self.kernel().schedule().len() as u64;
             self.pipes.push(Held {
                 name,
@@ -168,7 +168,7 @@ impl<'t, M: Machine> Follow<'t, M> {
         if let (Some(part), Some(pipe)) = (bytes.get(begin..end), find(&mut self.pipes, name)) {
             pipe.bytes.extend_from_slice(part)?;
         }
-        let is_asleep = self.teller.is_asleep(pid);
+        let is_asleep = self.narrator.is_asleep(pid);
         if let Some(put) = self.put.get_mut(pid.index()) {
             *put = if is_asleep { end } else { 0 };
         }
@@ -177,7 +177,7 @@ impl<'t, M: Machine> Follow<'t, M> {
 
     // How many bytes the process's call took.
     fn taken_by(&self, pid: Pid) -> usize {
-        if !self.teller.is_done(pid) {
+        if !self.narrator.is_done(pid) {
             return 0;
         }
         match self.kernel().reply(pid) {
@@ -244,7 +244,7 @@ impl<'t, M: Machine> Follow<'t, M> {
             return false;
         }
         let mut call = CallSlot::new();
-        self.teller.next_call(pid, &mut call) && self.would_sleep_by(pid, &call)
+        self.narrator.next_call(pid, &mut call) && self.would_sleep_by(pid, &call)
     }
 }
 

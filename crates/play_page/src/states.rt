@@ -16,7 +16,7 @@ const PIPE: usize = 5;
 // The row of a pipe's letter.
 pub fn letter_of<M: Machine>(book: &mut Book, follow: &Follow<'_, M>, name: u64) -> usize {
     let mut text = Text::new(book.alloc);
-    add_pipe(&mut text, &follow.teller, name);
+    add_pipe(&mut text, &follow.narrator, name);
     book.texts.put_rest(text, PIPE)
 }
 
@@ -31,8 +31,8 @@ fn words_of<M: Machine>(book: &mut Book, follow: &Follow<'_, M>, pid: Pid) -> us
     let mut text = Text::new(book.alloc);
     match follow.kernel().state(pid) {
         State::Free | State::Zombie => {}
-        State::Asleep(channel) => add_sleep(&mut text, &follow.teller, pid, channel),
-        State::Runnable | State::Running(_) => add_plan(&mut text, &follow.teller, pid),
+        State::Asleep(channel) => add_sleep(&mut text, &follow.narrator, pid, channel),
+        State::Runnable | State::Running(_) => add_plan(&mut text, &follow.narrator, pid),
     }
     book.text(text)
 }
@@ -64,7 +64,7 @@ fn parent_of(pid: Pid, parent: Pid) -> Option<usize> {
 
 // The row of a process, whose parent is this one.
 fn process_of<M: Machine>(book: &mut Book, follow: &Follow<'_, M>, pid: Pid, parent: Pid) -> usize {
-    let doing = follow.teller.doing(pid);
+    let doing = follow.narrator.doing(pid);
     let name = command_of(book, doing);
     let words = words_of(book, follow, pid);
     let mut row = Text::new(book.alloc);

@@ -100,18 +100,18 @@ fn write_place(line: &mut Line, place: FaultPlace<'_>) -> Result<(), AllocError>
 /// `path`, `event`, `pid` and `hart` that it is about.
 ///
 /// `AllocError` where memory for the text is refused.
-pub fn told_fault_result(
+pub fn fault_result_of(
     alloc: Global,
     command: &str,
-    told: &FaultValues<'_>,
+    values: &FaultValues<'_>,
     code: Status,
 ) -> Result<Vec<u8>, AllocError> {
     let mut line = begin_result(alloc, command, "fault", code)?;
     line.begin_object("fault")?;
-    line.count("number", told.number)?;
-    line.word("name", told.name)?;
-    line.bytes("text", told.text)?;
-    write_place(&mut line, told.place)?;
+    line.count("number", values.number)?;
+    line.word("name", values.name)?;
+    line.bytes("text", values.text)?;
+    write_place(&mut line, values.place)?;
     line.end_object()?;
     line.end()
 }
@@ -123,11 +123,11 @@ pub fn told_fault_result(
 pub fn fault_result(alloc: Global, command: &str, fault: Fault<'_>) -> Result<Vec<u8>, AllocError> {
     let (number, name) = number_of(fault);
     let text = format!(in alloc; "{fault}")?;
-    let told = FaultValues {
+    let values = FaultValues {
         number,
         name,
         text: text.as_bytes(),
         place: place_of(fault),
     };
-    told_fault_result(alloc, command, &told, fault.status())
+    fault_result_of(alloc, command, &values, fault.status())
 }

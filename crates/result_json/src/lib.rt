@@ -13,7 +13,7 @@ mod words;
 
 pub use check::{check_result, counted_result, room_result};
 pub use explain::{ExplainValues, explain_result};
-pub use faults::{FaultPlace, FaultValues, fault_result, told_fault_result};
+pub use faults::{FaultPlace, FaultValues, fault_result, fault_result_of};
 pub use files::write_files;
 pub use head::begin_result;
 pub use plain::plain_result;

@@ -1,7 +1,7 @@
 //! The answer to a command.
 
 use crate::objects::{write_fds, write_files, write_pipes, write_ps, write_state};
-use crate::play::{Pace, Play, PlayFault, Told, pid_of};
+use crate::play::{Pace, Play, PlayFault, Printed, pid_of};
 use crate::rest::{add_rest, states_after, write_rest};
 use crate::sleeps::add_why;
 use crate::text::Text;
@@ -114,7 +114,7 @@ fn add_mistake(sentence: &mut Text, mistake: &Mistake<'_>) {
     }
 }
 
-// That the teller's kernel had memory which was refused to the session's.
+// That the narrator's kernel had memory which was refused to the session's.
 const APART: &str = "memory was refused to a process: what it did may differ from what is told\n";
 
 // Why it isn't known what can still come out.
@@ -188,8 +188,8 @@ impl<M: Machine> Play<'_, M> {
             Command::Turn(number) => self.answer_turns(*number, false, text),
             Command::Go(number) => self.answer_turns(*number, true, text),
             Command::Until(goal) => {
-                let told = self.take_turns(Pace::Until(*goal))?;
-                self.answer_told(told, text)
+                let printed = self.take_turns(Pace::Until(*goal))?;
+                self.answer_printed(printed, text)
             }
             Command::Back(turns) => self.answer_back(turns.unwrap_or(1), text),
             Command::Fds(number) => self.answer_fds(*number, text),
@@ -220,26 +220,31 @@ impl<M: Machine> Play<'_, M> {
         } else {
             Pace::Once(pid.index())
         };
-        let told = self.take_turns(pace)?;
-        self.answer_told(told, text)
+        let printed = self.take_turns(pace)?;
+        self.answer_printed(printed, text)
     }
 
     // Why the process can't take a turn, in a sentence.
     fn why(&self, pid: Pid) -> Result<Vec<u8>, AllocError> {
         let mut sentence = Text::new(self.alloc);
-        add_why(&mut sentence, &self.teller, pid);
+        add_why(&mut sentence, &self.narrator, pid);
         sentence.end()
     }
 
     // What turns did, and how it stands after them.
-    fn answer_told(&self, told: Told, text: Vec<u8>) -> Result<Vec<u8>, PlayFault> {
+    fn answer_printed(&self, printed: Printed, text: Vec<u8>) -> Result<Vec<u8>, PlayFault> {
         let mut text = Text::behind(self.alloc, text);
         if self.is_json {
-            self.add_turns_object(&mut text, told.records.as_slice(), told.turns, told.is_cut);
+            self.add_turns_object(
+                &mut text,
+                printed.records.as_slice(),
+                printed.turns,
+                printed.is_cut,
+            );
             return Ok(text.end()?);
         }
-        text.bytes(told.text.end()?.as_slice());
-        self.add_standing(&mut text, told.turns, told.is_cut);
+        text.bytes(printed.text.end()?.as_slice());
+        self.add_standing(&mut text, printed.turns, printed.is_cut);
         Ok(text.end()?)
     }
 
@@ -341,7 +346,7 @@ impl<M: Machine> Play<'_, M> {
             return Ok(line.end()?);
         }
         let mut text = Text::behind(alloc, text);
-        add_fds(&mut text, &self.teller, pid);
+        add_fds(&mut text, &self.narrator, pid);
         Ok(text.end()?)
     }
 
@@ -355,7 +360,7 @@ impl<M: Machine> Play<'_, M> {
         if self.is_json {
             let mut line = begin(alloc, "why", text)?;
             line.pid("pid", pid)?;
-            write_state(&mut line, &self.teller, pid)?;
+            write_state(&mut line, &self.narrator, pid)?;
             line.bytes("text", sentence.as_slice())?;
             return Ok(line.end()?);
         }
@@ -410,8 +415,8 @@ impl<M: Machine> Play<'_, M> {
         }
         let mut text = Text::behind(self.alloc, text);
         match command {
-            Command::Ps => add_ps(&mut text, &self.teller)?,
-            Command::Pipes => add_pipes(&mut text, &self.teller)?,
+            Command::Ps => add_ps(&mut text, &self.narrator)?,
+            Command::Pipes => add_pipes(&mut text, &self.narrator)?,
             Command::Files => add_files(&mut text, self.kernel()),
             Command::Out => add_out(&mut text, self.kernel()),
             Command::Schedule => text.bytes(self.schedule()?.as_slice()),
@@ -426,7 +431,7 @@ impl<M: Machine> Play<'_, M> {
         let alloc = self.alloc;
         let mut line = begin(alloc, name_of(command), text)?;
         match command {
-            Command::Ps => write_ps(&mut line, alloc, &self.teller)?,
+            Command::Ps => write_ps(&mut line, alloc, &self.narrator)?,
             Command::Pipes => write_pipes(&mut line, alloc, self.kernel())?,
             Command::Files => write_files(&mut line, self.kernel().files())?,
             Command::Out => {
@@ -446,7 +451,7 @@ impl<M: Machine> Play<'_, M> {
     /// Adds the processes to the text, of more lines than so many the first and how many are left out.
     pub fn add_view(&self, most: usize, text: Vec<u8>) -> Result<Vec<u8>, PlayFault> {
         let mut whole = Text::new(self.alloc);
-        add_ps(&mut whole, &self.teller)?;
+        add_ps(&mut whole, &self.narrator)?;
         let mut text = Text::behind(self.alloc, text);
         add_first_lines(&mut text, whole.end()?.as_slice(), most);
         Ok(text.end()?)

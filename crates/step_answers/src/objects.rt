@@ -1,7 +1,7 @@
 //! The same as JSON: one object a line.
 
 use crate::ends::{all_pids, holders, names_of};
-use crate::teller::Teller;
+use crate::narrator::Narrator;
 use fd_table::{DESCRIPTORS, Mode, Object};
 use kernel_events::Kernel;
 use mem_files::Files;
@@ -77,10 +77,10 @@ fn write_sleep(line: &mut Line, channel: Channel) -> Result<(), AllocError> {
 // The state of a process, with its next call or what it sleeps on.
 pub(crate) fn write_state<M: Machine>(
     line: &mut Line,
-    teller: &Teller<'_, M>,
+    narrator: &Narrator<'_, M>,
     pid: Pid,
 ) -> Result<(), AllocError> {
-    match teller.kernel().state(pid) {
+    match narrator.kernel().state(pid) {
         State::Free => line.word("state", "free"),
         State::Zombie => line.word("state", "zombie"),
         State::Asleep(channel) => {
@@ -90,7 +90,7 @@ pub(crate) fn write_state<M: Machine>(
         State::Runnable | State::Running(_) => {
             line.word("state", "runnable")?;
             let mut call = CallSlot::new();
-            if !teller.next_call(pid, &mut call) {
+            if !narrator.next_call(pid, &mut call) {
                 return Ok(());
             }
             line.begin_object("next")?;
@@ -104,12 +104,15 @@ pub(crate) fn write_state<M: Machine>(
 fn write_process<M: Machine>(
     line: &mut Line,
     alloc: Global,
-    teller: &Teller<'_, M>,
+    narrator: &Narrator<'_, M>,
     pid: Pid,
 ) -> Result<(), AllocError> {
-    let doing = teller.doing(pid);
+    let doing = narrator.doing(pid);
     line.pid("pid", pid)?;
-    line.pid("parent", teller.kernel().parent(pid).unwrap_or(Pid::init()))?;
+    line.pid(
+        "parent",
+        narrator.kernel().parent(pid).unwrap_or(Pid::init()),
+    )?;
     line.bytes("prog", doing.program())?;
     let mut command = Vec::new(alloc);
     if doing.append_text(&mut command)? {
@@ -118,20 +121,20 @@ fn write_process<M: Machine>(
     if let Some(number) = doing.line() {
         line.count("line", number as u64)?;
     }
-    write_state(line, teller, pid)
+    write_state(line, narrator, pid)
 }
 
 // The processes.
 pub(crate) fn write_ps<M: Machine>(
     line: &mut Line,
     alloc: Global,
-    teller: &Teller<'_, M>,
+    narrator: &Narrator<'_, M>,
 ) -> Result<(), AllocError> {
     line.begin_list("processes")?;
     for pid in &all_pids(alloc)? {
-        if teller.kernel().parent(*pid).is_some() {
+        if narrator.kernel().parent(*pid).is_some() {
             line.begin_raw_object()?;
-            write_process(line, alloc, teller, *pid)?;
+            write_process(line, alloc, narrator, *pid)?;
             line.end_object()?;
         }
     }

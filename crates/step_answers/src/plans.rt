@@ -1,6 +1,6 @@
 //! What a process does next, in words.
 
-use crate::teller::Teller;
+use crate::narrator::Narrator;
 use crate::text::Text;
 use crate::words::{add_name, add_short, add_thing, purpose};
 use command_text::{Doing, append_command};
@@ -10,19 +10,25 @@ use std::alloc::{AllocError, Global};
 use user_calls::{CallKind, CallSlot, Machine};
 
 // A call on a descriptor, with what that has open.
-fn add_on<M: Machine>(text: &mut Text, verb: &str, teller: &Teller<'_, M>, pid: Pid, fd: usize) {
+fn add_on<M: Machine>(
+    text: &mut Text,
+    verb: &str,
+    narrator: &Narrator<'_, M>,
+    pid: Pid,
+    fd: usize,
+) {
     text.add(verb);
     text.add(" descriptor ");
     text.number(fd as u64);
     text.add(" (");
-    add_thing(text, teller, pid, fd);
+    add_thing(text, narrator, pid, fd);
     text.byte(b')');
 }
 
 // The program that a shell calls.
-fn add_exec<M: Machine>(text: &mut Text, teller: &Teller<'_, M>, pid: Pid) {
+fn add_exec<M: Machine>(text: &mut Text, narrator: &Narrator<'_, M>, pid: Pid) {
     text.add("exec ");
-    if let Some(words) = teller.doing(pid).words() {
+    if let Some(words) = narrator.doing(pid).words() {
         if let Some(name) = words.as_slice().first() {
             add_short(text, name.as_slice());
         }
@@ -31,32 +37,32 @@ fn add_exec<M: Machine>(text: &mut Text, teller: &Teller<'_, M>, pid: Pid) {
 
 fn add_write<M: Machine>(
     text: &mut Text,
-    teller: &Teller<'_, M>,
+    narrator: &Narrator<'_, M>,
     pid: Pid,
     fd: usize,
     size: usize,
 ) {
     text.add("write ");
     text.count(size, "byte");
-    add_on(text, " to", teller, pid, fd);
+    add_on(text, " to", narrator, pid, fd);
 }
 
-fn add_call<M: Machine>(text: &mut Text, teller: &Teller<'_, M>, pid: Pid, call: &CallSlot) {
+fn add_call<M: Machine>(text: &mut Text, narrator: &Narrator<'_, M>, pid: Pid, call: &CallSlot) {
     match call.kind() {
         CallKind::Fork => text.add("fork"),
-        CallKind::Exec(_) => add_exec(text, teller, pid),
+        CallKind::Exec(_) => add_exec(text, narrator, pid),
         CallKind::Exit => text.add("exit"),
         CallKind::Wait => text.add("wait"),
         CallKind::MakePipe => text.add("pipe"),
-        CallKind::Read(fd, _) => add_on(text, "read", teller, pid, fd),
-        CallKind::Write(fd) => add_write(text, teller, pid, fd, call.bytes().len()),
+        CallKind::Read(fd, _) => add_on(text, "read", narrator, pid, fd),
+        CallKind::Write(fd) => add_write(text, narrator, pid, fd, call.bytes().len()),
         CallKind::OpenFile(mode) => {
             text.add("open ");
             add_name(text, call.bytes());
             text.add(purpose(mode));
         }
-        CallKind::Close(fd) => add_on(text, "close", teller, pid, fd),
-        CallKind::Dup(fd) => add_on(text, "dup", teller, pid, fd),
+        CallKind::Close(fd) => add_on(text, "close", narrator, pid, fd),
+        CallKind::Dup(fd) => add_on(text, "dup", narrator, pid, fd),
     }
 }
 
@@ -89,11 +95,11 @@ fn add_script_line(text: &mut Text, script: &Script<Global>, number: usize) {
 }
 
 // The line of the script that a process carries out a command of; of the first shell only the line that it forks for.
-fn add_line<M: Machine>(text: &mut Text, teller: &Teller<'_, M>, pid: Pid, call: CallKind) {
-    let doing = teller.doing(pid);
+fn add_line<M: Machine>(text: &mut Text, narrator: &Narrator<'_, M>, pid: Pid, call: CallKind) {
+    let doing = narrator.doing(pid);
     if let Doing::Script(number) = doing {
         if let CallKind::Fork = call {
-            add_script_line(text, teller.script(), number);
+            add_script_line(text, narrator.script(), number);
         }
         return;
     }
@@ -104,10 +110,10 @@ fn add_line<M: Machine>(text: &mut Text, teller: &Teller<'_, M>, pid: Pid, call:
 }
 
 /// Adds what the process does by its next call, if there is one.
-pub fn add_plan<M: Machine>(text: &mut Text, teller: &Teller<'_, M>, pid: Pid) {
+pub fn add_plan<M: Machine>(text: &mut Text, narrator: &Narrator<'_, M>, pid: Pid) {
     let mut call = CallSlot::new();
-    if teller.next_call(pid, &mut call) {
-        add_call(text, teller, pid, &call);
-        add_line(text, teller, pid, call.kind());
+    if narrator.next_call(pid, &mut call) {
+        add_call(text, narrator, pid, &call);
+        add_line(text, narrator, pid, call.kind());
     }
 }

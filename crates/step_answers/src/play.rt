@@ -1,8 +1,8 @@
-//! A session with its teller, and the turns that are taken in it.
+//! A session with its narrator, and the turns that are taken in it.
 
 use crate::deeds::{add_deed, plan_of};
+use crate::narrator::Narrator;
 use crate::scene::Scene;
-use crate::teller::Teller;
 use crate::text::Text;
 use crate::words::add_process;
 use kernel_events::{Event, Kernel};
@@ -45,7 +45,7 @@ pub enum Pace {
 
 // What is printed of turns: text, or the records of a trace, a line each; and how many turns there were.
 #[derive(Drop)]
-pub struct Told {
+pub struct Printed {
     pub text: Text,
     pub records: Vec<u8>,
     pub turns: usize,
@@ -59,7 +59,7 @@ pub struct Play<'t, M: Machine> {
     pub(crate) alloc: Global,
     scene: Scene<'t, M>,
     session: Session<'t, M, Global>,
-    pub(crate) teller: Teller<'t, M>,
+    pub(crate) narrator: Narrator<'t, M>,
     pub(crate) is_json: bool,
     // Whether the answers are printed after each turn.
     pub(crate) watches: bool,
@@ -74,12 +74,12 @@ impl<'t, M: Machine> Play<'t, M> {
     ) -> Result<Play<'t, M>, PlayFault> {
         let (init, shell) = (scene.init.twin(), scene.shell.twin());
         let session = Session::start(alloc, init, shell, scene.stdin, scene.files)?;
-        let teller = Teller::new(alloc, &scene)?;
+        let narrator = Narrator::new(alloc, &scene)?;
         Ok(Play {
             alloc,
             scene,
             session,
-            teller,
+            narrator,
             is_json,
             watches: false,
         })
@@ -118,23 +118,23 @@ impl<'t, M: Machine> Play<'t, M> {
         outcomes_from(self.alloc, &self.session, states, &mut Unwatched)
     }
 
-    // Whether memory was refused to a process of the session, which the teller's was given.
+    // Whether memory was refused to a process of the session, which the narrator's was given.
     pub(crate) fn is_apart(&self) -> bool {
-        self.session.kernel().full() != self.teller.kernel().full()
+        self.session.kernel().full() != self.narrator.kernel().full()
     }
 
-    // Makes the teller anew, and lets the session's events happen in it.
+    // Makes the narrator anew, and lets the session's events happen in it.
     fn follow(&mut self) -> Result<(), PlayFault> {
-        let mut teller = Teller::new(self.alloc, &self.scene)?;
+        let mut narrator = Narrator::new(self.alloc, &self.scene)?;
         let mut lines = Vec::new(self.alloc);
         for event in self.session.kernel().schedule() {
             lines.clear();
-            lines = match happen(&mut teller, *event, lines)? {
+            lines = match happen(&mut narrator, *event, lines)? {
                 Some(lines) => lines,
                 None => return Err(PlayFault::Memory),
             };
         }
-        self.teller = teller;
+        self.narrator = narrator;
         Ok(())
     }
 
@@ -163,38 +163,38 @@ impl<'t, M: Machine> Play<'t, M> {
         }
     }
 
-    // Prints the turn that the process took, which happens in the teller's kernel now.
-    fn tell(&mut self, pid: Pid, told: &mut Told) -> Result<(), PlayFault> {
+    // Prints the turn that the process took, which happens in the narrator's kernel now.
+    fn print_turn(&mut self, pid: Pid, printed: &mut Printed) -> Result<(), PlayFault> {
         if self.is_json {
-            return self.tell_records(pid, told);
+            return self.print_records(pid, printed);
         }
         let alloc = self.alloc;
-        let first = self.teller.kernel().schedule().len() as u64;
-        add_event_numbers(&mut told.text, first);
-        add_process(&mut told.text, pid, self.teller.doing(pid));
-        told.text.byte(b' ');
-        if self.teller.dispatch(pid, Vec::new(alloc))?.is_none() {
+        let first = self.narrator.kernel().schedule().len() as u64;
+        add_event_numbers(&mut printed.text, first);
+        add_process(&mut printed.text, pid, self.narrator.doing(pid));
+        printed.text.byte(b' ');
+        if self.narrator.dispatch(pid, Vec::new(alloc))?.is_none() {
             return Err(PlayFault::Memory);
         }
-        let plan = plan_of(alloc, &self.teller, pid)?;
-        if self.teller.trap(pid, Vec::new(alloc))?.is_none() {
+        let plan = plan_of(alloc, &self.narrator, pid)?;
+        if self.narrator.trap(pid, Vec::new(alloc))?.is_none() {
             return Err(PlayFault::Memory);
         }
-        add_deed(&mut told.text, &self.teller, pid, &plan);
-        told.text.byte(b'\n');
-        self.add_watched(&mut told.text);
+        add_deed(&mut printed.text, &self.narrator, pid, &plan);
+        printed.text.byte(b'\n');
+        self.add_watched(&mut printed.text);
         Ok(())
     }
 
     // The same with the two records of the turn.
-    fn tell_records(&mut self, pid: Pid, told: &mut Told) -> Result<(), PlayFault> {
-        let Some(records) = self.teller.dispatch(pid, Vec::new(self.alloc))? else {
+    fn print_records(&mut self, pid: Pid, printed: &mut Printed) -> Result<(), PlayFault> {
+        let Some(records) = self.narrator.dispatch(pid, Vec::new(self.alloc))? else {
             return Err(PlayFault::Memory);
         };
-        let Some(records) = self.teller.trap(pid, records)? else {
+        let Some(records) = self.narrator.trap(pid, records)? else {
             return Err(PlayFault::Memory);
         };
-        told.records.extend_from_slice(records.as_slice())?;
+        printed.records.extend_from_slice(records.as_slice())?;
         Ok(())
     }
 
@@ -209,7 +209,7 @@ impl<'t, M: Machine> Play<'t, M> {
     // Whether the process of this number sleeps.
     fn is_asleep(&self, number: u64) -> bool {
         match pid_of(number) {
-            Some(pid) => self.teller.is_asleep(pid),
+            Some(pid) => self.narrator.is_asleep(pid),
             None => false,
         }
     }
@@ -234,7 +234,7 @@ impl<'t, M: Machine> Play<'t, M> {
         if matches!(self.kernel().state(pid), State::Zombie) {
             return true;
         }
-        match self.teller.gone() {
+        match self.narrator.gone() {
             Some(gone) => gone.index() == pid.index(),
             None => false,
         }
@@ -249,14 +249,19 @@ impl<'t, M: Machine> Play<'t, M> {
     }
 
     // Takes one more turn, if that can be done, and prints it; and returns whether another one may follow.
-    fn take_turn(&mut self, pace: Pace, out: usize, told: &mut Told) -> Result<bool, PlayFault> {
+    fn take_turn(
+        &mut self,
+        pace: Pace,
+        out: usize,
+        printed: &mut Printed,
+    ) -> Result<bool, PlayFault> {
         if self.is_over(pace) {
             return Ok(false);
         }
         match self.choose(pace)? {
             Some(pid) => {
-                self.tell(pid, told)?;
-                told.turns = told.turns.saturating_add(1);
+                self.print_turn(pid, printed)?;
+                printed.turns = printed.turns.saturating_add(1);
                 Ok(!self.is_there(pace, out))
             }
             None => Ok(false),
@@ -264,10 +269,10 @@ impl<'t, M: Machine> Play<'t, M> {
     }
 
     // Takes turns, as far as that can be done, and prints each; and returns whether they ended because there were too many.
-    fn take_most(&mut self, pace: Pace, told: &mut Told) -> Result<bool, PlayFault> {
+    fn take_most(&mut self, pace: Pace, printed: &mut Printed) -> Result<bool, PlayFault> {
         let out = self.kernel().out().len();
         for _ in 0..MOST_TURNS {
-            if !self.take_turn(pace, out, told)? {
+            if !self.take_turn(pace, out, printed)? {
                 return Ok(false);
             }
         }
@@ -275,16 +280,16 @@ impl<'t, M: Machine> Play<'t, M> {
     }
 
     // Takes turns, as far as that can be done, and prints each.
-    pub(crate) fn take_turns(&mut self, pace: Pace) -> Result<Told, PlayFault> {
-        let mut told = Told {
+    pub(crate) fn take_turns(&mut self, pace: Pace) -> Result<Printed, PlayFault> {
+        let mut printed = Printed {
             text: Text::new(self.alloc),
             records: Vec::new(self.alloc),
             turns: 0,
             is_cut: false,
         };
-        let is_cut = self.take_most(pace, &mut told)?;
-        told.is_cut = is_cut;
-        Ok(told)
+        let is_cut = self.take_most(pace, &mut printed)?;
+        printed.is_cut = is_cut;
+        Ok(printed)
     }
 }
 
@@ -302,19 +307,19 @@ fn add_event_numbers(text: &mut Text, first: u64) {
     text.add(": ");
 }
 
-// Lets an event happen in the teller's kernel, with its record; `None` where it can't.
+// Lets an event happen in the narrator's kernel, with its record; `None` where it can't.
 fn happen<M: Machine>(
-    teller: &mut Teller<'_, M>,
+    narrator: &mut Narrator<'_, M>,
     event: Event,
     lines: Vec<u8>,
 ) -> Result<Option<Vec<u8>>, AllocError> {
     match event {
         Event::Dispatch(_, number) => match Pid::new(number as usize) {
-            Some(pid) => teller.dispatch(pid, lines),
+            Some(pid) => narrator.dispatch(pid, lines),
             None => Ok(None),
         },
         Event::Trap(_, number) => match Pid::new(number as usize) {
-            Some(pid) => teller.trap(pid, lines),
+            Some(pid) => narrator.trap(pid, lines),
             None => Ok(None),
         },
     }

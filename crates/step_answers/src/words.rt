@@ -1,6 +1,6 @@
 //! Words for processes, for what they have open, and for bytes.
 
-use crate::teller::Teller;
+use crate::narrator::Narrator;
 use crate::text::Text;
 use command_text::Doing;
 use fd_table::Object;
@@ -111,9 +111,9 @@ pub(crate) fn add_listed(text: &mut Text, doing: Doing<'_>) {
 }
 
 /// Adds a pipe, by its letter: A is the first that was made, and behind the first 26 a number stands too, as on the page of a run.
-pub fn add_pipe<M: Machine>(text: &mut Text, teller: &Teller<'_, M>, name: u64) {
+pub fn add_pipe<M: Machine>(text: &mut Text, narrator: &Narrator<'_, M>, name: u64) {
     text.add("pipe ");
-    let Some(place) = teller.place_of_pipe(name) else {
+    let Some(place) = narrator.place_of_pipe(name) else {
         text.number(name);
         return;
     };
@@ -124,27 +124,32 @@ pub fn add_pipe<M: Machine>(text: &mut Text, teller: &Teller<'_, M>, name: u64) 
 }
 
 // An end of a pipe.
-fn add_pipe_end<M: Machine>(text: &mut Text, teller: &Teller<'_, M>, name: u64, end: &str) {
-    add_pipe(text, teller, name);
+fn add_pipe_end<M: Machine>(text: &mut Text, narrator: &Narrator<'_, M>, name: u64, end: &str) {
+    add_pipe(text, narrator, name);
     text.add(end);
 }
 
 /// Adds what is open, in words.
-pub fn add_object<M: Machine>(text: &mut Text, teller: &Teller<'_, M>, object: &Object) {
+pub fn add_object<M: Machine>(text: &mut Text, narrator: &Narrator<'_, M>, object: &Object) {
     match object {
         Object::Input => text.add("the standard input"),
         Object::Out => text.add("the output"),
         Object::Diag => text.add("the diagnostics"),
         Object::File(name, _) => add_name(text, name.as_slice()),
-        Object::PipeRead(name) => add_pipe_end(text, teller, *name, "'s read end"),
-        Object::PipeWrite(name) => add_pipe_end(text, teller, *name, "'s write end"),
+        Object::PipeRead(name) => add_pipe_end(text, narrator, *name, "'s read end"),
+        Object::PipeWrite(name) => add_pipe_end(text, narrator, *name, "'s write end"),
     }
 }
 
 // What a descriptor of the process has open, in words.
-pub(crate) fn add_thing<M: Machine>(text: &mut Text, teller: &Teller<'_, M>, pid: Pid, fd: usize) {
-    match teller.kernel().object(pid, fd) {
-        Some(object) => add_object(text, teller, object),
+pub(crate) fn add_thing<M: Machine>(
+    text: &mut Text,
+    narrator: &Narrator<'_, M>,
+    pid: Pid,
+    fd: usize,
+) {
+    match narrator.kernel().object(pid, fd) {
+        Some(object) => add_object(text, narrator, object),
         None => {
             text.add("descriptor ");
             text.number(fd as u64);

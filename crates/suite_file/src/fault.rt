@@ -8,7 +8,7 @@ use std::alloc::{AllocError, AllocFailed};
 #[derive(Debug, Drop)]
 pub enum SuiteFault {
     /// This line, counted from 1, is wrong, and what is wrong with it.
-    At { line: usize, told: String },
+    At { line: usize, sentence: String },
     /// Memory was refused.
     Memory,
 }

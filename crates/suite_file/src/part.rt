@@ -28,17 +28,17 @@ impl Part<'_> {
     }
 
     /// What is wrong at a key.
-    pub fn fault(&self, table: &str, key: &str, told: &str) -> SuiteFault {
+    pub fn fault(&self, table: &str, key: &str, sentence: &str) -> SuiteFault {
         let line = self.line(table, key);
-        match String::from_str(self.alloc, told) {
-            Ok(told) => SuiteFault::At { line, told },
+        match String::from_str(self.alloc, sentence) {
+            Ok(sentence) => SuiteFault::At { line, sentence },
             Err(_) => SuiteFault::Memory,
         }
     }
 
     /// What is wrong at a key, which the sentence begins with.
-    pub fn key_fault(&self, table: &str, key: &str, told: &str) -> SuiteFault {
-        match format!(in self.alloc; "`{key}` {told}") {
+    pub fn key_fault(&self, table: &str, key: &str, what: &str) -> SuiteFault {
+        match format!(in self.alloc; "`{key}` {what}") {
             Ok(text) => self.fault(table, key, text.as_str()),
             Err(_) => SuiteFault::Memory,
         }
@@ -47,7 +47,7 @@ impl Part<'_> {
     /// The number at a key isn't one of these.
     pub fn number_fault(&self, key: &str, least: u64, most: u64) -> SuiteFault {
         match format!(in self.alloc; "is no number from {least} to {most}") {
-            Ok(told) => self.key_fault("", key, told.as_str()),
+            Ok(what) => self.key_fault("", key, what.as_str()),
             Err(_) => SuiteFault::Memory,
         }
     }
@@ -55,7 +55,7 @@ impl Part<'_> {
     /// Two keys give the same bytes.
     pub fn both_fault(&self, key: &str, file_key: &str) -> SuiteFault {
         match format!(in self.alloc; "stands beside `{key}`: only one of them is read") {
-            Ok(told) => self.key_fault("", file_key, told.as_str()),
+            Ok(what) => self.key_fault("", file_key, what.as_str()),
             Err(_) => SuiteFault::Memory,
         }
     }

@@ -48,7 +48,7 @@ fn name_fault(part: &Part<'_>, tests: &[SuiteTest], name: &str) -> SuiteFault {
     };
     let line = first.line("", "");
     match format!(in part.alloc; "is that of the test of line {line} too") {
-        Ok(told) => part.key_fault("", "name", told.as_str()),
+        Ok(what) => part.key_fault("", "name", what.as_str()),
         Err(_) => SuiteFault::Memory,
     }
 }
@@ -126,9 +126,9 @@ fn parse_fault(alloc: Global, text: &[u8], error: &Error) -> SuiteFault
         return SuiteFault::Memory;
     };
     match format!(in alloc; "this is no TOML: {}", error.message()) {
-        Ok(told) => SuiteFault::At {
+        Ok(sentence) => SuiteFault::At {
             line: line_at(text, span.start),
-            told,
+            sentence,
         },
         Err(_) => SuiteFault::Memory,
     }

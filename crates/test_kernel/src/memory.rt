@@ -17,7 +17,7 @@ const CALLS: &[u8] = b"w1W1w2p.w4r3o.x.";
 
 // What reported that a request was refused.
 #[derive(Clone, Copy, PartialEq, Eq)]
-enum Told {
+enum Reported {
     Boot,
     Dispatch,
     Call,
@@ -69,50 +69,50 @@ fn steps<A: Allocator + Copy>(kernel: &mut Kernel<Walker, A>) -> Result<bool, Fa
 }
 
 // Runs the kernel to its end, and returns what reported that a request was refused.
-fn finish<A: Allocator + Copy>(kernel: &mut Kernel<Walker, A>) -> Result<Told, Fail> {
-    let mut told = Told::Nothing;
+fn finish<A: Allocator + Copy>(kernel: &mut Kernel<Walker, A>) -> Result<Reported, Fail> {
+    let mut reported = Reported::Nothing;
     for _call in 0..MOST {
         if !kernel.is_finished() && !steps(kernel)? {
-            told = Told::Dispatch;
+            reported = Reported::Dispatch;
         }
     }
     match kernel.full() {
         _ if !kernel.is_finished() => Err(Fail::from("it isn't finished")),
-        Some(Full::Memory) => Ok(Told::Call),
-        _ => Ok(told),
+        Some(Full::Memory) => Ok(Reported::Call),
+        _ => Ok(reported),
     }
 }
 
 // A run where the request after so many is refused: what reports it. It is reported exactly where one is refused.
-fn told_after(alloc: Global, granted: u64) -> Result<Told, Fail> {
+fn reported_after(alloc: Global, granted: u64) -> Result<Reported, Fail> {
     let heap = RefusingHeap::new(alloc);
     heap.refuse_after(granted);
-    let told = match boot(&heap) {
+    let reported = match boot(&heap) {
         Ok(mut kernel) => finish(&mut kernel)?,
-        Err(_) => Told::Boot,
+        Err(_) => Reported::Boot,
     };
-    if heap.is_due() == (told == Told::Nothing) {
-        Ok(told)
+    if heap.is_due() == (reported == Reported::Nothing) {
+        Ok(reported)
     } else {
         Err(Fail::from("a refused request isn't told"))
     }
 }
 
 // How many of these refusals are reported so.
-fn count_of(told: &[Told], one: Told) -> usize {
-    told.iter().filter(|it| **it == one).count()
+fn count_of(reported: &[Reported], one: Reported) -> usize {
+    reported.iter().filter(|it| **it == one).count()
 }
 
 #[test]
 fn each_request_of_a_run_is_refused(rt: HostRuntime) -> Result<(), Fail> {
-    let mut told = Vec::new(rt.alloc());
+    let mut reported = Vec::new(rt.alloc());
     for granted in 0..MOST {
-        told.push(told_after(rt.alloc(), granted)?)?;
+        reported.push(reported_after(rt.alloc(), granted)?)?;
     }
-    let told = told.as_slice();
-    assert!(&rt; told.last() == Some(&Told::Nothing));
-    assert!(&rt; 0 < count_of(told, Told::Boot));
-    assert!(&rt; 2 <= count_of(told, Told::Dispatch));
-    assert!(&rt; 5 <= count_of(told, Told::Call));
+    let reported = reported.as_slice();
+    assert!(&rt; reported.last() == Some(&Reported::Nothing));
+    assert!(&rt; 0 < count_of(reported, Reported::Boot));
+    assert!(&rt; 2 <= count_of(reported, Reported::Dispatch));
+    assert!(&rt; 5 <= count_of(reported, Reported::Call));
     Ok(())
 }

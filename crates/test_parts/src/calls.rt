@@ -19,7 +19,7 @@ fn reply_of(letter: u8) -> Reply {
 }
 
 // The replies that a command gets, the command, and what it prints then.
-const TOLD: &str = "sr cat : cat: read error
+const READ_ERRORS: &str = "sr cat : cat: read error
 sfr cat f : cat: read error
 sbdr cat : cat: read error
 sr wc : wc: read error
@@ -27,15 +27,15 @@ sr head : head: read error
 sr tee : tee: read error";
 
 // Whether the call prints this line.
-fn is_told(call: &Call, text: &str) -> bool {
+fn is_printed(call: &Call, text: &str) -> bool {
     match call {
-        Call::Write(2, told) => told.as_slice().strip_suffix(b"\n") == Some(text.as_bytes()),
+        Call::Write(2, bytes) => bytes.as_slice().strip_suffix(b"\n") == Some(text.as_bytes()),
         _ => false,
     }
 }
 
 // Whether the last call of the program of these words, which gets these replies, prints this line.
-fn tells(words: &[Bytes<Global>], replies: &str, text: &str) -> bool {
+fn prints(words: &[Bytes<Global>], replies: &str, text: &str) -> bool {
     let Some(mut program) = lookup(words) else {
         return false;
     };
@@ -43,21 +43,21 @@ fn tells(words: &[Bytes<Global>], replies: &str, text: &str) -> bool {
     for letter in replies.as_bytes() {
         call = program.run(&reply_of(*letter));
     }
-    is_told(&call, text)
+    is_printed(&call, text)
 }
 
 fn line_holds(alloc: Global, line: &str) -> bool {
     let (replies, rest) = line.split_once(' ').unwrap_or((line, ""));
     let (command, text) = rest.split_once(" : ").unwrap_or((rest, ""));
     match parse(alloc, command.as_bytes()) {
-        Ok(Cmd::Exec(words)) => tells(words.as_slice(), replies, text),
+        Ok(Cmd::Exec(words)) => prints(words.as_slice(), replies, text),
         _ => false,
     }
 }
 
 #[test]
-fn refused_reads_are_told(rt: HostRuntime) -> Result<(), Fail> {
-    for line in TOLD.lines() {
+fn refused_reads_are_reported(rt: HostRuntime) -> Result<(), Fail> {
+    for line in READ_ERRORS.lines() {
         if !line_holds(rt.alloc(), line) {
             return Err(Fail::from(line));
         }

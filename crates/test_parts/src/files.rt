@@ -14,7 +14,7 @@ const FAULTS: &str = "1 bad file name
 
 // The faults in the order of their numbers, each with its text.
 fn faults(alloc: Global) -> Result<String, AllocError> {
-    let mut told = String::new(alloc);
+    let mut text = String::new(alloc);
     for fault in [
         FilesFault::BadName,
         FilesFault::Missing,
@@ -24,14 +24,14 @@ fn faults(alloc: Global) -> Result<String, AllocError> {
         FilesFault::Gap,
     ] {
         let number = fault as usize;
-        writeln!(told, "{number} {fault}")?;
+        writeln!(text, "{number} {fault}")?;
     }
-    Ok(told)
+    Ok(text)
 }
 
 #[test]
 fn faults_have_numbers_and_texts(rt: HostRuntime) -> Result<(), Fail> {
-    let told = faults(rt.alloc())?;
-    assert!(rt; told.as_str() == FAULTS);
+    let text = faults(rt.alloc())?;
+    assert!(rt; text.as_str() == FAULTS);
     Ok(())
 }

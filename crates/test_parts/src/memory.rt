@@ -146,7 +146,7 @@ fn are_refused(alloc: Global, call: &'static str, least: u64) -> Result<(), Fail
 }
 
 #[test]
-fn refused_memory_is_told(rt: HostRuntime) -> Result<(), Fail> {
+fn refused_memory_is_reported(rt: HostRuntime) -> Result<(), Fail> {
     for row in CALLS.lines() {
         let (call, least) = row.rsplit_once(' ').unwrap_or((row, ""));
         are_refused(rt.alloc(), call, least.parse::<u64>()?)?;

@@ -39,18 +39,18 @@ fn is_read<R: Abort + AllocGlobal>(rt: &R, left: usize, fault: Option<io::ErrorK
         fault,
         asked: &mut asked,
     };
-    let told = match read_all(rt.alloc(), reader, LIMIT) {
+    let is_right = match read_all(rt.alloc(), reader, LIMIT) {
         Ok(bytes) => bytes.as_slice() == b"xxxxx".get(..left).unwrap_or(b"?") && fault.is_none(),
         Err(HostFault::Unreadable) => left <= LIMIT && fault.is_some(),
         Err(HostFault::TooLong) => LIMIT < left,
         Err(_) => false,
     };
-    assert!(rt; told, "{left} bytes");
+    assert!(rt; is_right, "{left} bytes");
     assert_eq!(rt; asked, left.min(LIMIT) + 1);
 }
 
 #[test]
-fn what_is_read_is_told(rt: HostRuntime) -> Result<(), Fail> {
+fn what_is_read_is_reported(rt: HostRuntime) -> Result<(), Fail> {
     let faults = [
         None,
         Some(io::ErrorKind::Other),

@@ -1,6 +1,6 @@
 //! What is graded, and what is reported to the host.
 
-use crate::host::{LONG, SUITE, Told};
+use crate::host::{LONG, SUITE, SuiteHost};
 use std::alloc::{AllocError, Global};
 use std::sync::Wait;
 use std::test::Fail;
@@ -48,7 +48,7 @@ fn grade_on(
         states: None,
         is_coloured: true,
     };
-    let mut host = Told {
+    let mut host = SuiteHost {
         suite,
         refused,
         steps: String::new(alloc),
@@ -140,7 +140,7 @@ fn own_tests(alloc: Global, count: usize) -> Result<String, AllocError> {
 }
 
 #[test]
-fn each_batch_is_told(rt: HostRuntime) -> Result<(), Fail> {
+fn each_batch_is_reported(rt: HostRuntime) -> Result<(), Fail> {
     let rows = [
         (TWO, 2, "4/4 "),
         (OWN, 1, "1/2 2/2 "),
@@ -148,12 +148,12 @@ fn each_batch_is_told(rt: HostRuntime) -> Result<(), Fail> {
         (ONE, 300, "256/300 300/300 "),
     ];
     for (suite, count, steps) in rows {
-        let told = grade_many(&rt, suite, count)?;
-        assert_eq!(&rt; told.steps.as_str(), steps);
+        let graded = grade_many(&rt, suite, count)?;
+        assert_eq!(&rt; graded.steps.as_str(), steps);
     }
     let own = own_tests(rt.alloc(), 300)?;
-    let told = grade_many(&rt, own.as_str(), 0)?;
-    assert_eq!(&rt; told.steps.as_str(), "256/300 300/300 ");
+    let graded = grade_many(&rt, own.as_str(), 0)?;
+    assert_eq!(&rt; graded.steps.as_str(), "256/300 300/300 ");
     let cut = grade_on(&rt, ONE, "", &["x.sh", LONG, "z.sh"])?;
     assert_eq!(&rt; cut.steps.as_str(), "1/3 2/3 3/3 ");
     Ok(())
@@ -161,9 +161,9 @@ fn each_batch_is_told(rt: HostRuntime) -> Result<(), Fail> {
 
 #[test]
 fn scripts_of_three_batches_are_graded(rt: HostRuntime) -> Result<(), Fail> {
-    let told = grade_many(&rt, ONE, 600)?;
-    assert_eq!(&rt; told.steps.as_str(), "256/600 512/600 600/600 ");
-    let text = told.text.as_slice();
+    let graded = grade_many(&rt, ONE, 600)?;
+    assert_eq!(&rt; graded.steps.as_str(), "256/600 512/600 600/600 ");
+    let text = graded.text.as_slice();
     assert!(&rt; text.split(|byte| *byte == b'\n').count() == 1202);
     assert!(&rt; text.ends_with(b"\n600 scripts: 600 of 600 tests passed, 600 of 600 points\n"));
     Ok(())

@@ -14,7 +14,7 @@ pub(crate) const LONG: &str = "long.sh";
 
 /// The host.
 #[derive(Drop)]
-pub(crate) struct Told<'s> {
+pub(crate) struct SuiteHost<'s> {
     pub(crate) suite: &'s str,
     // The path for which it has no memory.
     pub(crate) refused: &'s str,
@@ -35,7 +35,7 @@ fn bounded(alloc: Global, bytes: &[u8], limit: usize) -> Result<Vec<u8>, HostFau
     }
 }
 
-impl Host for Told<'_> {
+impl Host for SuiteHost<'_> {
     ghost input = { λ _. None };
 
     ghost file = { λ _ _. None };
@@ -60,7 +60,7 @@ impl Host for Told<'_> {
     }
 }
 
-impl Grading for Told<'_> {
+impl Grading for SuiteHost<'_> {
     fn graded(&mut self, done: usize, of: usize) {
         let _ = write!(self.steps, "{done}/{of} ");
     }

@@ -22,7 +22,7 @@ fn parted(alloc: Global, one: &[u8], other: &[u8]) -> Result<(usize, String, Str
 }
 
 #[test]
-fn calls_are_told_in_words(rt: HostRuntime) -> Result<(), Fail> {
+fn calls_are_described_in_words(rt: HostRuntime) -> Result<(), Fail> {
     let rows = [
         (
             [1].as_slice(),

@@ -15,12 +15,12 @@ pub(crate) fn is_on(flag: u32) -> bool
 }
 
 // Puts what is reported of a script before any run into an answer.
-fn put_asked(told: AskAnswer, answer: &mut Answer)
-    ensures { TellsAsked answer.new told }
+fn put_asked(answered: AskAnswer, answer: &mut Answer)
+    ensures { TellsAsked answer.new answered }
 {
     answer.clear();
-    answer.fine = told.is_fine as u32;
-    answer.json = given_out(told.json);
+    answer.fine = answered.is_fine as u32;
+    answer.json = given_out(answered.json);
 }
 
 /// `xvsh_check_call`: checks a script, strictly unless `strict` is 0.
@@ -29,7 +29,7 @@ pub extern "C" fn xvsh_check_call(alloc: Global, task: &Task<'_>, strict: u32, a
     ensures { CheckCall task.now strict answer.new }
 {
     match check_of(alloc, task, is_on(strict)) {
-        Ok(told) => put_asked(told, answer),
+        Ok(answered) => put_asked(answered, answer),
         Err(fault) => put_fault(fault, answer),
     }
 }
@@ -40,7 +40,7 @@ pub extern "C" fn xvsh_explain_call(alloc: Global, task: &Task<'_>, answer: &mut
     ensures { ExplainCall task.now answer.new }
 {
     match explain_of(alloc, task) {
-        Ok(told) => put_asked(told, answer),
+        Ok(answered) => put_asked(answered, answer),
         Err(fault) => put_fault(fault, answer),
     }
 }

@@ -8,11 +8,11 @@ use embed::{DrawAnswer, EmbedFault, Form, Task, draw_of, draw_two_of, order_by};
 use std::alloc::Global;
 
 // Puts what a run leaves into an answer, with its page or picture for its events.
-fn put_drawn(told: DrawAnswer, answer: &mut Answer)
-    ensures { TellsDrawn answer.new told }
+fn put_drawn(answered: DrawAnswer, answer: &mut Answer)
+    ensures { TellsDrawn answer.new answered }
 {
     answer.clear();
-    let DrawAnswer { run, page } = told;
+    let DrawAnswer { run, page } = answered;
     answer.full = full_number(run.full);
     answer.sizes = table_out(run.files.sizes);
     answer.block = given_out(run.files.block);
@@ -38,7 +38,7 @@ pub extern "C" fn xvsh_draw_call(
         return;
     };
     match draw_of(alloc, task, turns, order, Form::Page) {
-        Ok(told) => put_drawn(told, answer),
+        Ok(answered) => put_drawn(answered, answer),
         Err(fault) => put_fault(fault, answer),
     }
 }
@@ -55,7 +55,7 @@ pub extern "C" fn xvsh_draw_two_call(
     ensures { DrawTwoCall task.now one.now other.now answer.new }
 {
     match draw_two_of(alloc, task, one, other, Form::Page) {
-        Ok(told) => put_drawn(told, answer),
+        Ok(answered) => put_drawn(answered, answer),
         Err(fault) => put_fault(fault, answer),
     }
 }
@@ -77,7 +77,7 @@ pub extern "C" fn xvsh_draw_svg_call(
         return;
     };
     match draw_of(alloc, task, turns, order, Form::Picture) {
-        Ok(told) => put_drawn(told, answer),
+        Ok(answered) => put_drawn(answered, answer),
         Err(fault) => put_fault(fault, answer),
     }
 }
@@ -94,7 +94,7 @@ pub extern "C" fn xvsh_draw_two_svg_call(
     ensures { DrawTwoCall task.now one.now other.now answer.new }
 {
     match draw_two_of(alloc, task, one, other, Form::Picture) {
-        Ok(told) => put_drawn(told, answer),
+        Ok(answered) => put_drawn(answered, answer),
         Err(fault) => put_fault(fault, answer),
     }
 }

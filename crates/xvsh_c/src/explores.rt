@@ -8,13 +8,13 @@ use embed::{ExploreAnswer, Task, explore_of};
 use std::alloc::Global;
 
 // Puts what every order leaves into an answer.
-fn put_explored(told: ExploreAnswer, answer: &mut Answer)
-    ensures { TellsExplored answer.new told }
+fn put_explored(answered: ExploreAnswer, answer: &mut Answer)
+    ensures { TellsExplored answer.new answered }
 {
     answer.clear();
-    answer.fine = told.is_single as u32;
-    answer.whole = told.is_whole as u32;
-    answer.json = given_out(told.json);
+    answer.fine = answered.is_single as u32;
+    answer.whole = answered.is_whole as u32;
+    answer.json = given_out(answered.json);
 }
 
 /// `xvsh_explore_call`: explores a script, of at most so many states, a settled one too unless `thorough` is 0.
@@ -29,7 +29,7 @@ pub extern "C" fn xvsh_explore_call(
     ensures { ExploreCall task.now states thorough answer.new }
 {
     match explore_of(alloc, task, states, is_on(thorough)) {
-        Ok(told) => put_explored(told, answer),
+        Ok(answered) => put_explored(answered, answer),
         Err(fault) => put_fault(fault, answer),
     }
 }

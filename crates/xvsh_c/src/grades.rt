@@ -29,7 +29,7 @@ fn words_out(refusal: GradeRefusal) -> &'static [u8]
     ensures { result.now ≡ refusal_words refusal }
 {
     match refusal {
-        GradeRefusal::BadSuite(_, told) => given_out(told.into_bytes()),
+        GradeRefusal::BadSuite(_, sentence) => given_out(sentence.into_bytes()),
         GradeRefusal::TooManyFiles(_)
         | GradeRefusal::Memory
         | GradeRefusal::SuiteTooLong

@@ -8,9 +8,9 @@ mod explores;
 mod grades;
 mod handing;
 mod looks;
+mod objects;
 mod plain;
 mod runs;
-mod tells;
 mod version;
 mod words;
 

@@ -8,11 +8,11 @@ use embed::{EmbedFault, LookAnswer, Task, TraceAnswer, look_of, order_by, trace_
 use std::alloc::Global;
 
 // Puts what a run leaves into an answer, with its trace for its events.
-fn put_trace(told: TraceAnswer, answer: &mut Answer)
-    ensures { TellsTrace answer.new told }
+fn put_trace(answered: TraceAnswer, answer: &mut Answer)
+    ensures { TellsTrace answer.new answered }
 {
     answer.clear();
-    let TraceAnswer { run, lines } = told;
+    let TraceAnswer { run, lines } = answered;
     answer.full = full_number(run.full);
     answer.sizes = table_out(run.files.sizes);
     answer.block = given_out(run.files.block);
@@ -38,18 +38,18 @@ pub extern "C" fn xvsh_trace_call(
         return;
     };
     match trace_of(alloc, task, turns, order) {
-        Ok(told) => put_trace(told, answer),
+        Ok(answered) => put_trace(answered, answer),
         Err(fault) => put_fault(fault, answer),
     }
 }
 
 // Puts how a run stands into an answer.
-fn put_look(told: LookAnswer, answer: &mut Answer)
-    ensures { TellsLook answer.new told }
+fn put_look(answered: LookAnswer, answer: &mut Answer)
+    ensures { TellsLook answer.new answered }
 {
     answer.clear();
-    answer.fine = told.is_finished as u32;
-    answer.json = given_out(told.json);
+    answer.fine = answered.is_finished as u32;
+    answer.json = given_out(answered.json);
 }
 
 /// `xvsh_look_call`: how the run of a script stands after the lines of a schedule.
@@ -63,7 +63,7 @@ pub extern "C" fn xvsh_look_call(
     ensures { LookCall task.now schedule.now answer.new }
 {
     match look_of(alloc, task, schedule) {
-        Ok(told) => put_look(told, answer),
+        Ok(answered) => put_look(answered, answer),
         Err(fault) => put_fault(fault, answer),
     }
 }

@@ -7,14 +7,14 @@ use embed::{PlainAnswer, Task, plain_of};
 use std::alloc::Global;
 
 // Puts what a script gives into an answer.
-fn put_plain(told: PlainAnswer, answer: &mut Answer)
-    ensures { TellsPlain answer.new told }
+fn put_plain(answered: PlainAnswer, answer: &mut Answer)
+    ensures { TellsPlain answer.new answered }
 {
     answer.clear();
-    answer.fine = told.is_settled as u32;
-    answer.sizes = table_out(told.files.sizes);
-    answer.block = given_out(told.files.block);
-    answer.out = given_out(told.out);
+    answer.fine = answered.is_settled as u32;
+    answer.sizes = table_out(answered.files.sizes);
+    answer.block = given_out(answered.files.block);
+    answer.out = given_out(answered.out);
 }
 
 /// `xvsh_plain_call`: runs a script by its meaning.
@@ -23,7 +23,7 @@ pub extern "C" fn xvsh_plain_call(alloc: Global, task: &Task<'_>, answer: &mut A
     ensures { PlainCall task.now answer.new }
 {
     match plain_of(alloc, task) {
-        Ok(told) => put_plain(told, answer),
+        Ok(answered) => put_plain(answered, answer),
         Err(fault) => put_fault(fault, answer),
     }
 }

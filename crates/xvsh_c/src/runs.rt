@@ -23,16 +23,16 @@ pub(crate) fn full_number(full: Option<Full>) -> u32
 }
 
 // Puts what a run leaves into an answer.
-fn put_run(told: RunAnswer, answer: &mut Answer)
-    ensures { TellsRun answer.new told }
+fn put_run(answered: RunAnswer, answer: &mut Answer)
+    ensures { TellsRun answer.new answered }
 {
     answer.clear();
-    answer.full = full_number(told.full);
-    answer.sizes = table_out(told.files.sizes);
-    answer.block = given_out(told.files.block);
-    answer.events = given_out(told.schedule);
-    answer.diag = given_out(told.diag);
-    answer.out = given_out(told.out);
+    answer.full = full_number(answered.full);
+    answer.sizes = table_out(answered.files.sizes);
+    answer.block = given_out(answered.files.block);
+    answer.events = given_out(answered.schedule);
+    answer.diag = given_out(answered.diag);
+    answer.out = given_out(answered.out);
 }
 
 /// `xvsh_run_call`: runs a script by its processes on one hart, in at most so many turns and in this order.
@@ -52,7 +52,7 @@ pub extern "C" fn xvsh_run_call(
         return;
     };
     match run_of(alloc, task, turns, order) {
-        Ok(told) => put_run(told, answer),
+        Ok(answered) => put_run(answered, answer),
         Err(fault) => put_fault(fault, answer),
     }
 }
@@ -68,7 +68,7 @@ pub extern "C" fn xvsh_replay_call(
     ensures { ReplayCall task.now schedule.now answer.new }
 {
     match replay_of(alloc, task, schedule) {
-        Ok(told) => put_run(told, answer),
+        Ok(answered) => put_run(answered, answer),
         Err(fault) => put_fault(fault, answer),
     }
 }

@@ -8,7 +8,7 @@ ghost use Rattle.xvsh_read.specs.Status.{status_code};
 
 use crate::ending::{Ending, Line, no_output, report_no_memory};
 use mem_files::Files;
-use result_json::{FaultPlace, FaultValues, told_fault_result};
+use result_json::{FaultPlace, FaultValues, fault_result_of};
 use sh_lexer::Bytes;
 use std::alloc::{AllocError, Global};
 use xvsh_read::{Output, Status};
@@ -49,7 +49,7 @@ fn fault_object(
         text: line.strip_prefix(b"xvsh: ").unwrap_or(line),
         place: FaultPlace::NOWHERE,
     };
-    told_fault_result(alloc, command, &values, status)
+    fault_result_of(alloc, command, &values, status)
 }
 
 // Prints this object, with this status.

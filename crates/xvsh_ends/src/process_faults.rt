@@ -1,6 +1,6 @@
 //! Faults of runs by processes as objects of JSON.
 
-use result_json::{FaultPlace, FaultValues, fault_result, told_fault_result};
+use result_json::{FaultPlace, FaultValues, fault_result, fault_result_of};
 use std::alloc::{AllocError, Global};
 use xvsh_runs::ProcessFault;
 
@@ -62,11 +62,11 @@ pub fn process_fault_result(
     }
     let (number, name) = number_of(fault);
     let text = format!(in alloc; "{fault}")?;
-    let told = FaultValues {
+    let values = FaultValues {
         number,
         name,
         text: text.as_bytes(),
         place: place_of(fault),
     };
-    told_fault_result(alloc, command, &told, fault.status())
+    fault_result_of(alloc, command, &values, fault.status())
 }

@@ -7,7 +7,7 @@ ghost use Rattle.xvsh_ends.specs.Requests.{explore_plainly_asked};
 ghost use Rattle.xvsh_read.specs.Status.{status_code};
 
 use crate::ending::{Ending, report_fault, report_made};
-use result_json::{FaultPlace, FaultValues, fault_result, told_fault_result};
+use result_json::{FaultPlace, FaultValues, fault_result, fault_result_of};
 use std::alloc::{AllocError, Global};
 use xvsh_explores::{ExploreRequest, ExploringFault};
 use xvsh_read::Status;
@@ -53,5 +53,5 @@ pub(crate) fn exploring_fault_result(
         text: text.as_bytes(),
         place: FaultPlace::NOWHERE,
     };
-    told_fault_result(alloc, "explore", &values, Status::Failed)
+    fault_result_of(alloc, "explore", &values, Status::Failed)
 }

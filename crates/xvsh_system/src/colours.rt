@@ -174,14 +174,14 @@ fn counts_outputs(line: &[u8]) -> bool {
 }
 
 // Whether a line says that every order leaves one and the same.
-fn tells_one(line: &[u8]) -> bool {
+fn has_one_output(line: &[u8]) -> bool {
     line.starts_with(b"1 output, of every order".as_slice())
         || line.starts_with(b"1 output, every order".as_slice())
 }
 
 // The colour of a line of what `explore` found.
 fn colour_of_outcomes(line: &[u8]) -> Option<&'static str> {
-    if tells_one(line) {
+    if has_one_output(line) {
         Some(GREEN)
     } else if counts_outputs(line) {
         Some(YELLOW)

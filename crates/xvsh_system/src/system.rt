@@ -91,7 +91,7 @@ impl<'t, R: Files, E: Write> System<'t, R, E> {
     }
 
     // Says on a terminal that standard input is read.
-    fn tell_reading(&mut self) {
+    fn report_reading(&mut self) {
         if self.terminal.reads && self.terminal.shows {
             let _ = self.terminal.err.write_all(READING.as_bytes());
         }
@@ -121,7 +121,7 @@ impl<R: Input + Files + Wait + Clock + Eprint, E: Write> Host for System<'_, R, 
 
     fn read_input(&mut self, alloc: Global, limit: usize) -> Result<Vec<u8>, HostFault> {
         self.begin_reading();
-        self.tell_reading();
+        self.report_reading();
         let bytes = read_all(alloc, self.rt.reader(), limit);
         self.end_reading();
         bytes
@@ -130,7 +130,7 @@ impl<R: Input + Files + Wait + Clock + Eprint, E: Write> Host for System<'_, R, 
     fn read_path(&mut self, alloc: Global, path: &str, limit: usize) -> Result<Vec<u8>, HostFault> {
         self.begin_reading();
         if path == OWN_INPUT {
-            self.tell_reading();
+            self.report_reading();
         }
         let bytes = match File::open(&self.rt, path) {
             Ok(file) => read_all(alloc, file, limit),
@@ -216,13 +216,13 @@ impl<R: Input + Files + Wait + Clock + Eprint, E: Write> Grading for System<'_, 
 
 impl<R: Files, E: Write> Hints for System<'_, R, E> {
     fn hint(&mut self, sentence: &str) {
-        let told = if sentence.is_empty() {
+        let shown = if sentence.is_empty() {
             self.unread
         } else {
             sentence
         };
-        if self.terminal.shows && !told.is_empty() {
-            let _ = writeln!(self.terminal.err, "xvsh: {told}");
+        if self.terminal.shows && !shown.is_empty() {
+            let _ = writeln!(self.terminal.err, "xvsh: {shown}");
         }
     }
 }

@@ -159,7 +159,7 @@ fn add_mark_at(
     place: usize,
     lined: &mut Vec<u8>,
 ) -> Result<bool, AllocError>
-    ensures { (told : List ℕ) → IsLined told lined.old.items → OnOk result (IsLined told lined.new.items) }
+    ensures { (diag : List ℕ) → IsLined diag lined.old.items → OnOk result (IsLined diag lined.new.items) }
 {
     let Some(mark) = mark else {
         return Ok(false);
@@ -179,7 +179,7 @@ fn add_byte(
     byte: u8,
     lined: &mut Vec<u8>,
 ) -> Result<bool, AllocError>
-    ensures { (told : List ℕ) → IsLined told lined.old.items → OnOk result (IsLined (told ++ byte ∷ []) lined.new.items) }
+    ensures { (diag : List ℕ) → IsLined diag lined.old.items → OnOk result (IsLined (diag ++ byte ∷ []) lined.new.items) }
 {
     let is_marked = add_mark_at(alloc, mark, place, lined)?;
     lined.push(byte)?;
@@ -187,13 +187,13 @@ fn add_byte(
 }
 
 // The diagnostics with these marks, which stand in their order.
-fn with_marks(alloc: Global, told: &[u8], marks: &[Mark]) -> Result<Vec<u8>, AllocError>
-    ensures { IfOk result (λ lined. IsLined told.now lined.items) }
+fn with_marks(alloc: Global, diag: &[u8], marks: &[Mark]) -> Result<Vec<u8>, AllocError>
+    ensures { IfOk result (λ lined. IsLined diag.now lined.items) }
 {
     let mut lined = Vec::new(alloc);
     let mut next: usize = 0;
-    for place in 0..told.len() {
-        if add_byte(alloc, marks.get(next), place, told[place], &mut lined)? {
+    for place in 0..diag.len() {
+        if add_byte(alloc, marks.get(next), place, diag[place], &mut lined)? {
             next = next.saturating_add(1);
         }
     }
@@ -208,11 +208,11 @@ pub fn lined(
     alloc: Global,
     start: &Start,
     schedule: &[Event],
-    told: &[u8],
+    diag: &[u8],
 ) -> Result<Vec<u8>, TraceFault>
-    ensures { IfOk result (λ lined. IsLined told.now lined.items) }
+    ensures { IfOk result (λ lined. IsLined diag.now lined.items) }
 {
     let marks = marks_of::<Brand>(alloc, start, schedule)?;
-    let lined = with_marks(alloc, told, marks.as_slice())?;
+    let lined = with_marks(alloc, diag, marks.as_slice())?;
     Ok(lined)
 }

@@ -24,8 +24,8 @@ returns-in-Err-carry_out-clause-fault c =
     (subst (λ e. IsReplayFault (script_kernel begun.script.profile lines task.stdin.now begun.files) e fault) c.as_slice.ensures.value c.in-Err-carry_out.ensures.fault))
     c.in-Err-carry_out.ensures.finished)
 
-pub returns-in-Ok-told-clause-looked : goal.returns-in-Ok-told-clause-looked
-returns-in-Ok-told-clause-looked c =
+pub returns-in-Ok-look_object-clause-looked : goal.returns-in-Ok-look_object-clause-looked
+returns-in-Ok-look_object-clause-looked c =
     let task = c.args.task.now in
     let begun = c.in-Ok.begun in
     let lines = lines_of begun.script.lines in

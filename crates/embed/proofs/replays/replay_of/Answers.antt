@@ -26,8 +26,8 @@ returns-in-Err-replay-clause-fault c =
     (subst (λ profile. IsReplayFault (script_kernel profile lines task.stdin.now begun.files) events fault) c.in-Ok.ensures.profile
     (subst (λ e. IsReplayFault (script_kernel begun.script.profile lines task.stdin.now begun.files) e fault) c.as_slice.ensures.value c.in-Err-replay.ensures.fault)))
 
-pub returns-in-Ok-told_of-clause-ran : goal.returns-in-Ok-told_of-clause-ran
-returns-in-Ok-told_of-clause-ran c =
+pub returns-in-Ok-answer_of-clause-ran : goal.returns-in-Ok-answer_of-clause-ran
+returns-in-Ok-answer_of-clause-ran c =
     let task = c.args.task.now in
     let begun = c.in-Ok.begun in
     let lines = lines_of begun.script.lines in
@@ -40,7 +40,7 @@ returns-in-Ok-told_of-clause-ran c =
       report = report;
       ran = subst (λ profile. IsRunFrom (script_kernel profile lines task.stdin.now begun.files) report) c.in-Ok.ensures.profile ran;
       means = subst (λ profile. IsAnswerIfSettled profile lines task.stdin.now begun.files report) c.in-Ok.ensures.profile (c.a_settled_script_has_one_answer.ensures begun.script.profile task.stdin.now begun.files c.in-Ok.ensures.starts.are ran);
-      told = c.in-Ok-told_of.ensures;
+      told = c.in-Ok-answer_of.ensures;
       by = subst (AreLinesOf c.args.schedule.now) (sym (c.in-Ok-replay.ensures.schedule ∙ c.as_slice.ensures.value)) c.in-Ok-schedule_of.ensures.lines;
     }
 

@@ -22,8 +22,8 @@ returns-in-Err-Spent-clause-fault c =
 pub returns-in-Err-Memory-clause-fault : goal.returns-in-Err-Memory-clause-fault
 returns-in-Err-Memory-clause-fault c = no_memory
 
-pub returns-in-Ok-told_of-clause-ran : goal.returns-in-Ok-told_of-clause-ran
-returns-in-Ok-told_of-clause-ran c =
+pub returns-in-Ok-answer_of-clause-ran : goal.returns-in-Ok-answer_of-clause-ran
+returns-in-Ok-answer_of-clause-ran c =
     let begun = c.in-Ok.begun in
     let lines = lines_of begun.script.lines in
     let input = c.args.task.now.stdin.now in
@@ -35,7 +35,7 @@ returns-in-Ok-told_of-clause-ran c =
       report = report;
       ran = subst (λ profile. IsRunFrom (script_kernel profile lines input begun.files) report) c.in-Ok.ensures.profile c.in-Ok-run_in_order.ensures.run;
       means = subst (λ profile. IsAnswerIfSettled profile lines input begun.files report) c.in-Ok.ensures.profile c.in-Ok-run_in_order.ensures.answer;
-      told = c.in-Ok-told_of.ensures;
+      told = c.in-Ok-answer_of.ensures;
     }
 
 pub returns-clause-fault : goal.returns-clause-fault

@@ -2,7 +2,7 @@ use Rattle.xvsh_c.specs.DrawCalls.{drawn, failed}
 use Rattle.xvsh_c.proofs.draws.xvsh_draw_call.Goals as goal
 
 pub returns-in-Ok : goal.returns-in-Ok
-returns-in-Ok c = drawn c.in-Ok.told c.in-Ok.ensures.ran c.put_drawn.ensures
+returns-in-Ok c = drawn c.in-Ok.answered c.in-Ok.ensures.ran c.put_drawn.ensures
 
 pub returns-in-Err : goal.returns-in-Err
 returns-in-Err c = failed c.in-Err.fault c.in-Err.ensures.fault c.put_fault-in-Err.ensures

@@ -2,4 +2,4 @@ use Rattle.std.proofs.Common.{inl}
 use Rattle.xvsh_c.proofs.looks.xvsh_look_call.Goals as goal
 
 pub returns-in-Ok : goal.returns-in-Ok
-returns-in-Ok c = inl (c.in-Ok.told, c.in-Ok.ensures.looked, c.put_look.ensures)
+returns-in-Ok c = inl (c.in-Ok.answered, c.in-Ok.ensures.looked, c.put_look.ensures)

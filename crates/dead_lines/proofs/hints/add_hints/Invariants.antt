@@ -1,7 +1,7 @@
 use Rattle.std.proofs.Common.{◌≡◌, ◌++◌, length, map}
 use Rattle.std.specs.Prelude.{string_bytes}
 use Rattle.dead_lines.specs.Hints.{hint_of}
-use Rattle.dead_lines.proofs.telling.add_hints.Given as goal
+use Rattle.dead_lines.proofs.hints.add_hints.Given as goal
 
 -- the sentences of the numbers that are left complete those of all
 abbrev pub invariant-loop-number : goal.invariant-loop-number

@@ -12,7 +12,7 @@ use user_calls::{CallKind, CallSlot, Machine, ReplyKind};
 
 /// Follows a session event by event: a kernel in which each event is made again and printed.
 #[derive(Drop)]
-pub struct Teller<'t, M: Machine> {
+pub struct Narrator<'t, M: Machine> {
     script: &'t Script<Global>,
     tracer: Tracer<M, Global>,
     lines: TraceLines<'t>,
@@ -51,10 +51,10 @@ fn first_machines<M: Machine>(
     Ok(machines)
 }
 
-impl<'t, M: Machine> Teller<'t, M> {
-    /// A teller of a kernel at its start.
+impl<'t, M: Machine> Narrator<'t, M> {
+    /// A narrator of a kernel at its start.
     pub fn new(alloc: Global, scene: &Scene<'t, M>) -> Result<Self, AllocError> {
-        Ok(Teller {
+        Ok(Narrator {
             script: scene.script,
             tracer: scene.tracer(alloc)?,
             lines: TraceLines::new(alloc, scene.script),

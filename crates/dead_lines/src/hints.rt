@@ -5,7 +5,7 @@ ghost use Rattle.dead_lines.specs.Hints.{hint_of, hints_of, more_of, more_text};
 use std::alloc::{AllocError, Global};
 
 // How many lines are reported one by one.
-const MOST_TOLD: usize = 10;
+const MOST_HINTS: usize = 10;
 
 // The sentence of a line.
 fn hint_of(alloc: Global, line: usize) -> Result<String, AllocError>
@@ -51,9 +51,9 @@ fn add_hints(alloc: Global, numbers: &[usize], hints: &mut Vec<String>) -> Resul
 pub fn hints_of(alloc: Global, numbers: &[usize]) -> Result<Vec<String>, AllocError>
     ensures { IfOk result (λ hints. map string_bytes hints.items ≡ hints_of numbers.now) }
 {
-    let (told, untold) = numbers.split_at(numbers.len().min(MOST_TOLD));
+    let (listed, unlisted) = numbers.split_at(numbers.len().min(MOST_HINTS));
     let mut hints = Vec::new(alloc);
-    add_hints(alloc, told, &mut hints)?;
-    add_more(alloc, untold.len(), &mut hints)?;
+    add_hints(alloc, listed, &mut hints)?;
+    add_more(alloc, unlisted.len(), &mut hints)?;
     Ok(hints)
 }

@@ -27,7 +27,7 @@ pub extern "C" fn xvsh_check_turns_call(
     ensures { TurnsCall task.now strict answer.new }
 {
     match turns_check_of(alloc, task, is_on(strict)) {
-        Ok(told) => put_object(told.json, told.findings.is_harmless, answer),
+        Ok(answered) => put_object(answered.json, answered.findings.is_harmless, answer),
         Err(fault) => put_fault(fault, answer),
     }
 }
@@ -43,7 +43,7 @@ pub extern "C" fn xvsh_check_room_call(
     ensures { RoomCall task.now strict answer.new }
 {
     match room_check_of(alloc, task, is_on(strict)) {
-        Ok(told) => put_object(told.json, told.findings.is_harmless, answer),
+        Ok(answered) => put_object(answered.json, answered.findings.is_harmless, answer),
         Err(fault) => put_fault(fault, answer),
     }
 }
@@ -54,7 +54,7 @@ pub extern "C" fn xvsh_explain_why_call(alloc: Global, task: &Task<'_>, answer: 
     ensures { WhysCall task.now answer.new }
 {
     match whys_of(alloc, task) {
-        Ok(told) => put_object(told.json, told.noted.is_fine, answer),
+        Ok(answered) => put_object(answered.json, answered.noted.is_fine, answer),
         Err(fault) => put_fault(fault, answer),
     }
 }

@@ -1,7 +1,7 @@
 //! What is printed of an exploration.
 
 use crate::cutting::add_bytes;
-use crate::findings::{Findings, Told};
+use crate::findings::{Findings, Parted};
 use crate::replays::add_replay;
 use result_json::full_word;
 use script_outcomes::{Outcome, Tried};
@@ -138,23 +138,23 @@ fn add_parting(
     alloc: Global,
     text: &mut Vec<u8>,
     number: usize,
-    told: &Told,
+    parted: &Parted,
 ) -> Result<(), AllocError> {
-    let from = told.from.saturating_add(1);
-    let event = told.parting.event;
+    let from = parted.from.saturating_add(1);
+    let event = parted.parting.event;
     let begin = format!(in alloc; "{from} and {number} part at event {event}: ")?;
     text.extend_from_slice(begin.as_bytes())?;
-    add_shown(text, told.parting.one.as_slice())?;
+    add_shown(text, parted.parting.one.as_slice())?;
     text.extend_from_slice(b", or ".as_slice())?;
-    add_shown(text, told.parting.other.as_slice())?;
+    add_shown(text, parted.parting.other.as_slice())?;
     text.extend_from_slice(b" first\n".as_slice())
 }
 
 // A line for each place at which the schedules of two outcomes part.
 fn add_partings(alloc: Global, text: &mut Vec<u8>, findings: &Findings) -> Result<(), AllocError> {
     for (i, found) in findings.partings.iter().enumerate() {
-        if let Some(told) = found {
-            add_parting(alloc, text, i.saturating_add(1), told)?;
+        if let Some(parted) = found {
+            add_parting(alloc, text, i.saturating_add(1), parted)?;
         }
     }
     Ok(())
@@ -177,7 +177,7 @@ fn add_stuck(alloc: Global, text: &mut Vec<u8>, tried: &Tried) -> Result<(), All
 /// output, each has its files and its diagnostics below it. Then comes where the schedules of two outcomes part: of the first and of
 /// each other one, or of many outcomes those of the two whose difference is easiest to see, or of the two that are asked for; and, where schedules are written, how to replay one. Bytes that aren't printable ASCII are shown by
 /// their escapes.
-pub fn told(
+pub fn text_of_tried(
     alloc: Global,
     request: &ExploreRequest<'_>,
     tried: &Tried,
@@ -197,7 +197,7 @@ pub fn told(
 }
 
 /// The text of a settled script, whose output and files are the same in every order.
-pub fn told_settled(alloc: Global, out: &[u8]) -> Result<Vec<u8>, AllocError> {
+pub fn text_of_settled(alloc: Global, out: &[u8]) -> Result<Vec<u8>, AllocError> {
     let mut text = Vec::new(alloc);
     text.extend_from_slice(b"1 output, of every order (settled)\n1: ".as_slice())?;
     add_bytes(alloc, &mut text, out)?;

@@ -58,7 +58,7 @@ fn object_of<M: Machine>(alloc: Global, play: &mut Play<'_, M>) -> Result<Vec<u8
 }
 
 // The same of the script that `N` names.
-fn told_named<N: Naming>(
+fn look_named<N: Naming>(
     alloc: Global,
     begun: &Begun,
     stdin: &[u8],
@@ -83,11 +83,11 @@ fn told_named<N: Naming>(
 /// command; and LF.
 ///
 /// `Stopped` at the first call of a process that can't take its turn; `Memory` where memory is refused.
-pub fn told(
+pub fn look_object(
     alloc: Global,
     begun: &Begun,
     stdin: &[u8],
     events: &[Event],
 ) -> Result<Vec<u8>, PlayFault> {
-    told_named::<Brand>(alloc, begun, stdin, events)
+    look_named::<Brand>(alloc, begun, stdin, events)
 }

@@ -1,0 +1,6 @@
+use Rattle.std.proofs.Common.{Bool, inl, subst}
+use Rattle.embed.specs.Tells.{IsRoomAnswer}
+use Rattle.xvsh_c.proofs.objects.xvsh_check_room_call.Goals as goal
+
+pub returns-in-Ok : goal.returns-in-Ok
+returns-in-Ok c = inl (c.in-Ok.answered, subst (λ (on : Bool). IsRoomAnswer c.args.task.now on c.in-Ok.answered) c.is_on.ensures c.in-Ok.ensures.told, c.put_object.ensures)

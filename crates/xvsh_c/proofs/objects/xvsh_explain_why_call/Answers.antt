@@ -1,0 +1,5 @@
+use Rattle.std.proofs.Common.{inl}
+use Rattle.xvsh_c.proofs.objects.xvsh_explain_why_call.Goals as goal
+
+pub returns-in-Ok : goal.returns-in-Ok
+returns-in-Ok c = inl (c.in-Ok.answered, c.in-Ok.ensures.told, c.put_object.ensures)

@@ -1,5 +1,0 @@
-use Rattle.std.proofs.Common.{inl}
-use Rattle.xvsh_c.proofs.tells.xvsh_explain_why_call.Goals as goal
-
-pub returns-in-Ok : goal.returns-in-Ok
-returns-in-Ok c = inl (c.in-Ok.told, c.in-Ok.ensures.told, c.put_object.ensures)
