@@ -11,9 +11,9 @@ use Rattle.kernel_runs.proofs.replaying.replay_named.Goals as goal
 pub returns-clause-run : goal.returns-clause-run
 returns-clause-run g c =
     let script = c.args.setting.now.script.now in
-    subst (λ (k : KernelState User). IfOk c.replay_kernel.result (IsRunFrom k)) (script_boot script.profile (lines_of script.lines) c.args.setting.now.stdin.now c.args.setting.now.files.now _ _ c.in_ok-kernel.kernel c.init-init.ensures c.shell.ensures c.in_ok-kernel.ensures) c.replay_kernel.ensures.run
+    subst (λ (k : KernelState User). IfOk c.replay_kernel.result (IsRunFrom k)) (script_boot script.profile (lines_of script.lines) c.args.setting.now.stdin.now c.args.setting.now.files.now _ _ c.in_ok-kernel.kernel c.init-init.ensures c.shell-shell.ensures c.in_ok-kernel.ensures) c.replay_kernel.ensures.run
 
 pub returns-clause-fault : goal.returns-clause-fault
 returns-clause-fault g c =
     let script = c.args.setting.now.script.now in
-    subst (λ (k : KernelState User). IfErr c.replay_kernel.result (IsReplayFault k c.args.events.now)) (script_boot script.profile (lines_of script.lines) c.args.setting.now.stdin.now c.args.setting.now.files.now _ _ c.in_ok-kernel.kernel c.init-init.ensures c.shell.ensures c.in_ok-kernel.ensures) c.replay_kernel.ensures.fault
+    subst (λ (k : KernelState User). IfErr c.replay_kernel.result (IsReplayFault k c.args.events.now)) (script_boot script.profile (lines_of script.lines) c.args.setting.now.stdin.now c.args.setting.now.files.now _ _ c.in_ok-kernel.kernel c.init-init.ensures c.shell-shell.ensures c.in_ok-kernel.ensures) c.replay_kernel.ensures.fault

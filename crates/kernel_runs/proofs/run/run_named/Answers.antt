@@ -11,9 +11,9 @@ use Rattle.kernel_runs.proofs.run.run_named.Goals as goal
 pub returns-clause-run : goal.returns-clause-run
 returns-clause-run g c =
     let script = c.args.setting.now.script.now in
-    subst (λ (k : KernelState User). IfOk c.run_kernel.result (IsRunFrom k)) (script_boot script.profile (lines_of script.lines) c.args.setting.now.stdin.now c.args.setting.now.files.now _ _ c.in_ok-kernel.kernel c.init-init.ensures c.shell.ensures c.in_ok-kernel.ensures) c.run_kernel.ensures.run
+    subst (λ (k : KernelState User). IfOk c.run_kernel.result (IsRunFrom k)) (script_boot script.profile (lines_of script.lines) c.args.setting.now.stdin.now c.args.setting.now.files.now _ _ c.in_ok-kernel.kernel c.init-init.ensures c.shell-shell.ensures c.in_ok-kernel.ensures) c.run_kernel.ensures.run
 
 pub returns-clause-spent : goal.returns-clause-spent
 returns-clause-spent g c = λ is.
     let script = c.args.setting.now.script.now in
-    subst (λ (k : KernelState User). IsSpentFrom k c.args.turns) (script_boot script.profile (lines_of script.lines) c.args.setting.now.stdin.now c.args.setting.now.files.now _ _ c.in_ok-kernel.kernel c.init-init.ensures c.shell.ensures c.in_ok-kernel.ensures) (c.run_kernel.ensures.spent is)
+    subst (λ (k : KernelState User). IsSpentFrom k c.args.turns) (script_boot script.profile (lines_of script.lines) c.args.setting.now.stdin.now c.args.setting.now.files.now _ _ c.in_ok-kernel.kernel c.init-init.ensures c.shell-shell.ensures c.in_ok-kernel.ensures) (c.run_kernel.ensures.spent is)

@@ -17,9 +17,9 @@ run_kernel-requires-send-M g c κs within = search (crosses, sendable, user_send
 pub returns-clause-run : goal.returns-clause-run
 returns-clause-run g c =
     let script = c.args.setting.now.script.now in
-    subst (λ (k : KernelState User). IfOk c.run_kernel.result (IsRunFrom k)) (script_boot script.profile (lines_of script.lines) c.args.setting.now.stdin.now c.args.setting.now.files.now _ _ c.in-Ok.kernel c.init-init.ensures c.shell.ensures c.in-Ok.ensures) c.run_kernel.ensures.run
+    subst (λ (k : KernelState User). IfOk c.run_kernel.result (IsRunFrom k)) (script_boot script.profile (lines_of script.lines) c.args.setting.now.stdin.now c.args.setting.now.files.now _ _ c.in-Ok.kernel c.init-init.ensures c.shell-shell.ensures c.in-Ok.ensures) c.run_kernel.ensures.run
 
 pub returns-clause-spent : goal.returns-clause-spent
 returns-clause-spent g c = λ is.
     let script = c.args.setting.now.script.now in
-    subst (λ (k : KernelState User). IsOutOfTurnsFrom k c.args.way.turns) (script_boot script.profile (lines_of script.lines) c.args.setting.now.stdin.now c.args.setting.now.files.now _ _ c.in-Ok.kernel c.init-init.ensures c.shell.ensures c.in-Ok.ensures) (c.run_kernel.ensures.spent is)
+    subst (λ (k : KernelState User). IsOutOfTurnsFrom k c.args.way.turns) (script_boot script.profile (lines_of script.lines) c.args.setting.now.stdin.now c.args.setting.now.files.now _ _ c.in-Ok.kernel c.init-init.ensures c.shell-shell.ensures c.in-Ok.ensures) (c.run_kernel.ensures.spent is)
