@@ -197,8 +197,8 @@ fn run_as<
     ensures run { IfOk result (IsFinishedFrom M.code M.call_of M.next_of N.boot) }
     ensures harts { IfOk result (λ report. AreOfHarts N.harts report.schedule) }
     ensures turns { IfOk result (λ report. length report.schedule ≤ N.turns) }
-    ensures bad_harts { result ≡ Err BadHarts → AreBadHarts way.harts }
-    ensures bad_turns { result ≡ Err BadTurns → AreBadTurns way.turns }
+    ensures bad_harts { result ≡ Err BadHarts → AreBadHarts way.entry.harts }
+    ensures bad_turns { result ≡ Err BadTurns → AreBadTurns way.entry.turns }
     ensures spent { result ≡ Err Spent → IsSpentAfter M.code M.call_of M.next_of N.boot N.turns }
 {
     match Shared::<N, M>::start(alloc, blank, kernel, way.harts, way.turns) {
@@ -216,11 +216,11 @@ fn run_kernel<M: Machine + Send, R: Threads + Wait + Clock + Sync, G: Gate + Syn
 ) -> Result<Report<Global>, RunFault>
     requires { kernel.schedule ≡ [] }
     ensures run { IfOk result (IsReport M.call_of M.next_of kernel.boot) }
-    ensures harts { IfOk result (λ report. AreOfHarts way.harts report.schedule) }
-    ensures turns { IfOk result (λ report. length report.schedule ≤ way.turns) }
-    ensures bad_harts { result ≡ Err BadHarts → AreBadHarts way.harts }
-    ensures bad_turns { result ≡ Err BadTurns → AreBadTurns way.turns }
-    ensures spent { result ≡ Err Spent → RunsOutOfTurns M.call_of M.next_of kernel.boot way.turns }
+    ensures harts { IfOk result (λ report. AreOfHarts way.entry.harts report.schedule) }
+    ensures turns { IfOk result (λ report. length report.schedule ≤ way.entry.turns) }
+    ensures bad_harts { result ≡ Err BadHarts → AreBadHarts way.entry.harts }
+    ensures bad_turns { result ≡ Err BadTurns → AreBadTurns way.entry.turns }
+    ensures spent { result ≡ Err Spent → RunsOutOfTurns M.call_of M.next_of kernel.boot way.entry.turns }
 {
     run_as::<Brand, M, R, G>(rt, alloc, Blank::new(way.harts as u64), kernel, way)
 }
@@ -234,11 +234,11 @@ fn run_named<N: Naming + Send + Sync, R: Threads + Wait + Clock + Sync, G: Gate 
 ) -> Result<Report<Global>, RunFault>
     requires { lines_of setting.now.script.now.lines ≡ N.script }
     ensures run { IfOk result (IsRunFrom (script_kernel setting.now.script.now.profile (lines_of setting.now.script.now.lines) setting.now.stdin.now setting.now.files.now)) }
-    ensures harts { IfOk result (λ report. AreOfHarts way.harts report.schedule) }
-    ensures turns { IfOk result (λ report. length report.schedule ≤ way.turns) }
-    ensures bad_harts { result ≡ Err BadHarts → AreBadHarts way.harts }
-    ensures bad_turns { result ≡ Err BadTurns → AreBadTurns way.turns }
-    ensures spent { result ≡ Err Spent → IsOutOfTurnsFrom (script_kernel setting.now.script.now.profile (lines_of setting.now.script.now.lines) setting.now.stdin.now setting.now.files.now) way.turns }
+    ensures harts { IfOk result (λ report. AreOfHarts way.entry.harts report.schedule) }
+    ensures turns { IfOk result (λ report. length report.schedule ≤ way.entry.turns) }
+    ensures bad_harts { result ≡ Err BadHarts → AreBadHarts way.entry.harts }
+    ensures bad_turns { result ≡ Err BadTurns → AreBadTurns way.entry.turns }
+    ensures spent { result ≡ Err Spent → IsOutOfTurnsFrom (script_kernel setting.now.script.now.profile (lines_of setting.now.script.now.lines) setting.now.stdin.now setting.now.files.now) way.entry.turns }
 {
     let init = User::<Global, N>::init();
     let shell = User::shell(setting.script);
