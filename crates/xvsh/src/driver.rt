@@ -9,6 +9,7 @@ ghost use Rattle.xvsh.specs.Drive.{EndsOn, IsAskedBy, IsDueGiven, IsDueOn, Write
 ghost use Rattle.xvsh_read.specs.Given.{Sight};
 ghost use Rattle.xvsh_read.specs.Status.{status_code};
 
+use crate::hints::name_hints_of;
 use crate::parsing::parsed_words;
 use crate::request::{inputs_of, request_of};
 use clap::ArgMatches;
@@ -159,17 +160,25 @@ fn ending_on<R: Threads + Wait + Clock + Sync, H: Host + Traces + Watch>(
     }
 }
 
-// Shows whoever sits at a terminal which lines of the script are no command, if what the ending says was written.
-fn hint_at_bad<H: Hints>(alloc: Global, ending: &Ending, status: Status, host: &mut H) {
-    if status != ending.status {
-        return;
-    }
-    let Ok(hints) = hints_of(alloc, ending.bad.as_slice()) else {
+// Shows whoever sits at a terminal these sentences, unless memory was refused for them.
+fn show_hints<H: Hints>(hints: Result<Vec<String>, AllocError>, host: &mut H) {
+    let Ok(hints) = hints else {
         return;
     };
     for hint in &hints {
         host.hint(hint.as_str());
     }
+}
+
+// Shows whoever sits at a terminal which lines of the script are no command, and which name no program, if what the ending says was
+// written.
+fn hint_at_lines<H: Hints>(alloc: Global, ending: &Ending, status: Status, host: &mut H) {
+    if status != ending.status {
+        return;
+    }
+    let (bad, dead) = (ending.bad.as_slice(), ending.dead.as_slice());
+    show_hints(hints_of(alloc, bad), host);
+    show_hints(name_hints_of(alloc, dead, bad), host);
 }
 
 /// Runs the program on these words, its own name not among them, and returns the status with which it ends. Own, except what
@@ -241,6 +250,6 @@ pub fn drive<
     let ending = ending_on(rt, alloc, words, &mut console.host);
     let status = write_ending(&ending, &mut console.out, &mut console.err);
     console.host.hint(hint_of(&ending, status));
-    hint_at_bad(alloc, &ending, status, &mut console.host);
+    hint_at_lines(alloc, &ending, status, &mut console.host);
     status.code()
 }

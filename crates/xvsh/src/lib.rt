@@ -2,6 +2,7 @@
 #![tactic(auto)]
 
 mod driver;
+mod hints;
 mod parsing;
 mod request;
 

@@ -208,6 +208,7 @@ fn help_ending(alloc: Global, text: String) -> Ending
         left: None,
         hint: "",
         bad: Vec::new(alloc),
+        dead: Vec::new(alloc),
     }
 }
 

@@ -27,6 +27,7 @@ fn prints(alloc: Global, page: Vec<u8>) -> Ending
         left: None,
         hint: "",
         bad: Vec::new(alloc),
+        dead: Vec::new(alloc),
     }
 }
 

@@ -36,7 +36,8 @@ impl Line {
 
 /// How the program ends: what it prints, and after its diagnostics a report of its own on standard error, and the status; and
 /// what makes the run once more, where it was one by processes; the files that it leaves, where a script ran; and for whoever sits at
-/// a terminal what helps, if anything does, and the numbers of the script's lines that are no command, where a text reports a run.
+/// a terminal what helps, if anything does, and the numbers of the script's lines that are no command, where a text reports a run, and of
+/// those and the ones that name no program, where it reports no diagnostics.
 #[derive(Drop)]
 pub struct Ending {
     pub output: Output,
@@ -46,6 +47,7 @@ pub struct Ending {
     pub left: Option<Files<Global>>,
     pub hint: &'static str,
     pub bad: Vec<usize>,
+    pub dead: Vec<usize>,
 }
 
 /// Nothing.
@@ -75,6 +77,7 @@ fn report_with(alloc: Global, line: Line, status: Status, hint: &'static str) ->
         left: None,
         hint,
         bad: Vec::new(alloc),
+        dead: Vec::new(alloc),
     }
 }
 

@@ -41,8 +41,9 @@ struct Printed {
     text: Vec<u8>,
     // Where there is to be a folder of them, a schedule of each outcome.
     schedules: Vec<Vec<u8>>,
-    // The numbers of the script's lines that are no command.
+    // The numbers of the script's lines that are no command, and of those and the ones that name no program.
     bad: Vec<usize>,
+    dead: Vec<usize>,
 }
 
 // Prints this, with the status of this conclusion.
@@ -51,6 +52,7 @@ fn prints(alloc: Global, printed: Printed, conclusion: Conclusion) -> Ending
     ensures told { told_text result ≡ [] }
     ensures status { status_code result.status ≡ explore_status conclusion }
     ensures bad { result.bad.items ≡ printed.bad.items }
+    ensures dead { result.dead.items ≡ printed.dead.items }
 {
     Ending {
         output: Output {
@@ -63,6 +65,7 @@ fn prints(alloc: Global, printed: Printed, conclusion: Conclusion) -> Ending
         left: None,
         hint: "",
         bad: printed.bad,
+        dead: printed.dead,
     }
 }
 
@@ -151,6 +154,7 @@ fn shown<H: Host + Traces + Watch>(
         text: shown.text,
         schedules: shown.schedules,
         bad: explored.bad,
+        dead: explored.dead,
     };
     let ending = written(alloc, printed, request.witness, host);
     Paged {

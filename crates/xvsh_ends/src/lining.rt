@@ -36,6 +36,7 @@ fn with_told(ending: Ending, told: Vec<u8>) -> Ending
     ensures told { told_text result ≡ told.items }
     ensures status { result.status ≡ ending.status }
     ensures bad { result.bad.items ≡ ending.bad.items }
+    ensures dead { result.dead.items ≡ ending.dead.items }
 {
     let Ending {
         output,
@@ -45,6 +46,7 @@ fn with_told(ending: Ending, told: Vec<u8>) -> Ending
         left,
         hint,
         bad,
+        dead,
     } = ending;
     Ending {
         output: Output {
@@ -57,6 +59,7 @@ fn with_told(ending: Ending, told: Vec<u8>) -> Ending
         left,
         hint,
         bad,
+        dead,
     }
 }
 

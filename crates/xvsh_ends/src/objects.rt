@@ -69,6 +69,7 @@ fn prints(alloc: Global, object: Bytes<Global>, status: Status) -> Ending
         left: None,
         hint: "",
         bad: Vec::new(alloc),
+        dead: Vec::new(alloc),
     }
 }
 

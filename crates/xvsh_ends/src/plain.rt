@@ -96,10 +96,16 @@ fn text_of(alloc: Global, run: PlainRun, request: &PlainRequest<'_>) -> Result<E
     ensures report { IfOk result (λ ending. told_text ending ≡ known_text run.known ++ (verdict_text run.reasoned.plain.settled ++ why_text request.now.is_strict (map reason_text run.reasoned.reasons.items))) }
     ensures status { IfOk result (λ ending. status_code ending.status ≡ verdict_status request.now.is_strict run.reasoned.plain.settled) }
     ensures bad { IfOk result (λ ending. ending.bad.items ≡ run.bad.items) }
+    ensures dead { IfOk result (λ ending. ending.dead.items ≡ run.dead.items) }
 {
     let err = report_of(alloc, &run, request.is_strict)?;
     let status = verdict_status(request.is_strict, run.reasoned.plain.settled);
-    let PlainRun { reasoned, bad, .. } = run;
+    let PlainRun {
+        reasoned,
+        bad,
+        dead,
+        ..
+    } = run;
     let PrintedRun { output, files } = printed(alloc, reasoned.plain, request.lists_files)?;
     Ok(Ending {
         output: Output { err, ..output },
@@ -109,6 +115,7 @@ fn text_of(alloc: Global, run: PlainRun, request: &PlainRequest<'_>) -> Result<E
         left: Some(files),
         hint: "",
         bad,
+        dead,
     })
 }
 

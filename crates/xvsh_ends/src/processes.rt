@@ -45,6 +45,8 @@ fn ran(run: Run, status: Status) -> Ending
     ensures status { status_code result.status ≡ full_status run.full (status_code status) }
     ensures bad { result.bad.items ≡ run.bad.items }
 {
+    // the diagnostics of a run say of each command that it names no program
+    let dead = Vec::new(*run.bad.allocator());
     let (line, status) = match run.full {
         Some(full) => (full_line(full), Status::NoRoom),
         None => ("", status),
@@ -57,6 +59,7 @@ fn ran(run: Run, status: Status) -> Ending
         left: Some(run.files),
         hint: "",
         bad: run.bad,
+        dead,
     }
 }
 

@@ -18,6 +18,7 @@ pub(crate) fn beside(alloc: Global, ending: Ending, path: &str) -> Ending
     ensures told { told_text result ≡ told_text ending }
     ensures status { result.status ≡ ending.status }
     ensures bad { result.bad.items ≡ ending.bad.items }
+    ensures dead { result.dead.items ≡ ending.dead.items }
 {
     if path != STDIN {
         return ending;
@@ -30,6 +31,7 @@ pub(crate) fn beside(alloc: Global, ending: Ending, path: &str) -> Ending
         left,
         hint,
         bad,
+        dead,
     } = ending;
     Ending {
         output: Output {
@@ -42,6 +44,7 @@ pub(crate) fn beside(alloc: Global, ending: Ending, path: &str) -> Ending
         left,
         hint,
         bad,
+        dead,
     }
 }
 

@@ -25,6 +25,7 @@ fn print_alone(alloc: Global, text: Vec<u8>, status: Status) -> Ending
         left: None,
         hint: "",
         bad: Vec::new(alloc),
+        dead: Vec::new(alloc),
     }
 }
 
