@@ -59,7 +59,7 @@ pub fn sentence(kind: NoteKind) -> &'static [u8]
         NoteKind::Background =>
             b"the shell doesn't wait for the command before this sign, so what comes next may run at the same time".as_slice(),
         NoteKind::WritesOver =>
-            b"this sign doesn't append: without --append the output is written over the file from its beginning".as_slice(),
+            b"this sign appends only with --append: without it the output is written over the file from its beginning".as_slice(),
         NoteKind::InputUnread =>
             b"a command reads the file behind its first <: the file behind this sign is opened, and not read".as_slice(),
         NoteKind::OutputEmptied =>
