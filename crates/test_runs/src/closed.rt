@@ -1,6 +1,6 @@
 //! Two seats take the turns of a script's kernel one after the other; what they leave of a settled script is its meaning.
 
-ghost use Rattle.std.specs.Prelude.{◌≡◌, IfOk, IsTrue, length};
+ghost use Rattle.std.specs.Prelude.{◌≡◌, IfOk, IsTrue, [], length};
 ghost use Rattle.script_load.specs.Line.{lines_of};
 ghost use Rattle.sh_machine.specs.Codes.{user_code};
 ghost use Rattle.run_model.specs.ScriptRun.{script_kernel};
