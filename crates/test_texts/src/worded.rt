@@ -1,7 +1,7 @@
 //! What a process does at a turn, in words, by what the shell and the programs of xv6 call.
 
 use mem_files::Files;
-use order_partings::{Scene, part};
+use order_partings::{Setting, part};
 use script_load::load;
 use std::alloc::Global;
 use std::test::Fail;
@@ -10,12 +10,12 @@ use std::test::Fail;
 fn parted(alloc: Global, one: &[u8], other: &[u8]) -> Result<(usize, String, String), Fail> {
     let script = load(alloc, b"echo a | cat\n".as_slice())?;
     let files = Files::new(alloc);
-    let scene = Scene {
+    let setting = Setting {
         script: &script,
         stdin: &[],
         files: &files,
     };
-    let parting = part(alloc, &scene, one, other)?.ok_or("they don't part")?;
+    let parting = part(alloc, &setting, one, other)?.ok_or("they don't part")?;
     let first = String::from_str(alloc, str::from_utf8(parting.one.as_slice())?)?;
     let second = String::from_str(alloc, str::from_utf8(parting.other.as_slice())?)?;
     Ok((parting.event, first, second))
