@@ -33,6 +33,9 @@ def main(seed, *words):
 
 
 if __name__ == "__main__":
+    if len(sys.argv) < 3:
+        print("usage: docs/lanes.py SEED SCRIPT [FILE]..", file=sys.stderr)
+        sys.exit(2)
     try:
         main(*sys.argv[1:])
     except (BrokenPipeError, ValueError):

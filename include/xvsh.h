@@ -123,25 +123,29 @@ typedef enum {
 /* What was full first in a run. */
 typedef enum { XVSH_ROOMY, XVSH_PROCS, XVSH_OPEN, XVSH_DESCRIPTORS, XVSH_FILES, XVSH_SIZE, XVSH_HEAP } xvsh_full;
 
-/* How long a file's name and bytes are, and 1 where its bytes may depend on the order of processes. */
+/* How long a file's name and bytes are, and 1 where the file is soft: the left side of a pipe writes it whose right side may stop before it has
+ * read all. Of a settled script no other file depends on the order of processes; of one that isn't settled, of which every file may, this says
+ * nothing of the others. It is known of xvsh_plain alone, and else 0. */
 typedef struct { size_t name, bytes; uint32_t soft; } xvsh_sizes;
 typedef struct { const xvsh_sizes *at; size_t length; } xvsh_table;
 
-/* What a call gives. What a call doesn't speak of is empty or 0. */
+/* What a call gives. What a call doesn't speak of is empty or 0. A call that is watched gives what it gives unwatched. */
 typedef struct {
   xvsh_bytes out;      /* the standard output */
   xvsh_bytes diag;     /* the diagnostics of a run; of XVSH_BAD_SUITE what is wrong */
-  xvsh_bytes events;   /* a line an event: `D HART PROCESS` or `T HART PROCESS`; of xvsh_trace the lines of the trace,
-                          of xvsh_draw and xvsh_draw_two the page */
-  xvsh_bytes json;     /* of xvsh_check, xvsh_explain, xvsh_explore, xvsh_look and xvsh_grade an object of JSON, and LF */
+  xvsh_bytes events;   /* of a run a line an event: `D HART PROCESS` or `T HART PROCESS`; of xvsh_trace the lines of the trace, of xvsh_draw
+                          and xvsh_draw_two the page, of xvsh_draw_svg and xvsh_draw_two_svg the picture */
+  xvsh_bytes json;     /* an object of JSON, and LF: of xvsh_check, xvsh_check_turns, xvsh_check_room, xvsh_explain, xvsh_explain_why,
+                          xvsh_explore, xvsh_look and xvsh_grade */
   xvsh_bytes block;    /* the files at the end, in byte order of their names: of each its name, and behind it its bytes */
   xvsh_table sizes;    /* how long these are: a row a file; xvsh_next_file walks them */
   uint64_t place;      /* what a fault is about, or 0 */
   uint32_t status;     /* XVSH_OK, or the fault */
   uint32_t full;       /* an xvsh_full */
-  uint32_t fine;       /* xvsh_plain: 1 where the script is settled; xvsh_check and xvsh_explain: where there is nothing to tell;
-                          xvsh_explore: where all outcomes have one output and one set of files; xvsh_look: where the run is finished;
-                          xvsh_grade: where every test was passed */
+  uint32_t fine;       /* xvsh_plain: 1 where the script is settled; xvsh_check and xvsh_check_turns: where no line holds a `&` or a clash, or
+                          strictly is no command; xvsh_check_room: where moreover there is room for it; xvsh_explain and xvsh_explain_why:
+                          where there is nothing to tell; xvsh_explore: where all outcomes have one output and one set of files;
+                          xvsh_look: where the run is finished; xvsh_grade: where every test was passed */
   uint32_t whole;      /* xvsh_explore: 1 where every order was tried, or what it leaves is known without */
 } xvsh_answer;
 
@@ -173,7 +177,7 @@ xvsh_bytes xvsh_fault_name(uint32_t number);
 /* A fault's text, as "a line has more than 511 bytes". */
 xvsh_bytes xvsh_fault_text(uint32_t number);
 
-/* A file of an answer. */
+/* A file of an answer; soft as in xvsh_sizes. */
 typedef struct { xvsh_bytes name, bytes; bool soft; size_t next, from; } xvsh_left;
 
 /* Walks the files of an answer: begin with an xvsh_left that is all 0, and go on while it returns true. */

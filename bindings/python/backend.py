@@ -18,7 +18,7 @@ from typing import Any
 
 HERE = os.path.dirname(os.path.abspath(__file__))
 TAG = "py3-none-linux_x86_64"
-MODULES = ("__init__.py", "_show.py", "_svg.py", "by_program.py", "coming.py", "grading.py")
+MODULES = ("__init__.py", "_given.py", "_show.py", "_svg.py", "by_program.py", "coming.py", "grading.py")
 
 
 def _read(*path: str) -> bytes:

@@ -99,6 +99,53 @@ def faults():
                 raise AssertionError(number)
 
 
+# what is of another kind than it has to be, and what is said of it
+WRONG = [
+    (lambda: xvsh.plain(3), TypeError, "a script is text or bytes, and not 3"),
+    (lambda: xvsh.plain("", None), TypeError, "an input is text or bytes, and not None"),
+    (lambda: xvsh.plain("", files=["a"]), TypeError, "files are a mapping of names to text or bytes, as {'f': 'a\\n'}, and not ['a']"),
+    (lambda: xvsh.plain("", files={3: ""}), TypeError, "the name of a file is text, and not 3"),
+    (lambda: xvsh.plain("", files={"a": 3}), TypeError, "the file 'a' is text or bytes, and not 3"),
+    (lambda: xvsh.plain("", budget=1.5), TypeError, "a budget is a number from 0 to 2**64 - 1, and not 1.5"),
+    (lambda: xvsh.run("", order="low"), TypeError, "an order is one of xvsh.Order, such as xvsh.Order.LOWEST, and not 'low'"),
+    (lambda: xvsh.draw("", order=None), TypeError, "an order is one of xvsh.Order, such as xvsh.Order.LOWEST, and not None"),
+    (lambda: xvsh.run("", turns=-1), ValueError, "turns are a number from 1 to 1,000,000,000, and not -1"),
+    (lambda: xvsh.run("", turns="9"), TypeError, "turns are a number from 1 to 1,000,000,000, and not '9'"),
+    (lambda: xvsh.run("", seed=-1), ValueError, "a seed is a number from 0 to 2**64 - 1, and not -1"),
+    (lambda: xvsh.replay("", 3), TypeError, "a schedule is text or bytes, and not 3"),
+    (lambda: xvsh.draw_two("", "", 3), TypeError, "the other schedule is text or bytes, and not 3"),
+    (lambda: xvsh.explore("", states=-1), ValueError, "states are a number from 1 to 10,000,000, and not -1"),
+    (lambda: xvsh.explore("", watch=3), TypeError, "a watch is a function, or None, and not 3"),
+    (lambda: xvsh.explore("", timeout="1"), TypeError, "a timeout is a number of seconds, or None, and not '1'"),
+    (lambda: xvsh.outcomes("", states="1"), TypeError, "states are a number from 1 to 10,000,000, and not '1'"),
+    (lambda: xvsh.grade_script(3, ""), TypeError, "a suite is text or bytes, and not 3"),
+    (lambda: xvsh.grade_scripts("", 3), TypeError, "scripts are a mapping of names to scripts, or pairs of a name and a script, and not 3"),
+    (lambda: list(xvsh.grade_scripts("", ["ab"])), TypeError, "scripts are a mapping of names to scripts, or pairs of a name and a script: 'ab' is none"),
+    (lambda: xvsh.grade_scripts("", {}, jobs=0), ValueError, "jobs are a number from 1 to 256, and not 0"),
+    (lambda: xvsh.Session("", files=[("a", "b")]), TypeError, "files are a mapping of names to text or bytes, as {'f': 'a\\n'}, and not [('a', 'b')]"),
+    (lambda: xvsh.Session("").choose(-1), ValueError, "pid is the slot of a process, a number from 0 to 63, and not -1"),
+    (lambda: xvsh.Session("").choose("1"), TypeError, "pid is the slot of a process, a number from 0 to 63, and not '1'"),
+    (lambda: xvsh.Session("").back("1"), TypeError, "turns are a number from 0 to 0, as many as were taken, and not '1'"),
+    (lambda: xvsh.run_harts("", harts="4"), TypeError, "harts are a number from 1 to 8, and not '4'"),
+    (lambda: xvsh.run_harts("", turns="9"), TypeError, "turns are a number from 1 to 1,000,000,000, or None, and not '9'"),
+    (lambda: xvsh.grade_harts("", files=["a"]), TypeError, "files are a mapping of names to text or bytes, as {'f': 'a\\n'}, and not ['a']"),
+    (lambda: xvsh.grade(3), TypeError, "a suite is a path, as text, bytes or a PathLike, and not 3"),
+    (lambda: xvsh.grade("s", 3), TypeError, "scripts are paths, or one path, and not 3"),
+    (lambda: xvsh.grade("s", jobs="2"), TypeError, "jobs are a number from 1 to 256, or None, and not '2'"),
+]
+
+
+def wrong():
+    """What is of another kind than it has to be is named, with what it has to be."""
+    for number, (call, kind, said) in enumerate(WRONG):
+        try:
+            call()
+        except kind as error:
+            assert type(error) is kind and str(error) == said, (number, error)
+        else:
+            raise AssertionError(f"not refused: {said}")
+
+
 def sessions():
     """A session reaches both outputs of a race, and no other process than a Runnable one takes a turn."""
     script = "echo a &; echo b"
@@ -425,6 +472,7 @@ def growth(count):
 def main():
     numbers()
     faults()
+    wrong()
     sessions()
     views()
     asks()

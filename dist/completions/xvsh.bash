@@ -1,9 +1,19 @@
 # Completions of xvsh, made by dist/completions/make of what `xvsh --help` tells.
 _xvsh() {
-    local cur=${COMP_WORDS[COMP_CWORD]} prev=${COMP_WORDS[COMP_CWORD-1]} command=${COMP_WORDS[1]} flags=
+    local cur=${COMP_WORDS[COMP_CWORD]} prev=${COMP_WORDS[COMP_CWORD-1]} at=1 first='--color ' command flags=
     COMPREPLY=()
-    if [ "$COMP_CWORD" -eq 1 ]; then
-        mapfile -t COMPREPLY < <(compgen -W 'run replay plain check explain explore draw step grade -c --help --version' -- "$cur")
+    # --color WHEN, of which bash makes two words, or three where a = stands between them
+    if [ "$COMP_CWORD" -gt 1 ] && [ "${COMP_WORDS[1]}" = --color ]; then
+        at=3 first=
+        if [ "${COMP_WORDS[2]}" = = ]; then at=4; fi
+        if [ "$COMP_CWORD" -lt "$at" ]; then
+            mapfile -t COMPREPLY < <(compgen -W 'auto always never' -- "${cur#=}")
+            return
+        fi
+    fi
+    command=${COMP_WORDS[at]}
+    if [ "$COMP_CWORD" -eq "$at" ]; then
+        mapfile -t COMPREPLY < <(compgen -W "run replay plain check explain explore draw step grade -c $first--help --version" -- "$cur")
         return
     fi
     case $command in

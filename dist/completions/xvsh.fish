@@ -1,17 +1,29 @@
 # Completions of xvsh, made by dist/completions/make of what `xvsh --help` tells.
-complete -c xvsh -n __fish_use_subcommand -f
-complete -c xvsh -n __fish_use_subcommand -a run -d 'Runs a script by its processes, as xv6 does, with their messages'
-complete -c xvsh -n __fish_use_subcommand -a replay -d 'Runs a script by the events that `run --schedule` wrote'
-complete -c xvsh -n __fish_use_subcommand -a plain -d 'Runs a script, each pipe\'s left side to its end before the right one'
-complete -c xvsh -n __fish_use_subcommand -a check -d 'Tells where commands of a script may clash, and runs nothing'
-complete -c xvsh -n __fish_use_subcommand -a explain -d 'Tells in sentences what is wrong or unexpected in a script'
-complete -c xvsh -n __fish_use_subcommand -a explore -d 'Tries every order of a script\'s processes, and tells what it prints'
-complete -c xvsh -n __fish_use_subcommand -a draw -d 'Draws a trace, or two, as a page of HTML or as a picture'
-complete -c xvsh -n __fish_use_subcommand -a step -d 'Lets you say which process of a script takes the next turn'
-complete -c xvsh -n __fish_use_subcommand -a grade -d 'Grades scripts by the tests of a suite'
-complete -c xvsh -n __fish_use_subcommand -s h -l help -d 'Print help'
-complete -c xvsh -n __fish_use_subcommand -s V -l version -d 'Print version'
-complete -c xvsh -n __fish_use_subcommand -s c -x -d 'The script itself'
+# Whether no command stands there yet, behind `--color WHEN` or without it
+function __xvsh_wants_command
+    set -l words (commandline -poc)[2..]
+    if test "$words[1]" = --color
+        set words $words[3..]
+    end
+    for word in $words
+        string match -q -- '-*' $word; or return 1
+    end
+    return 0
+end
+complete -c xvsh -n __xvsh_wants_command -f
+complete -c xvsh -n __xvsh_wants_command -a run -d 'Runs a script by its processes, as xv6 does, with their messages'
+complete -c xvsh -n __xvsh_wants_command -a replay -d 'Runs a script by the events that `run --schedule` wrote'
+complete -c xvsh -n __xvsh_wants_command -a plain -d 'Runs a script, each pipe\'s left side to its end before the right one'
+complete -c xvsh -n __xvsh_wants_command -a check -d 'Tells where commands of a script may clash, and runs nothing'
+complete -c xvsh -n __xvsh_wants_command -a explain -d 'Tells in sentences what is wrong or unexpected in a script'
+complete -c xvsh -n __xvsh_wants_command -a explore -d 'Tries every order of a script\'s processes, and tells what it prints'
+complete -c xvsh -n __xvsh_wants_command -a draw -d 'Draws a trace, or two, as a page of HTML or as a picture'
+complete -c xvsh -n __xvsh_wants_command -a step -d 'Lets you say which process of a script takes the next turn'
+complete -c xvsh -n __xvsh_wants_command -a grade -d 'Grades scripts by the tests of a suite'
+complete -c xvsh -n __xvsh_wants_command -s h -l help -d 'Print help'
+complete -c xvsh -n __xvsh_wants_command -s V -l version -d 'Print version'
+complete -c xvsh -n __xvsh_wants_command -s c -x -d 'The script itself'
+complete -c xvsh -n __xvsh_wants_command -l color -x -a 'auto always never' -d 'When there are colours'
 complete -c xvsh -n '__fish_seen_subcommand_from run' -l harts -x -d 'On so many harts (hardware threads, each a thread here), 1 to 8; 4 without it'
 complete -c xvsh -n '__fish_seen_subcommand_from run' -l turns -x -d 'In at most so many events, 1 to 1000000000; without it, 10000000 or more if more are enough'
 complete -c xvsh -n '__fish_seen_subcommand_from run' -l seed -x -d 'On one hart, each turn by a process that is drawn; N stands for one order'

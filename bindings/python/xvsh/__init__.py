@@ -12,8 +12,8 @@ program, and needs no library; `grade_script` grades bytes in memory by the libr
 iterators, whose results come one by one.
 
 Each call raises the faults of what it is given: LineTooLong, ByteZero and ScriptTooLong of the script; where it takes them, TooLong,
-BadName and TooManyFiles of the files, and InputTooLong of the input; and Memory. Its own are told at each. What is no number where one is due
-is a TypeError, and a number that the library's type can't hold a ValueError that is no XvshError. Answers can be compared and hashed, and
+BadName and TooManyFiles of the files, and InputTooLong of the input; and Memory. Its own are told at each. What is of another
+kind than it has to be is a TypeError, and a number that the library's type can't hold a ValueError that is no XvshError; each names it and says what it has to be. Answers can be compared and hashed, and
 answers and faults copied and pickled. A notebook shows an answer as a table.
 
 Scripts, inputs and the bytes of files are `bytes`, or `str` that is encoded as UTF-8. Names of files are `str`; bytes of a name
@@ -30,13 +30,13 @@ import enum
 import functools
 import html
 import json
-import operator
 import os
 import subprocess
 import time
 from collections.abc import Callable, Iterable, Iterator, Mapping
 from typing import Any, Union
 
+from ._given import callable_or_none, named_bytes, number, number_in, raw, seconds
 from ._show import Cell, Shown, code, counted, escaped, files as files_cell, table
 from ._svg import svg_of
 from .grading import AnyPath, Difference, Graded, GradeError, NoProgram, ProgramError, Report, TimedOut, Verdict, _report_of, grade
@@ -57,6 +57,7 @@ Files = Mapping[str, Bytes]
 
 MAX_TURNS = 1_000_000_000
 MAX_STATES = 10_000_000
+MAX_PID = 63
 _VERSION = 3_000
 
 
@@ -323,16 +324,14 @@ def version() -> tuple[int, int, int]:
     return number // 1_000_000, number // 1000 % 1000, number % 1000
 
 
-def _raw(data: Bytes) -> bytes:
-    # of bytes(5) there are five, so what is no text has to be a buffer
-    return data if type(data) is bytes else data.encode() if isinstance(data, str) else bytes(memoryview(data))
+_BITS_32, _BITS_64 = (1 << 32) - 1, (1 << 64) - 1
+_TURNS, _STATES = f"turns are a number from 1 to {MAX_TURNS:,}", f"states are a number from 1 to {MAX_STATES:,}"
 
 
-def _number(value: int, bits: int, what: str) -> int:
-    number = operator.index(value)
-    if not 0 <= number < 1 << bits:
-        raise ValueError(f"{what} a number from 0 to 2**{bits} - 1")
-    return number
+def _turns_of(turns: int, order: int, seed: int) -> tuple[int, int, int]:
+    """The numbers of a run. The library refuses those that it can hold and that are none."""
+    orders = f"an order is one of xvsh.Order, such as xvsh.Order.{Order.LOWEST.name}"
+    return number_in(turns, 0, _BITS_64, _TURNS), number_in(order, 0, _BITS_32, orders), number_in(seed, 0, _BITS_64, "a seed is a number from 0 to 2**64 - 1")
 
 
 def _view(kept: list[Any], data: bytes) -> tuple[int | None, int]:
@@ -351,7 +350,8 @@ def _fault_text(number: int) -> str:
 
 @dataclasses.dataclass(frozen=True, repr=False)
 class File(Shown):
-    """A file at the end of a run; `soft` where its bytes may depend on the order of processes (of a run by meaning)."""
+    """A file at the end of a run; of a run by meaning `soft` where the left side of a pipe writes it whose right side may stop before it has
+    read all: of a settled script no other file depends on the order of processes, and of one that isn't settled every file may."""
 
     bytes: bytes
     soft: bool = False
@@ -703,10 +703,10 @@ class _Call:
 
 def _call(name: str, script: Bytes, input: Bytes, files: Files | None, append: bool, budget: int, *more: Any) -> _Call:
     kept: list[Any] = []
-    budget = _number(budget, 64, "a budget is")
-    rows = [_File(_view(kept, os.fsencode(name)), _view(kept, _raw(data))) for name, data in (files or {}).items()]
+    budget = number_in(budget, 0, _BITS_64, "a budget is a number from 0 to 2**64 - 1")
+    rows = [_File(_view(kept, os.fsencode(file)), _view(kept, data)) for file, data in named_bytes(files).items()]
     given = (_File * len(rows))(*rows)
-    task = _Task(_view(kept, _raw(script)), _view(kept, _raw(input)), given, len(rows), budget, 1 if append else 0)
+    task = _Task(_view(kept, raw(script, "a script")), _view(kept, raw(input, "an input")), given, len(rows), budget, 1 if append else 0)
     answer, function = _Answer(), getattr(_library(), f"xvsh_{name}")
     try:
         if function(task, *more, answer):
@@ -734,8 +734,7 @@ def run(
     """Runs the script by its processes on one hart, in at most `turns` events, from 1 to MAX_TURNS, in this order, of which DRAWN takes any
     `seed` and STARVING a slot from 0 to 63; with `trace` each event has its record, of some 200 bytes. Spent where the turns are over and
     the run isn't finished; BadTurns; BadOrder."""
-    numbers = _number(turns, 64, "turns are"), _number(order, 32, "an order is"), _number(seed, 64, "a seed is")
-    call = _call("trace" if trace else "run", script, input, files, append, 0, *numbers)
+    call = _call("trace" if trace else "run", script, input, files, append, 0, *_turns_of(turns, order, seed))
     if not trace:
         return _run_of(call)
     schedule = b"".join(b"%c %d %d\n" % (68 if event.kind == "dispatch" else 84, event.hart, event.pid) for event in _traced(call.events))
@@ -752,8 +751,7 @@ def draw(
     >>> drawing.html[:15].lower(), drawing.svg[:5]
     (b'<!doctype html>', '<svg ')
     """
-    numbers = _number(turns, 64, "turns are"), _number(order, 32, "an order is"), _number(seed, 64, "a seed is")
-    call = _call("draw", script, input, files, append, 0, *numbers)
+    call = _call("draw", script, input, files, append, 0, *_turns_of(turns, order, seed))
     return Drawing(Run(call.out, call.files, call.diag, b"", call.full), call.events)
 
 
@@ -767,8 +765,8 @@ def draw_two(script: Bytes, schedule: Bytes, other: Bytes, input: Bytes = b"", f
     True
     """
     kept: list[Any] = []
-    first = _raw(schedule)
-    call = _call("draw_two", script, input, files, append, 0, _Bytes(*_view(kept, first)), _Bytes(*_view(kept, _raw(other))))
+    first = raw(schedule, "a schedule")
+    call = _call("draw_two", script, input, files, append, 0, _Bytes(*_view(kept, first)), _Bytes(*_view(kept, raw(other, "the other schedule"))))
     return Drawing(Run(call.out, call.files, call.diag, first, call.full), call.events)
 
 
@@ -782,16 +780,15 @@ def draw_svg(
     >>> picture.svg[:5], picture.run.out
     ('<svg ', b'hi\\n')
     """
-    numbers = _number(turns, 64, "turns are"), _number(order, 32, "an order is"), _number(seed, 64, "a seed is")
-    call = _call("draw_svg", script, input, files, append, 0, *numbers)
+    call = _call("draw_svg", script, input, files, append, 0, *_turns_of(turns, order, seed))
     return Picture(Run(call.out, call.files, call.diag, b"", call.full), call.events.decode())
 
 
 def draw_two_svg(script: Bytes, schedule: Bytes, other: Bytes, input: Bytes = b"", files: Files | None = None, *, append: bool = False) -> Picture:
     """Runs the script by two schedules as `draw_two` does, with the same faults, and gives the picture of both runs, as `xvsh draw --svg` writes it of their two traces."""
     kept: list[Any] = []
-    first = _raw(schedule)
-    call = _call("draw_two_svg", script, input, files, append, 0, _Bytes(*_view(kept, first)), _Bytes(*_view(kept, _raw(other))))
+    first = raw(schedule, "a schedule")
+    call = _call("draw_two_svg", script, input, files, append, 0, _Bytes(*_view(kept, first)), _Bytes(*_view(kept, raw(other, "the other schedule"))))
     return Picture(Run(call.out, call.files, call.diag, first, call.full), call.events.decode())
 
 
@@ -799,7 +796,7 @@ def replay(script: Bytes, schedule: Bytes, input: Bytes = b"", files: Files | No
     """Runs it by the events of a schedule: a run's, or any other, of one to eight harts. NoEvent of a line that is none; NotRunnable and
     NotRunning of an event that can't take place; Unfinished where all took place and the run isn't finished."""
     kept: list[Any] = []
-    return _run_of(_call("replay", script, input, files, append, 0, _Bytes(*_view(kept, _raw(schedule)))))
+    return _run_of(_call("replay", script, input, files, append, 0, _Bytes(*_view(kept, raw(schedule, "a schedule")))))
 
 
 def _run_of(call: _Call) -> Run:
@@ -903,7 +900,7 @@ def explore(
     >>> [outcome.out for outcome in xvsh.explore("echo a &; echo b").outcomes]
     [b'a\\nb\\n', b'ab\\n\\n', b'b\\na\\n', b'ba\\n\\n']
     """
-    numbers = _number(states, 64, "states are"), 1 if thorough else 0
+    numbers = number_in(states, 0, _BITS_64, _STATES), 1 if thorough else 0
     call = _call_watched(watch, timeout, "explore", script, input, files, append, *numbers)
     made = json.loads(call.json)
     stuck = None if made["stuck"] is None else _schedule(made["stuck"])
@@ -931,7 +928,8 @@ def grade_script(
     ('all passed', [('-', 'counts', 'pass')])
     """
     kept: list[Any] = []
-    numbers = _Bytes(*_view(kept, _raw(suite))), _number(0 if states is None else states, 64, "states are"), 1 if script is None else 0
+    most = number_in(0 if states is None else states, 0, _BITS_64, f"{_STATES}, or None")
+    numbers = _Bytes(*_view(kept, raw(suite, "a suite"))), most, 1 if script is None else 0
     return _report_of(_call_watched(watch, timeout, "grade", b"" if script is None else script, b"", files, False, *numbers).json)
 
 
@@ -939,10 +937,12 @@ def _call_watched(
     watch: Callable[[int], bool] | None, timeout: float | None, name: str, script: Bytes, input: Bytes, files: Files | None, append: bool, *numbers: Any
 ) -> _Call:
     """Makes a call, and a watched one where somebody watches it, or a clock does."""
-    if watch is None and timeout is None:
+    callable_or_none(watch, "a watch")
+    lasts = seconds(timeout)
+    if watch is None and lasts is None:
         return _call(name, script, input, files, append, 0, *numbers)
     raised: list[BaseException] = []
-    asked, last = watch, None if timeout is None else time.monotonic() + timeout
+    asked, last = watch, None if lasts is None else time.monotonic() + lasts
 
     def goes_on(_context: Any, requests: int) -> int:
         try:
@@ -1005,7 +1005,7 @@ class Session:
     """
 
     def __init__(self, script: Bytes, input: Bytes = b"", files: Files | None = None, *, append: bool = False) -> None:
-        self._task = (_raw(script), _raw(input), dict(files or {}), append)
+        self._task = (raw(script, "a script"), raw(input, "an input"), named_bytes(files), append)
         self._turns: list[int] = []
         self._look(())
 
@@ -1084,14 +1084,13 @@ class Session:
         return () if self.finished else tuple(it["pid"] for it in self._made["ps"]["processes"] if it["state"] == "runnable")
 
     def choose(self, pid: int) -> None:
-        """Lets the process in this slot take a turn. NotRunnable where it can't; nothing changes then."""
-        self._look((*self._turns, pid))
+        """Lets the process in this slot take a turn. NotRunnable where it can't, and ValueError where there is no such slot; nothing changes then."""
+        self._look((*self._turns, number_in(pid, 0, MAX_PID, f"pid is the slot of a process, a number from 0 to {MAX_PID}")))
 
     def back(self, turns: int = 1) -> tuple[int, ...]:
         """Takes back the last turns, and returns whose they were, in their order. ValueError where there were fewer; nothing changes then."""
-        if not 0 <= turns <= len(self._turns):
-            raise ValueError(f"there are {len(self._turns)} turns")
-        left = len(self._turns) - turns
+        count = len(self._turns)
+        left = count - number_in(turns, 0, count, f"turns are a number from 0 to {count}, as many as were taken")
         taken = tuple(self._turns[left:])
         self._look(tuple(self._turns[:left]))
         return taken

@@ -6,12 +6,12 @@ import contextlib
 import dataclasses
 import itertools
 import json
-import operator
 import os
 import tempfile
 from collections.abc import Iterator
 
-from . import MAX_TURNS, BadTurns, Bytes, Fault, Files, Run, Unfinished, _error_of, _raw, replay
+from . import _TURNS, MAX_TURNS, BadTurns, Bytes, Fault, Files, Run, Unfinished, _error_of, replay
+from ._given import named_bytes, number, number_in, raw
 from .grading import AnyPath, NoProgram, ProgramError, Report, _flags, _graded_by, _program, _run
 
 __all__ = ["grade_harts", "run_harts"]
@@ -36,8 +36,7 @@ class _Task:
 
 
 def _task_of(script: Bytes, input: Bytes, files: Files | None, append: bool, program: AnyPath | None, timeout: float | None) -> _Task:
-    had = {name: _raw(data) for name, data in (files or {}).items()}
-    return _Task(_raw(script), _raw(input), had, append, program, timeout)
+    return _Task(raw(script, "a script"), raw(input, "an input"), named_bytes(files), append, program, timeout)
 
 
 class _Room:
@@ -109,10 +108,9 @@ def run_harts(
     >>> run.out, {event.hart for event in run} <= {0, 1, 2}
     (b'1 1 3 \n', True)
     """
-    count = operator.index(harts)
-    if not 1 <= count <= MAX_HARTS:
-        raise ValueError(f"harts are a number from 1 to {MAX_HARTS}")
-    if turns is not None and not 1 <= operator.index(turns) <= MAX_TURNS:
+    count = number_in(harts, 1, MAX_HARTS, f"harts are a number from 1 to {MAX_HARTS}")
+    most = None if turns is None else number(turns, f"{_TURNS}, or None")
+    if most is not None and not 1 <= most <= MAX_TURNS:
         raise BadTurns(Fault.BadTurns, 0, f"the turns are none of 1 to {MAX_TURNS}")
     task = _task_of(script, input, files, append, program, timeout)
     try:
@@ -121,7 +119,7 @@ def run_harts(
     except Unfinished:
         pass
     with _room(task) as room:
-        room.run(f"--harts={count}", *([] if turns is None else [f"--turns={operator.index(turns)}"]), "--schedule-to=../schedule")
+        room.run(f"--harts={count}", *([] if most is None else [f"--turns={most}"]), "--schedule-to=../schedule")
         schedule = room.read("schedule")
     return task.replayed(schedule)
 
@@ -152,7 +150,7 @@ def grade_harts(
     >>> report.status, [(verdict.script, verdict.verdict) for verdict in report]
     ('all passed', [('-', 'pass')])
     """
-    placed = {name: _raw(data) for name, data in (files or {}).items()}
+    placed = named_bytes(files)
     for name in placed:
         if os.path.isabs(name) or os.pardir in name.split(os.sep) or not name:
             raise ValueError(f"no file of a suite in memory is at {name!r}")
@@ -160,9 +158,9 @@ def grade_harts(
     called = next(name for number in itertools.count() if (name := f"suite{number}.toml") not in taken)
     with tempfile.TemporaryDirectory(prefix="xvsh-") as folder:
         try:
-            for name, data in {**placed, called: _raw(suite)}.items():
+            for name, data in {**placed, called: raw(suite, "a suite")}.items():
                 _place(folder, name, data)
         except (FileExistsError, NotADirectoryError, IsADirectoryError) as error:
             raise ValueError(f"two files of the suite, or a file and a folder, have one path: {os.path.relpath(error.filename, folder)!r}") from None
         words = [_absolute(program), *_flags(1, states), "--", called, *([] if script is None else ["-"])]
-        return _graded_by(words, timeout, folder, b"" if script is None else _raw(script))
+        return _graded_by(words, timeout, folder, b"" if script is None else raw(script, "a script"))

@@ -7,13 +7,13 @@ from __future__ import annotations
 
 import collections
 import hashlib
-import operator
 import threading
 from collections.abc import Callable, Iterable, Iterator, Mapping
 from concurrent.futures import Future, ThreadPoolExecutor
 from typing import Union
 
-from . import MAX_STATES, Bytes, Exploration, Files, Outcome, _raw, explore, grade_script
+from . import _STATES, MAX_STATES, Bytes, Exploration, Files, Outcome, explore, grade_script
+from ._given import number, number_in, pairs, raw
 from .grading import Graded, _renamed
 
 __all__ = ["Outcomes", "Scripts", "grade_scripts", "outcomes"]
@@ -63,7 +63,7 @@ def outcomes(
     >>> len(list(found)), found.exploration.whole
     (3, True)
     """
-    bound = operator.index(states)
+    bound = number(states, _STATES)
 
     def explorations() -> Iterator[Exploration]:
         most = bound if bound > MAX_STATES else min(bound, _FIRST)
@@ -124,17 +124,15 @@ def grade_scripts(
     >>> [(graded.script, graded.points) for graded in xvsh.grade_scripts(suite, {"anna": "echo hi | wc", "ben": "echo hi"})]
     [('anna', 1), ('ben', 0)]
     """
-    count = operator.index(jobs)
-    if not 1 <= count <= MAX_JOBS:
-        raise ValueError(f"jobs are a number from 1 to {MAX_JOBS}")
-    return _graded(_Judge(_raw(suite), files, states, watch, timeout), scripts.items() if isinstance(scripts, Mapping) else scripts, count)
+    count = number_in(jobs, 1, MAX_JOBS, f"jobs are a number from 1 to {MAX_JOBS}")
+    return _graded(_Judge(raw(suite, "a suite"), files, states, watch, timeout), pairs(scripts), count)
 
 
 def _graded(judge: _Judge, pairs: Iterable[tuple[str, Bytes]], jobs: int) -> Iterator[Graded]:
     pool = ThreadPoolExecutor(jobs) if jobs > 1 else None
     try:
         own = True
-        for name, future in _ahead(((name, judge.begin(_raw(script), pool)) for name, script in pairs), 2 * jobs if pool else 1):
+        for name, future in _ahead(((name, judge.begin(raw(script, "a script"), pool)) for name, script in pairs), 2 * jobs if pool else 1):
             *before, graded = future.result()
             yield from before if own else ()
             own = False

@@ -8,7 +8,6 @@ from __future__ import annotations
 import base64
 import dataclasses
 import json
-import operator
 import os
 import shutil
 import signal
@@ -17,6 +16,7 @@ import time
 from collections.abc import Iterable, Iterator
 from typing import Any, Union
 
+from ._given import number, path, paths, seconds
 from ._show import Cell, Html, Shown, counted, marked, printable, table
 
 __all__ = ["AnyPath", "Difference", "GradeError", "Graded", "NoProgram", "ProgramError", "Report", "TimedOut", "Verdict", "grade"]
@@ -187,7 +187,7 @@ def _report_of(text: bytes) -> Report:
 def _program(given: AnyPath | None) -> str:
     """The program's path."""
     if given is not None:
-        return os.fsdecode(given)
+        return path(given, "a program")
     checkout = os.path.normpath(os.path.join(os.path.dirname(os.path.abspath(__file__)), "..", "..", "..", "xvsh"))
     found = os.environ.get("XVSH") or shutil.which("xvsh") or (checkout if os.path.isfile(checkout) else None)
     if not found:
@@ -212,6 +212,7 @@ def _run(words: list[str], timeout: float | None, folder: str | None = None, inp
     """The status, the output and the diagnostics of the program, which runs in the folder, on this standard input; where that is interrupted, or
     the seconds are over, it is ended."""
     pipe = subprocess.PIPE
+    seconds(timeout)
     try:
         child = subprocess.Popen(words, stdin=pipe if input else subprocess.DEVNULL, stdout=pipe, stderr=pipe, start_new_session=True, cwd=folder)
     except OSError as error:
@@ -228,9 +229,10 @@ def _run(words: list[str], timeout: float | None, folder: str | None = None, inp
     return child.returncode, out, said.decode("utf-8", "replace").rstrip("\n")
 
 
-def _words(path: AnyPath) -> str:
+def _word_of(given: AnyPath, what: str) -> str:
+    word = path(given, what)
     # to the program `-` is standard input
-    return os.path.join(".", "-") if os.fsdecode(path) == "-" else os.fsdecode(path)
+    return os.path.join(".", "-") if word == "-" else word
 
 
 def grade(
@@ -249,14 +251,14 @@ def grade(
     path can't be read, 2 where the suite is wrong or a number is out of its range, 4 where memory is refused. A test that isn't passed
     is no error.
     """
-    paths = [scripts] if isinstance(scripts, (str, bytes, os.PathLike)) else list(scripts)
-    return _graded_by([_program(program), *_flags(jobs, states), "--", *map(_words, (suite, *paths))], timeout)
+    words = [_word_of(suite, "a suite"), *(_word_of(it, "a script") for it in paths(scripts))]
+    return _graded_by([_program(program), *_flags(jobs, states), "--", *words], timeout)
 
 
 def _flags(jobs: int | None, states: int | None) -> list[str]:
     """The words of a grading before its paths."""
-    numbers = [f"--{name}={operator.index(number):d}" for name, number in (("jobs", jobs), ("states", states)) if number is not None]
-    return ["grade", "--json", *numbers]
+    dues = (("jobs", jobs, "1 to 256"), ("states", states, "1 to 10,000,000"))
+    return ["grade", "--json", *(f"--{name}={number(given, f'{name} are a number from {due}, or None'):d}" for name, given, due in dues if given is not None)]
 
 
 def _graded_by(words: list[str], timeout: float | None, folder: str | None = None, input: bytes = b"") -> Report:

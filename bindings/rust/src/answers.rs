@@ -3,7 +3,8 @@ use crate::border;
 use std::fmt;
 use std::slice;
 
-/// A file at the end of a run; `is_soft` where its bytes may depend on the order of processes (of a run by meaning).
+/// A file at the end of a run; of a run by meaning `is_soft` where the left side of a pipe writes it whose right side may stop before it has
+/// read all: of a settled script no other file depends on the order of processes, and of one that isn't settled every file may.
 #[derive(Clone, Copy, Debug, PartialEq, Eq)]
 pub struct File<'a> {
     pub name: &'a [u8],
@@ -103,7 +104,7 @@ impl Run {
     }
 
     /// Its schedule: a line an event, `D HART PROCESS` or `T HART PROCESS`. Of a run that was traced the lines of its trace, each an object of
-    /// JSON (docs/FORMATS.md), and of one that was drawn the page.
+    /// JSON (docs/FORMATS.md), and of one that was drawn the page or the picture.
     pub fn events(&self) -> &[u8] {
         unsafe { self.0.events.bytes() }
     }
@@ -129,7 +130,8 @@ impl Told {
         unsafe { self.0.json.bytes() }
     }
 
-    /// Of a check and an explanation whether there is nothing to tell; of an exploration whether all outcomes that were found have one output
+    /// Of a check whether no line holds a `&` or a clash, or strictly is no command, and of one of the room whether moreover there is room for it;
+    /// of an explanation whether there is nothing to tell; of an exploration whether all outcomes that were found have one output
     /// and one set of files; of a look whether the run is finished; of a grading whether every test was passed.
     pub fn is_fine(&self) -> bool {
         self.0.fine != 0
