@@ -86,21 +86,25 @@ class Change:
         at = re.match(r"(?:note: |error: )?(?:\./)?(src/\S+?):(\d+):\d+", line)
         return bool(at) and at[1] == self.function.file and self.function.first < int(at[2]) <= self.function.last + 1
 
+    def owner(self):
+        """Returns the name that the prover gives the type whose method this is, with its trait's; nothing of a function that is no method."""
+        return re.sub(r"<.*|\W", "", self.function.name.rpartition("::")[0].removeprefix("<").replace(" as ", ""))
+
     def is_proof(self, line):
         """Returns whether a line of the prover names a place in the function's proof files."""
         module = self.function.file.removeprefix("src/").removesuffix(".rt")
-        name = self.function.name.rpartition("::")[2]
-        return bool(re.match(rf"(?:note: )?(?:\./)?proofs/{module}/(?:[^/]+/)*{name}/(?:\w+/)*\w+\.antt:\d+:\d+: (?!note)", line))
+        name, owner = self.function.name.rpartition("::")[2], self.owner()
+        folder = f"{owner}/{name}" if owner else f"(?:fn/)?{name}"
+        return bool(re.match(rf"(?:note: )?(?:\./)?proofs/{module}/{folder}/(?:\w+/)*\w+\.antt:\d+:\d+: (?!note)", line))
 
     def verdict(self, lines):
         """Returns what the prover says of the function as a whole, if it says it of one function of this name alone."""
         module = self.function.file.removeprefix("src/").removesuffix(".rt").replace("/", "::")
         path = "" if module == "lib" else f"{module}::"
         name = self.function.name.rpartition("::")[2]
-        owner = re.sub(r"<.*|\W", "", self.function.name.rpartition("::")[0].removeprefix("<").replace(" as ", ""))
         said = [it for it in lines if re.match(rf"fn {self.function.crate}::{path}(\w+::)?{name}: ", it)]
         if len(said) > 1:
-            said = [it for it in said if re.match(rf"fn {self.function.crate}::{path}{owner}::{name}: ", it)]
+            said = [it for it in said if re.match(rf"fn {self.function.crate}::{path}{self.owner()}::{name}: ", it)]
         return said[0].partition(": ")[2] if len(said) == 1 else ""
 
     def came(self, lines):
