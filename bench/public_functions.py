@@ -172,7 +172,7 @@ def read_crate(root, crate):
 
 def crates_of(root):
     with open(os.path.join(root, "crates.txt"), encoding="utf-8") as file:
-        return [line.split(":")[0] for line in file if ":" in line and not line.startswith("#")]
+        return [line.split(":")[0].split()[0] for line in file if ":" in line and not line.startswith("#")]
 
 
 def reasons_of(root):
